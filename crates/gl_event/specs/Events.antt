@@ -1,0 +1,93 @@
+-- A thread's list of events, as a whole: how deep each lock is held, which locks are held and where
+-- each of them was opened, and how many segments the events closed.
+-- The state after the first p events of a list is the state of the list `take p es`.
+use Rattle.std.specs.Prelude.{ℕ, zero, suc, ◌-◌, Bool, true, false, ◌&&◌, List, Option, Some, None, length, take, filter, count_by, slice_get, ◌==◌, nat_lt, if◌then◌else◌}
+use Rattle.std.specs.List.{filter_map}
+use Rattle.std.specs.Option.{option_map_or}
+use Rattle.std.specs.Ordering.{nat_cmp}
+use Rattle.std.specs.FinSet as set
+use Rattle.gl_event.specs.declared.events.Event.{Event}
+use Rattle.gl_event.specs.declared.events.Event.TheVariants.{Acquire, Release, Fork, Join}
+use Rattle.gl_event.specs.declared.held.HeldEntry.{HeldEntry}
+
+-- the event acquires this lock
+abbrev pub acquires : ℕ → Event → Bool
+acquires lock (Acquire l loc) = l == lock
+acquires lock (Release l loc) = false
+acquires lock (Fork t loc) = false
+acquires lock (Join t loc) = false
+
+-- the event releases this lock
+abbrev pub releases : ℕ → Event → Bool
+releases lock (Acquire l loc) = false
+releases lock (Release l loc) = l == lock
+releases lock (Fork t loc) = false
+releases lock (Join t loc) = false
+
+-- the event closes a segment: it is a fork or a join
+abbrev pub closes : Event → Bool
+closes (Acquire l loc) = false
+closes (Release l loc) = false
+closes (Fork t loc) = true
+closes (Join t loc) = true
+
+-- the lock that the event acquires
+abbrev pub acquired_lock : Event → Option ℕ
+acquired_lock (Acquire l loc) = Some l
+acquired_lock (Release l loc) = None
+acquired_lock (Fork t loc) = None
+acquired_lock (Join t loc) = None
+
+-- where in the source the event stands
+abbrev pub location : Event → ℕ
+location (Acquire l loc) = loc
+location (Release l loc) = loc
+location (Fork t loc) = loc
+location (Join t loc) = loc
+
+-- the thread that the event forks or joins
+abbrev pub partner : Event → Option ℕ
+partner (Acquire l loc) = None
+partner (Release l loc) = None
+partner (Fork t loc) = Some t
+partner (Join t loc) = Some t
+
+-- how deep the lock is held after these events: acquires less releases
+unfoldable pub depth : List Event → ℕ → ℕ
+depth es lock = count_by (acquires lock) es - count_by (releases lock) es
+
+-- in which segment a next event lies: one for each fork and join so far
+unfoldable pub segment : List Event → ℕ
+segment es = count_by closes es
+
+-- these numbers, each once, ascending
+abbrev pub ascending : List ℕ → List ℕ
+ascending ns = set.items (set.from_list {R = nat_cmp} ns)
+
+-- the locks that are held after these events, ascending
+unfoldable pub held : List Event → List ℕ
+held es = ascending (filter (λ lock. nat_lt 0 (depth es lock)) (filter_map acquired_lock es))
+
+-- the event at this place acquires the lock where its thread doesn't hold it
+abbrev pub opens : List Event → ℕ → ℕ → Bool
+opens es lock place = option_map_or (acquires lock) (slice_get es place) false && (depth (take place es) lock == 0)
+
+-- the greatest number below n that passes, or 0
+abbrev pub greatest_below : (ℕ → Bool) → ℕ → ℕ
+greatest_below passes zero = 0
+greatest_below passes (suc n) = if passes n then n else greatest_below passes n
+
+-- the place at which the lock was last acquired by a thread that didn't hold it
+unfoldable pub opened : List Event → ℕ → ℕ
+opened es lock = greatest_below (opens es lock) (length es)
+
+-- what is known of a held lock: its depth, and the place, the location and the segment of the acquire that opened it
+unfoldable pub entry_of : List Event → ℕ → HeldEntry
+entry_of es lock =
+    record {
+      lock = lock;
+      depth = depth es lock;
+      place = opened es lock;
+      loc = option_map_or location (slice_get es (opened es lock)) 0;
+      seg = segment (take (opened es lock) es);
+    }

@@ -1,0 +1,4 @@
+pub mod Bounds
+pub mod Events
+pub mod Lawful
+pub mod Standing
