@@ -1,11 +1,11 @@
 -- A thread's list of events, as a whole: how deep each lock is held, which locks are held and where
 -- each of them was opened, and how many segments the events closed.
 -- The state after the first p events of a list is the state of the list `take p es`.
-use Rattle.std.specs.Prelude.{ℕ, zero, suc, ◌-◌, Bool, true, false, ◌&&◌, List, Option, Some, None, length, take, filter, count_by, slice_get, ◌==◌, nat_lt, if◌then◌else◌}
+use Rattle.std.specs.Prelude.{ℕ, zero, suc, ◌-◌, Bool, true, false, ◌&&◌, List, Option, Some, None, length, map, take, filter, count_by, slice_get, ◌==◌, nat_lt, if◌then◌else◌}
 use Rattle.std.specs.List.{filter_map}
 use Rattle.std.specs.Option.{option_map_or}
 use Rattle.std.specs.Ordering.{nat_cmp}
-use Rattle.std.specs.FinSet as set
+use Rattle.std.specs.FinMap.{from_entries, keys}
 use Rattle.gl_event.specs.declared.events.Event.{Event}
 use Rattle.gl_event.specs.declared.events.Event.TheVariants.{Acquire, Release, Fork, Join}
 use Rattle.gl_event.specs.declared.held.HeldEntry.{HeldEntry}
@@ -62,7 +62,7 @@ segment es = count_by closes es
 
 -- these numbers, each once, ascending
 abbrev pub ascending : List ℕ → List ℕ
-ascending ns = set.items (set.from_list {R = nat_cmp} ns)
+ascending ns = keys (from_entries {R = nat_cmp} (map (λ n. (n, tt {0})) ns))
 
 -- the locks that are held after these events, ascending
 unfoldable pub held : List Event → List ℕ

@@ -1,14 +1,54 @@
 -- When a list of held entries is what a thread holds after a list of events.
-use Rattle.std.specs.Prelude.{◌≡◌, ℕ, ◌<◌, List, map, All, AllPairs, Contains}
-use Rattle.gl_event.specs.Events.{depth, entry_of}
-use Rattle.gl_event.specs.Lawful.{HasLawfulLocks}
+use Rattle.std.specs.Prelude.{◌≡◌, ◌↔◌, ℕ, ◌+◌, ◌-◌, ◌<◌, Bool, IsTrue, List, [], ◌∷◌, ◌++◌, length, Some, None, Result, Err, IsOk, IfOk, OnOk, All, AllPairs, Contains}
+use Rattle.gl_event.specs.Events.{depth, segment, entry_of}
+use Rattle.gl_event.specs.Lawful.{HasLawfulLocks, lock_refusal}
+use Rattle.gl_event.specs.declared.events.Event.TheVariants.{Acquire, Release}
+use Rattle.gl_event.specs.declared.events.Refusal.TheVariants.{HeldFull as NoRoom, DepthFull as TooDeep}
+use Rattle.gl_event.specs.declared.held.HeldFault.{HeldFault}
+use Rattle.gl_event.specs.declared.held.HeldFault.TheVariants.{HeldFull, DepthFull}
+use Rattle.gl_event.specs.declared.held.NotHeld.{NotHeld}
 use Rattle.gl_event.specs.declared.events.Event.{Event}
 use Rattle.gl_event.specs.declared.held.HeldEntry.{HeldEntry}
 
+-- the entry, one deeper
+abbrev pub deeper : HeldEntry → HeldEntry
+deeper h = record h { depth = h.depth + 1 }
+
+-- the entry, one less deep
+abbrev pub shallower : HeldEntry → HeldEntry
+shallower h = record h { depth = h.depth - 1 }
+
 -- the entries are those of the locks that are held after these events, in the order in which the locks were opened
 pub record StandsFor (es : List Event) (entries : List HeldEntry) : Type 0 where
+  -- the events acquire and release as the locks allow
   pub lawful : HasLawfulLocks es
+  -- each entry says of its lock what the events say
   pub each : All (λ h. h ≡ entry_of es h.lock) entries
+  -- each lock that has an entry is held
   pub positive : All (λ h. 0 < depth es h.lock) entries
-  pub whole : (lock : ℕ) → 0 < depth es lock → Contains (map (λ h. h.lock) entries) lock
+  -- each lock that is held has its entry
+  pub whole : (lock : ℕ) → 0 < depth es lock → Contains entries (entry_of es lock)
+  -- an entry stands before those that were opened later
   pub in_order : AllPairs (λ a b. a.place < b.place) entries
+
+-- what an acquire answers a thread whose events were these, and what it holds then
+pub record AnswersAcquire (es : List Event) (lock loc place seg : ℕ) (new : List HeldEntry) (answer : Result Bool HeldFault) : Type 0 where
+  -- it is accepted exactly where it is lawful next
+  pub accepted : IsOk answer ↔ (lock_refusal es (Acquire lock loc) ≡ None)
+  -- one lock too many
+  pub full : (answer ≡ Err HeldFull) ↔ (lock_refusal es (Acquire lock loc) ≡ Some NoRoom)
+  -- too deep
+  pub deep : (answer ≡ Err DepthFull) ↔ (lock_refusal es (Acquire lock loc) ≡ Some TooDeep)
+  -- `true` says that the lock wasn't held
+  pub outermost : IfOk answer (λ b. IsTrue b ↔ (depth es lock ≡ 0))
+  -- the place and the segment given are those of the acquire: then this is what is held after it
+  pub stands : OnOk answer (place ≡ length es → seg ≡ segment es → StandsFor (es ++ Acquire lock loc ∷ []) new)
+
+-- what a release answers a thread whose events were these, and what it holds then
+pub record AnswersRelease (es : List Event) (lock : ℕ) (new : List HeldEntry) (answer : Result Bool NotHeld) : Type 0 where
+  -- it is accepted exactly where the lock is held
+  pub accepted : IsOk answer ↔ (0 < depth es lock)
+  -- `true` says that the lock is no longer held
+  pub outermost : IfOk answer (λ b. IsTrue b ↔ (depth es lock ≡ 1))
+  -- what is held after the release, wherever it stands
+  pub stands : OnOk answer ((loc : ℕ) → StandsFor (es ++ Release lock loc ∷ []) new)

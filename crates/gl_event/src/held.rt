@@ -1,5 +1,5 @@
 //! The locks that one thread holds.
-ghost use Rattle.std.specs.Prelude.{◌≡◌, ℕ, ◌+◌, ◌<◌, ◌≤◌, ◌↔◌, List, [], ◌∷◌, ◌++◌, length, IsTrue, IfOk, OnOk, OnErr};
+ghost use Rattle.std.specs.Prelude.{◌≡◌, ◌≢◌, ◌<◌, ◌↔◌, List, [], length, slice_get, slice_set, Some, IsTrue, IfSome, IfNone, OnErr};
 
 use crate::ids::{LocId, LockId};
 use arrayvec::ArrayVec;
@@ -50,12 +50,114 @@ impl Model for Held {
 }
 
 impl Held {
+    ghost use Rattle.std.specs.Prelude.{remove, All};
+    ghost use Rattle.gl_event.specs.Events.{depth};
+    ghost use Rattle.gl_event.specs.Standing.{StandsFor, AnswersAcquire, AnswersRelease};
+    ghost use Rattle.gl_event.specs.declared.events.Event.{Event};
+
     /// No lock is held.
     pub fn new() -> Held
-        ensures { result ≡ [] }
+        ensures empty { result ≡ [] }
+        ensures stands { StandsFor [] result }
     {
         Held {
             entries: ArrayVec::new(),
         }
+    }
+
+    /// The entries of the locks that are held, in the order of their outermost acquires.
+    pub fn entries(&self) -> &[HeldEntry]
+        ensures { result.now ≡ self.now }
+    {
+        self.entries.as_slice()
+    }
+
+    /// Whether the lock is held.
+    pub fn holds(&self, lock: LockId) -> bool
+        ensures { (es : List Event) → StandsFor es self.now → IsTrue result ↔ (0 < depth es lock) }
+    {
+        self.find(lock).is_some()
+    }
+
+    /// Acquires the lock once. `place` is how many events the thread had before, `seg` how many of
+    /// these were forks and joins; they count where the lock wasn't held. The answer is `true`
+    /// where the lock wasn't held.
+    ///
+    /// A refused acquire changes nothing.
+    pub fn acquire(
+        &mut self,
+        lock: LockId,
+        loc: LocId,
+        place: u32,
+        seg: u32,
+    ) -> Result<bool, HeldFault>
+        ensures answers { (es : List Event) → StandsFor es self.old → AnswersAcquire es lock loc place seg self.new result }
+        ensures unchanged { OnErr result (self.new ≡ self.old) }
+    {
+        match self.find(lock) {
+            Some((i, entry)) => {
+                if entry.depth >= MAX_DEPTH {
+                    return Err(HeldFault::DepthFull);
+                }
+                let depth = entry.depth + 1;
+                self.put(i, HeldEntry { depth, ..entry });
+                Ok(false)
+            }
+            None => {
+                if self.entries.is_full() {
+                    return Err(HeldFault::HeldFull);
+                }
+                self.entries.push(HeldEntry {
+                    lock,
+                    depth: 1,
+                    place,
+                    loc,
+                    seg,
+                });
+                Ok(true)
+            }
+        }
+    }
+
+    /// Releases the lock once. The answer is `true` where the lock is then no longer held.
+    ///
+    /// A refused release changes nothing.
+    pub fn release(&mut self, lock: LockId) -> Result<bool, NotHeld>
+        ensures answers { (es : List Event) → StandsFor es self.old → AnswersRelease es lock self.new result }
+        ensures unchanged { OnErr result (self.new ≡ self.old) }
+    {
+        match self.find(lock) {
+            Some((i, entry)) => {
+                if entry.depth <= 1 {
+                    self.entries.remove(i);
+                    return Ok(true);
+                }
+                let depth = entry.depth - 1;
+                self.put(i, HeldEntry { depth, ..entry });
+                Ok(false)
+            }
+            None => Err(NotHeld),
+        }
+    }
+
+    // The place and the entry of the lock, if it has one. At most 64 entries are looked at.
+    fn find(&self, lock: LockId) -> Option<(usize, HeldEntry)>
+        ensures found { IfSome result (λ r. (slice_get self.now r.0 ≡ Some r.1) × (r.1.lock ≡ lock)) }
+        ensures absent { IfNone result (All (λ h. h.lock ≢ lock) self.now) }
+    {
+        for (i, entry) in self.entries.as_slice().iter().enumerate() {
+            if entry.lock == lock {
+                return Some((i, *entry));
+            }
+        }
+        None
+    }
+
+    // Replaces the entry at a place.
+    fn put(&mut self, i: usize, entry: HeldEntry)
+        requires { i < length self.old }
+        ensures { self.new ≡ slice_set self.old i entry }
+    {
+        self.entries.as_mut_slice()[i] = entry;
     }
 }

@@ -1,0 +1,5 @@
+pub mod Depths
+pub mod Lawfulness
+pub mod HeldLemmas
+pub mod HeldLocks
+pub mod HeldAnswers
