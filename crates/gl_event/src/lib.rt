@@ -10,11 +10,16 @@ mod events;
 mod held;
 mod ids;
 mod limits;
+mod notes;
 
 pub use events::{Event, Refusal, Segment};
 pub use held::{Held, HeldEntry, HeldFault, MAX_DEPTH, MAX_HELD, NotHeld};
 pub use ids::{LocId, LockId, ThreadId};
 pub use limits::{BadLimits, Limits, MAX_EVENTS, MAX_NAMES, MAX_RING, MAX_THREADS};
+pub use notes::{Body, Note};
 
 /// Want of memory: a growth was refused. Calls that may take memory answer it, and only then.
 pub type Memory = std::alloc::AllocError;
+
+#[cfg(test)]
+mod tests;

@@ -1,0 +1,171 @@
+#!/usr/bin/env python3
+"""Makes a large STD trace on standard output; the same options and seed give the same bytes.
+
+    make_trace.py --shape few-locks --events 1000000 --seed 1 > trace.std
+
+A trace is a run of blocks. In a block one thread takes some locks, one inside the other, and releases them
+innermost first, so that locks are held by one thread at a time; a program's other operations stand between.
+Blocks are drawn from a pool that is made first, as a program runs the same code over and over. A shape is a
+set of options; an option that is given replaces the shape's.
+"""
+
+import argparse
+import random
+import sys
+
+SHAPES = {
+    # A few global locks, nearly always taken in one order.
+    "few-locks": dict(threads=8, locks=8, depth=3, sections=20, disorder=0.3, locations=500),
+    # A lock for each object.
+    "many-locks": dict(threads=64, locks=100_000, depth=2, sections=50_000, disorder=0.01, locations=20_000),
+    # Names with packages, classes and arguments.
+    "long-names": dict(threads=8, locks=20, depth=2, sections=40, disorder=0.3, locations=2_000, name_length=160),
+    # Many locks held at once; the runs of locks lie in a ring.
+    "deep-nesting": dict(threads=4, locks=90, depth=31, sections=3, is_ring=True, locations=2_000),
+    # Each thread takes each pair of locks in both orders: more than 1,000 cycles.
+    "many-cycles": dict(threads=40, locks=12, depth=2, sections=132, disorder=1.0, locations=500),
+    # Always one order.
+    "none": dict(threads=16, locks=200, depth=4, sections=100, disorder=0.0, locations=1_000),
+    # Threads that are forked and joined in waves, so that segments are ordered.
+    "forks": dict(threads=41, locks=24, depth=2, sections=30, disorder=1.0, locations=500, waves=10, rejoins=2_000),
+}
+GENERAL = dict(
+    threads=8, locks=16, depth=2, sections=20, disorder=0.1, is_ring=False, locations=500, name_length=0,
+    waves=0, rejoins=0, others=0.3, strays=0.0005,
+)  # fmt: skip
+
+PACKAGE = "org.example.server.storage.internal.cache.partition.segment.writer."
+FILES = ["Pool", "Cache", "Session", "Queue", "Router", "Index", "Journal", "Worker"]
+OTHERS = ["r({})", "w({})", "begin", "end", "notify({})"]
+
+
+def padded(name, length):
+    """The name behind a long prefix that all names share, as qualified names have it."""
+    missing = max(0, length - len(name))
+    return (PACKAGE * (missing // len(PACKAGE) + 1))[:missing] + name
+
+
+class Maker:
+    def __init__(self, options):
+        self.random = random.Random(options.seed)
+        self.options = options
+        length = options.name_length
+        self.threads = [padded(f"T{i}", length) for i in range(options.threads)]
+        self.locks = [padded(f"lock{i}", length) for i in range(options.locks)]
+        self.locations = [
+            padded(f"{FILES[i % len(FILES)]}.java:{10 + i // len(FILES)}", length) for i in range(options.locations)
+        ]
+        self.end = "\r\n" if options.crlf else "\n"
+        self.sections = [self.section(k) for k in range(options.sections)]
+
+    def section(self, k):
+        """The locks of a piece of code, outermost first."""
+        options = self.options
+        if options.is_ring:
+            start = k * (options.depth - 1)
+            return [(start + i) % options.locks for i in range(options.depth)]
+        size = self.random.randint(min(2, options.depth), min(options.depth, options.locks))
+        locks = self.random.sample(range(options.locks), size)
+        return locks if self.random.random() < options.disorder else sorted(locks)
+
+    def line(self, thread, call):
+        return f"{thread}|{call}|{self.random.choice(self.locations)}{self.end}"
+
+    def other(self, thread):
+        return self.line(thread, self.random.choice(OTHERS).format(self.random.choice(["x", "y", "total", "head"])))
+
+    def block(self, thread, section):
+        """A thread's run through a piece of code: its text and how many lines it has."""
+        share = self.options.others
+        made = []
+        locks = [self.locks[i] for i in section]
+        for word, lock in [("acq", lock) for lock in locks] + [("rel", lock) for lock in reversed(locks)]:
+            while share > 0 and self.random.random() < share:
+                made.append(self.other(thread))
+            made.append(self.line(thread, f"{word}({lock})"))
+        return "".join(made), len(made)
+
+    def pool(self, threads, size):
+        """Blocks of these threads. In a ring each thread runs each piece of code."""
+        if self.options.is_ring or size >= len(threads) * len(self.sections):
+            pairs = [(thread, section) for thread in threads for section in self.sections]
+            pairs += [(self.random.choice(threads), self.random.choice(self.sections)) for _ in range(size - len(pairs))]
+        else:
+            pairs = [(self.random.choice(threads), self.random.choice(self.sections)) for _ in range(size)]
+        blocks = [self.block(thread, section) for thread, section in pairs]
+        for _ in range(round(self.options.strays * size) if self.options.strays else 0):
+            thread = self.random.choice(threads)
+            blocks.append((self.line(thread, f"rel({self.random.choice(self.locks)})"), 1))
+        return blocks
+
+    def body(self, threads, events, further):
+        """About so many lines of these threads, with the further blocks spread among them."""
+        options = self.options
+        lines_a_block = (options.depth + 2) * (1 + options.others)
+        size = int(min(events / lines_a_block + 1, max(4_000, 2 * options.locations, options.sections)))
+        pool = self.pool(threads, size)
+        mean = sum(count for _, count in pool) / len(pool)
+        blocks = pool[: int(events / mean) + 1]
+        blocks += self.random.choices(pool, k=max(0, int(events / mean) - len(blocks)))
+        texts = [text for text, _ in blocks] + further
+        self.random.shuffle(texts)
+        return texts
+
+    def make(self):
+        options = self.options
+        if options.waves == 0:
+            return self.body(self.threads, options.events, [])
+        main, *others = self.threads
+        size = -(-len(others) // options.waves)
+        waves = [others[at : at + size] for at in range(0, len(others), size)]
+        texts, ended = [], []
+        for wave in waves:
+            texts += [self.line(main, f"fork({thread})") for thread in wave]
+            rejoins = options.rejoins // len(waves) if ended else 0
+            again = [self.line(main, f"join({self.random.choice(ended)})") for _ in range(rejoins)]
+            texts += self.body(wave, options.events // len(waves), again)
+            texts += [self.line(main, f"join({thread})") for thread in wave]
+            ended += wave
+        return texts
+
+
+def main():
+    parser = argparse.ArgumentParser(description=__doc__, formatter_class=argparse.RawDescriptionHelpFormatter)
+    parser.add_argument("--shape", choices=sorted(SHAPES), default="few-locks")
+    parser.add_argument("--events", type=int, default=1_000_000, help="about how many lines")
+    parser.add_argument("--seed", type=int, default=1)
+    parser.add_argument("--threads", type=int, help="at most 1,024")
+    parser.add_argument("--locks", type=int)
+    parser.add_argument("--depth", type=int, help="most locks of a block, at most 64")
+    parser.add_argument("--sections", type=int, help="pieces of code, each with its locks")
+    parser.add_argument("--disorder", type=float, help="share of the pieces that take locks in any order")
+    parser.add_argument("--name-length", type=int, help="least bytes of each name")
+    parser.add_argument("--locations", type=int)
+    parser.add_argument("--others", type=float, help="chance of another operation before each line")
+    parser.add_argument("--strays", type=float, help="share of blocks that release what isn't held")
+    parser.add_argument("--waves", type=int, help="groups of threads, forked and joined one after the other")
+    parser.add_argument("--rejoins", type=int, help="further joins of threads that have ended")
+    parser.add_argument("--crlf", action="store_true", help="lines end with CR LF")
+    options = parser.parse_args()
+    for name, value in {**GENERAL, **SHAPES[options.shape]}.items():
+        if getattr(options, name, None) is None:
+            setattr(options, name, value)
+    for name, least, most in [
+        ("events", 0, 10**9), ("threads", 2 if options.waves else 1, 1_024), ("locks", 1, 10**8), ("depth", 1, 64),
+        ("sections", 1, 10**8), ("disorder", 0, 1), ("name_length", 0, 30_000), ("locations", 1, 10**8),
+        ("others", 0, 0.95), ("strays", 0, 1), ("waves", 0, 1_023), ("rejoins", 0, 10**8),
+    ]:  # fmt: skip
+        if not least <= getattr(options, name) <= most:
+            parser.error(f"--{name.replace('_', '-')} is from {least} to {most}")
+    if options.is_ring and options.depth > options.locks:
+        parser.error("--depth is at most --locks in a ring")
+    texts = Maker(options).make()
+    try:
+        for at in range(0, len(texts), 50_000):
+            sys.stdout.write("".join(texts[at : at + 50_000]))
+    except BrokenPipeError:
+        sys.stderr.close()
+
+
+if __name__ == "__main__":
+    main()

@@ -1,0 +1,5 @@
+pub mod Holders
+pub mod Lists
+pub mod Blocking
+pub mod Fronts
+pub mod Growing

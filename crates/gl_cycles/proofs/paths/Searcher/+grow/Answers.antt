@@ -1,0 +1,124 @@
+use Rattle.std.proofs.Common.{◌≡◌, ◌≢◌, ℕ, suc, ◌+◌, ◌-◌, ◌<◌, ◌≤◌, List, length, map, get_or, Some, refl, sym, ap, subst, ◌∙◌, arith, rules}
+use Rattle.std.specs.Prelude.{slice_get, unwrap_or}
+use Rattle.std.proofs.lemmas.List.{length-map, length_push}
+use Rattle.std.proofs.lemmas.List.Elements.{All-push}
+use Rattle.std.proofs.Common.{Option, None, take, ◌++◌}
+use Rattle.gl_cycles.specs.Blocks.{block}
+use Rattle.std.proofs.lemmas.Option.{slice_get_within}
+use Rattle.std.proofs.lemmas.Result.{on_ok_weaker}
+use Rattle.gl_cycles.specs.declared.paths.Searcher.{Searcher}
+use Rattle.gl_segments.specs.Clocks.{is_before}
+use Rattle.gl_cycles.specs.AllCycles.{edges_of_table}
+use Rattle.gl_cycles.specs.Followers.{holder_from}
+use Rattle.gl_cycles.proofs.Fronts.{edge_at, element_at, within_edges, wanted_by_table, some_picked}
+use Rattle.gl_cycles.proofs.Growing.{HasGrown, grow_begin, grow_step, grow_end, grow_full, grow_short, grow_closed, grown_room, goes_on, grow_stray, joined_path}
+use Rattle.gl_cycles.proofs.paths.Searcher.+grow.Goals as goal
+
+-- the path is closed
+pub grow-returns-then-is_closed : goal.grow-returns-then-is_closed
+grow-returns-then-is_closed t c =
+    let s = c.args.self.now in
+    on_ok_weaker c.keep_closed.result
+    (λ kept. grow_closed (is_before s.order.now) s.mode (edges_of_table s.table.now) c.args.path.now s.cap _ (s.len - length c.args.path.now) _
+      (omega (arith, c.args.found.now.ok.0, c.len.ensures, length-map c.args.found.now.items (λ cycle. cycle.items)))
+      (within_edges s.table.now c.args.path.now c.requires.within) c.requires.is_path (sym c.if-is_closed.ensures) kept)
+    c.keep_closed.ensures
+
+-- the path may not be longer
+pub grow-returns-then-path-self : goal.grow-returns-then-path-self
+grow-returns-then-path-self t c =
+    let s = c.args.self.now in
+    let none : s.len - length c.args.path.now ≡ 0 = omega arith in
+    rw none (grow_short (is_before s.order.now) s.mode (edges_of_table s.table.now) c.args.path.now s.cap _
+      (omega (arith, c.requires.room, length-map c.args.found.now.items (λ cycle. cycle.items))) (sym c.if-is_closed.ensures))
+
+-- before the first follower
+pub grow-loop-next-init : goal.grow-loop-next-init
+grow-loop-next-init t c =
+    let s = c.args.self.now in
+    grow_begin (is_before s.order.now) s.mode (edges_of_table s.table.now) (s.len - length c.args.path.now - 1) c.args.path.now s.cap
+    (some_picked s.table.now c.args.path.now c.requires.within c.requires.some) _ _
+    (omega (arith, c.requires.room, length-map c.args.found.now.items (λ cycle. cycle.items)))
+    (c.begin-next.ensures (edges_of_table s.table.now) c.requires.indexed ∙ ap (λ lock. holder_from (edges_of_table s.table.now) 0 lock) (wanted_by_table s.table.now c.args.path.now c.requires.within _ c.requires.some))
+
+-- what has grown where the next follower is known
+abbrev Grown : (s : Searcher) → List ℕ → List (List ℕ) → List (List ℕ) → Option ℕ → Type 0
+Grown s path old now next = HasGrown (is_before s.order.now) s.mode (edges_of_table s.table.now) (s.len - length path - 1) path s.cap old now next
+
+-- fewer positions are left behind a later follower
+closer : (n m i : ℕ) (now next : Option ℕ) → m ≡ n → now ≡ Some i → i < unwrap_or next m → unwrap_or next m ≤ m → n - unwrap_or next n < n - unwrap_or now n
+closer n m i now next same is before within =
+    let here : unwrap_or now n ≡ i = ap (λ o. unwrap_or o n) is in
+    let there : unwrap_or next m ≡ unwrap_or next n = ap (unwrap_or next) same in
+    omega arith
+
+-- the call for one follower
+pub grow-grow_by-requires : goal.grow-grow_by-requires
+grow-grow_by-requires t c =
+    let s = c.args.self.now in
+    let had : Grown s c.args.path.now (map (λ cycle. cycle.items) c.args.found.now.items) (map (λ cycle. cycle.items) c.loop-next.found.items) (Some c.in-Some.i) =
+      subst (Grown s c.args.path.now (map (λ cycle. cycle.items) c.args.found.now.items) (map (λ cycle. cycle.items) c.loop-next.found.items)) c.in-Some.is c.loop-next.invariant in
+    let room = grown_room _ _ _ _ _ _ _ _ _ had in
+    let short = c.requires.short in
+    (search rules, (c.requires.some, (omega arith, (c.requires.fits, (c.requires.within, (omega (arith, had.holds.0, length-map s.table.now (λ pair. pair.0)), (c.requires.is_path, (c.requires.indexed,
+      omega (arith, room, length-map c.loop-next.found.items (λ cycle. cycle.items))))))))))
+
+-- the follower is in the index
+pub grow-after-next-requires : goal.grow-after-next-requires
+grow-after-next-requires t c =
+    let s = c.args.self.now in
+    let had : Grown s c.args.path.now (map (λ cycle. cycle.items) c.args.found.now.items) (map (λ cycle. cycle.items) c.loop-next.found.items) (Some c.in-Some.i) =
+      subst (Grown s c.args.path.now (map (λ cycle. cycle.items) c.args.found.now.items) (map (λ cycle. cycle.items) c.loop-next.found.items)) c.in-Some.is c.loop-next.invariant in
+    let here = element_at (edges_of_table s.table.now) c.in-Some.i had.holds.0 in
+    let there = slice_get_within s.index.next.items c.in-Some.i _ (c.requires.indexed.goes_on c.in-Some.i here.0 here.1) in
+    omega (arith, there, s.index.next.ok.0)
+
+pub grow-loop-next-smaller : goal.grow-loop-next-smaller
+grow-loop-next-smaller t c =
+    let s = c.args.self.now in
+    let had : Grown s c.args.path.now (map (λ cycle. cycle.items) c.args.found.now.items) (map (λ cycle. cycle.items) c.loop-next.found.items) (Some c.in-Some.i) =
+      subst (Grown s c.args.path.now (map (λ cycle. cycle.items) c.args.found.now.items) (map (λ cycle. cycle.items) c.loop-next.found.items)) c.in-Some.is c.loop-next.invariant in
+    let here = element_at (edges_of_table s.table.now) c.in-Some.i had.holds.0 in
+    let later = goes_on (edges_of_table s.table.now) c.in-Some.i here.0.held c.after-next.result had.holds.0 (c.after-next.ensures (edges_of_table s.table.now) here.0 c.requires.indexed here.1) in
+    let long = length-map s.table.now (λ pair. pair.0) in
+    closer (length s.table.now) (length (edges_of_table s.table.now)) c.in-Some.i c.loop-next.next c.after-next.result long c.in-Some.is later.0 later.1
+
+-- one follower more
+pub grow-loop-next-preserved : goal.grow-loop-next-preserved
+grow-loop-next-preserved t c =
+    let s = c.args.self.now in
+    let had : Grown s c.args.path.now (map (λ cycle. cycle.items) c.args.found.now.items) (map (λ cycle. cycle.items) c.loop-next.found.items) (Some c.in-Some.i) =
+      subst (Grown s c.args.path.now (map (λ cycle. cycle.items) c.args.found.now.items) (map (λ cycle. cycle.items) c.loop-next.found.items)) c.in-Some.is c.loop-next.invariant in
+    let here = element_at (edges_of_table s.table.now) c.in-Some.i had.holds.0 in
+    grow_step (is_before s.order.now) s.mode (edges_of_table s.table.now) (s.len - length c.args.path.now - 1) c.args.path.now s.cap
+    (some_picked s.table.now c.args.path.now c.requires.within c.requires.some) _ _ _ c.in-Some.i _ had c.in_ok-grow_by.ensures
+    (c.after-next.ensures (edges_of_table s.table.now) here.0 c.requires.indexed here.1 ∙ ap (λ lock. holder_from (edges_of_table s.table.now) (c.in-Some.i + 1) lock) (had.holds.1 here.0 here.1))
+
+-- all followers are done
+pub grow-returns : goal.grow-returns
+grow-returns t c =
+    let s = c.args.self.now in
+    let had : Grown s c.args.path.now (map (λ cycle. cycle.items) c.args.found.now.items) (map (λ cycle. cycle.items) c.loop-next.found.items) None =
+      subst (Grown s c.args.path.now (map (λ cycle. cycle.items) c.args.found.now.items) (map (λ cycle. cycle.items) c.loop-next.found.items)) c.in_default.is c.loop-next.invariant in
+    let left : suc (s.len - length c.args.path.now - 1) ≡ s.len - length c.args.path.now = omega (arith, c.requires.short) in
+    subst (λ n. map (λ cycle. cycle.items) c.loop-next.found.items ≡ take s.cap (map (λ cycle. cycle.items) c.args.found.now.items ++ block (is_before s.order.now) s.mode (edges_of_table s.table.now) n c.args.path.now)) left
+    (grow_end (is_before s.order.now) s.mode (edges_of_table s.table.now) (s.len - length c.args.path.now - 1) c.args.path.now s.cap _ _ had (sym c.if-is_closed.ensures))
+
+-- the edge can't follow
+pub grow_by-returns-then-not-can_join : goal.grow_by-returns-then-not-can_join
+grow_by-returns-then-not-can_join t c =
+    let s = c.args.self.now in
+    let here = element_at (edges_of_table s.table.now) c.args.next (omega (arith, c.requires.there, length-map s.table.now (λ pair. pair.0))) in
+    grow_stray (is_before s.order.now) s.mode (edges_of_table s.table.now) (s.len - length c.args.path.now - 1) c.args.path.now s.cap _ c.args.next here.0
+    (omega (arith, c.requires.room, length-map c.args.found.now.items (λ cycle. cycle.items))) here.1 (sym (c.if-not-can_join.ensures here.0 here.1))
+
+pub grow_by-grow-requires : goal.grow_by-grow-requires
+grow_by-grow-requires t c =
+    let s = c.args.self.now in
+    let longer = c.as_slice.ensures.value ∙ c.longer_path-longer.ensures in
+    let long : length c.as_slice.result.now ≡ length c.args.path.now + 1 = ap length longer ∙ length_push c.args.path.now c.args.next in
+    let here = element_at (edges_of_table s.table.now) c.args.next (omega (arith, c.requires.there, length-map s.table.now (λ pair. pair.0))) in
+    let joins = sym (c.if-not-can_join.ensures here.0 here.1) in
+    (omega (arith, long, c.requires.short), (omega arith, (omega (arith, c.requires.short), (c.requires.fits,
+      (rw longer (All-push (λ i. i < length s.table.now) c.args.path.now c.args.next c.requires.within c.requires.there),
+      (rw longer (joined_path (is_before s.order.now) s.mode (edges_of_table s.table.now) c.args.path.now c.args.next here.0 here.1 c.requires.is_path joins), (c.requires.indexed, c.requires.room)))))))

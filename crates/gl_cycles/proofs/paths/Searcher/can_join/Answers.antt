@@ -1,0 +1,58 @@
+use Rattle.std.proofs.Common.{◌≡◌, ℕ, ◌-◌, ◌<◌, ◌≤◌, Bool, true, false, not, ◌&&◌, eqb, ltb, leb, List, length, get_or, Some, refl, sym, ap, ◌∙◌}
+use Rattle.std.specs.Prelude.{slice_get}
+use Rattle.std.proofs.Common.{cond, Less, Equal, Greater}
+use Rattle.std.specs.Ordering.{is_lt, nat_cmp}
+use Rattle.std.proofs.lemmas.Bool.{and_left, and_right, not-true, not-false, ltb-true, ltb-false, lt-leb, le-leb}
+use Rattle.std.proofs.lemmas.Option.{same_Some}
+use Rattle.gl_edges.specs.declared.edge.Edge.{Edge}
+use Rattle.gl_edges.specs.declared.edge.Sample.{Sample}
+use Rattle.gl_segments.specs.Clocks.{is_before}
+use Rattle.gl_cycles.specs.AllCycles.{edges_of_table}
+use Rattle.gl_cycles.proofs.Fronts.{edge_at, follow_by_table}
+use Rattle.gl_cycles.proofs.paths.Searcher.can_join.Goals as goal
+
+-- the edge at a position
+is_there : (table : List (Edge × Sample)) (i : ℕ) (d : Edge × Sample) (f : Edge) → i < length table → slice_get (edges_of_table table) i ≡ Some f → f ≡ (get_or table i d).0
+is_there table i d f within at = same_Some _ _ (sym at ∙ edge_at table i d within)
+
+by_tests : (b c : Bool) → is_lt (cond b Less (cond c Equal Greater)) ≡ b
+by_tests true c = refl
+by_tests false true = refl
+by_tests false false = refl
+
+-- a lesser thread, by the test that the code makes
+less : (a b : ℕ) → is_lt (nat_cmp a b) ≡ ltb a b
+less a b = by_tests (ltb a b) (eqb a b)
+
+both : (a b x : Bool) → a ≡ true → b ≡ true → (a && (x && b)) ≡ x
+both true true true p q = refl
+both true true false p q = refl
+both true false x p q = cc
+both false b x p q = cc
+
+-- the last edge leads on to another lock
+pub returns-then-ne : goal.returns-then-ne
+returns-then-ne c = λ f at.
+    let table = c.args.self.now.table.now in
+    let is = is_there table c.args.next c.index-self-next.result f c.requires.there at in
+    sym (follow_by_table table c.args.path.now c.requires.within (is_before c.args.self.now.order.now) c.args.self.now.mode f c.index-self-last.result c.index-self-last.result c.requires.some
+      ∙ and_left _ _ (ap (λ x. eqb (get_or table (get_or c.args.path.now (length c.args.path.now - 1) 0) c.index-self-last.result).0.wanted x.held) is ∙ not-true _ (sym c.ne.ensures ∙ c.if-ne.true)))
+
+-- the thread is less than that of the first edge
+pub returns-then-lt : goal.returns-then-lt
+returns-then-lt c = λ f at.
+    let table = c.args.self.now.table.now in
+    let is = is_there table c.args.next c.index-self-next.result f c.requires.there at in
+    let lesser = ltb-true _ _ (sym (less _ _) ∙ sym c.lt.ensures ∙ c.if-lt.true) in
+    sym (follow_by_table table c.args.path.now c.requires.within (is_before c.args.self.now.order.now) c.args.self.now.mode f c.index-self-first.result c.index-self-last.result c.requires.some
+      ∙ and_right _ _ (and_right _ _ (ap (λ x. leb (get_or table (get_or c.args.path.now 0 0) c.index-self-first.result).0.thread x.thread) is ∙ lt-leb _ _ lesser)))
+
+-- the rest is whether each edge of the path goes with it
+pub returns : goal.returns
+returns c = λ f at.
+    let table = c.args.self.now.table.now in
+    let is = is_there table c.args.next c.index-self-next.result f c.requires.there at in
+    let not_less = ltb-false _ _ (sym (less _ _) ∙ sym c.lt.ensures ∙ c.if-lt.false) in
+    let led_on = not-false _ (sym c.ne.ensures ∙ c.if-ne.false) in
+    rw is (c.goes_with_all.ensures ∙ sym (follow_by_table table c.args.path.now c.requires.within (is_before c.args.self.now.order.now) c.args.self.now.mode _ c.index-self-first.result c.index-self-last.result c.requires.some
+      ∙ both _ _ _ led_on (le-leb _ _ not_less)))

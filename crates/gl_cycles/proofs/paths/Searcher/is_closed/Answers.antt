@@ -1,0 +1,6 @@
+use Rattle.std.proofs.Common.{sym, ◌∙◌}
+use Rattle.gl_cycles.proofs.Fronts.{closed_by_table}
+use Rattle.gl_cycles.proofs.paths.Searcher.is_closed.Goals as goal
+
+pub returns : goal.returns
+returns c = c.eq.ensures ∙ sym (closed_by_table c.args.self.now.table.now c.args.path.now c.requires.within _ _ c.requires.some)

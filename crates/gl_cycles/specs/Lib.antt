@@ -1,0 +1,3 @@
+pub mod AllCycles
+pub mod Blocks
+pub mod Followers

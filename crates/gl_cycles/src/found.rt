@@ -1,0 +1,69 @@
+//! What a search finds.
+ghost use Rattle.std.specs.Prelude.{◌≡◌, map};
+
+use gl_edges::EdgeList;
+use gl_event::Segment;
+use gl_filters::Query;
+use std::marker::Model;
+
+/// Cycles, each as the positions of its edges in a list of edges. Contracts see a list of lists of
+/// numbers.
+#[derive(Drop, Debug)]
+pub struct Cycles {
+    cycles: Vec<Vec<usize>>,
+}
+
+impl Model for Cycles {
+    ghost use Rattle.std.specs.Prelude.{List, ℕ, map};
+
+    ghost Value = { List (List ℕ) };
+
+    ghost view = { λ c. map (λ cycle. cycle.items) c.cycles.items };
+}
+
+impl Cycles {
+    /// These cycles.
+    pub fn from_vec(cycles: Vec<Vec<usize>>) -> Cycles
+        ensures { result ≡ map (λ cycle. cycle.items) cycles.items }
+    {
+        Cycles { cycles }
+    }
+
+    /// The cycles, in order.
+    pub fn as_slice(&self) -> &[Vec<usize>]
+        ensures { map (λ cycle. cycle.items) result.now ≡ self.now }
+    {
+        self.cycles.as_slice()
+    }
+}
+
+/// The first cycles of a query, and whether there are more.
+#[derive(Drop, Debug)]
+pub struct Found {
+    /// The cycles that are listed, in the order of their edges.
+    pub cycles: Cycles,
+    /// Whether there are more cycles than those that are listed.
+    pub more: bool,
+}
+
+/// The report of a query: the edges of the lists that were asked about, and the first cycles over
+/// them.
+#[derive(Drop, Debug)]
+pub struct Report {
+    /// What was asked.
+    pub query: Query,
+    /// The edges, of which the cycles give the positions.
+    pub edges: EdgeList,
+    /// The cycles that are listed, and whether there are more.
+    pub found: Found,
+}
+
+/// Why there is no report.
+#[derive(Drop, Debug)]
+pub enum ReportFault {
+    /// A segment is before itself: this is the least one, by thread and index, and a ring of
+    /// segments that begins with it, each one step from the one before and the first from the last.
+    Inconsistent { at: Segment, ring: Vec<Segment> },
+    /// Memory was refused.
+    Memory,
+}

@@ -1,0 +1,235 @@
+-- A table that grows by the edges of one event after another.
+use Rattle.std.proofs.Common.{◌≡◌, ℕ, zero, suc, ◌+◌, ◌<◌, ◌≤◌, inl, inr, Bool, true, false, cond, eqb, List, [], ◌∷◌, ◌++◌, length, get_or, map, take, Some, None, refl, sym, ap, subst, ◌∙◌, arith}
+use Rattle.std.specs.Prelude.{Contains, slice_get}
+use Rattle.std.specs.BTreeMap.{BTreeMap}
+use Rattle.std.specs.FinMap as table
+use Rattle.std.specs.List.{flat_map, range_with_len, enumerate_from}
+use Rattle.std.specs.Option.{option_map_or, option_map}
+use Rattle.std.proofs.lemmas.Bool.{ne_eqb, cases_lt}
+use Rattle.std.proofs.lemmas.List.{append-nil, append_assoc, map_more, take_all, take_more, length-map, length-take-le}
+use Rattle.std.proofs.lemmas.List.Concat.{flat_map-append}
+use Rattle.std.proofs.lemmas.Option.{slice_get_read, slice_get-map}
+use Rattle.std.proofs.lemmas.List.Elements.{Contains-append_left, Contains-append_right, Contains-append_cases, All-contains}
+use Rattle.gl_event.specs.Bounds.{greatest}
+use Rattle.gl_event.specs.Lawful.{IsLawful, refusal}
+use Rattle.gl_event.specs.Events.{ascending, depth, held, entry_of}
+use Rattle.gl_event.specs.declared.events.Event.{Event}
+use Rattle.gl_event.specs.declared.held.HeldEntry.{HeldEntry}
+use Rattle.gl_event.proofs.HeldLemmas.{entry_of-lock}
+use Rattle.gl_event.proofs.HeldLocks.{ascending_locks}
+use Rattle.gl_edges.specs.Edges.{pair_at, edges_wanting, edges_after, edges_at, edges_below, edges_of_list, edges_made}
+use Rattle.gl_edges.specs.Samples.{IsTableOf}
+use Rattle.gl_edges.specs.Tracking.{Tracks, MayFollow, pair_for}
+use Rattle.gl_edges.specs.declared.edge.Edge.{Edge}
+use Rattle.gl_edges.specs.declared.edge.Sample.{Sample}
+use Rattle.gl_edges.specs.declared.tracker.Tracker.{Tracker}
+use Rattle.gl_edges.specs.Laws.{AreAmong}
+use Rattle.gl_edges.proofs.Least.{same_table}
+use Rattle.gl_edges.proofs.Membership.{contains_map, contains_map_from, held_where_deep, deep_where_held}
+
+-- a table of the same pairs
+pub table_same : (known : BTreeMap Edge Sample) (xs ys : List (Edge × Sample)) → xs ≡ ys → IsTableOf known xs → IsTableOf known ys
+table_same known xs ys same is = subst (IsTableOf known) same is
+
+-- a table of the same pairs and no more
+pub table_nil : (known : BTreeMap Edge Sample) (pairs : List (Edge × Sample)) → IsTableOf known pairs → IsTableOf known (pairs ++ [])
+table_nil known pairs is = subst (IsTableOf known) (sym (append-nil pairs)) is
+
+-- ---- the edges of one acquire
+
+-- an edge whose fields were set is that of the held lock
+pub pair_is : (edge : Edge) (tracker : Tracker) (wanted loc : ℕ) (h : HeldEntry) → edge.thread ≡ tracker.thread → edge.wanted ≡ wanted → edge.second ≡ tracker.segment
+    → edge.guards ≡ ascending (map (λ h. h.lock) tracker.held)
+    → ◌≡◌ {A = Edge × Sample} (record edge { held = h.lock; first = h.seg }, record { place = tracker.place; held_loc = h.loc; wanted_loc = loc }) (pair_for tracker wanted loc h)
+pair_is edge tracker wanted loc h of_thread wants in_segment guarded = λ i. (
+  record { thread = of_thread i; held = h.lock; wanted = wants i; first = h.seg; second = in_segment i; guards = guarded i },
+  record { place = tracker.place; held_loc = h.loc; wanted_loc = loc },
+)
+
+-- one more entry of the held locks
+pub table_more : (known : BTreeMap Edge Sample) (pairs : List (Edge × Sample)) (f : HeldEntry → Edge × Sample) (hs : List HeldEntry) (i : ℕ) (h : HeldEntry) (pair : Edge × Sample)
+    → i < length hs → h ≡ get_or hs i h → pair ≡ f h → IsTableOf known ((pairs ++ map f (take i hs)) ++ pair ∷ []) → IsTableOf known (pairs ++ map f (take (i + 1) hs))
+table_more known pairs f hs i h pair within is same step =
+    table_same known _ _
+    (append_assoc pairs (map f (take i hs)) (pair ∷ [])
+    ∙ ap (λ p. pairs ++ (map f (take i hs) ++ p ∷ [])) (same ∙ ap f is)
+    ∙ ap (λ xs. pairs ++ xs) (sym (map_more f hs i h within)))
+    step
+
+-- all entries of the held locks
+pub table_all : (known : BTreeMap Edge Sample) (pairs : List (Edge × Sample)) (f : HeldEntry → Edge × Sample) (hs : List HeldEntry) (i : ℕ) → length hs ≤ i
+    → IsTableOf known (pairs ++ map f (take i hs)) → IsTableOf known (pairs ++ map f hs)
+table_all known pairs f hs i all is = table_same known _ _ (ap (λ xs. pairs ++ map f xs) (take_all i hs all)) is
+
+-- a table of pairs in another order
+pub table_alike : (known : BTreeMap Edge Sample) (xs ys : List (Edge × Sample)) → AreAmong xs ys → AreAmong ys xs → IsTableOf known xs → IsTableOf known ys
+table_alike known xs ys to from is = record { each = λ edge. is.each edge ∙ ap (λ t. table.get t edge) (same_table xs ys to from) }
+
+-- pairs that follow the same front
+append_among : (pairs xs ys : List (Edge × Sample)) → AreAmong xs ys → AreAmong (pairs ++ xs) (pairs ++ ys)
+append_among pairs xs ys to pair at =
+    elim (Contains-append_cases pairs xs pair at) [
+      | inl front ↦ Contains-append_left pairs ys pair front
+      | inr back ↦ Contains-append_right pairs ys pair (to pair back)
+    ]
+
+-- what an acquire makes, where its lock isn't held
+pub wanting_is : (thread : ℕ) (es : List Event) (loc wanted : ℕ) → depth es wanted ≡ 0 → edges_wanting thread es loc wanted ≡ map (pair_at thread es wanted loc) (held es)
+unfolding edges_wanting
+wanting_is thread es loc wanted free = ap (λ d. cond (eqb d 0) (map (pair_at thread es wanted loc) (held es)) []) free
+
+-- a lock that is held makes no edges
+pub wanting_none : (thread : ℕ) (es : List Event) (loc wanted : ℕ) → 0 < depth es wanted → edges_wanting thread es loc wanted ≡ []
+unfolding edges_wanting
+wanting_none thread es loc wanted deep = ap (λ b. cond b (map (pair_at thread es wanted loc) (held es)) []) (ne_eqb (depth es wanted) 0 (λ e. absurd (omega arith)))
+
+module _ (thread : ℕ) (es : List Event) (tracker : Tracker) (tracked : Tracks thread es tracker) (wanted loc : ℕ) where
+  -- a tracked thread makes for a held lock the pair that the definition says
+  pub pair_for_is : (lock : ℕ) (h : HeldEntry) → h ≡ entry_of es lock → pair_for tracker wanted loc h ≡ pair_at thread es wanted loc lock
+  pair_for_is lock h is =
+      let of_lock : h.lock ≡ lock = ap (λ x. x.lock) is ∙ entry_of-lock es lock in
+      let guarded = ascending_locks es tracker.held tracked.stands in
+      λ i. (
+        record {
+          thread = tracked.of_thread i;
+          held = of_lock i;
+          wanted = wanted;
+          first = (is i).seg;
+          second = tracked.in_segment i;
+          guards = guarded i;
+        },
+        record { place = tracked.at_place i; held_loc = (is i).loc; wanted_loc = loc },
+      )
+
+  -- each pair of an entry is one of the definition
+  pairs_made : AreAmong (map (pair_for tracker wanted loc) tracker.held) (map (pair_at thread es wanted loc) (held es))
+  pairs_made pair at =
+      let (h, there, is) = contains_map_from (pair_for tracker wanted loc) pair tracker.held at in
+      let entry : h ≡ entry_of es h.lock = All-contains (λ h. h ≡ entry_of es h.lock) tracker.held h tracked.stands.each there in
+      let deep : 0 < depth es h.lock = All-contains (λ h. 0 < depth es h.lock) tracker.held h tracked.stands.positive there in
+      subst (Contains (map (pair_at thread es wanted loc) (held es))) (sym (pair_for_is h.lock h entry) ∙ is)
+      (contains_map (pair_at thread es wanted loc) h.lock (held es) (held_where_deep es h.lock deep))
+
+  -- each pair of the definition is that of an entry
+  pairs_all : AreAmong (map (pair_at thread es wanted loc) (held es)) (map (pair_for tracker wanted loc) tracker.held)
+  pairs_all pair at =
+      let (lock, there, is) = contains_map_from (pair_at thread es wanted loc) pair (held es) at in
+      let entry = tracked.stands.whole lock (deep_where_held es lock there) in
+      subst (Contains (map (pair_for tracker wanted loc) tracker.held)) (pair_for_is lock (entry_of es lock) refl ∙ is)
+      (contains_map (pair_for tracker wanted loc) (entry_of es lock) tracker.held entry)
+
+  -- a table that grew by the pairs of the entries grew by the edges of the acquire
+  pub table_acquire : (known : BTreeMap Edge Sample) (pairs : List (Edge × Sample)) → depth es wanted ≡ 0
+      → IsTableOf known (pairs ++ map (pair_for tracker wanted loc) tracker.held) → IsTableOf known (pairs ++ edges_wanting thread es loc wanted)
+  table_acquire known pairs free is =
+      table_same known _ _ (ap (λ xs. pairs ++ xs) (sym (wanting_is thread es loc wanted free)))
+      (table_alike known _ _ (append_among pairs _ _ pairs_made) (append_among pairs _ _ pairs_all) is)
+
+-- an acquire of a held lock adds nothing
+pub table_none : (known : BTreeMap Edge Sample) (pairs : List (Edge × Sample)) (thread : ℕ) (es : List Event) (loc wanted : ℕ) → 0 < depth es wanted
+    → IsTableOf known pairs → IsTableOf known (pairs ++ edges_wanting thread es loc wanted)
+table_none known pairs thread es loc wanted deep is =
+    table_same known _ _ (ap (λ xs. pairs ++ xs) (sym (wanting_none thread es loc wanted deep))) (table_nil known pairs is)
+
+-- a lock that the test doesn't find isn't held
+pub not_deep : (b : Bool) (d : ℕ) → (0 < d → b ≡ true) → b ≡ false → d ≡ 0
+not_deep b d found missed =
+    elim (cases_lt 0 d) [
+      | inl deep ↦ let never = sym (found deep) ∙ missed in absurd (cc)
+      | inr none ↦ omega arith
+    ]
+
+-- ---- whole lists
+
+-- a range with one more number
+range_push : (a n : ℕ) → range_with_len a (suc n) ≡ range_with_len a n ++ (a + n) ∷ []
+range_push a zero = ap (λ k. k ∷ []) (omega arith)
+range_push a (suc n) =
+    ap (λ ks. a ∷ ks) (range_push (a + 1) n)
+    ∙ ap (λ k. a ∷ (range_with_len (a + 1) n ++ k ∷ [])) (omega arith)
+
+-- the edges at a place are those of its event
+pub edges_at_is : (thread : ℕ) (es : List Event) (place : ℕ) (e : Event) → slice_get es place ≡ Some e → edges_at thread es place ≡ edges_after thread (take place es) e
+unfolding edges_at
+edges_at_is thread es place e at = ap (λ o. option_map_or (edges_after thread (take place es)) o []) at
+
+-- the edges of one more place
+pub edges_below_more : (thread : ℕ) (es : List Event) (i : ℕ) (e : Event) → slice_get es i ≡ Some e → edges_below thread es (i + 1) ≡ edges_below thread es i ++ edges_after thread (take i es) e
+edges_below_more thread es i e at =
+    ap (edges_below thread es) add_one
+    ∙ ap (flat_map (edges_at thread es)) (range_push 0 i)
+    ∙ flat_map-append (edges_at thread es) (range_with_len 0 i) ((0 + i) ∷ [])
+    ∙ ap (λ xs. edges_below thread es i ++ xs) (append-nil (edges_at thread es (0 + i)) ∙ ap (edges_at thread es) from_zero ∙ edges_at_is thread es i e at)
+  where
+    add_one : i + 1 ≡ suc i
+    add_one = omega arith
+
+    from_zero : 0 + i ≡ i
+    from_zero = omega arith
+
+module _ (thread : ℕ) (es : List Event) (i : ℕ) (e : Event) (tracker : Tracker) (within : i < length es) (item : e ≡ get_or es i e) (tracked : Tracks thread (take i es) tracker) where
+  -- the event at its place
+  at_place : slice_get es i ≡ Some e
+  at_place = slice_get_read es (length es) i e refl within item
+
+  -- a tracker may take the next event of a lawful list
+  pub follows_next : IsLawful greatest thread es → MayFollow tracker e
+  follows_next lawful = record {
+    es = take i es;
+    tracked = record { of_thread = refl; stands = tracked.stands; at_place = tracked.at_place; in_segment = tracked.in_segment };
+    allowed = subst (λ t. refusal greatest t (take i es) e ≡ None) (sym tracked.of_thread) (lawful.each i e at_place);
+  }
+
+  -- and then follows one event more
+  pub followed : (new : Tracker) → Tracks thread (take i es ++ e ∷ []) new → Tracks thread (take (i + 1) es) new
+  followed new is = subst (λ xs. Tracks thread xs new) (ap (λ x. take i es ++ x ∷ []) item ∙ sym (take_more es i e within)) is
+
+  -- the table then has the edges of one place more
+  pub table_event : (known : BTreeMap Edge Sample) (pairs : List (Edge × Sample)) → IsTableOf known ((pairs ++ edges_below thread es i) ++ edges_after thread (take i es) e)
+      → IsTableOf known (pairs ++ edges_below thread es (i + 1))
+  table_event known pairs is =
+      table_same known _ _ (append_assoc pairs (edges_below thread es i) (edges_after thread (take i es) e) ∙ ap (λ xs. pairs ++ xs) (sym (edges_below_more thread es i e at_place))) is
+
+-- before the first event
+pub tracks_start : (thread : ℕ) (es : List Event) (tracker : Tracker) → Tracks thread [] tracker → Tracks thread (take 0 es) tracker
+tracks_start thread es tracker is = is
+
+-- the table has the edges of all places
+pub table_list : (known : BTreeMap Edge Sample) (pairs : List (Edge × Sample)) (thread : ℕ) (es : List Event) (i : ℕ) → i ≡ length es
+    → IsTableOf known (pairs ++ edges_below thread es i) → IsTableOf known (pairs ++ edges_of_list thread es)
+table_list known pairs thread es i all is = table_same known _ _ (ap (λ n. pairs ++ edges_below thread es n) all) is
+
+-- the last of several numbered elements
+enumerate_push : {X : Type 0} (n : ℕ) (xs : List X) (x : X) → enumerate_from n (xs ++ x ∷ []) ≡ enumerate_from n xs ++ (n + length xs, x) ∷ []
+enumerate_push n [] x = ap (λ k. (k, x) ∷ []) (omega arith)
+enumerate_push n (y ∷ xs) x =
+    ap (λ rest. (n, y) ∷ rest) (enumerate_push (n + 1) xs x)
+    ∙ ap (λ k. (n, y) ∷ (enumerate_from (n + 1) xs ++ (k, x) ∷ [])) (omega arith)
+
+-- the edges of one more list
+edges_made_push : (lists : List (List Event)) (es : List Event) → edges_made (lists ++ es ∷ []) ≡ edges_made lists ++ edges_of_list (length lists) es
+edges_made_push lists es =
+    ap (flat_map (λ numbered. edges_of_list numbered.0 numbered.1)) (enumerate_push 0 lists es)
+    ∙ flat_map-append (λ numbered. edges_of_list numbered.0 numbered.1) (enumerate_from 0 lists) ((0 + length lists, es) ∷ [])
+    ∙ ap (λ xs. edges_made lists ++ xs) (append-nil (edges_of_list (0 + length lists) es) ∙ ap (λ n. edges_of_list n es) from_zero)
+  where
+    from_zero : 0 + length lists ≡ length lists
+    from_zero = omega arith
+
+module _ {X : Type 0} (items : X → List Event) (xs : List X) (i : ℕ) (x : X) (within : i < length xs) (item : x ≡ get_or xs i x) where
+  -- the list at its number
+  pub list_at : slice_get (map items xs) i ≡ Some (items x)
+  list_at = slice_get-map items xs i ∙ ap (option_map items) (slice_get_read xs (length xs) i x refl within item)
+
+  -- the table then has the edges of one list more
+  pub table_lists : (known : BTreeMap Edge Sample) (thread : ℕ) (es : List Event) → thread ≡ i → es ≡ items x
+      → IsTableOf known (edges_made (map items (take i xs)) ++ edges_of_list thread es) → IsTableOf known (edges_made (map items (take (i + 1) xs)))
+  table_lists known thread es number list is =
+      table_same known _ _
+      ((λ j. edges_made (map items (take i xs)) ++ edges_of_list ((number ∙ sym long) j) ((list ∙ ap items item) j))
+      ∙ sym (edges_made_push (map items (take i xs)) (items (get_or xs i x)))
+      ∙ ap edges_made (sym (map_more items xs i x within)))
+      is
+    where
+      long : length (map items (take i xs)) ≡ i
+      long = length-map (take i xs) items ∙ length-take-le i xs (omega arith)

@@ -1,0 +1,13 @@
+pub mod Orders
+pub mod Guarding
+pub mod Membership
+pub mod Sets
+pub mod Least
+pub mod Tables
+pub mod Merging
+pub mod Following
+pub mod Gathering
+pub mod Steps
+pub mod Made
+pub mod MadeFirst
+pub mod Trials

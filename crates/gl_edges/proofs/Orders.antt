@@ -1,0 +1,54 @@
+-- The orders of edges and of samples are total, and only equal ones tie.
+use Rattle.std.proofs.Common.{◌≡◌, refl, rules}
+use Rattle.std.specs.Cmp.{IsTotalOrder}
+use Rattle.std.specs.Cmp.Rules.{comparing}
+use Rattle.std.specs.FinMap.{IsAntisymmetric, nat_cmp-IsAntisymmetric, slice_cmp-IsAntisymmetric}
+use Rattle.std.specs.Ordering.{nat_cmp, ordering_then}
+use Rattle.std.specs.declared.cmp.Ordering.{Ordering}
+use Rattle.std.specs.declared.cmp.Ordering.TheVariants.{Less, Equal, Greater}
+use Rattle.gl_edges.specs.Order.{edge_cmp, sample_cmp}
+
+-- the order of edges is total
+pub edge_cmp_total : IsTotalOrder edge_cmp
+edge_cmp_total = search (comparing, rules) depth 9
+
+-- the order of samples is total
+pub sample_cmp_total : IsTotalOrder sample_cmp
+sample_cmp_total = search (comparing, rules) depth 9
+
+-- a chain of two orders ties exactly where both do
+ties_first : (a b : Ordering) → ordering_then a b ≡ Equal → a ≡ Equal
+ties_first Less b e = e
+ties_first Equal b e = refl
+ties_first Greater b e = e
+
+-- and the second one too
+ties_second : (a b : Ordering) → ordering_then a b ≡ Equal → b ≡ Equal
+ties_second Less b e = cc
+ties_second Equal b e = e
+ties_second Greater b e = cc
+
+-- samples that tie are equal
+pub sample_cmp_exact : IsAntisymmetric sample_cmp
+sample_cmp_exact a b e =
+    let place : a.place ≡ b.place = nat_cmp-IsAntisymmetric _ _ (ties_first _ _ e) in
+    let rest = ties_second (nat_cmp a.place b.place) _ e in
+    let held : a.held_loc ≡ b.held_loc = nat_cmp-IsAntisymmetric _ _ (ties_first _ _ rest) in
+    let wanted : a.wanted_loc ≡ b.wanted_loc = nat_cmp-IsAntisymmetric _ _ (ties_second (nat_cmp a.held_loc b.held_loc) _ rest) in
+    λ i. record { place = place i; held_loc = held i; wanted_loc = wanted i }
+
+-- edges that tie are equal
+pub edge_cmp_exact : IsAntisymmetric edge_cmp
+edge_cmp_exact a b e =
+    let thread : a.thread ≡ b.thread = nat_cmp-IsAntisymmetric _ _ (ties_first _ _ e) in
+    let e1 = ties_second (nat_cmp a.thread b.thread) _ e in
+    let held : a.held ≡ b.held = nat_cmp-IsAntisymmetric _ _ (ties_first _ _ e1) in
+    let e2 = ties_second (nat_cmp a.held b.held) _ e1 in
+    let wanted : a.wanted ≡ b.wanted = nat_cmp-IsAntisymmetric _ _ (ties_first _ _ e2) in
+    let e3 = ties_second (nat_cmp a.wanted b.wanted) _ e2 in
+    let first : a.first ≡ b.first = nat_cmp-IsAntisymmetric _ _ (ties_first _ _ e3) in
+    let e4 = ties_second (nat_cmp a.first b.first) _ e3 in
+    let second : a.second ≡ b.second = nat_cmp-IsAntisymmetric _ _ (ties_first _ _ e4) in
+    let guards : a.guards ≡ b.guards =
+    slice_cmp-IsAntisymmetric nat_cmp-IsAntisymmetric _ _ (ties_second (nat_cmp a.second b.second) _ e4) in
+    λ i. record { thread = thread i; held = held i; wanted = wanted i; first = first i; second = second i; guards = guards i }

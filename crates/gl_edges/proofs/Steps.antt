@@ -1,0 +1,191 @@
+-- What one event adds to an ascending list of edges.
+use Rattle.std.proofs.Common.{◌≡◌, ℕ, zero, suc, ◌+◌, ◌-◌, ◌<◌, ◌≤◌, inl, inr, List, [], ◌∷◌, ◌++◌, length, get_or, map, take, Some, refl, sym, ap, subst, ◌∙◌, arith}
+use Rattle.std.specs.Prelude.{Contains, Any, slice_get, IfSome}
+use Rattle.std.specs.List.Sorted.{IsStrictlySortedBy}
+use Rattle.std.specs.Ordering.{nat_cmp, ordering_then}
+use Rattle.std.specs.declared.cmp.Ordering.{Ordering}
+use Rattle.std.specs.declared.cmp.Ordering.TheVariants.{Less, Equal}
+use Rattle.std.proofs.lemmas.Bool.{cases_lt}
+use Rattle.std.proofs.lemmas.List.{length_push, length-map, get_or-map, get_or_append_left, get_or_push, map_push, map_more, take_all, length-take-le, get_or-take}
+use Rattle.std.proofs.lemmas.List.Elements.{All-contains}
+use Rattle.std.proofs.lemmas.Map.Keys.{Less-from_sorted, sorted_from_all_adjacent}
+use Rattle.std.proofs.lemmas.Option.{slice_get-get_or}
+use Rattle.std.specs.FinMap as fin
+use Rattle.std.specs.Cmp.{nat_cmp_total, tied_itself}
+use Rattle.std.specs.List.{AllByRecursion}
+use Rattle.std.proofs.Math.Seq.{take-append_seam}
+use Rattle.gl_event.specs.declared.events.Event.TheVariants.{Acquire, Release, Fork, Join}
+use Rattle.gl_event.proofs.Depths.{slice_get_last}
+use Rattle.gl_event.specs.Events.{ascending, depth, held, entry_of}
+use Rattle.gl_event.specs.declared.events.Event.{Event}
+use Rattle.gl_event.specs.declared.held.HeldEntry.{HeldEntry}
+use Rattle.gl_event.proofs.HeldLocks.{ascending_locks}
+use Rattle.gl_edges.specs.Edges.{edge_of, pair_at, edges_wanting, edges_after, edges_at}
+use Rattle.gl_edges.specs.Order.{edge_cmp, AreAscending, IsAboveLast}
+use Rattle.gl_edges.specs.Tracking.{Tracks}
+use Rattle.gl_edges.specs.declared.edge.Edge.{Edge}
+use Rattle.gl_edges.specs.declared.edge.Sample.{Sample}
+use Rattle.gl_edges.specs.declared.tracker.Tracker.{Tracker}
+use Rattle.gl_edges.proofs.Orders.{edge_cmp_total}
+use Rattle.gl_edges.proofs.Guarding.{ascending_any}
+use Rattle.gl_edges.proofs.Membership.{contains_map_from, contains_from_any, any_from_contains}
+use Rattle.gl_edges.proofs.Gathering.{pair_for_is, wanting_is, wanting_none, edges_at_is}
+use Rattle.gl_edges.proofs.Tables.{sorted_from}
+
+-- ---- an edge above the last one
+
+-- the edges of the pairs
+abbrev firsts : List (Edge × Sample) → List Edge
+firsts pairs = map (λ pair. pair.0) pairs
+
+-- the last edge is below the new one
+last_below : (pairs : List (Edge × Sample)) (edge : Edge) (sample : Sample) (k : ℕ) → k + 1 ≡ length pairs → IsAboveLast pairs edge → edge_cmp (get_or pairs k (edge, sample)).0 edge ≡ Less
+last_below pairs edge sample k long above =
+    let at : slice_get pairs (length pairs - 1) ≡ Some (get_or pairs k (edge, sample)) =
+    ap (slice_get pairs) place ∙ slice_get-get_or pairs k (edge, sample) (omega arith) in
+    subst (λ o. IfSome o (λ last. edge_cmp last.0 edge ≡ Less)) at above
+  where
+    place : length pairs - 1 ≡ k
+    place = omega arith
+
+-- each edge is below the next
+adjacent : (pairs : List (Edge × Sample)) (edge : Edge) (sample : Sample) → AreAscending pairs → IsAboveLast pairs edge → (k : ℕ) → k + 1 < length (firsts pairs) + 1
+    → edge_cmp (get_or (firsts pairs ++ edge ∷ []) k edge) (get_or (firsts pairs ++ edge ∷ []) (k + 1) edge) ≡ Less
+adjacent pairs edge sample up above k within =
+    let long = length-map pairs (λ pair. pair.0) in
+    let here : get_or (firsts pairs ++ edge ∷ []) k edge ≡ get_or (firsts pairs) k edge = get_or_append_left (firsts pairs) (edge ∷ []) edge k (omega arith) in
+    elim (cases_lt (k + 1) (length (firsts pairs))) [
+      | inl both ↦
+          let next = get_or_append_left (firsts pairs) (edge ∷ []) edge (k + 1) both in
+          rw (here, next) (Less-from_sorted edge_cmp (firsts pairs) k (k + 1) edge up (omega arith) both)
+      | inr last ↦
+          let end : length (firsts pairs) ≡ k + 1 = omega arith in
+          let next = get_or_push (firsts pairs) edge edge (k + 1) end in
+          let it : get_or (firsts pairs) k edge ≡ (get_or pairs k (edge, sample)).0 = get_or-map (λ pair. pair.0) pairs k (edge, sample) edge (omega arith) in
+          rw (here, next, it) (last_below pairs edge sample k (omega arith) above)
+    ]
+
+-- an edge above the last one leaves the list ascending
+pub ascending_push : (pairs : List (Edge × Sample)) (edge : Edge) (sample : Sample) → AreAscending pairs → IsAboveLast pairs edge → AreAscending (pairs ++ (edge, sample) ∷ [])
+ascending_push pairs edge sample up above =
+    subst (IsStrictlySortedBy edge_cmp) (sym (map_push (λ pair. pair.0) pairs (edge, sample)))
+    (sorted_from_all_adjacent edge_cmp_total (firsts pairs ++ edge ∷ []) edge
+    (λ k within. let long = length_push (firsts pairs) edge in adjacent pairs edge sample up above k (omega arith)))
+
+-- ---- the entries of held locks
+
+-- a lock of the set has an entry
+pub entry_there : (hs : List HeldEntry) (lock : ℕ) → Contains (ascending (map (λ h. h.lock) hs)) lock → Any (λ h. h.lock ≡ lock) hs
+entry_there hs lock at =
+    let among = contains_from_any (map (λ h. h.lock) hs) lock (sym (ascending_any (map (λ h. h.lock) hs) lock) ∙ any_from_contains (ascending (map (λ h. h.lock) hs)) lock at) in
+    let (h, (k, within, is), of_lock) = contains_map_from (λ h. h.lock) lock hs among in
+    (k, h, within, is, of_lock)
+
+module _ (thread : ℕ) (es : List Event) (tracker : Tracker) (tracked : Tracks thread es tracker) (wanted loc : ℕ) where
+  -- the pair of a held lock is that of the definition
+  pair_of_entry : (h : HeldEntry) (lock : ℕ) (guards : List ℕ) → Contains tracker.held h → h.lock ≡ lock → guards ≡ ascending (map (λ h. h.lock) tracker.held)
+      → ◌≡◌ {A = Edge × Sample} (
+        record { thread = tracker.thread; held = h.lock; wanted = wanted; first = h.seg; second = tracker.segment; guards = guards },
+        record { place = tracker.place; held_loc = h.loc; wanted_loc = loc },
+      ) (pair_at thread es wanted loc lock)
+  pair_of_entry h lock guards there of_lock guarded =
+      let entry : h ≡ entry_of es h.lock = All-contains (λ h. h ≡ entry_of es h.lock) tracker.held h tracked.stands.each there in
+      (λ i. (
+        record { thread = tracker.thread; held = h.lock; wanted = wanted; first = h.seg; second = tracker.segment; guards = guarded i },
+        record { place = tracker.place; held_loc = h.loc; wanted_loc = loc },
+      ))
+      ∙ pair_for_is thread es tracker tracked wanted loc lock h (entry ∙ ap (entry_of es) of_lock)
+
+  -- one more pair
+  pub pairs_more : (pairs : List (Edge × Sample)) (locks : List ℕ) (i lock : ℕ) (h : HeldEntry) (guards : List ℕ) → i < length locks → lock ≡ get_or locks i lock
+      → Contains tracker.held h → h.lock ≡ lock → guards ≡ ascending (map (λ h. h.lock) tracker.held)
+      → pairs ≡ map (pair_at thread es wanted loc) (take i locks)
+      → pairs ++ (record { thread = tracker.thread; held = h.lock; wanted = wanted; first = h.seg; second = tracker.segment; guards = guards }, record { place = tracker.place; held_loc = h.loc; wanted_loc = loc }) ∷ []
+      ≡ map (pair_at thread es wanted loc) (take (i + 1) locks)
+  pairs_more pairs locks i lock h guards within item there of_lock guarded before =
+      (λ j. before j ++ (pair_of_entry h lock guards there of_lock guarded ∙ ap (pair_at thread es wanted loc) item) j ∷ [])
+      ∙ sym (map_more (pair_at thread es wanted loc) locks i lock within)
+
+  -- the pairs of all held locks
+  pub pairs_all : (pairs : List (Edge × Sample)) (locks : List ℕ) (i : ℕ) → length locks ≤ i → locks ≡ ascending (map (λ h. h.lock) tracker.held)
+      → pairs ≡ map (pair_at thread es wanted loc) (take i locks) → pairs ≡ map (pair_at thread es wanted loc) (held es)
+  pairs_all pairs locks i all are before =
+      before ∙ ap (map (pair_at thread es wanted loc)) (take_all i locks all ∙ are ∙ ascending_locks es tracker.held tracked.stands)
+
+-- ---- the edges of one event ascend
+
+-- a function that keeps the order keeps what is above
+all_mapped : {A B : Type 0} (R : A → A → Ordering) (S : B → B → Ordering) (f : A → B) → ((x y : A) → R x y ≡ Less → S (f x) (f y) ≡ Less)
+    → (x : A) (xs : List A) → AllByRecursion (λ y. R x y ≡ Less) xs → AllByRecursion (λ y. S (f x) y ≡ Less) (map f xs)
+all_mapped R S f keeps x [] all = record {}
+all_mapped R S f keeps x (y ∷ xs) all = (keeps x y all.0, all_mapped R S f keeps x xs all.1)
+
+-- and leaves a list ascending
+sorted_mapped : {A B : Type 0} (R : A → A → Ordering) (S : B → B → Ordering) (f : A → B) → ((x y : A) → R x y ≡ Less → S (f x) (f y) ≡ Less)
+    → (xs : List A) → IsStrictlySortedBy R xs → IsStrictlySortedBy S (map f xs)
+unfolding IsStrictlySortedBy
+sorted_mapped R S f keeps [] sorted = record {}
+sorted_mapped R S f keeps (x ∷ xs) sorted = (all_mapped R S f keeps x xs sorted.0, sorted_mapped R S f keeps xs sorted.1)
+
+-- the held locks ascend
+pub held_ascends : (es : List Event) → IsStrictlySortedBy nat_cmp (held es)
+unfolding held
+held_ascends es = sorted_from nat_cmp (fin.entries (fin.from_entries {R = nat_cmp} _)) (fin.entries_sorted _)
+
+-- where the first parts tie, the second ones decide
+by_second : (r s rest : Ordering) → r ≡ Equal → s ≡ Less → ordering_then r (ordering_then s rest) ≡ Less
+by_second r s rest tie less = ap (λ x. ordering_then x (ordering_then s rest)) tie ∙ ap (λ x. ordering_then x rest) less
+
+-- the edge of a greater held lock is above
+later_edge : (thread : ℕ) (es : List Event) (wanted a b : ℕ) → nat_cmp a b ≡ Less → edge_cmp (edge_of thread es wanted a) (edge_of thread es wanted b) ≡ Less
+later_edge thread es wanted a b up = by_second (nat_cmp thread thread) (nat_cmp a b) _ (tied_itself nat_cmp_total thread) up
+
+-- the edges of the pairs of an acquire
+map_firsts : (thread : ℕ) (es : List Event) (wanted loc : ℕ) (locks : List ℕ) → firsts (map (pair_at thread es wanted loc) locks) ≡ map (edge_of thread es wanted) locks
+map_firsts thread es wanted loc [] = refl
+map_firsts thread es wanted loc (lock ∷ locks) = ap (λ es'. edge_of thread es wanted lock ∷ es') (map_firsts thread es wanted loc locks)
+
+-- no edges
+nothing_ascends : AreAscending []
+unfolding IsStrictlySortedBy
+nothing_ascends = record {}
+
+-- the edges of an acquire ascend
+wanting_ascends : (thread : ℕ) (es : List Event) (loc wanted : ℕ) → AreAscending (edges_wanting thread es loc wanted)
+wanting_ascends thread es loc wanted =
+    elim (cases_lt 0 (depth es wanted)) [
+      | inl deep ↦ subst AreAscending (sym (wanting_none thread es loc wanted deep)) nothing_ascends
+      | inr none ↦
+          subst AreAscending (sym (wanting_is thread es loc wanted (omega arith)))
+          (subst (IsStrictlySortedBy edge_cmp) (sym (map_firsts thread es wanted loc (held es)))
+          (sorted_mapped nat_cmp edge_cmp (edge_of thread es wanted) (later_edge thread es wanted) (held es) (held_ascends es)))
+    ]
+
+-- those of any event do
+pub after_ascends : (thread : ℕ) (es : List Event) (e : Event) → AreAscending (edges_after thread es e)
+after_ascends thread es (Acquire lock loc) = wanting_ascends thread es loc lock
+after_ascends thread es (Release lock loc) = nothing_ascends
+after_ascends thread es (Fork other loc) = nothing_ascends
+after_ascends thread es (Join other loc) = nothing_ascends
+
+-- the edges at the place of the newest event
+pub newest : (thread : ℕ) (es : List Event) (e : Event) → edges_at thread (es ++ e ∷ []) (length es) ≡ edges_after thread es e
+newest thread es e =
+    edges_at_is thread (es ++ e ∷ []) (length es) e (slice_get_last es e)
+    ∙ ap (λ front. edges_after thread front e) (take-append_seam es (e ∷ []))
+
+-- each edge of an ascending list is above the last one before it
+pub above_front : (pairs : List (Edge × Sample)) (i : ℕ) (pair : Edge × Sample) → AreAscending pairs → i < length pairs → pair ≡ get_or pairs i pair → IsAboveLast (take i pairs) pair.0
+above_front pairs zero pair up within item = record {}
+above_front pairs (suc j) pair up within item =
+    let long : length (take (suc j) pairs) ≡ suc j = length-take-le (suc j) pairs (omega arith) in
+    let place : length (take (suc j) pairs) - 1 ≡ j = omega arith in
+    let at : slice_get (take (suc j) pairs) (length (take (suc j) pairs) - 1) ≡ Some (get_or pairs j pair) =
+    ap (slice_get (take (suc j) pairs)) place
+    ∙ slice_get-get_or (take (suc j) pairs) j pair (omega arith)
+    ∙ ap Some (get_or-take (suc j) pairs j pair (omega arith)) in
+    let before : get_or (firsts pairs) j pair.0 ≡ (get_or pairs j pair).0 = get_or-map (λ p. p.0) pairs j pair pair.0 (omega arith) in
+    let here : get_or (firsts pairs) (suc j) pair.0 ≡ pair.0 = get_or-map (λ p. p.0) pairs (suc j) pair pair.0 within ∙ ap (λ p. p.0) (sym item) in
+    let below = Less-from_sorted edge_cmp (firsts pairs) j (suc j) pair.0 up (omega arith) (omega (arith, length-map pairs (λ p. p.0))) in
+    let less : edge_cmp (get_or pairs j pair).0 pair.0 ≡ Less = (λ k. edge_cmp (sym before k) (sym here k)) ∙ below in
+    subst (λ o. IfSome o (λ last. edge_cmp last.0 pair.0 ≡ Less)) (sym at) less

@@ -1,0 +1,16 @@
+use Rattle.std.proofs.Common.{◌≡◌, List, ◌++◌, map, take}
+use Rattle.gl_event.specs.Events.{ascending}
+use Rattle.gl_edges.specs.Samples.{IsTableOf}
+use Rattle.gl_edges.specs.Tracking.{pair_for}
+use Rattle.gl_edges.specs.declared.edge.Edge.{Edge}
+use Rattle.gl_edges.specs.declared.edge.Sample.{Sample}
+use Rattle.gl_edges.proofs.gather.Gatherer.add_acquire.Given as goal
+
+abbrev pub invariant-loop-entry : goal.invariant-loop-entry
+invariant-loop-entry l = record {
+  of_thread : l.self.edge.thread ≡ l.tracker.thread;
+  wants : l.self.edge.wanted ≡ l.fn.wanted;
+  in_segment : l.self.edge.second ≡ l.tracker.segment;
+  guarded : l.self.edge.guards ≡ ascending (map (λ h. h.lock) l.tracker.held);
+  known : (pairs : List (Edge × Sample)) → IsTableOf l.fn.self.table pairs → IsTableOf l.self.table (pairs ++ map (pair_for l.tracker l.fn.wanted l.fn.loc) (take l.entry-index l.tracker.held));
+}

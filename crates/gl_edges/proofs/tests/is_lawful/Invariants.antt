@@ -1,0 +1,11 @@
+use Rattle.std.proofs.Common.{take}
+use Rattle.gl_event.specs.Bounds.{greatest}
+use Rattle.gl_event.specs.Lawful.{IsLawful}
+use Rattle.gl_edges.specs.Tracking.{Tracks}
+use Rattle.gl_edges.proofs.tests.is_lawful.Given as goal
+
+abbrev pub invariant-loop-event : goal.invariant-loop-event
+invariant-loop-event l = record {
+  follows : Tracks l.fn.thread (take l.event-index l.list) l.tracker;
+  lawful : IsLawful greatest l.fn.thread (take l.event-index l.list);
+}

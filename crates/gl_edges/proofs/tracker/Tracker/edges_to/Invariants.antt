@@ -1,0 +1,8 @@
+use Rattle.std.proofs.Common.{◌≡◌, ℕ, List, map, take}
+use Rattle.gl_event.specs.declared.events.Event.{Event}
+use Rattle.gl_edges.specs.Edges.{pair_at}
+use Rattle.gl_edges.specs.Tracking.{Tracks}
+use Rattle.gl_edges.proofs.tracker.Tracker.edges_to.Given as goal
+
+abbrev pub invariant-loop-lock : goal.invariant-loop-lock
+invariant-loop-lock l = (thread : ℕ) (es : List Event) → Tracks thread es l.self → l.pairs.items ≡ map (pair_at thread es l.wanted l.loc) (take l.lock-index l.locks)

@@ -1,0 +1,81 @@
+-- The edges that the events of threads make: where a thread acquires a lock that it doesn't hold, one
+-- edge for each lock that it holds.
+use Rattle.std.specs.Prelude.{ℕ, List, [], ◌∷◌, map, length, take, slice_get, ◌==◌, if◌then◌else◌}
+use Rattle.std.specs.FinMap as table
+use Rattle.std.specs.FinMap.{FinMap}
+use Rattle.std.specs.List.{flat_map, range_with_len, enumerate_from}
+use Rattle.std.specs.Option.{option_map_or}
+use Rattle.std.specs.Ordering.{is_lt}
+use Rattle.gl_event.specs.Events as events
+use Rattle.gl_event.specs.declared.events.Event.{Event}
+use Rattle.gl_edges.specs.Order.{edge_cmp, sample_cmp}
+use Rattle.gl_edges.specs.declared.edge.Edge.{Edge}
+use Rattle.gl_edges.specs.declared.edge.Sample.{Sample}
+
+-- the edge of a thread that, after these events, acquires the wanted lock while it holds this one
+abbrev pub edge_of : ℕ → List Event → ℕ → ℕ → Edge
+edge_of thread es wanted lock =
+    record {
+      thread = thread;
+      held = lock;
+      wanted = wanted;
+      first = (events.entry_of es lock).seg;
+      second = events.segment es;
+      guards = events.held es;
+    }
+
+-- where that edge is seen, if the acquire of the wanted lock stands at this location
+abbrev pub sample_of : List Event → ℕ → ℕ → Sample
+sample_of es loc lock = record { place = length es; held_loc = (events.entry_of es lock).loc; wanted_loc = loc }
+
+-- both
+abbrev pub pair_at : ℕ → List Event → ℕ → ℕ → ℕ → Edge × Sample
+pair_at thread es wanted loc lock = (edge_of thread es wanted lock, sample_of es loc lock)
+
+-- the edges of an acquire after these events: one for each held lock, and none if the lock is held already
+unfoldable pub edges_wanting : ℕ → List Event → ℕ → ℕ → List (Edge × Sample)
+edges_wanting thread es loc wanted =
+    if events.depth es wanted == 0
+    then map (pair_at thread es wanted loc) (events.held es)
+    else []
+
+-- the edges that an event makes after these events: only an acquire makes edges
+abbrev pub edges_after : ℕ → List Event → Event → List (Edge × Sample)
+edges_after thread es e = option_map_or (edges_wanting thread es (events.location e)) (events.acquired_lock e) []
+
+-- the edges that the event at this place of a thread's list makes
+unfoldable pub edges_at : ℕ → List Event → ℕ → List (Edge × Sample)
+edges_at thread es place = option_map_or (edges_after thread (take place es)) (slice_get es place) []
+
+-- the edges of a thread's events at the first n places, in their order
+abbrev pub edges_below : ℕ → List Event → ℕ → List (Edge × Sample)
+edges_below thread es n = flat_map (edges_at thread es) (range_with_len 0 n)
+
+-- the edges of a thread's list
+abbrev pub edges_of_list : ℕ → List Event → List (Edge × Sample)
+edges_of_list thread es = edges_below thread es (length es)
+
+-- the edges of all lists, one after the other; a thread's number is the position of its list
+abbrev pub edges_made : List (List Event) → List (Edge × Sample)
+edges_made lists = flat_map (λ numbered. edges_of_list numbered.0 numbered.1) (enumerate_from 0 lists)
+
+-- the lesser of two samples
+abbrev pub lesser : Sample → Sample → Sample
+lesser new old = if is_lt (sample_cmp new old) then new else old
+
+-- the table with one more pair: an edge that is there already keeps the lesser sample
+abbrev pub keep : FinMap edge_cmp Sample → Edge × Sample → FinMap edge_cmp Sample
+keep known pair = table.insert known pair.0 (option_map_or (lesser pair.1) (table.get known pair.0) pair.1)
+
+-- the table of these pairs: at each edge its least sample
+abbrev pub least_samples : List (Edge × Sample) → FinMap edge_cmp Sample
+least_samples [] = table.empty
+least_samples (pair ∷ pairs) = keep (least_samples pairs) pair
+
+-- each edge of these pairs once, ascending, with its least sample
+unfoldable pub once : List (Edge × Sample) → List (Edge × Sample)
+once pairs = table.entries (least_samples pairs)
+
+-- the edges of these lists: each once, ascending, with its least sample
+abbrev pub edges : List (List Event) → List (Edge × Sample)
+edges lists = once (edges_made lists)

@@ -1,0 +1,5 @@
+pub mod Edges
+pub mod Laws
+pub mod Order
+pub mod Samples
+pub mod Tracking

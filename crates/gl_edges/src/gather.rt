@@ -1,0 +1,121 @@
+//! The edges of whole lists of events.
+ghost use Rattle.std.specs.Prelude.{◌≡◌, ◌≤◌, ℕ, List, [], ◌∷◌, ◌++◌, map, length, slice_get, Some, OnOk, IfOk};
+ghost use Rattle.gl_event.specs.Bounds.{greatest};
+ghost use Rattle.gl_event.specs.Events.{depth};
+ghost use Rattle.gl_event.specs.Lawful.{IsLawful};
+ghost use Rattle.gl_event.specs.declared.events.Event.{Event};
+ghost use Rattle.gl_edges.specs.Edges.{edges_wanting, edges_after, edges_of_list, edges};
+ghost use Rattle.gl_edges.specs.Samples.{IsTableOf};
+ghost use Rattle.gl_edges.specs.Tracking.{Tracks, MayFollow, pair_for};
+ghost use Rattle.gl_edges.specs.declared.edge.Edge.{Edge};
+ghost use Rattle.gl_edges.specs.declared.edge.Sample.{Sample};
+
+use crate::edge::{Edge, Sample};
+use crate::guards::Guards;
+use crate::list::EdgeList;
+use crate::table::{into_list, keep};
+use crate::tracker::Tracker;
+use gl_event::{Event, LocId, LockId, Memory, ThreadId};
+use std::alloc::Global;
+use std::collections::BTreeMap;
+
+// The edges found so far, and one edge whose fields are set in turn to look others up.
+#[derive(Drop)]
+struct Gatherer {
+    table: BTreeMap<Edge, Sample>,
+    edge: Edge,
+}
+
+impl Gatherer {
+    // Puts in the edges of an acquire of a lock that the thread doesn't hold: one for each lock
+    // that it holds.
+    fn add_acquire(
+        &mut self,
+        alloc: Global,
+        tracker: &Tracker,
+        wanted: LockId,
+        loc: LocId,
+    ) -> Result<(), Memory>
+        ensures { OnOk result ((pairs : List (Edge × Sample)) → IsTableOf self.old.table pairs → IsTableOf self.new.table (pairs ++ map (pair_for tracker.now wanted loc) tracker.now.held)) }
+    {
+        let entries = tracker.held.entries();
+        self.edge.thread = tracker.thread;
+        self.edge.wanted = wanted;
+        self.edge.second = tracker.segment;
+        self.edge.guards.refill(entries)?;
+        for entry in entries {
+            self.edge.held = entry.lock;
+            self.edge.first = entry.seg;
+            let sample = Sample {
+                place: tracker.place,
+                held_loc: entry.loc,
+                wanted_loc: loc,
+            };
+            keep(alloc, &mut self.table, &self.edge, sample)?;
+        }
+        Ok(())
+    }
+
+    // Puts in the edges that the next event of the thread makes.
+    fn add_edges(&mut self, alloc: Global, tracker: &Tracker, event: &Event) -> Result<(), Memory>
+        ensures { OnOk result ((thread : ℕ) (es : List Event) (pairs : List (Edge × Sample)) → Tracks thread es tracker.now → IsTableOf self.old.table pairs → IsTableOf self.new.table (pairs ++ edges_after thread es event.now)) }
+    {
+        let Event::Acquire { lock, loc } = *event else {
+            return Ok(());
+        };
+        if tracker.held.holds(lock) {
+            return Ok(());
+        }
+        self.add_acquire(alloc, tracker, lock, loc)
+    }
+
+    // Takes the next event of the thread.
+    fn take(&mut self, alloc: Global, tracker: &mut Tracker, event: Event) -> Result<(), Memory>
+        requires { MayFollow tracker.old event }
+        ensures table { OnOk result ((thread : ℕ) (es : List Event) (pairs : List (Edge × Sample)) → Tracks thread es tracker.old → IsTableOf self.old.table pairs → IsTableOf self.new.table (pairs ++ edges_after thread es event)) }
+        ensures follows { OnOk result ((thread : ℕ) (es : List Event) → Tracks thread es tracker.old → Tracks thread (es ++ event ∷ []) tracker.new) }
+    {
+        self.add_edges(alloc, tracker, &event)?;
+        tracker.advance(event);
+        Ok(())
+    }
+
+    // Takes the events of a whole list.
+    fn take_list(&mut self, alloc: Global, thread: ThreadId, list: &[Event]) -> Result<(), Memory>
+        requires { IsLawful greatest thread list.now }
+        ensures { OnOk result ((pairs : List (Edge × Sample)) → IsTableOf self.old.table pairs → IsTableOf self.new.table (pairs ++ edges_of_list thread list.now)) }
+    {
+        let mut tracker = Tracker::new(thread);
+        for event in list {
+            self.take(alloc, &mut tracker, *event)?;
+        }
+        Ok(())
+    }
+}
+
+/// The edges of these lists: each once, ascending, with its least sample. A thread's number is the
+/// position of its list.
+///
+/// It takes a step for each event, and for each lock held at an acquire a look-up among the edges.
+/// An edge that was seen before takes no memory.
+pub fn edges_of(alloc: Global, lists: &[Vec<Event>]) -> Result<EdgeList, Memory>
+    requires few { length lists.now ≤ 1024 }
+    requires lawful { (thread : ℕ) (es : List Event) → slice_get (map (λ v. v.items) lists.now) thread ≡ Some es → IsLawful greatest thread es }
+    ensures { IfOk result (λ l. l ≡ edges (map (λ v. v.items) lists.now)) }
+{
+    let mut gatherer = Gatherer {
+        table: BTreeMap::new(alloc),
+        edge: Edge {
+            thread: ThreadId::new(0),
+            held: LockId::new(0),
+            wanted: LockId::new(0),
+            first: 0,
+            second: 0,
+            guards: Guards::empty(alloc),
+        },
+    };
+    for (number, list) in lists.iter().enumerate() {
+        gatherer.take_list(alloc, ThreadId::new(number as u32), list.as_slice())?;
+    }
+    into_list(alloc, gatherer.table)
+}

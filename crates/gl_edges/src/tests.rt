@@ -1,0 +1,377 @@
+//! Worked examples, and each call that takes memory on its happy path.
+ghost use Rattle.std.specs.Prelude.{◌≡◌, ◌≢◌, ◌<◌, ◌≤◌, ℕ, List, [], ◌∷◌, ◌++◌, map, length, slice_get, None, Some, IsTrue};
+ghost use Rattle.gl_event.specs.Bounds.{greatest};
+ghost use Rattle.gl_event.specs.Lawful.{IsLawful, lock_refusal, refusal};
+ghost use Rattle.gl_event.specs.declared.events.Event.{Event};
+ghost use Rattle.gl_edges.specs.Tracking.{Tracks};
+
+use crate::edge::{Edge, Sample};
+use crate::gather::edges_of;
+use crate::guards::Guards;
+use crate::list::EdgeList;
+use crate::tracker::Tracker;
+use gl_event::{Event, LocId, LockId, MAX_EVENTS, MAX_THREADS, Memory, ThreadId};
+use std::alloc::Global;
+use std::test::Fail;
+
+// An acquire.
+fn acq(lock: u32, loc: u32) -> Event {
+    Event::Acquire {
+        lock: LockId::new(lock),
+        loc: LocId::new(loc),
+    }
+}
+
+// A release.
+fn rel(lock: u32, loc: u32) -> Event {
+    Event::Release {
+        lock: LockId::new(lock),
+        loc: LocId::new(loc),
+    }
+}
+
+// Whether the thread may fork or join the other one.
+fn is_other(thread: ThreadId, other: ThreadId) -> bool
+    ensures known { IsTrue result → other < 1024 }
+    ensures apart { IsTrue result → other ≢ thread }
+{
+    if other.number() >= MAX_THREADS {
+        return false;
+    }
+    other != thread
+}
+
+// Whether the event is no fork or join of the thread itself, or of an unknown one.
+fn is_allowed(thread: ThreadId, event: &Event) -> bool
+    ensures { IsTrue result → (es : List Event) → length es < 4000000000 → lock_refusal es event.now ≡ None → refusal greatest thread es event.now ≡ None }
+{
+    match *event {
+        Event::Acquire { .. } => true,
+        Event::Release { .. } => true,
+        Event::Fork { thread: other, .. } => is_other(thread, other),
+        Event::Join { thread: other, .. } => is_other(thread, other),
+    }
+}
+
+// Takes the event, if it is lawful next.
+fn take(tracker: &mut Tracker, event: Event) -> bool
+    ensures allowed { IsTrue result → (thread : ℕ) (es : List Event) → Tracks thread es tracker.old → refusal greatest thread es event ≡ None }
+    ensures follows { IsTrue result → (thread : ℕ) (es : List Event) → Tracks thread es tracker.old → Tracks thread (es ++ event ∷ []) tracker.new }
+{
+    if tracker.place >= MAX_EVENTS || tracker.segment >= MAX_EVENTS {
+        return false;
+    }
+    if !is_allowed(tracker.thread, &event) {
+        return false;
+    }
+    let place = tracker.place;
+    tracker.place = place + 1;
+    match event {
+        Event::Acquire { lock, loc } => {
+            let answer = tracker.held.acquire(lock, loc, place, tracker.segment);
+            answer.is_ok()
+        }
+        Event::Release { lock, .. } => {
+            let answer = tracker.held.release(lock);
+            answer.is_ok()
+        }
+        Event::Fork { .. } | Event::Join { .. } => {
+            tracker.segment += 1;
+            true
+        }
+    }
+}
+
+// Whether the list is lawful under the greatest limits.
+fn is_lawful(thread: ThreadId, list: &[Event]) -> bool
+    ensures { IsTrue result → IsLawful greatest thread list.now }
+{
+    let mut tracker = Tracker::new(thread);
+    for event in list {
+        if !take(&mut tracker, *event) {
+            return false;
+        }
+    }
+    true
+}
+
+// Whether there are few enough lists, and each is lawful under the greatest limits.
+fn are_lawful(lists: &[Vec<Event>]) -> bool
+    ensures few { IsTrue result → length lists.now ≤ 1024 }
+    ensures lawful { IsTrue result → (thread : ℕ) (es : List Event) → slice_get (map (λ v. v.items) lists.now) thread ≡ Some es → IsLawful greatest thread es }
+{
+    if lists.len() > 1024 {
+        return false;
+    }
+    for (number, list) in lists.iter().enumerate() {
+        if !is_lawful(ThreadId::new(number as u32), list.as_slice()) {
+            return false;
+        }
+    }
+    true
+}
+
+// An edge and its sample, as they are wanted.
+#[derive(Clone, Copy)]
+struct Want<'a> {
+    thread: u32,
+    held: u32,
+    wanted: u32,
+    first: u32,
+    second: u32,
+    guards: &'a [u32],
+    place: u32,
+    held_loc: u32,
+    wanted_loc: u32,
+}
+
+fn are_locks(locks: &[LockId], numbers: &[u32]) -> bool {
+    if locks.len() != numbers.len() {
+        return false;
+    }
+    for (lock, number) in locks.iter().zip(numbers) {
+        if lock.number() != *number {
+            return false;
+        }
+    }
+    true
+}
+
+fn is_as_wanted(edge: &Edge, sample: &Sample, want: &Want) -> bool {
+    edge.thread == ThreadId::new(want.thread)
+        && edge.held == LockId::new(want.held)
+        && edge.wanted == LockId::new(want.wanted)
+        && edge.first == want.first
+        && edge.second == want.second
+        && are_locks(edge.guards.as_slice(), want.guards)
+        && sample.place == want.place
+        && sample.held_loc == LocId::new(want.held_loc)
+        && sample.wanted_loc == LocId::new(want.wanted_loc)
+}
+
+fn are_as_wanted(pairs: &[(Edge, Sample)], wants: &[Want]) -> bool {
+    if pairs.len() != wants.len() {
+        return false;
+    }
+    for (pair, want) in pairs.iter().zip(wants) {
+        if !is_as_wanted(&pair.0, &pair.1, want) {
+            return false;
+        }
+    }
+    true
+}
+
+// A fork of a thread.
+fn fork(thread: u32, loc: u32) -> Event {
+    Event::Fork {
+        thread: ThreadId::new(thread),
+        loc: LocId::new(loc),
+    }
+}
+
+// An edge of a thread that has forked and joined nobody.
+fn plain<'a>(
+    thread: u32,
+    held: u32,
+    wanted: u32,
+    guards: &'a [u32],
+    place: u32,
+    locs: (u32, u32),
+) -> Want<'a> {
+    Want {
+        thread,
+        held,
+        wanted,
+        first: 0,
+        second: 0,
+        guards,
+        place,
+        held_loc: locs.0,
+        wanted_loc: locs.1,
+    }
+}
+
+// The list, by copies of its edges.
+fn copied(alloc: Global, list: &EdgeList) -> Result<EdgeList, Memory> {
+    let mut copies = EdgeList::new(alloc);
+    let pairs = list.entries();
+    for pair in pairs {
+        let edge = pair.0.copy(alloc)?;
+        copies.push(edge, pair.1)?;
+    }
+    Ok(copies)
+}
+
+// The edges of the thread's events, one event after the other.
+fn stepped(alloc: Global, thread: ThreadId, list: &[Event]) -> Result<Vec<(Edge, Sample)>, Memory>
+    requires { IsLawful greatest thread list.now }
+{
+    let mut tracker = Tracker::new(thread);
+    let mut found = Vec::new(alloc);
+    for event in list {
+        let pairs = tracker.step(alloc, *event)?;
+        for pair in pairs {
+            found.push(pair)?;
+        }
+    }
+    Ok(found)
+}
+
+// Two threads take two locks in opposite orders.
+#[test]
+fn opposite_order(rt: HostRuntime) -> Result<(), Fail> {
+    let alloc = rt.alloc();
+    let lists = vec![in alloc;
+        vec![in alloc; acq(0, 1), acq(1, 2), rel(1, 3), rel(0, 4)]?,
+        vec![in alloc; acq(1, 5), acq(0, 6)]?,
+    ]?;
+    assert!(rt; are_lawful(&lists));
+    let found = edges_of(alloc, &lists)?;
+    let wants = [
+        plain(0, 0, 1, &[0], 1, (1, 2)),
+        plain(1, 1, 0, &[1], 1, (5, 6)),
+    ];
+    assert!(rt; are_as_wanted(found.entries(), &wants));
+    Ok(())
+}
+
+// Both threads hold lock 0 while they take locks 1 and 2 in opposite orders.
+#[test]
+fn gate_lock(rt: HostRuntime) -> Result<(), Fail> {
+    let alloc = rt.alloc();
+    let lists = vec![in alloc;
+        vec![in alloc;
+            acq(0, 1),
+            acq(1, 2),
+            acq(2, 3),
+            rel(2, 4),
+            rel(1, 5),
+            rel(0, 6)
+        ]?,
+        vec![in alloc; acq(0, 7), acq(2, 8), acq(1, 9)]?,
+    ]?;
+    assert!(rt; are_lawful(&lists));
+    let found = edges_of(alloc, &lists)?;
+    let wants = [
+        plain(0, 0, 1, &[0], 1, (1, 2)),
+        plain(0, 0, 2, &[0, 1], 2, (1, 3)),
+        plain(0, 1, 2, &[0, 1], 2, (2, 3)),
+        plain(1, 0, 1, &[0, 2], 2, (7, 9)),
+        plain(1, 0, 2, &[0], 1, (7, 8)),
+        plain(1, 2, 1, &[0, 2], 2, (8, 9)),
+    ];
+    assert!(rt; are_as_wanted(found.entries(), &wants));
+    Ok(())
+}
+
+// A fork closes a segment while a lock is held.
+#[test]
+fn fork_while_holding(rt: HostRuntime) -> Result<(), Fail> {
+    let alloc = rt.alloc();
+    let lists = vec![in alloc;
+        vec![in alloc; acq(0, 1), fork(1, 2), acq(1, 3)]?,
+        vec![in alloc; acq(1, 4), acq(0, 5)]?,
+    ]?;
+    assert!(rt; are_lawful(&lists));
+    let found = edges_of(alloc, &lists)?;
+    let first = Want {
+        second: 1,
+        ..plain(0, 0, 1, &[0], 2, (1, 3))
+    };
+    let wants = [first, plain(1, 1, 0, &[1], 1, (4, 5))];
+    assert!(rt; are_as_wanted(found.entries(), &wants));
+    Ok(())
+}
+
+// A lock that is acquired twice and released once is still held, and was opened by the first acquire.
+#[test]
+fn reentrant_acquire(rt: HostRuntime) -> Result<(), Fail> {
+    let alloc = rt.alloc();
+    let lists = vec![in alloc;
+        vec![in alloc; acq(0, 1), acq(0, 2), acq(1, 3), rel(0, 4), acq(2, 5)]?,
+        vec![in alloc; acq(2, 6), acq(0, 7)]?,
+    ]?;
+    assert!(rt; are_lawful(&lists));
+    let found = edges_of(alloc, &lists)?;
+    let wants = [
+        plain(0, 0, 1, &[0], 2, (1, 3)),
+        plain(0, 0, 2, &[0, 1], 4, (1, 5)),
+        plain(0, 1, 2, &[0, 1], 4, (3, 5)),
+        plain(1, 2, 0, &[2], 1, (6, 7)),
+    ];
+    assert!(rt; are_as_wanted(found.entries(), &wants));
+    Ok(())
+}
+
+// Locks that are not released in the opposite order of their acquires. Copies of the edges make the
+// same list once more.
+#[test]
+fn crossed_releases(rt: HostRuntime) -> Result<(), Fail> {
+    let alloc = rt.alloc();
+    let lists = vec![in alloc; vec![in alloc; acq(0, 1), acq(1, 2), rel(0, 3), acq(2, 4)]?]?;
+    assert!(rt; are_lawful(&lists));
+    let found = edges_of(alloc, &lists)?;
+    let wants = [
+        plain(0, 0, 1, &[0], 1, (1, 2)),
+        plain(0, 1, 2, &[1], 3, (2, 4)),
+    ];
+    assert!(rt; are_as_wanted(found.entries(), &wants));
+
+    let copies = copied(alloc, &found)?;
+    assert!(rt; are_as_wanted(copies.entries(), &wants));
+    Ok(())
+}
+
+// The same, event by event.
+#[test]
+fn tracker_steps(rt: HostRuntime) -> Result<(), Fail> {
+    let alloc = rt.alloc();
+    let list = vec![in alloc; acq(0, 1), acq(1, 2), rel(0, 3), acq(2, 4)]?;
+    let wants = [
+        plain(0, 0, 1, &[0], 1, (1, 2)),
+        plain(0, 1, 2, &[1], 3, (2, 4)),
+    ];
+    assert!(rt; is_lawful(ThreadId::new(0), &list));
+    let found = stepped(alloc, ThreadId::new(0), &list)?;
+    assert!(rt; are_as_wanted(&found, &wants));
+    Ok(())
+}
+
+// A set of locks has each of them once, ascending.
+#[test]
+fn guards_of_locks(rt: HostRuntime) -> Result<(), Fail> {
+    let alloc = rt.alloc();
+    let locks = vec![in alloc;
+        LockId::new(3),
+        LockId::new(1),
+        LockId::new(3),
+        LockId::new(2),
+    ]?;
+    let guards = Guards::new(locks);
+    assert!(rt; are_locks(guards.as_slice(), &[1, 2, 3]));
+    assert!(rt; are_locks(&guards.into_vec(), &[1, 2, 3]));
+    Ok(())
+}
+
+// An edge that a thread makes a thousand times keeps its first sample.
+#[test]
+fn least_sample(rt: HostRuntime) -> Result<(), Fail> {
+    let alloc = rt.alloc();
+    let mut list = Vec::new(alloc);
+    for turn in 0..1_000 {
+        let loc = 4 * turn;
+        list.push(acq(0, loc + 1))?;
+        list.push(acq(1, loc + 2))?;
+        list.push(rel(1, loc + 3))?;
+        list.push(rel(0, loc + 4))?;
+    }
+    let lists = vec![in alloc; list, vec![in alloc; acq(1, 4_001), acq(0, 4_002)]?]?;
+    assert!(rt; are_lawful(&lists));
+    let found = edges_of(alloc, &lists)?;
+    let wants = [
+        plain(0, 0, 1, &[0], 1, (1, 2)),
+        plain(1, 1, 0, &[1], 1, (4_001, 4_002)),
+    ];
+    assert!(rt; are_as_wanted(found.entries(), &wants));
+    Ok(())
+}

@@ -1,0 +1,133 @@
+//! A thread that is followed event by event.
+ghost use Rattle.std.specs.Prelude.{◌≡◌, ℕ, List, [], ◌∷◌, ◌++◌, map, length, Contains, Any, IfOk, OnOk, OnErr};
+ghost use Rattle.gl_event.specs.declared.events.Event.{Event};
+ghost use Rattle.gl_event.specs.Events as events;
+ghost use Rattle.gl_edges.specs.Edges.{edges_at, edges_after, pair_at};
+ghost use Rattle.gl_edges.specs.Order.{AreAscending};
+ghost use Rattle.gl_edges.specs.Tracking.{Tracks, MayFollow};
+
+use crate::edge::{Edge, Sample};
+use crate::guards::Guards;
+use gl_event::{Event, Held, HeldEntry, LocId, LockId, Memory, ThreadId};
+use std::alloc::Global;
+
+/// What a thread holds after its events so far, and where the next one stands.
+///
+/// It keeps no events: it follows every list of events that leaves the same locks held, is as long
+/// and has as many forks and joins.
+#[derive(Drop, Debug)]
+pub struct Tracker {
+    pub(crate) thread: ThreadId,
+    pub(crate) held: Held,
+    pub(crate) place: u32,
+    pub(crate) segment: u32,
+}
+
+impl Tracker {
+    /// The thread before its first event.
+    pub fn new(thread: ThreadId) -> Tracker
+        ensures { Tracks thread [] result }
+    {
+        Tracker {
+            thread,
+            held: Held::new(),
+            place: 0,
+            segment: 0,
+        }
+    }
+
+    /// Takes the next event, which has to be lawful next under the greatest limits, and answers the
+    /// edges that it makes, ascending, each with its sample. Where there is no memory for them the
+    /// event isn't taken.
+    ///
+    /// An acquire takes a step for each pair of locks that are held.
+    pub fn step(&mut self, alloc: Global, event: Event) -> Result<Vec<(Edge, Sample)>, Memory>
+        requires { MayFollow self.old event }
+        ensures edges { (thread : ℕ) (es : List Event) → Tracks thread es self.old → IfOk result (λ v. v.items ≡ edges_at thread (es ++ event ∷ []) (length es)) }
+        ensures ascending { IfOk result (λ v. AreAscending v.items) }
+        ensures follows { OnOk result ((thread : ℕ) (es : List Event) → Tracks thread es self.old → Tracks thread (es ++ event ∷ []) self.new) }
+        ensures unchanged { OnErr result (self.new ≡ self.old) }
+    {
+        let edges = self.next_edges(alloc, &event)?;
+        self.advance(event);
+        Ok(edges)
+    }
+
+    // The edges that the event makes as the next one, ascending.
+    fn next_edges(&self, alloc: Global, event: &Event) -> Result<Vec<(Edge, Sample)>, Memory>
+        ensures { (thread : ℕ) (es : List Event) → Tracks thread es self.now → IfOk result (λ v. v.items ≡ edges_after thread es event.now) }
+    {
+        let Event::Acquire { lock, loc } = *event else {
+            return Ok(Vec::new(alloc));
+        };
+        if self.held.holds(lock) {
+            return Ok(Vec::new(alloc));
+        }
+        self.edges_to(alloc, lock, loc)
+    }
+
+    // The edges from each held lock to one that isn't held, ascending.
+    fn edges_to(
+        &self,
+        alloc: Global,
+        wanted: LockId,
+        loc: LocId,
+    ) -> Result<Vec<(Edge, Sample)>, Memory>
+        ensures { (thread : ℕ) (es : List Event) → Tracks thread es self.now → IfOk result (λ v. v.items ≡ map (pair_at thread es wanted loc) (events.held es)) }
+    {
+        let mut guards = Guards::empty(alloc);
+        guards.refill(self.held.entries())?;
+        let mut pairs = Vec::new(alloc);
+        let locks = guards.as_slice();
+        for lock in locks {
+            let entry = entry_for(self.held.entries(), *lock);
+            let edge = Edge {
+                thread: self.thread,
+                held: entry.lock,
+                wanted,
+                first: entry.seg,
+                second: self.segment,
+                guards: guards.copy(alloc)?,
+            };
+            let sample = Sample {
+                place: self.place,
+                held_loc: entry.loc,
+                wanted_loc: loc,
+            };
+            pairs.push((edge, sample))?;
+        }
+        Ok(pairs)
+    }
+
+    /// Takes the next event.
+    pub(crate) fn advance(&mut self, event: Event)
+        requires { MayFollow self.old event }
+        ensures { (thread : ℕ) (es : List Event) → Tracks thread es self.old → Tracks thread (es ++ event ∷ []) self.new }
+    {
+        let place = self.place;
+        self.place = place + 1;
+        match event {
+            Event::Acquire { lock, loc } => {
+                let _ = self.held.acquire(lock, loc, place, self.segment);
+            }
+            Event::Release { lock, .. } => {
+                let _ = self.held.release(lock);
+            }
+            Event::Fork { .. } | Event::Join { .. } => self.segment += 1,
+        }
+    }
+}
+
+// The entry of the lock, which is among these.
+fn entry_for(entries: &[HeldEntry], lock: LockId) -> HeldEntry
+    requires { Any (λ h. h.lock ≡ lock) entries.now }
+    ensures there { Contains entries.now result }
+    ensures of_lock { result.lock ≡ lock }
+{
+    for entry in entries {
+        if entry.lock == lock {
+            return *entry;
+        }
+    }
+    unreachable!()
+}

@@ -1,0 +1,26 @@
+-- What a query asks for, and its ranges.
+use Rattle.std.specs.Prelude.{ℕ, ◌≤◌, Bool, ◌||◌, Option, Some, None, if◌then◌else◌, nat_lt}
+use Rattle.gl_filters.specs.declared.query.TheConstants.{MAX_LEN, MAX_CYCLES}
+use Rattle.gl_filters.specs.declared.query.Mode.{Mode}
+use Rattle.gl_filters.specs.declared.query.BadQuery.{BadQuery}
+use Rattle.gl_filters.specs.declared.query.BadQuery.TheVariants.{Len, Max}
+
+-- the mode, the greatest number of edges of a cycle, and the greatest number of cycles
+pub record Asked : Type 0 where
+  pub mode : Mode
+  pub len : ℕ
+  pub max : ℕ
+
+-- a cycle may have 2 edges and up to 16, and at least one cycle is asked for
+pub record IsInRange (asked : Asked) : Type 0 where
+  pub two_edges : 2 ≤ asked.len
+  pub len_fits : asked.len ≤ MAX_LEN
+  pub one_cycle : 1 ≤ asked.max
+  pub max_fits : asked.max ≤ MAX_CYCLES
+
+-- the first part of the query that is out of its range
+abbrev pub first_out_of_range : Asked → Option BadQuery
+first_out_of_range asked =
+    if nat_lt asked.len 2 || nat_lt MAX_LEN asked.len then Some Len
+    else (if nat_lt asked.max 1 || nat_lt MAX_CYCLES asked.max then Some Max
+    else None)

@@ -1,0 +1,108 @@
+//! Which two edges may stand in one cycle.
+ghost use Rattle.std.specs.Prelude.{◌≡◌, ◌&&◌, ◌||◌, ◌==◌, not};
+ghost use Rattle.gl_segments.specs.Clocks.{is_before};
+ghost use Rattle.gl_filters.specs.Cycle.{asks_guards, asks_order, is_ordered};
+ghost use Rattle.gl_filters.specs.Test.{share_one, is_clear, goes_with, is_compatible};
+
+use crate::query::Mode;
+use gl_edges::{Edge, Guards};
+use gl_event::Segment;
+use gl_segments::Order;
+
+// Whether the two sets have a lock in common: a gate lock. Sets are small, at most 64 locks.
+fn share_lock(a: &Guards, b: &Guards) -> bool
+    ensures { result ≡ share_one a.now b.now }
+{
+    let others = b.as_slice();
+    a.as_slice().iter().any(|lock| others.contains(lock))
+}
+
+impl Mode {
+    // Whether guard sets of a cycle's edges have no lock in common.
+    fn asks_guards(self) -> bool
+        ensures { result ≡ asks_guards self }
+    {
+        match self {
+            Mode::Basic => false,
+            Mode::Guarded => true,
+            Mode::Full => true,
+        }
+    }
+
+    // Whether no two edges of a cycle are ordered.
+    fn asks_order(self) -> bool
+        ensures { result ≡ asks_order self }
+    {
+        match self {
+            Mode::Basic => false,
+            Mode::Guarded => false,
+            Mode::Full => true,
+        }
+    }
+}
+
+// Whether one of the edges is over before the other begins.
+fn are_ordered(order: &Order, e: &Edge, f: &Edge) -> bool
+    ensures { result ≡ is_ordered (is_before order.now) e.now f.now }
+{
+    let e_wants = Segment {
+        thread: e.thread,
+        index: e.second,
+    };
+    let f_holds = Segment {
+        thread: f.thread,
+        index: f.first,
+    };
+    if order.before(e_wants, f_holds) {
+        return true;
+    }
+    let f_wants = Segment {
+        thread: f.thread,
+        index: f.second,
+    };
+    let e_holds = Segment {
+        thread: e.thread,
+        index: e.first,
+    };
+    order.before(f_wants, e_holds)
+}
+
+// Whether guards and order let the two edges stand in one cycle of this mode.
+#[tactic(auto, unfolding(crate::specs::Test::is_clear))]
+fn are_clear(mode: Mode, order: &Order, e: &Edge, f: &Edge) -> bool
+    ensures { result ≡ is_clear (is_before order.now) mode e.now f.now }
+{
+    if mode.asks_guards() && share_lock(&e.guards, &f.guards) {
+        return false;
+    }
+    if mode.asks_order() && are_ordered(order, e, f) {
+        return false;
+    }
+    true
+}
+
+/// Whether two edges may stand in one cycle of this mode, at any distance: their held locks and
+/// their threads differ, from Guarded on their guards have no lock in common, and in Full they
+/// aren't ordered.
+#[tactic(auto, unfolding(crate::specs::Test::goes_with))]
+pub fn goes_with(mode: Mode, order: &Order, e: &Edge, f: &Edge) -> bool
+    ensures { result ≡ goes_with (is_before order.now) mode e.now f.now }
+{
+    if e.held == f.held || e.thread == f.thread {
+        return false;
+    }
+    are_clear(mode, order, e, f)
+}
+
+/// Whether the second edge may follow the first one in a cycle of this mode: the first wants the
+/// lock that the second holds, their threads differ, from Guarded on their guards have no lock in
+/// common, and in Full they aren't ordered.
+#[tactic(auto, unfolding(crate::specs::Test::is_compatible))]
+pub fn compatible(mode: Mode, order: &Order, e: &Edge, f: &Edge) -> bool
+    ensures { result ≡ is_compatible (is_before order.now) mode e.now f.now }
+{
+    if e.wanted != f.held || e.thread == f.thread {
+        return false;
+    }
+    are_clear(mode, order, e, f)
+}

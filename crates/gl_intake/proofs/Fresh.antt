@@ -1,0 +1,48 @@
+-- The logs and rows of an intake that has accepted nothing.
+use Rattle.std.proofs.Common.{◌≡◌, ℕ, ◌+◌, ◌<◌, false, List, [], ◌∷◌, ◌++◌, length, get_or, Vec, Global, refl, subst, arith, inl, inr}
+use Rattle.std.proofs.lemmas.Bool.{cases_lt}
+use Rattle.std.proofs.lemmas.List.{get_or_append_left}
+use Rattle.std.proofs.Math.Seq.{get_or-append_seam}
+use Rattle.gl_event.specs.Bounds.{Bounds}
+use Rattle.gl_event.specs.declared.events.Event.{Event}
+use Rattle.gl_recorder.specs.Taking.{Tracks}
+use Rattle.gl_intake.specs.Stream.{events_of, has_ended}
+use Rattle.gl_intake.specs.Rows.{AreLogs, AreRows}
+use Rattle.gl_intake.specs.declared.intake.Row.{Row}
+
+-- what holds of each item, and of one more at its end
+pub each_pushed : {X : Type 0} (P : ℕ → X → Type 0) (xs : List X) (x : X) → ((i : ℕ) (d : X) → i < length xs → P i (get_or xs i d)) → P (length xs) x
+    → (i : ℕ) (d : X) → i < length xs + 1 → P i (get_or (xs ++ x ∷ []) i d)
+each_pushed P xs x each last i d within =
+    elim (cases_lt i (length xs)) [
+      | inl before ↦ rw (get_or_append_left xs (x ∷ []) d i before) (each i d before)
+      | inr at_end ↦
+          let same : length xs ≡ i = omega arith in
+          let here : P (length xs) (get_or (xs ++ x ∷ []) (length xs) d) = rw (get_or-append_seam xs x [] d) last in
+          subst (λ (k : ℕ). P k (get_or (xs ++ x ∷ []) k d)) same here
+    ]
+
+-- a log that holds nothing
+abbrev pub IsEmptyLog : ℕ → Vec Event Global → Type 0
+IsEmptyLog thread log = log.items ≡ []
+
+-- a row of a thread that has had no event
+abbrev pub IsFreshRow : Bounds → ℕ → Row → Type 0
+IsFreshRow limits thread row = Tracks limits thread [] row.taker × (row.has_ended ≡ false)
+
+pub all_logs : (threads : ℕ) (logs : List (Vec Event Global)) → length logs ≡ threads → ((i : ℕ) (d : Vec Event Global) → i < length logs → IsEmptyLog i (get_or logs i d)) → AreLogs threads [] logs
+unfolding events_of
+all_logs threads logs count each = record { count = count; each = λ i d within. each i d (omega arith) }
+
+pub all_rows : (limits : Bounds) (rows : List Row) → length rows ≡ limits.threads → ((i : ℕ) (d : Row) → i < length rows → IsFreshRow limits i (get_or rows i d)) → AreRows limits [] rows
+unfolding events_of has_ended
+all_rows limits rows count each = record {
+  count = count;
+  tracks = λ i d within. (each i d (omega arith)).0;
+  ended = λ i d within. (each i d (omega arith)).1;
+}
+
+-- no thread has ended in an empty stream
+pub none_ended : (thread : ℕ) → has_ended thread [] ≡ false
+unfolding has_ended
+none_ended thread = refl

@@ -1,0 +1,5 @@
+pub mod Streams
+pub mod Next
+pub mod Kept
+pub mod Fresh
+pub mod Order

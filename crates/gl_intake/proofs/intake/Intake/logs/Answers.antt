@@ -1,0 +1,9 @@
+use Rattle.gl_intake.proofs.Kept.{lawful_events}
+use Rattle.gl_intake.proofs.Streams.{logs_listed}
+use Rattle.gl_intake.proofs.intake.Intake.logs.Goals as goal
+
+pub returns-clause-value : goal.returns-clause-value
+returns-clause-value c = rw (c.as_slice.ensures.value, ← c.self.view_is) (logs_listed _ _ _ c.self.invariant.logs_are)
+
+pub returns-clause-lawful : goal.returns-clause-lawful
+returns-clause-lawful c = rw (← c.self.view_is) (lawful_events _ _ _ c.self.invariant.rows_are)

@@ -1,0 +1,27 @@
+-- What an intake keeps of each thread beside the stream.
+use Rattle.std.specs.Prelude.{◌≡◌, ℕ, ◌<◌, ◌≤◌, false, List, length, Vec, slice_index_or}
+use Rattle.std.specs.declared.alloc.Global.{Global}
+use Rattle.gl_event.specs.Bounds.{Bounds}
+use Rattle.gl_event.specs.declared.events.Event.{Event}
+use Rattle.gl_event.specs.declared.notes.Note.{Note}
+use Rattle.gl_recorder.specs.Taking.{Tracks}
+use Rattle.gl_intake.specs.Stream.{events_of, has_ended, AreInOrder}
+use Rattle.gl_intake.specs.declared.intake.Row.{Row}
+
+-- there is one log for each thread, with the events of its notes
+pub record AreLogs (threads : ℕ) (stream : List Note) (logs : List (Vec Event Global)) : Type 0 where
+  pub count : length logs ≡ threads
+  pub each : (thread : ℕ) (d : Vec Event Global) → thread < threads → (slice_index_or logs thread d).items ≡ events_of thread stream
+
+-- there is one row for each thread, which tracks the events of its notes and knows whether it has ended
+pub record AreRows (limits : Bounds) (stream : List Note) (rows : List Row) : Type 0 where
+  pub count : length rows ≡ limits.threads
+  pub tracks : (thread : ℕ) (d : Row) → thread < limits.threads → Tracks limits thread (events_of thread stream) (slice_index_or rows thread d).taker
+  pub ended : (thread : ℕ) (d : Row) → thread < limits.threads → (slice_index_or rows thread d).has_ended ≡ has_ended thread stream
+
+-- an intake's logs and rows are those of its stream, which has each note in its order and no end mark of an unknown thread
+pub record IsKept (limits : Bounds) (stream : List Note) (logs : List (Vec Event Global)) (rows : List Row) : Type 0 where
+  pub logs_are : AreLogs limits.threads stream logs
+  pub rows_are : AreRows limits stream rows
+  pub no_stranger : (thread : ℕ) → limits.threads ≤ thread → has_ended thread stream ≡ false
+  pub in_order : AreInOrder limits stream

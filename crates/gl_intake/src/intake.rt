@@ -1,0 +1,270 @@
+//! The stream of accepted notes, with a log for each thread.
+ghost use Rattle.std.specs.Prelude.{◌≡◌, ◌↔◌, ℕ, ◌<◌, Some, None, List, [], ◌∷◌, ◌++◌, map, IsTrue, IfOk, IfErr, OnOk, OnErr, ◌⊎◌, ◌==◌, is_ok, if◌then◌else◌};
+ghost use Rattle.gl_intake.specs.Rows.{AreLogs, AreRows};
+ghost use Rattle.gl_intake.specs.declared.notes.Refused.TheVariants.{WrongCount, Memory};
+ghost use Rattle.gl_event.specs.declared.notes.Body.TheVariants.{Happened, Ended};
+ghost use Rattle.gl_event.specs.Bounds.{Bounds};
+ghost use Rattle.gl_event.specs.declared.events.Event.{Event};
+ghost use Rattle.gl_event.specs.Lawful.{IsLawful};
+ghost use Rattle.gl_recorder.specs.Taking.{Tracks};
+ghost use Rattle.gl_intake.specs.Stream.{events_of, has_ended, logs_of, AreInOrder, refusal_after, note_refusal, accepted_as};
+
+use crate::notes::{Accepted, Refused};
+use gl_event::{Body, Event, Limits, Note, ThreadId};
+use gl_recorder::Taker;
+use std::alloc::{AllocError, Global};
+use std::marker::Model;
+
+// What is known of a thread: its events so far, and whether it has ended.
+#[derive(Drop, Debug)]
+struct Row {
+    taker: Taker,
+    has_ended: bool,
+}
+
+/// The notes accepted of all threads, in the order of acceptance, and the events of each thread.
+///
+/// Contracts see the limits and the stream.
+#[derive(Drop, Debug)]
+pub struct Intake {
+    limits: Limits,
+    stream: Vec<Note>,
+    logs: Vec<Vec<Event>>,
+    rows: Vec<Row>,
+}
+
+impl Model for Intake {
+    ghost use Rattle.gl_intake.specs.Stream.{Collected};
+    ghost use Rattle.gl_intake.specs.Rows.{IsKept};
+
+    ghost Value = { Collected };
+
+    ghost view = { λ i. record { limits = i.limits; stream = i.stream.items } };
+
+    ghost invariant = { λ i. IsKept i.limits i.stream.items i.logs.items i.rows.items };
+}
+
+// Why the note may not come after the events so far of the row's thread.
+fn row_refusal(row: &Row, note: &Note) -> Option<Refused>
+    ensures { (limits : Bounds) (es : List Event) → Tracks limits note.now.thread es row.now.taker → result ≡ refusal_after limits es row.now.has_ended note.now }
+{
+    if row.has_ended {
+        return Some(Refused::Late);
+    }
+    let expected = row.taker.taken();
+    if note.place != expected {
+        return Some(Refused::Misplaced {
+            expected,
+            got: note.place,
+        });
+    }
+    match note.body {
+        Body::Happened(event) => match row.taker.check(event) {
+            Ok(_) => None,
+            Err(refusal) => Some(Refused::Unlawful(refusal)),
+        },
+        Body::Ended { count } => count_refusal(expected, count),
+    }
+}
+
+// Why an end mark with this count is refused where another is expected.
+fn count_refusal(expected: u32, got: u32) -> Option<Refused>
+    ensures { result ≡ (if got == expected then None else Some (WrongCount expected got)) }
+{
+    if got == expected {
+        return None;
+    }
+    Some(Refused::WrongCount { expected, got })
+}
+
+// Appends x to xs.
+fn append<X: Copy>(xs: &mut Vec<X>, x: X) -> Result<(), AllocError>
+    ensures { xs.new.items ≡ (if is_ok result then xs.old.items ++ x ∷ [] else xs.old.items) }
+{
+    xs.push(x)?;
+    Ok(())
+}
+
+// Appends x to xs and y to ys, or changes neither.
+fn append_both<X: Copy, Y: Copy>(
+    xs: &mut Vec<X>,
+    ys: &mut Vec<Y>,
+    x: X,
+    y: Y,
+) -> Result<(), AllocError>
+    ensures first { xs.new.items ≡ (if is_ok result then xs.old.items ++ x ∷ [] else xs.old.items) }
+    ensures second { ys.new.items ≡ (if is_ok result then ys.old.items ++ y ∷ [] else ys.old.items) }
+{
+    xs.reserve(1)?;
+    ys.push(y)?;
+    match xs.push(x) {
+        Ok(()) => Ok(()),
+        // there is room for one more
+        Err(_) => unreachable!(),
+    }
+}
+
+// An empty log for each thread.
+fn empty_logs(alloc: Global, threads: u32) -> Result<Vec<Vec<Event>>, AllocError>
+    ensures { IfOk result (λ logs. AreLogs threads [] logs.items) }
+{
+    let mut logs = Vec::new(alloc);
+    for thread in 0..threads {
+        logs.push(Vec::new(alloc))?;
+    }
+    Ok(logs)
+}
+
+// A row for each thread, which has had no event.
+fn fresh_rows(alloc: Global, limits: &Limits) -> Result<Vec<Row>, AllocError>
+    ensures { IfOk result (λ rows. AreRows limits.now [] rows.items) }
+{
+    let mut rows = Vec::new(alloc);
+    for thread in 0..limits.threads() {
+        rows.push(Row {
+            taker: Taker::new(ThreadId::new(thread), limits),
+            has_ended: false,
+        })?;
+    }
+    Ok(rows)
+}
+
+impl Intake {
+    /// An intake that has accepted nothing yet, under these limits. It has memory for a row and a
+    /// log of each thread.
+    pub fn new(alloc: Global, limits: &Limits) -> Result<Intake, gl_event::Memory>
+        ensures { IfOk result (λ intake. intake ≡ record { limits = limits.now; stream = [] }) }
+    {
+        let logs = empty_logs(alloc, limits.threads())?;
+        let rows = fresh_rows(alloc, limits)?;
+        Ok(Intake {
+            limits: *limits,
+            stream: Vec::new(alloc),
+            logs,
+            rows,
+        })
+    }
+
+    /// All accepted notes, in the order of acceptance. Each was its thread's next one after those
+    /// before it.
+    pub fn stream(&self) -> &[Note]
+        ensures value { result.now ≡ self.now.stream }
+        ensures in_order { AreInOrder self.now.limits self.now.stream }
+    {
+        self.stream.as_slice()
+    }
+
+    /// The events of each thread, in the order of thread numbers. Each list is lawful.
+    pub fn logs(&self) -> &[Vec<Event>]
+        ensures value { map (λ log. log.items) result.now ≡ logs_of self.now.limits.threads self.now.stream }
+        ensures lawful { (thread : ℕ) → thread < self.now.limits.threads → IsLawful self.now.limits thread (events_of thread self.now.stream) }
+    {
+        self.logs.as_slice()
+    }
+
+    /// The events of a thread.
+    pub fn log(&self, thread: ThreadId) -> &[Event]
+        requires { thread < self.now.limits.threads }
+        ensures { result.now ≡ events_of thread self.now.stream }
+    {
+        self.logs[thread.number() as usize].as_slice()
+    }
+
+    /// Whether the thread has ended. One that isn't known hasn't.
+    pub fn ended(&self, thread: ThreadId) -> bool
+        ensures { result ≡ has_ended thread self.now.stream }
+    {
+        match self.rows.get(thread.number() as usize) {
+            Some(row) => row.has_ended,
+            None => false,
+        }
+    }
+
+    /// Whether each known thread has ended. One look at each thread.
+    pub fn all_ended(&self) -> bool
+        ensures { IsTrue result ↔ ((thread : ℕ) → thread < self.now.limits.threads → IsTrue (has_ended thread self.now.stream)) }
+    {
+        for row in &self.rows {
+            if !row.has_ended {
+                return false;
+            }
+        }
+        true
+    }
+
+    /// Accepts the note where it is its thread's next one. Otherwise nothing changes, and the answer
+    /// is the first reason why not, in the order in which `Refused` lists them; `Memory` only where
+    /// the stream or the thread's log had to grow for a note that is next, and could not.
+    ///
+    /// It looks through the at most 64 locks that the thread holds, and appends to two lists.
+    pub fn offer(&mut self, note: Note) -> Result<Accepted, Refused>
+        ensures accepted { OnOk result (note_refusal self.old.limits self.old.stream note ≡ None) }
+        ensures answer { IfOk result (λ answer. answer ≡ accepted_as note.place note.body) }
+        ensures grown { OnOk result (self.new ≡ record self.old { stream = self.old.stream ++ note ∷ [] }) }
+        ensures refused { IfErr result (λ why. (note_refusal self.old.limits self.old.stream note ≡ Some why) ⊎ ((note_refusal self.old.limits self.old.stream note ≡ None) × (why ≡ Memory))) }
+        ensures unchanged { OnErr result (self.new ≡ self.old) }
+        ensures limits { self.new.limits ≡ self.old.limits }
+    {
+        if let Some(refused) = self.refusal(&note) {
+            return Err(refused);
+        }
+        Ok(self.accept(&note)?)
+    }
+
+    // Why the note may not come next.
+    fn refusal(&self, note: &Note) -> Option<Refused>
+        ensures { result ≡ note_refusal self.now.limits self.now.stream note.now }
+    {
+        let index = note.thread.number() as usize;
+        if index >= self.rows.len() {
+            return Some(Refused::Stranger);
+        }
+        row_refusal(&self.rows[index], note)
+    }
+
+    // Accepts the note, which may come next.
+    fn accept(&mut self, note: &Note) -> Result<Accepted, AllocError>
+        requires { note_refusal self.old.limits self.old.stream note.now ≡ None }
+        ensures answer { IfOk result (λ answer. answer ≡ accepted_as note.now.place note.now.body) }
+        ensures grown { OnOk result (self.new ≡ record self.old { stream = self.old.stream ++ note.now ∷ [] }) }
+        ensures unchanged { OnErr result (self.new ≡ self.old) }
+    {
+        match note.body {
+            Body::Happened(event) => {
+                self.accept_event(note, &event)?;
+                Ok(Accepted::Event { place: note.place })
+            }
+            Body::Ended { count } => {
+                self.accept_end(note, count)?;
+                Ok(Accepted::Ended { count })
+            }
+        }
+    }
+
+    // Adds an event's note to the stream, and the event to its thread's log.
+    fn accept_event(&mut self, note: &Note, event: &Event) -> Result<(), AllocError>
+        requires next { note_refusal self.old.limits self.old.stream note.now ≡ None }
+        requires told { note.now.body ≡ Happened event.now }
+        ensures grown { OnOk result (self.new ≡ record self.old { stream = self.old.stream ++ note.now ∷ [] }) }
+        ensures unchanged { OnErr result (self.new ≡ self.old) }
+    {
+        let index = note.thread.number() as usize;
+        append_both(&mut self.logs[index], &mut self.stream, *event, *note)?;
+        // the event is lawful next, so that it is taken
+        let _ = self.rows[index].taker.take(*event);
+        Ok(())
+    }
+
+    // Adds an end mark to the stream.
+    fn accept_end(&mut self, note: &Note, count: u32) -> Result<(), AllocError>
+        requires next { note_refusal self.old.limits self.old.stream note.now ≡ None }
+        requires told { note.now.body ≡ Ended count }
+        ensures grown { OnOk result (self.new ≡ record self.old { stream = self.old.stream ++ note.now ∷ [] }) }
+        ensures unchanged { OnErr result (self.new ≡ self.old) }
+    {
+        let index = note.thread.number() as usize;
+        append(&mut self.stream, *note)?;
+        self.rows[index].has_ended = true;
+        Ok(())
+    }
+}

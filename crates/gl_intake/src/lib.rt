@@ -1,0 +1,23 @@
+//! The intake of a collector: one stream of all threads' notes.
+//!
+//! Recorders run side by side, and their notes come in any order. An [`Intake`] accepts a note
+//! exactly where it is its thread's next one, so that each thread's notes stand in the stream in
+//! the thread's own order, each once, and none after its end mark.
+//!
+//! ```text
+//! let mut intake = Intake::new(alloc, &limits)?;
+//! intake.offer(note)?;
+//! let events = intake.log(thread);
+//! ```
+#![tactic(auto)]
+
+mod intake;
+mod laws;
+mod notes;
+
+pub use intake::Intake;
+pub use laws::notes_are_refused_unless_next;
+pub use notes::{Accepted, Refused};
+
+#[cfg(test)]
+mod tests;

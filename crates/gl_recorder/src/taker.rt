@@ -1,0 +1,220 @@
+//! The recorder of one thread.
+ghost use Rattle.std.specs.Prelude.{◌≡◌, ◌≢◌, ◌↔◌, ℕ, ◌+◌, ◌<◌, ◌≤◌, None, Some, List, [], ◌∷◌, ◌++◌, length, OnOk, OnErr};
+ghost use Rattle.gl_event.specs.Bounds.{Bounds};
+ghost use Rattle.gl_event.specs.Events.{depth};
+ghost use Rattle.gl_event.specs.Lawful.{lock_refusal, refusal};
+ghost use Rattle.gl_event.specs.Standing.{StandsFor};
+ghost use Rattle.gl_event.specs.declared.events.Event.{Event};
+ghost use Rattle.gl_event.specs.declared.events.Event.TheVariants.{Acquire, Release};
+ghost use Rattle.gl_recorder.specs.Taking.{Tracks, end_note, answer_to, partner_refusal};
+ghost use Rattle.gl_event.specs.declared.limits.TheConstants.{MAX_EVENTS};
+
+use gl_event::{
+    Body, Event, Held, Limits, LocId, LockId, MAX_DEPTH, MAX_HELD, Note, Refusal, ThreadId,
+};
+use std::marker::Model;
+
+/// The recorder of one thread: it takes the thread's events, each where it is lawful next.
+///
+/// Contracts see its thread and limits, how many events it took, how many of these were forks and
+/// joins, and what its thread holds.
+#[derive(Drop, Debug)]
+pub struct Taker {
+    thread: ThreadId,
+    limits: Limits,
+    taken: u32,
+    segments: u32,
+    held: Held,
+}
+
+impl Model for Taker {
+    ghost use Rattle.std.specs.Prelude.{◌≤◌};
+    ghost use Rattle.gl_recorder.specs.Taking.{Taking};
+
+    ghost Value = { Taking };
+
+    ghost view = { λ t. record { thread = t.thread; limits = t.limits; taken = t.taken; segments = t.segments; held = t.held } };
+
+    ghost invariant = { λ t. t.segments ≤ t.taken };
+}
+
+// How deep the lock is held, 0 where it isn't held.
+fn depth_of(held: &Held, lock: LockId) -> u32
+    ensures { (es : List Event) → StandsFor es held.now → result ≡ depth es lock }
+{
+    for entry in held.entries() {
+        if entry.lock == lock {
+            return entry.depth;
+        }
+    }
+    0
+}
+
+// Why the lock can't be acquired.
+fn acquire_refusal(held: &Held, lock: LockId) -> Option<Refusal>
+    ensures { (es : List Event) → StandsFor es held.now → (loc : ℕ) → result ≡ lock_refusal es (Acquire lock loc) }
+{
+    let depth = depth_of(held, lock);
+    if depth == 0 {
+        if held.entries().len() >= MAX_HELD {
+            return Some(Refusal::HeldFull);
+        }
+        return None;
+    }
+    if depth >= MAX_DEPTH {
+        return Some(Refusal::DepthFull);
+    }
+    None
+}
+
+// Why the lock can't be released.
+fn release_refusal(held: &Held, lock: LockId) -> Option<Refusal>
+    ensures { (es : List Event) → StandsFor es held.now → (loc : ℕ) → result ≡ lock_refusal es (Release lock loc) }
+{
+    if held.holds(lock) {
+        return None;
+    }
+    Some(Refusal::NotHeld)
+}
+
+impl Taker {
+    /// The recorder of this thread, which has taken nothing yet.
+    pub fn new(thread: ThreadId, limits: &Limits) -> Taker
+        requires { thread < limits.now.threads }
+        ensures fresh { result ≡ record { thread = thread; limits = limits.now; taken = 0; segments = 0; held = [] } }
+        ensures tracks { Tracks limits.now thread [] result }
+    {
+        Taker {
+            thread,
+            limits: *limits,
+            taken: 0,
+            segments: 0,
+            held: Held::new(),
+        }
+    }
+
+    /// The note that `take` would answer this event, or the first reason why the event may not come
+    /// next. Nothing changes. The cost is that of `take`.
+    pub fn check(&self, event: Event) -> Result<Note, Refusal>
+        ensures { (limits : Bounds) (thread : ℕ) (es : List Event) → Tracks limits thread es self.now → result ≡ answer_to limits thread es event }
+    {
+        self.answer(&event)
+    }
+
+    /// Takes the event, if it may come next: the answer is its note. Otherwise nothing changes, and
+    /// the answer is the first reason why not, in the order in which `Refusal` lists them.
+    ///
+    /// It looks through the at most 64 held locks, and takes no memory.
+    pub fn take(&mut self, event: Event) -> Result<Note, Refusal>
+        ensures answers { (limits : Bounds) (thread : ℕ) (es : List Event) → Tracks limits thread es self.old → result ≡ answer_to limits thread es event }
+        ensures tracks { (limits : Bounds) (thread : ℕ) (es : List Event) → Tracks limits thread es self.old → OnOk result (Tracks limits thread (es ++ event ∷ []) self.new) }
+        ensures unchanged { OnErr result (self.new ≡ self.old) }
+    {
+        let note = self.answer(&event)?;
+        self.keep(&event);
+        Ok(note)
+    }
+
+    /// How many events were taken.
+    pub fn taken(&self) -> u32
+        ensures value { result ≡ self.now.taken }
+        ensures length { (limits : Bounds) (thread : ℕ) (es : List Event) → Tracks limits thread es self.now → result ≡ length es }
+    {
+        self.taken
+    }
+
+    /// The mark that the thread has ended, with the number of events taken.
+    pub fn end(&self) -> Note
+        ensures value { result ≡ end_note self.now.thread self.now.taken }
+        ensures mark { (limits : Bounds) (thread : ℕ) (es : List Event) → Tracks limits thread es self.now → result ≡ end_note thread (length es) }
+    {
+        Note {
+            thread: self.thread,
+            place: self.taken,
+            body: Body::Ended { count: self.taken },
+        }
+    }
+
+    // The note of the event, or why it may not come next.
+    fn answer(&self, event: &Event) -> Result<Note, Refusal>
+        ensures answers { (limits : Bounds) (thread : ℕ) (es : List Event) → Tracks limits thread es self.now → result ≡ answer_to limits thread es event.now }
+        ensures room { OnOk result (self.now.taken < MAX_EVENTS) }
+    {
+        if self.taken >= self.limits.events() {
+            return Err(Refusal::PlaceFull);
+        }
+        match self.refusal(event) {
+            Some(refusal) => Err(refusal),
+            None => Ok(Note {
+                thread: self.thread,
+                place: self.taken,
+                body: Body::Happened(*event),
+            }),
+        }
+    }
+
+    // Why the event may not come next, where there is room for it.
+    fn refusal(&self, event: &Event) -> Option<Refusal>
+        ensures { (limits : Bounds) (thread : ℕ) (es : List Event) → Tracks limits thread es self.now → self.now.taken < limits.events → result ≡ refusal limits thread es event.now }
+    {
+        match *event {
+            Event::Acquire { lock, .. } => acquire_refusal(&self.held, lock),
+            Event::Release { lock, .. } => release_refusal(&self.held, lock),
+            Event::Fork { thread, .. } => self.partner_refusal(thread),
+            Event::Join { thread, .. } => self.partner_refusal(thread),
+        }
+    }
+
+    // Why the thread can't be forked or joined.
+    fn partner_refusal(&self, other: ThreadId) -> Option<Refusal>
+        ensures { result ≡ partner_refusal self.now.limits self.now.thread other }
+    {
+        if other.number() >= self.limits.threads() {
+            return Some(Refusal::NoSuchThread);
+        }
+        if other == self.thread {
+            return Some(Refusal::OnItself);
+        }
+        None
+    }
+
+    // Counts the event, which may come next, and keeps what the thread holds after it.
+    fn keep(&mut self, event: &Event)
+        requires { self.old.taken < MAX_EVENTS }
+        ensures { (limits : Bounds) (thread : ℕ) (es : List Event) → Tracks limits thread es self.old → refusal limits thread es event.now ≡ None → Tracks limits thread (es ++ event.now ∷ []) self.new }
+    {
+        match *event {
+            Event::Acquire { lock, loc } => self.keep_acquire(lock, loc),
+            Event::Release { lock, loc } => self.keep_release(lock),
+            Event::Fork { .. } => self.close_segment(),
+            Event::Join { .. } => self.close_segment(),
+        }
+    }
+
+    fn keep_acquire(&mut self, lock: LockId, loc: LocId)
+        requires { self.old.taken < MAX_EVENTS }
+        ensures { (limits : Bounds) (thread : ℕ) (es : List Event) → Tracks limits thread es self.old → refusal limits thread es (Acquire lock loc) ≡ None → Tracks limits thread (es ++ Acquire lock loc ∷ []) self.new }
+    {
+        // check has shown that the lock can be acquired
+        let _ = self.held.acquire(lock, loc, self.taken, self.segments);
+        self.taken += 1;
+    }
+
+    fn keep_release(&mut self, lock: LockId)
+        requires { self.old.taken < MAX_EVENTS }
+        ensures { (limits : Bounds) (thread loc : ℕ) (es : List Event) → Tracks limits thread es self.old → refusal limits thread es (Release lock loc) ≡ None → Tracks limits thread (es ++ Release lock loc ∷ []) self.new }
+    {
+        // check has shown that the lock is held
+        let _ = self.held.release(lock);
+        self.taken += 1;
+    }
+
+    // Counts a fork or a join.
+    fn close_segment(&mut self)
+        requires { self.old.taken < MAX_EVENTS }
+        ensures { self.new ≡ record self.old { taken = self.old.taken + 1; segments = self.old.segments + 1 } }
+    {
+        self.segments += 1;
+        self.taken += 1;
+    }
+}

@@ -1,0 +1,92 @@
+//! What recorders answer at their limits.
+use crate::{Refusal, Taker};
+use gl_event::{Body, Event, Limits, LocId, LockId, MAX_DEPTH, Note, ThreadId};
+use std::test::Fail;
+
+fn acquire(lock: u32) -> Event {
+    Event::Acquire {
+        lock: LockId::new(lock),
+        loc: LocId::new(0),
+    }
+}
+
+fn release(lock: u32) -> Event {
+    Event::Release {
+        lock: LockId::new(lock),
+        loc: LocId::new(0),
+    }
+}
+
+fn fork(thread: u32) -> Event {
+    Event::Fork {
+        thread: ThreadId::new(thread),
+        loc: LocId::new(0),
+    }
+}
+
+fn note(place: u32, body: Body) -> Note {
+    Note {
+        thread: ThreadId::new(0),
+        place,
+        body,
+    }
+}
+
+#[test]
+fn limits_reached(rt: HostRuntime) -> Result<(), Fail> {
+    let mut taker = Taker::new(ThreadId::new(0), &Limits::new(1, 1, 1, 1)?);
+    assert_eq!(rt;
+        taker.check(acquire(0)),
+        Ok(note(0, Body::Happened(acquire(0))))
+    );
+    assert_eq!(rt;
+        taker.take(acquire(0)),
+        Ok(note(0, Body::Happened(acquire(0))))
+    );
+    assert_eq!(rt; taker.check(acquire(0)), Err(Refusal::PlaceFull));
+    assert_eq!(rt; taker.take(acquire(0)), Err(Refusal::PlaceFull));
+    assert_eq!(rt; taker.end(), note(1, Body::Ended { count: 1 }));
+
+    let mut alone = Taker::new(ThreadId::new(0), &Limits::new(1, 1, 100, 1)?);
+    assert_eq!(rt; alone.take(fork(1)), Err(Refusal::NoSuchThread));
+    assert_eq!(rt; alone.take(fork(0)), Err(Refusal::OnItself));
+    assert_eq!(rt; alone.taken(), 0);
+    for lock in 0..64 {
+        assert!(rt; alone.take(acquire(lock)).is_ok());
+    }
+    assert_eq!(rt; alone.take(acquire(64)), Err(Refusal::HeldFull));
+    assert_eq!(rt;
+        alone.take(acquire(63)),
+        Ok(note(64, Body::Happened(acquire(63))))
+    );
+    assert_eq!(rt; alone.taken(), 65);
+    Ok(())
+}
+
+#[test]
+fn deepest_acquire(rt: HostRuntime) -> Result<(), Fail> {
+    let mut taker = Taker::new(ThreadId::new(0), &Limits::new(1, 1, 4_000_000_000, 1)?);
+    for _ in 0..MAX_DEPTH {
+        assert!(rt; taker.take(acquire(7)).is_ok());
+    }
+    assert_eq!(rt; taker.take(acquire(7)), Err(Refusal::DepthFull));
+    assert_eq!(rt; taker.taken(), MAX_DEPTH);
+    assert!(rt; taker.take(release(7)).is_ok());
+    assert!(rt; taker.take(acquire(7)).is_ok());
+    Ok(())
+}
+
+#[test]
+fn stray_release(rt: HostRuntime) -> Result<(), Fail> {
+    let mut taker = Taker::new(ThreadId::new(0), &Limits::new(2, 1, 2, 1)?);
+    assert_eq!(rt; taker.take(release(5)), Err(Refusal::NotHeld));
+    assert_eq!(rt; taker.take(fork(1)), Ok(note(0, Body::Happened(fork(1)))));
+    assert_eq!(rt;
+        taker.take(acquire(5)),
+        Ok(note(1, Body::Happened(acquire(5))))
+    );
+    // the first reason in the stated order is answered
+    assert_eq!(rt; taker.take(fork(0)), Err(Refusal::PlaceFull));
+    assert_eq!(rt; taker.end(), note(2, Body::Ended { count: 2 }));
+    Ok(())
+}

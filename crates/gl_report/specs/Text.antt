@@ -1,0 +1,48 @@
+-- The text report: what is printed of cycles.
+use Rattle.std.specs.Prelude.{ℕ, ◌+◌, Bool, List, [], ◌∷◌, ◌++◌, length, slice_get, unwrap_or, if◌then◌else◌, codes, decimal}
+use Rattle.std.specs.List.{filter_map, flat_map}
+use Rattle.gl_std.specs.Names.{NameLists}
+use Rattle.gl_edges.specs.declared.edge.Edge.{Edge}
+use Rattle.gl_edges.specs.declared.edge.Sample.{Sample}
+
+-- the name with this number, as its bytes
+abbrev pub name_of : List (List ℕ) → ℕ → List ℕ
+name_of names number = unwrap_or (slice_get names number) []
+
+-- who holds what since where
+abbrev pub held_text : NameLists → Edge × Sample → List ℕ
+held_text names pair =
+    codes "  " ++ name_of names.threads pair.0.thread
+    ++ codes " holds " ++ name_of names.locks pair.0.held
+    ++ codes " since " ++ name_of names.locs pair.1.held_loc
+
+-- what it wants, and at which place
+abbrev pub wanted_text : NameLists → Edge × Sample → List ℕ
+wanted_text names pair =
+    codes " wants " ++ name_of names.locks pair.0.wanted
+    ++ codes " at " ++ name_of names.locs pair.1.wanted_loc ++ codes "\n"
+
+-- one edge of a cycle
+abbrev pub edge_line : NameLists → Edge × Sample → List ℕ
+edge_line names pair = held_text names pair ++ wanted_text names pair
+
+-- the line that begins a cycle
+abbrev pub cycle_line : ℕ → ℕ → List ℕ
+cycle_line number size = codes "cycle " ++ decimal number ++ codes ": " ++ decimal size ++ codes " edges\n"
+
+-- a cycle with its edges
+abbrev pub cycle_text : NameLists → List (Edge × Sample) → ℕ → List ℕ → List ℕ
+cycle_text names table number cycle = cycle_line number (length cycle) ++ flat_map (edge_line names) (filter_map (slice_get table) cycle)
+
+-- cycles, of which the first has this number
+abbrev pub cycles_text : NameLists → List (Edge × Sample) → ℕ → List (List ℕ) → List ℕ
+cycles_text names table number [] = []
+cycles_text names table number (cycle ∷ cycles) = cycle_text names table number cycle ++ cycles_text names table (number + 1) cycles
+
+-- the last line: how many cycles are listed, and whether there are more
+abbrev pub last_line : ℕ → Bool → List ℕ
+last_line count more = codes "cycles: " ++ decimal count ++ (if more then codes " (more)" else []) ++ codes "\n"
+
+-- the whole report
+abbrev pub report_text : NameLists → List (Edge × Sample) → List (List ℕ) → Bool → List ℕ
+report_text names table cycles more = cycles_text names table 1 cycles ++ last_line (length cycles) more

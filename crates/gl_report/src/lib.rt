@@ -1,0 +1,6 @@
+//! Printed reports.
+#![tactic(auto)]
+
+mod printing;
+
+pub use printing::text;

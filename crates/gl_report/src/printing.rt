@@ -1,0 +1,164 @@
+//! The text report.
+ghost use Rattle.std.specs.Prelude.{◌≡◌, ◌+◌, ◌≤◌, ◌^◌, ◌<◌, List, ℕ, [], ◌++◌, codes, decimal, length, slice_get, map, IfOk, OnOk};
+ghost use Rattle.std.specs.List.{filter_map, flat_map};
+ghost use Rattle.std.specs.Option.{option_map_or};
+ghost use Rattle.gl_report.specs.Text.{name_of, held_text, wanted_text, edge_line, cycle_line, cycle_text, cycles_text, last_line, report_text};
+
+use gl_cycles::Report;
+use gl_edges::{Edge, Sample};
+use gl_event::{LocId, LockId, Memory, ThreadId};
+use gl_std::Names;
+use itoa::Buffer;
+use std::alloc::Global;
+
+// The thread's name, or nothing where the number has none.
+fn thread_name(names: &Names, thread: ThreadId) -> &[u8]
+    ensures { result.now ≡ name_of names.now.threads thread }
+{
+    if thread.number() < names.threads() {
+        return names.thread(thread);
+    }
+    &[]
+}
+
+// The lock's name, or nothing where the number has none.
+fn lock_name(names: &Names, lock: LockId) -> &[u8]
+    ensures { result.now ≡ name_of names.now.locks lock }
+{
+    if lock.number() < names.locks() {
+        return names.lock(lock);
+    }
+    &[]
+}
+
+// The location's name, or nothing where the number has none.
+fn loc_name(names: &Names, loc: LocId) -> &[u8]
+    ensures { result.now ≡ name_of names.now.locs loc }
+{
+    if loc.number() < names.locs() {
+        return names.loc(loc);
+    }
+    &[]
+}
+
+// Adds who holds what since where.
+fn put_held(
+    out: &mut Vec<u8>,
+    names: &Names,
+    edge: &Edge,
+    sample: &Sample,
+) -> Result<(), Memory>
+    ensures { OnOk result (out.new.items ≡ out.old.items ++ held_text names.now (edge.now, sample.now)) }
+{
+    out.extend_from_slice(b"  ")?;
+    out.extend_from_slice(thread_name(names, edge.thread))?;
+    out.extend_from_slice(b" holds ")?;
+    out.extend_from_slice(lock_name(names, edge.held))?;
+    out.extend_from_slice(b" since ")?;
+    out.extend_from_slice(loc_name(names, sample.held_loc))?;
+    Ok(())
+}
+
+// Adds what is wanted, and at which place.
+fn put_wanted(
+    out: &mut Vec<u8>,
+    names: &Names,
+    edge: &Edge,
+    sample: &Sample,
+) -> Result<(), Memory>
+    ensures { OnOk result (out.new.items ≡ out.old.items ++ wanted_text names.now (edge.now, sample.now)) }
+{
+    out.extend_from_slice(b" wants ")?;
+    out.extend_from_slice(lock_name(names, edge.wanted))?;
+    out.extend_from_slice(b" at ")?;
+    out.extend_from_slice(loc_name(names, sample.wanted_loc))?;
+    out.extend_from_slice(b"\n")?;
+    Ok(())
+}
+
+// Adds the line of the edge at a position.
+fn put_edge(
+    out: &mut Vec<u8>,
+    names: &Names,
+    table: &[(Edge, Sample)],
+    position: usize,
+) -> Result<(), Memory>
+    ensures { OnOk result (out.new.items ≡ out.old.items ++ option_map_or (edge_line names.now) (slice_get table.now position) []) }
+{
+    if position >= table.len() {
+        return Ok(());
+    }
+    let pair = &table[position];
+    put_held(out, names, &pair.0, &pair.1)?;
+    put_wanted(out, names, &pair.0, &pair.1)?;
+    Ok(())
+}
+
+// Adds a number.
+fn put_number(out: &mut Vec<u8>, number: usize) -> Result<(), Memory>
+    ensures { OnOk result (out.new.items ≡ out.old.items ++ decimal number) }
+{
+    let mut buffer = Buffer::new();
+    out.extend_from_slice(buffer.format(number).as_bytes())?;
+    Ok(())
+}
+
+// Adds the line that begins a cycle.
+fn put_cycle_line(out: &mut Vec<u8>, number: usize, size: usize) -> Result<(), Memory>
+    ensures { OnOk result (out.new.items ≡ out.old.items ++ cycle_line number size) }
+{
+    out.extend_from_slice(b"cycle ")?;
+    put_number(out, number)?;
+    out.extend_from_slice(b": ")?;
+    put_number(out, size)?;
+    out.extend_from_slice(b" edges\n")?;
+    Ok(())
+}
+
+// Adds a cycle with its edges.
+fn put_cycle(
+    out: &mut Vec<u8>,
+    names: &Names,
+    table: &[(Edge, Sample)],
+    number: usize,
+    cycle: &[usize],
+) -> Result<(), Memory>
+    ensures { OnOk result (out.new.items ≡ out.old.items ++ cycle_text names.now table.now number cycle.now) }
+{
+    put_cycle_line(out, number, cycle.len())?;
+    for &position in cycle {
+        put_edge(out, names, table, position)?;
+    }
+    Ok(())
+}
+
+// Adds the last line.
+fn put_last_line(out: &mut Vec<u8>, count: usize, more: bool) -> Result<(), Memory>
+    ensures { OnOk result (out.new.items ≡ out.old.items ++ last_line count more) }
+{
+    out.extend_from_slice(b"cycles: ")?;
+    put_number(out, count)?;
+    if more {
+        out.extend_from_slice(b" (more)\n")?;
+        return Ok(());
+    }
+    out.extend_from_slice(b"\n")?;
+    Ok(())
+}
+
+/// The text of a report, with the names of threads, locks and locations as their bytes.
+///
+/// For each listed cycle a line that numbers it, and a line for each of its edges; then how many
+/// cycles are listed, and whether there are more. Err where memory was refused.
+pub fn text(alloc: Global, names: &Names, report: &Report) -> Result<Vec<u8>, Memory>
+    ensures { IfOk result (λ t. t.items ≡ report_text names.now report.now.edges report.now.found.cycles report.now.found.more) }
+{
+    let mut out = Vec::new(alloc);
+    let table = report.edges.entries();
+    let cycles = report.found.cycles.as_slice();
+    for (i, cycle) in cycles.iter().enumerate() {
+        put_cycle(&mut out, names, table, i + 1, cycle.as_slice())?;
+    }
+    put_last_line(&mut out, cycles.len(), report.found.more)?;
+    Ok(out)
+}

@@ -1,0 +1,34 @@
+use Rattle.std.proofs.Common.{◌≡◌, length, map, refl, sym, ap, subst, ◌∙◌, arith}
+use Rattle.std.specs.Prelude.{slice_get}
+use Rattle.std.proofs.lemmas.Option.{slice_get_read, same_Some}
+use Rattle.gl_segments.specs.Orders.{lists_of}
+use Rattle.gl_segments.specs.Tables.{IsRowOf}
+use Rattle.gl_segments.proofs.Tabling.{items_at, row_begins, row_more, row_all}
+use Rattle.gl_segments.proofs.steps.row.Goals as goal
+
+pub loop-index-init : goal.loop-index-init
+loop-index-init c = rw c.in_ok-push.ensures.items (row_begins _ _ _ _ _ c.new-row.ensures.items c.in_ok-forks.ensures)
+
+pub overflow_cast-closed : goal.overflow_cast-closed
+overflow_cast-closed c =
+    let number : c.number.result ≡ c.args.thread = c.number.ensures in
+    let at = items_at c.args.cuts.now c.number.result c.index-cuts-number.result (rw number c.requires.within) c.index-cuts-number.is in
+    let small = c.requires.small.small _ _ at in
+    let same : length c.deref-cut-items.result.now ≡ length c.index-cuts-number.result.items = ap length c.deref-cut-items.ensures.value in
+    omega arith
+
+pub loop-index-preserved : goal.loop-index-preserved
+loop-index-preserved c =
+    let items = c.deref-cut-items.result.now in
+    rw c.in_ok-push-2.ensures.items
+    (row_more (lists_of c.args.cuts.now) c.args.thread items c.loop-index.row.items c.loop-index.index c.in_ok-after.field-0 c.cut-item.result
+    (slice_get_read items (length items) c.loop-index.index c.cut-item.result refl c.loop-index-test.true c.cut-item.is) c.in_ok-after.ensures c.loop-index.invariant)
+
+pub returns : goal.returns
+returns c =
+    let number : c.number.result ≡ c.args.thread = c.number.ensures in
+    let at = items_at c.args.cuts.now c.number.result c.index-cuts-number.result (rw number c.requires.within) c.index-cuts-number.is in
+    λ es there.
+    let same : c.deref-cut-items.result.now ≡ es = c.deref-cut-items.ensures.value ∙ same_Some _ es (sym at ∙ ap (slice_get (lists_of c.args.cuts.now)) number ∙ there) in
+    subst (λ xs. IsRowOf (lists_of c.args.cuts.now) c.args.thread xs (map (λ s. s.items) c.loop-index.row.items)) same
+    (row_all (lists_of c.args.cuts.now) c.args.thread c.deref-cut-items.result.now c.loop-index.row.items c.loop-index.index (omega arith) c.loop-index.invariant)

@@ -1,0 +1,7 @@
+pub mod Clocks
+pub mod Orders
+pub mod Search
+pub mod Segments
+pub mod Tables
+pub mod Laws
+pub mod Rows

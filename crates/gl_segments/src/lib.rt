@@ -1,0 +1,27 @@
+//! The order that forks and joins put on the segments of threads.
+//!
+//! Where a thread M forks T0, joins it and then forks T1, all that T0 does comes before all that T1
+//! does: T0's segment 0 is before T1's. [`Order`] answers such questions for the whole lists of
+//! events of all threads. It keeps for each segment, per thread, how many of that thread's segments
+//! are before it (a clock), so that an answer is one comparison.
+//!
+//! Forks and joins that can't have happened, as where two threads join each other, put a segment
+//! before itself. Such lists have no order: [`OrderFault::Inconsistent`] names the least such
+//! segment, and a ring of steps that leads from it back to it.
+#![tactic(auto)]
+
+mod clock;
+mod faults;
+mod laws;
+mod order;
+mod search;
+mod steps;
+#[cfg(test)]
+mod tests;
+
+pub use faults::OrderFault;
+pub use laws::{
+    before_is_between_segments, before_is_transitive, earlier_is_before, fronts_are_consistent,
+    tests_agree,
+};
+pub use order::Order;

@@ -1,0 +1,106 @@
+//! Which segment is before which.
+ghost use Rattle.gl_event.specs.declared.events.Event.{Event};
+ghost use Rattle.gl_segments.specs.Clocks.{OrdersBy};
+ghost use Rattle.gl_segments.specs.Orders.{IsFaultOf};
+ghost use Rattle.gl_segments.specs.Segments.{IsConsistent};
+ghost use Rattle.gl_segments.specs.Tables.{IsSound, ShowsSteps};
+ghost use Rattle.gl_segments.specs.Rows.{AreClocksOf, IsThreadFault};
+ghost use Rattle.std.specs.Prelude.{◌≡◌, ◌↔◌, ℕ, ◌<◌, ◌≤◌, List, length, map, slice_get, Some, MatchResult, IfOk, OnOk, IfErr};
+
+use crate::clock::Clock;
+use crate::faults::OrderFault;
+use crate::search::Search;
+use crate::steps::Steps;
+use gl_event::{Event, Segment, ThreadId};
+use std::alloc::Global;
+use std::marker::Model;
+
+/// The order of the segments of lists of events: which is before which.
+#[derive(Drop, Debug)]
+pub struct Order {
+    clocks: Vec<Vec<Clock>>,
+}
+
+impl Model for Order {
+    ghost use Rattle.std.specs.Prelude.{map};
+    ghost use Rattle.gl_segments.specs.Clocks.{Clocks};
+
+    ghost Value = { Clocks };
+
+    ghost view = { λ o. map (λ row. row.items) o.clocks.items };
+}
+
+impl Order {
+    ghost use Rattle.gl_segments.specs.Clocks.{is_before};
+    ghost use Rattle.gl_segments.specs.Orders.{lists_of};
+    ghost use Rattle.gl_event.specs.Bounds.{greatest};
+    ghost use Rattle.gl_event.specs.Lawful.{IsLawful};
+
+    /// The order of the segments of these lists, one list a thread, by number.
+    ///
+    /// It errs with [`OrderFault::Inconsistent`] exactly where some segment is before itself, and
+    /// with [`OrderFault::Memory`] only where a growth was refused. Takes time and memory as there
+    /// are segments, times the number of threads.
+    pub fn of(alloc: Global, lists: &[Vec<Event>]) -> Result<Order, OrderFault>
+        requires few { length lists.now ≤ 1024 }
+        requires lawful { (thread : ℕ) (es : List Event) → slice_get (lists_of lists.now) thread ≡ Some es → IsLawful greatest thread es }
+        ensures ok { IfOk result (λ order. OrdersBy (lists_of lists.now) order) }
+        ensures consistent { OnOk result (IsConsistent (lists_of lists.now)) }
+        ensures fault { IfErr result (λ fault. IsFaultOf (lists_of lists.now) fault) }
+    {
+        let steps = Steps::of(alloc, lists)?;
+        let clocks = all_clocks(alloc, &steps)?;
+        Ok(Order { clocks })
+    }
+
+    /// Whether a chain of one or more steps leads from `a` to `b`: false where either isn't a
+    /// segment of the lists. Takes constant time.
+    pub fn before(&self, a: Segment, b: Segment) -> bool
+        ensures { result ≡ is_before self.now a b }
+    {
+        match self.clocks.get(b.thread.number() as usize) {
+            Some(row) => match row.get(b.index as usize) {
+                Some(clock) => a.index < clock.ahead(a.thread),
+                None => false,
+            },
+            None => false,
+        }
+    }
+}
+
+// The clocks of all segments, or the least segment that is before itself, with a ring.
+fn all_clocks(alloc: Global, steps: &Steps) -> Result<Vec<Vec<Clock>>, OrderFault>
+    requires { IsSound steps.now }
+    ensures ok { IfOk result (λ v. (lists : List (List Event)) → ShowsSteps lists steps.now → OrdersBy lists (map (λ row. row.items) v.items)) }
+    ensures consistent { OnOk result ((lists : List (List Event)) → ShowsSteps lists steps.now → IsConsistent lists) }
+    ensures fault { IfErr result (λ fault. (lists : List (List Event)) → ShowsSteps lists steps.now → IsFaultOf lists fault) }
+{
+    let mut clocks = Vec::new(alloc);
+    for thread in 0..steps.threads() {
+        clocks.push(clocks_of(alloc, steps, ThreadId::new(thread as u32))?)?;
+    }
+    Ok(clocks)
+}
+
+// The clocks of a thread's segments, or the first of them that is before itself, with a ring.
+fn clocks_of(alloc: Global, steps: &Steps, thread: ThreadId) -> Result<Vec<Clock>, OrderFault>
+    requires sound { IsSound steps.now }
+    requires within { thread < length steps.now }
+    ensures ok { IfOk result (λ v. AreClocksOf steps.now thread v.items) }
+    ensures fault { IfErr result (λ fault. IsThreadFault steps.now thread fault) }
+{
+    let first = Segment { thread, index: 0 };
+    let mut search = Search::new(alloc, steps.threads(), first)?;
+    let mut clocks = Vec::new(alloc);
+    for index in 0..steps.segments(thread) {
+        let index = index as u32;
+        let at = Segment { thread, index };
+        search.run(steps, at)?;
+        if index < search.clock.ahead(thread) {
+            let ring = search.ring(alloc)?;
+            return Err(OrderFault::Inconsistent { at, ring });
+        }
+        clocks.push(search.clock.copy(alloc)?)?;
+    }
+    Ok(clocks)
+}

@@ -1,0 +1,182 @@
+//! The steps between segments, by the segment to which they lead.
+ghost use Rattle.std.specs.Prelude.{◌≡◌, ◌↔◌, ◌⊎◌, ℕ, ◌+◌, ◌<◌, ◌^◌, List, ◌∷◌, map, filter, length, slice_get, Some, Contains, IsTrue, IfOk, OnOk};
+ghost use Rattle.gl_event.specs.Events.{closes};
+ghost use Rattle.gl_segments.specs.Tables.{cuts_of, AreSmall, Forks, joined_last, IsRowOf, AddsForks};
+ghost use Rattle.gl_segments.specs.Orders.{lists_of};
+
+use gl_event::{Event, Segment, ThreadId};
+use std::alloc::{AllocError, Global};
+use std::marker::Model;
+
+/// For each segment of each thread, the segments that are one step before it.
+#[derive(Drop, Debug)]
+pub struct Steps {
+    rows: Vec<Vec<Vec<Segment>>>,
+}
+
+impl Model for Steps {
+    ghost use Rattle.std.specs.Prelude.{map};
+    ghost use Rattle.gl_segments.specs.Tables.{Sources};
+
+    ghost Value = { Sources };
+
+    ghost view = { λ s. map (λ row. map (λ sources. sources.items) row.items) s.rows.items };
+}
+
+impl Steps {
+    ghost use Rattle.gl_segments.specs.Orders.{AreLawful};
+    ghost use Rattle.gl_segments.specs.Tables.{Has, IsSound, ShowsSteps, row, sources};
+
+    /// The steps between the segments of these lists. Takes time and memory as there are forks and
+    /// joins, times the number of threads.
+    pub fn of(alloc: Global, lists: &[Vec<Event>]) -> Result<Steps, AllocError>
+        requires { AreLawful (lists_of lists.now) }
+        ensures shows { IfOk result (λ s. ShowsSteps (lists_of lists.now) s) }
+        ensures sound { IfOk result (λ s. IsSound s) }
+    {
+        let cuts = cuts(alloc, lists)?;
+        let mut rows = Vec::new(alloc);
+        for thread in 0..cuts.len() {
+            rows.push(row(alloc, &cuts, ThreadId::new(thread as u32))?)?;
+        }
+        Ok(Steps { rows })
+    }
+
+    /// How many threads there are.
+    pub fn threads(&self) -> usize
+        ensures { result ≡ length self.now }
+    {
+        self.rows.len()
+    }
+
+    /// How many segments the thread has.
+    pub fn segments(&self, thread: ThreadId) -> usize
+        requires { thread < length self.now }
+        ensures { result ≡ length (row self.now thread) }
+    {
+        self.rows[thread.number() as usize].len()
+    }
+
+    /// The segments that are one step before this one.
+    pub fn sources(&self, segment: Segment) -> &[Segment]
+        requires { Has self.now segment }
+        ensures { result.now ≡ sources self.now segment }
+    {
+        &self.rows[segment.thread.number() as usize][segment.index as usize]
+    }
+}
+
+// The forks and joins of each list.
+fn cuts(alloc: Global, lists: &[Vec<Event>]) -> Result<Vec<Vec<Event>>, AllocError>
+    ensures { IfOk result (λ v. lists_of v.items ≡ cuts_of (lists_of lists.now)) }
+{
+    let mut cuts = Vec::new(alloc);
+    for list in lists {
+        cuts.push(closers(alloc, list)?)?;
+    }
+    Ok(cuts)
+}
+
+// The forks and joins of a list.
+fn closers(alloc: Global, list: &[Event]) -> Result<Vec<Event>, AllocError>
+    ensures { IfOk result (λ v. v.items ≡ filter closes list.now) }
+{
+    list.iter()
+        .copied()
+        .filter(|e| is_closer(*e))
+        .collect(alloc)
+}
+
+// Whether the event closes a segment.
+fn is_closer(event: Event) -> bool
+    ensures { result ≡ closes event }
+{
+    matches!(event, Event::Fork { .. } | Event::Join { .. })
+}
+
+// What is one step before each segment of the thread.
+fn row(
+    alloc: Global,
+    cuts: &[Vec<Event>],
+    thread: ThreadId,
+) -> Result<Vec<Vec<Segment>>, AllocError>
+    requires small { AreSmall (lists_of cuts.now) }
+    requires within { thread < length cuts.now }
+    ensures { IfOk result (λ v. (es : List Event) → slice_get (lists_of cuts.now) thread ≡ Some es → IsRowOf (lists_of cuts.now) thread es (map (λ s. s.items) v.items)) }
+{
+    let mut row = Vec::new(alloc);
+    row.push(forks(alloc, cuts, thread)?)?;
+    for (index, cut) in cuts[thread.number() as usize].iter().enumerate() {
+        let closed = Segment {
+            thread,
+            index: index as u32,
+        };
+        row.push(after(alloc, cuts, closed, *cut)?)?;
+    }
+    Ok(row)
+}
+
+// What is one step before the segment that follows `closed`, which the fork or join `cut` closes.
+fn after(
+    alloc: Global,
+    cuts: &[Vec<Event>],
+    closed: Segment,
+    cut: Event,
+) -> Result<Vec<Segment>, AllocError>
+    requires { AreSmall (lists_of cuts.now) }
+    ensures { IfOk result (λ v. v.items ≡ closed ∷ joined_last (lists_of cuts.now) cut) }
+{
+    let mut sources = Vec::new(alloc);
+    sources.push(closed)?;
+    if let Event::Join { thread, .. } = cut {
+        let joined = thread.number() as usize;
+        if joined < cuts.len() {
+            let index = cuts[joined].len() as u32;
+            sources.push(Segment { thread, index })?;
+        }
+    }
+    Ok(sources)
+}
+
+// The segments that forks of the thread close.
+fn forks(alloc: Global, cuts: &[Vec<Event>], thread: ThreadId) -> Result<Vec<Segment>, AllocError>
+    requires { AreSmall (lists_of cuts.now) }
+    ensures { IfOk result (λ v. (a : Segment) → Contains v.items a ↔ Forks (lists_of cuts.now) thread a) }
+{
+    let mut forks = Vec::new(alloc);
+    for (from, list) in cuts.iter().enumerate() {
+        add_forks(&mut forks, ThreadId::new(from as u32), list, thread)?;
+    }
+    Ok(forks)
+}
+
+// Adds the segments of one thread that forks of another close.
+fn add_forks(
+    forks: &mut Vec<Segment>,
+    from: ThreadId,
+    cuts: &[Event],
+    thread: ThreadId,
+) -> Result<(), AllocError>
+    requires { length cuts.now < 2 ^ 32 }
+    ensures { OnOk result (AddsForks forks.old.items forks.new.items from cuts.now thread) }
+{
+    for (index, cut) in cuts.iter().enumerate() {
+        if is_fork(*cut, thread) {
+            forks.push(Segment {
+                thread: from,
+                index: index as u32,
+            })?;
+        }
+    }
+    Ok(())
+}
+
+// Whether the event forks this thread.
+fn is_fork(event: Event, thread: ThreadId) -> bool
+    ensures { IsTrue result ↔ ((loc : ℕ) × (event ≡ Event.Fork thread loc)) }
+{
+    match event {
+        Event::Fork { thread: forked, .. } => forked.number() == thread.number(),
+        _ => false,
+    }
+}

@@ -1,0 +1,192 @@
+//! Worked examples.
+ghost use Rattle.std.specs.Prelude.{◌≡◌, ◌≢◌, ℕ, ◌<◌, ◌≤◌, List, length, slice_get, None, Some, IsTrue};
+ghost use Rattle.gl_event.specs.Bounds.{greatest};
+ghost use Rattle.gl_event.specs.Lawful.{IsLawful, refusal};
+ghost use Rattle.gl_event.specs.declared.events.Event.{Event};
+ghost use Rattle.gl_segments.specs.Orders.{lists_of};
+
+use crate::faults::OrderFault;
+use crate::order::Order;
+use gl_event::{Event, LocId, LockId, MAX_THREADS, Segment, ThreadId};
+use std::test::Fail;
+
+// An acquire.
+fn acq(lock: u32, loc: u32) -> Event {
+    Event::Acquire {
+        lock: LockId::new(lock),
+        loc: LocId::new(loc),
+    }
+}
+
+// A fork.
+fn fork(thread: u32, loc: u32) -> Event {
+    Event::Fork {
+        thread: ThreadId::new(thread),
+        loc: LocId::new(loc),
+    }
+}
+
+// A join.
+fn join(thread: u32, loc: u32) -> Event {
+    Event::Join {
+        thread: ThreadId::new(thread),
+        loc: LocId::new(loc),
+    }
+}
+
+// A segment.
+fn seg(thread: u32, index: u32) -> Segment {
+    Segment {
+        thread: ThreadId::new(thread),
+        index,
+    }
+}
+
+// Whether the thread may fork or join the other one.
+fn is_other(thread: ThreadId, other: ThreadId) -> bool
+    ensures known { IsTrue result → other < 1024 }
+    ensures apart { IsTrue result → other ≢ thread }
+{
+    if other.number() >= MAX_THREADS {
+        return false;
+    }
+    other.number() != thread.number()
+}
+
+// Whether the event may come next in a short list of the thread's.
+fn is_allowed(thread: ThreadId, event: Event) -> bool
+    ensures { IsTrue result → (es : List Event) → length es < 64 → refusal greatest thread es event ≡ None }
+{
+    match event {
+        Event::Acquire { .. } => true,
+        Event::Release { .. } => false,
+        Event::Fork { thread: other, .. } => is_other(thread, other),
+        Event::Join { thread: other, .. } => is_other(thread, other),
+    }
+}
+
+// Whether the list is short, releases nothing and is lawful under the greatest limits.
+fn is_lawful(thread: ThreadId, list: &[Event]) -> bool
+    ensures { IsTrue result → IsLawful greatest thread list.now }
+{
+    if list.len() > 64 {
+        return false;
+    }
+    for event in list {
+        if !is_allowed(thread, *event) {
+            return false;
+        }
+    }
+    true
+}
+
+// Whether there are few enough lists, and each is short, releases nothing and is lawful.
+fn are_lawful(lists: &[Vec<Event>]) -> bool
+    ensures few { IsTrue result → length lists.now ≤ 1024 }
+    ensures lawful { IsTrue result → (thread : ℕ) (es : List Event) → slice_get (lists_of lists.now) thread ≡ Some es → IsLawful greatest thread es }
+{
+    if lists.len() > 1024 {
+        return false;
+    }
+    for (number, list) in lists.iter().enumerate() {
+        if !is_lawful(ThreadId::new(number as u32), list.as_slice()) {
+            return false;
+        }
+    }
+    true
+}
+
+fn is_segment(found: Segment, wanted: Segment) -> bool {
+    found.thread.number() == wanted.thread.number() && found.index == wanted.index
+}
+
+// Whether the segments are these.
+fn are_segments(found: &[Segment], wanted: &[Segment]) -> bool {
+    if found.len() != wanted.len() {
+        return false;
+    }
+    for (segment, want) in found.iter().zip(wanted) {
+        if !is_segment(*segment, *want) {
+            return false;
+        }
+    }
+    true
+}
+
+// Whether the lists were refused, with this ring.
+fn is_ring(order: &Result<Order, OrderFault>, wanted: &[Segment]) -> bool {
+    match order {
+        Err(OrderFault::Inconsistent { at, ring }) => match wanted.first() {
+            Some(first) => is_segment(*at, *first) && are_segments(ring, wanted),
+            None => false,
+        },
+        _ => false,
+    }
+}
+
+// M (thread 0) joins T0 (thread 1) before it forks T1 (thread 2).
+#[test]
+fn joined_before(rt: HostRuntime) -> Result<(), Fail> {
+    let alloc = rt.alloc();
+    let lists = vec![in alloc;
+        vec![in alloc; fork(1, 1), join(1, 2), fork(2, 3)]?,
+        vec![in alloc; acq(0, 4), acq(1, 5)]?,
+        vec![in alloc; acq(1, 6), acq(0, 7)]?,
+    ]?;
+    assert!(rt; are_lawful(&lists));
+    let order = Order::of(alloc, &lists)?;
+    assert!(rt; order.before(seg(1, 0), seg(2, 0)));
+    assert!(rt; !order.before(seg(2, 0), seg(1, 0)));
+    assert!(rt; order.before(seg(0, 0), seg(1, 0)));
+    assert!(rt; !order.before(seg(0, 1), seg(1, 0)));
+    assert!(rt; !order.before(seg(1, 0), seg(0, 1)));
+    assert!(rt; order.before(seg(1, 0), seg(0, 2)));
+    assert!(rt; order.before(seg(0, 2), seg(2, 0)));
+    assert!(rt; order.before(seg(0, 0), seg(0, 3)));
+    assert!(rt; !order.before(seg(0, 3), seg(0, 3)));
+    assert!(rt; !order.before(seg(0, 3), seg(0, 4)));
+    assert!(rt; !order.before(seg(0, 4), seg(0, 3)));
+    assert!(rt; !order.before(seg(3, 0), seg(0, 1)));
+    Ok(())
+}
+
+// What a thread does after a fork isn't ordered with what the new thread does.
+#[test]
+fn fork_while_holding(rt: HostRuntime) -> Result<(), Fail> {
+    let alloc = rt.alloc();
+    let lists = vec![in alloc;
+        vec![in alloc; acq(0, 1), fork(1, 2), acq(1, 3)]?,
+        vec![in alloc; acq(1, 4), acq(0, 5)]?,
+    ]?;
+    assert!(rt; are_lawful(&lists));
+    let order = Order::of(alloc, &lists)?;
+    assert!(rt; order.before(seg(0, 0), seg(1, 0)));
+    assert!(rt; !order.before(seg(0, 1), seg(1, 0)));
+    assert!(rt; !order.before(seg(1, 0), seg(0, 1)));
+    Ok(())
+}
+
+// Two threads wait for each other's end.
+#[test]
+fn join_loop(rt: HostRuntime) -> Result<(), Fail> {
+    let alloc = rt.alloc();
+    let lists = vec![in alloc; vec![in alloc; join(1, 1)]?, vec![in alloc; join(0, 2)]?]?;
+    assert!(rt; are_lawful(&lists));
+    let order = Order::of(alloc, &lists);
+    assert!(rt; is_ring(&order, &[seg(0, 1), seg(1, 1)]));
+    Ok(())
+}
+
+// A thread is forked again after it was joined.
+#[test]
+fn fork_join_fork(rt: HostRuntime) -> Result<(), Fail> {
+    let alloc = rt.alloc();
+    let lists = vec![in alloc;
+        vec![in alloc; fork(1, 1), join(1, 2), fork(1, 3)]?,
+        vec![in alloc; acq(0, 4)]?,
+    ]?;
+    assert!(rt; are_lawful(&lists));
+    let order = Order::of(alloc, &lists);
+    assert!(rt; is_ring(&order, &[seg(0, 2), seg(1, 0)]));
+    Ok(())
+}

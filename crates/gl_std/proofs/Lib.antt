@@ -1,0 +1,9 @@
+pub mod CutLemmas
+pub mod GrowthLemmas
+pub mod LinesLemmas
+pub mod KeptLemmas
+pub mod NameLemmas
+pub mod PlaceLemmas
+pub mod RowLemmas
+pub mod ShapeLemmas
+pub mod StepLemmas

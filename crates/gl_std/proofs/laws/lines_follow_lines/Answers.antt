@@ -1,0 +1,5 @@
+use Rattle.gl_std.proofs.LinesLemmas.{lines-after_line}
+use Rattle.gl_std.proofs.laws.lines_follow_lines.Goals as goal
+
+pub returns : goal.returns
+returns c = lines-after_line

@@ -1,0 +1,5 @@
+use Rattle.gl_std.proofs.StepLemmas.{trace_of_over}
+use Rattle.gl_std.proofs.laws.traces_obey_limits.Goals as goal
+
+pub returns : goal.returns
+returns c = trace_of_over

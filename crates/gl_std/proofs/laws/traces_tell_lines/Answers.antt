@@ -1,0 +1,5 @@
+use Rattle.gl_std.proofs.KeptLemmas.{trace_of-kept}
+use Rattle.gl_std.proofs.laws.traces_tell_lines.Goals as goal
+
+pub returns : goal.returns
+returns c = trace_of-kept

@@ -1,0 +1,94 @@
+-- What a line says, taken alone.
+use Rattle.std.specs.Prelude.{◌≡◌, ◌≢◌, ℕ, ◌-◌, ◌<◌, ◌≤◌, ◌&&◌, List, [], ◌∷◌, ◌++◌, Contains, Option, Some, None, length, take, nat_lt, slice_index, ◌==◌, if◌then◌else◌, codes}
+use Rattle.std.specs.Option.{option_map, option_map_or}
+use Rattle.std.specs.Str.{bytes_eq}
+use Rattle.gl_std.specs.declared.faults.StdKind.{StdKind}
+use Rattle.gl_std.specs.declared.faults.StdKind.TheVariants.{TooLong, NoBar, NoLocation, NoThread, BadOperand}
+use Rattle.gl_std.specs.declared.line.Operation.{Operation}
+use Rattle.gl_std.specs.declared.line.Operation.TheVariants.{Acquire, Release}
+use Rattle.gl_std.specs.declared.line.Shape.{Shape as Said}
+use Rattle.gl_std.specs.declared.line.Shape.TheVariants.{Blank as SaidBlank, Bad as SaidBad, Other as SaidOther, Call as SaidCall}
+use Rattle.gl_std.specs.declared.line.TheConstants.{MAX_LINE, BAR, OPEN, CLOSE}
+
+-- what a line says: nothing, a fault, an operation that isn't watched, or an event
+pub data Shape : Type 0 where
+  Blank : Shape
+  Bad : StdKind → Shape
+  Other : Shape
+  Call : (operation : Operation) (thread operand location : List ℕ) → Shape
+
+-- what stands before the first such byte, and what stands after it
+abbrev pub cut_at : ℕ → List ℕ → Option (List ℕ × List ℕ)
+cut_at byte [] = None
+cut_at byte (b ∷ rest) = if b == byte then Some ([], rest) else option_map (λ parts. (b ∷ parts.0, parts.1)) (cut_at byte rest)
+
+-- the operation that has this name
+abbrev pub operation_of : List ℕ → Option Operation
+operation_of name =
+    if bytes_eq name (codes "acq") then Some Acquire
+    else (if bytes_eq name (codes "rel") then Some Release
+    else None)
+
+-- the name of an operation: what stands before the first parenthesis, or all
+abbrev pub operation_name : List ℕ → List ℕ
+operation_name field = option_map_or (λ parts. parts.0) (cut_at OPEN field) field
+
+-- what stands before a closing parenthesis at the end, if that is something
+abbrev pub before_close : List ℕ → Option (List ℕ)
+before_close text =
+    if nat_lt 1 (length text) && (slice_index text (length text - 1) == CLOSE) then Some (take (length text - 1) text) else None
+
+-- the operand: what stands between the first parenthesis and the one at the end
+abbrev pub operand_of : List ℕ → Option (List ℕ)
+operand_of field = option_map_or (λ parts. before_close parts.1) (cut_at OPEN field) None
+
+-- what a call of this operation with this operand says
+abbrev pub shape_of_call : List ℕ → Option Operation → Option (List ℕ) → List ℕ → Shape
+shape_of_call thread None operand location = Other
+shape_of_call thread (Some operation) None location = Bad BadOperand
+shape_of_call thread (Some operation) (Some operand) location = Call operation thread operand location
+
+-- what the three fields of a line say
+abbrev pub shape_of_fields : List ℕ → List ℕ → List ℕ → Shape
+shape_of_fields thread field location =
+    if length thread == 0 then Bad NoThread
+    else shape_of_call thread (operation_of (operation_name field)) (operand_of field) location
+
+-- what the line says: the first that fits decides
+abbrev pub shape_of : List ℕ → Shape
+shape_of line =
+    if nat_lt MAX_LINE (length line) then Bad TooLong
+    else (if length line == 0 then Blank
+    else option_map_or
+    (λ first. option_map_or (λ second. shape_of_fields first.0 second.0 second.1) (cut_at BAR first.1) (Bad NoLocation))
+    (cut_at BAR line)
+    (Bad NoBar))
+
+-- the value of the code that stands for a shape
+abbrev pub shown : Said → Shape
+shown SaidBlank = Blank
+shown (SaidBad kind) = Bad kind
+shown SaidOther = Other
+shown (SaidCall operation thread operand location) = Call operation thread.now operand.now location.now
+
+-- the operation's name is what stands before the first parenthesis, or the whole field; an event has an operand,
+-- between that parenthesis and one that is the field's last byte
+pub data FieldsSay : List ℕ → List ℕ → List ℕ → Shape → Type 0 where
+  no_thread : (field location : List ℕ) → FieldsSay [] field location (Bad NoThread)
+  other_word : (thread field location : List ℕ) → thread ≢ [] → ¬ Contains field OPEN → operation_of field ≡ None → FieldsSay thread field location Other
+  no_operand : (thread field location : List ℕ) (operation : Operation) → thread ≢ [] → ¬ Contains field OPEN → operation_of field ≡ Some operation → FieldsSay thread field location (Bad BadOperand)
+  other_call : (thread name rest location : List ℕ) → thread ≢ [] → ¬ Contains name OPEN → operation_of name ≡ None → FieldsSay thread (name ++ OPEN ∷ rest) location Other
+  call : (thread name operand location : List ℕ) (operation : Operation) → thread ≢ [] → ¬ Contains name OPEN → operation_of name ≡ Some operation → operand ≢ [] → FieldsSay thread (name ++ OPEN ∷ (operand ++ CLOSE ∷ [])) location (Call operation thread operand location)
+  bad_operand : (thread name rest location : List ℕ) (operation : Operation) → thread ≢ [] → ¬ Contains name OPEN → operation_of name ≡ Some operation → ((operand : List ℕ) → operand ≢ [] → rest ≢ operand ++ CLOSE ∷ []) → FieldsSay thread (name ++ OPEN ∷ rest) location (Bad BadOperand)
+
+-- a line is empty, or has three fields that the first two bars separate, or is at fault
+pub data Says : List ℕ → Shape → Type 0 where
+  too_long : (line : List ℕ) → MAX_LINE < length line → Says line (Bad TooLong)
+  blank : Says [] Blank
+  no_bar : (line : List ℕ) → length line ≤ MAX_LINE → line ≢ [] → ¬ Contains line BAR → Says line (Bad NoBar)
+  one_bar : (thread rest : List ℕ) → length (thread ++ BAR ∷ rest) ≤ MAX_LINE → ¬ Contains thread BAR → ¬ Contains rest BAR → Says (thread ++ BAR ∷ rest) (Bad NoLocation)
+  fields : (thread field location : List ℕ) (shape : Shape) → length (thread ++ BAR ∷ (field ++ BAR ∷ location)) ≤ MAX_LINE → ¬ Contains thread BAR → ¬ Contains field BAR → FieldsSay thread field location shape → Says (thread ++ BAR ∷ (field ++ BAR ∷ location)) shape
+
+-- each line says one thing
+abbrev pub LinesSayOneThing : Type 0
+LinesSayOneThing = ((line : List ℕ) → Says line (shape_of line)) × ((line : List ℕ) (shape : Shape) → Says line shape → shape ≡ shape_of line)

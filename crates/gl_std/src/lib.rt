@@ -1,0 +1,46 @@
+//! Reads traces in the STD text form, one event a line: `thread|operation(operand)|location`.
+//!
+//! ```text
+//! T0|acq(a)|Main.java:1
+//! T0|acq(b)|Main.java:2
+//! T0|rel(b)|Main.java:3
+//! T0|rel(a)|Main.java:4
+//! T1|acq(b)|Main.java:5
+//! T1|acq(a)|Main.java:6
+//! ```
+//!
+//! [`read_trace`] gives each thread's events as a list, with threads, locks and locations as numbers
+//! in order of first mention, and the [`Names`] that the numbers stand for. `acq` and `rel` are
+//! events; a line with another operation is skipped and counted, and so is a release of a lock that
+//! its thread doesn't hold. The first line that is no event decides the text: [`ReadFault::Line`]
+//! has its number and what is wrong with it.
+//!
+//! The definitions go from bytes to lines (`specs/Lines`), from a line alone to what it says
+//! (`specs/Line`), and from lines to the trace (`specs/Trace`), one step a line. Above them stand
+//! the laws (`specs/Laws`): a text has one list of lines, a line says one thing, a text is read
+//! piece by piece, and its trace tells the kept lines and obeys the limits.
+#![tactic(auto)]
+
+mod faults;
+mod laws;
+mod line;
+mod lines;
+mod lists;
+mod names;
+mod read;
+mod reader;
+mod row;
+#[cfg(test)]
+mod tests;
+mod trace;
+
+pub use faults::{ReadFault, StdKind};
+pub use laws::{
+    lines_are_unique, lines_follow_lines, lines_say_one_thing, reading_goes_on, traces_grow,
+    traces_obey_limits, traces_tell_lines,
+};
+pub use line::MAX_LINE;
+pub use lists::Lists;
+pub use names::Names;
+pub use read::read_trace;
+pub use trace::Trace;

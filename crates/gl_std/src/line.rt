@@ -1,0 +1,131 @@
+//! What a line says, taken alone.
+ghost use Rattle.std.specs.Prelude.{◌≡◌};
+ghost use Rattle.std.specs.Option.{option_map};
+ghost use Rattle.gl_std.specs.Line.{cut_at, before_close, operation_of, shape_of, shape_of_call, shape_of_fields, shown};
+
+use crate::faults::StdKind;
+use bstr::ByteSlice;
+
+/// The longest line, in bytes, without what ends it.
+pub const MAX_LINE: usize = 65_536;
+/// The byte between fields.
+pub(crate) const BAR: u8 = b'|';
+/// The byte before an operand.
+pub(crate) const OPEN: u8 = b'(';
+/// The byte after an operand.
+pub(crate) const CLOSE: u8 = b')';
+
+/// The operations that are events.
+#[derive(Clone, Copy, Debug, PartialEq, Eq)]
+pub(crate) enum Operation {
+    /// The thread acquires a lock.
+    Acquire,
+    /// The thread releases a lock.
+    Release,
+}
+
+/// What a line says.
+#[derive(Clone, Copy, Debug)]
+pub(crate) enum Shape<'a> {
+    /// Nothing: the line is empty.
+    Blank,
+    /// Nothing, since the line is at fault.
+    Bad(StdKind),
+    /// An operation that is no event.
+    Other,
+    /// An operation of a thread at a location.
+    Call {
+        operation: Operation,
+        thread: &'a [u8],
+        operand: &'a [u8],
+        location: &'a [u8],
+    },
+}
+
+/// What stands before the first such byte, and what stands after it. One scan.
+pub(crate) fn cut(text: &[u8], byte: u8) -> Option<(&[u8], &[u8])>
+    ensures { option_map (λ p. (p.0.now, p.1.now)) result ≡ cut_at byte text.now }
+{
+    match text.find_byte(byte) {
+        Some(place) => Some((&text[..place], &text[place + 1..])),
+        None => None,
+    }
+}
+
+/// What the line says. Looks at each byte a few times at most.
+pub(crate) fn shape_of(line: &[u8]) -> Shape<'_>
+    ensures { shown result ≡ shape_of line.now }
+{
+    if line.len() > MAX_LINE {
+        return Shape::Bad(StdKind::TooLong);
+    }
+    if line.is_empty() {
+        return Shape::Blank;
+    }
+    match cut(line, BAR) {
+        Some((thread, rest)) => match cut(rest, BAR) {
+            Some((field, location)) => shape_of_fields(thread, field, location),
+            None => Shape::Bad(StdKind::NoLocation),
+        },
+        None => Shape::Bad(StdKind::NoBar),
+    }
+}
+
+/// What the three fields of a line say.
+fn shape_of_fields<'a>(thread: &'a [u8], field: &'a [u8], location: &'a [u8]) -> Shape<'a>
+    ensures { shown result ≡ shape_of_fields thread.now field.now location.now }
+{
+    if thread.is_empty() {
+        return Shape::Bad(StdKind::NoThread);
+    }
+    match cut(field, OPEN) {
+        Some((name, rest)) => shape_of_call(thread, name, before_close(rest), location),
+        None => shape_of_call(thread, field, None, location),
+    }
+}
+
+/// What the operation with this name and this operand says.
+fn shape_of_call<'a>(
+    thread: &'a [u8],
+    name: &[u8],
+    operand: Option<&'a [u8]>,
+    location: &'a [u8],
+) -> Shape<'a>
+    ensures { shown result ≡ shape_of_call thread.now (operation_of name.now) (option_map (λ o. o.now) operand.entry) location.now }
+{
+    match operation_of(name) {
+        Some(operation) => match operand {
+            Some(operand) => Shape::Call {
+                operation,
+                thread,
+                operand,
+                location,
+            },
+            None => Shape::Bad(StdKind::BadOperand),
+        },
+        None => Shape::Other,
+    }
+}
+
+/// The operation with this name.
+fn operation_of(name: &[u8]) -> Option<Operation>
+    ensures { result ≡ operation_of name.now }
+{
+    if name == b"acq".as_slice() {
+        return Some(Operation::Acquire);
+    }
+    if name == b"rel".as_slice() {
+        return Some(Operation::Release);
+    }
+    None
+}
+
+/// What stands before a closing parenthesis at the end, if that is something.
+fn before_close(text: &[u8]) -> Option<&[u8]>
+    ensures { option_map (λ o. o.now) result ≡ before_close text.now }
+{
+    if text.len() < 2 || text[text.len() - 1] != CLOSE {
+        return None;
+    }
+    Some(&text[..text.len() - 1])
+}

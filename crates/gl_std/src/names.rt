@@ -1,0 +1,254 @@
+//! Names of threads, locks and locations, by number.
+ghost use Rattle.std.specs.Prelude.{◌≡◌, ◌≢◌, ◌+◌, ◌^◌, ◌<◌, [], ◌∷◌, ◌++◌, Some, None, length, position, slice_get, unwrap_or, AllPairs, OnOk, OnErr};
+ghost use Rattle.std.specs.Str.{bytes_eq};
+
+use gl_event::{LocId, LockId, ThreadId};
+use indexmap::IndexSet;
+use std::alloc::{AllocError, Global};
+use std::marker::Model;
+
+/// Different names in order of first mention, so that the place of a name is its number.
+#[derive(Drop)]
+struct NameList {
+    names: IndexSet<Vec<u8>>,
+}
+
+impl Model for NameList {
+    ghost use Rattle.std.specs.Prelude.{ℕ, ◌^◌, ◌<◌, List, map, length};
+
+    ghost Value = { List (List ℕ) };
+
+    ghost view = { λ n. map (λ name. name.items) n.names.keys };
+
+    ghost invariant = { λ n. length n.names.keys < 2 ^ 32 };
+}
+
+impl NameList {
+    ghost use Rattle.gl_std.specs.Trace.{with_name};
+
+    /// No names.
+    fn new(alloc: Global) -> NameList
+        ensures { result ≡ [] }
+    {
+        NameList {
+            names: IndexSet::new(alloc),
+        }
+    }
+
+    /// How many names there are.
+    fn len(&self) -> u32
+        ensures len { result ≡ length self.now }
+        ensures within { length self.now < 2 ^ 32 }
+        ensures distinct { AllPairs (λ a b. a ≢ b) self.now }
+    {
+        self.names.len() as u32
+    }
+
+    /// The name with this number.
+    fn name(&self, number: u32) -> &[u8]
+        requires { number < length self.now }
+        ensures { slice_get self.now number ≡ Some result.now }
+    {
+        self.names.as_slice()[number as usize].as_slice()
+    }
+
+    /// The name's number.
+    fn find(&self, name: &[u8]) -> Option<u32>
+        ensures { result ≡ position (bytes_eq name.now) self.now }
+    {
+        match self.names.get_index_of(name) {
+            Some(place) => Some(place as u32),
+            None => None,
+        }
+    }
+
+    /// Puts a new name at the end.
+    fn add(&mut self, alloc: Global, name: &[u8]) -> Result<(), AllocError>
+        requires room { length self.old + 1 < 2 ^ 32 }
+        requires absent { position (bytes_eq name.now) self.old ≡ None }
+        ensures ok { OnOk result (self.new ≡ self.old ++ name.now ∷ []) }
+        ensures err { OnErr result (self.new ≡ self.old) }
+    {
+        let name = Vec::from_slice(alloc, name)?;
+        self.names.insert(name)?;
+        Ok(())
+    }
+
+    /// Puts a name that has no number at the end.
+    fn tell(&mut self, alloc: Global, number: Option<u32>, name: &[u8]) -> Result<(), AllocError>
+        requires room { number ≡ None → length self.old + 1 < 2 ^ 32 }
+        requires found { number ≡ position (bytes_eq name.now) self.old }
+        ensures ok { OnOk result (self.new ≡ with_name self.old number name.now) }
+    {
+        match number {
+            Some(_) => Ok(()),
+            None => self.add(alloc, name),
+        }
+    }
+}
+
+/// The numbers of the names in a line, of those that have one.
+#[derive(Clone, Copy, Debug)]
+pub(crate) struct Found {
+    pub(crate) thread: Option<ThreadId>,
+    pub(crate) lock: Option<LockId>,
+    pub(crate) loc: Option<LocId>,
+}
+
+/// The names of threads, of locks and of locations. Those of each kind have numbers from 0, in order
+/// of first mention.
+///
+/// Contracts see three lists of byte strings. None of the public calls takes memory.
+#[derive(Drop)]
+pub struct Names {
+    threads: NameList,
+    locks: NameList,
+    locs: NameList,
+}
+
+impl Model for Names {
+    ghost use Rattle.gl_std.specs.Names.{NameLists};
+
+    ghost Value = { NameLists };
+
+    ghost view = { λ n. record { threads = n.threads; locks = n.locks; locs = n.locs } };
+}
+
+impl Names {
+    ghost use Rattle.gl_std.specs.Trace.{found_in, with_names};
+
+    /// No names.
+    pub(crate) fn new(alloc: Global) -> Names
+        ensures { result ≡ record { threads = []; locks = []; locs = [] } }
+    {
+        Names {
+            threads: NameList::new(alloc),
+            locks: NameList::new(alloc),
+            locs: NameList::new(alloc),
+        }
+    }
+
+    /// How many threads have names.
+    pub fn threads(&self) -> u32
+        ensures count { result ≡ length self.now.threads }
+        ensures distinct { AllPairs (λ a b. a ≢ b) self.now.threads }
+    {
+        self.threads.len()
+    }
+
+    /// How many locks have names.
+    pub fn locks(&self) -> u32
+        ensures count { result ≡ length self.now.locks }
+        ensures distinct { AllPairs (λ a b. a ≢ b) self.now.locks }
+    {
+        self.locks.len()
+    }
+
+    /// How many locations have names.
+    pub fn locs(&self) -> u32
+        ensures count { result ≡ length self.now.locs }
+        ensures distinct { AllPairs (λ a b. a ≢ b) self.now.locs }
+    {
+        self.locs.len()
+    }
+
+    /// The thread's name.
+    pub fn thread(&self, number: ThreadId) -> &[u8]
+        requires { number < length self.now.threads }
+        ensures { slice_get self.now.threads number ≡ Some result.now }
+    {
+        self.threads.name(number.number())
+    }
+
+    /// The lock's name.
+    pub fn lock(&self, number: LockId) -> &[u8]
+        requires { number < length self.now.locks }
+        ensures { slice_get self.now.locks number ≡ Some result.now }
+    {
+        self.locks.name(number.number())
+    }
+
+    /// The location's name.
+    pub fn loc(&self, number: LocId) -> &[u8]
+        requires { number < length self.now.locs }
+        ensures { slice_get self.now.locs number ≡ Some result.now }
+    {
+        self.locs.name(number.number())
+    }
+
+    /// The number of the thread with this name. One look-up by hash.
+    pub fn find_thread(&self, name: &[u8]) -> Option<ThreadId>
+        ensures { result ≡ position (bytes_eq name.now) self.now.threads }
+    {
+        self.threads.find(name).map(ThreadId::new)
+    }
+
+    /// The number of the lock with this name. One look-up by hash.
+    pub fn find_lock(&self, name: &[u8]) -> Option<LockId>
+        ensures { result ≡ position (bytes_eq name.now) self.now.locks }
+    {
+        self.locks.find(name).map(LockId::new)
+    }
+
+    /// The number of the location with this name. One look-up by hash.
+    pub fn find_loc(&self, name: &[u8]) -> Option<LocId>
+        ensures { result ≡ position (bytes_eq name.now) self.now.locs }
+    {
+        self.locs.find(name).map(LocId::new)
+    }
+
+    /// The numbers of the names in a line. One look-up by hash for each.
+    pub(crate) fn find(&self, thread: &[u8], operand: &[u8], location: &[u8]) -> Found
+        ensures { result ≡ found_in self.now thread.now operand.now location.now }
+    {
+        Found {
+            thread: self.find_thread(thread),
+            lock: self.find_lock(operand),
+            loc: self.find_loc(location),
+        }
+    }
+
+    /// The number of the lock, or the next one for a new lock.
+    pub(crate) fn lock_or_next(&self, found: &Found) -> LockId
+        ensures { result ≡ unwrap_or found.now.lock (length self.now.locks) }
+    {
+        match found.lock {
+            Some(lock) => lock,
+            None => LockId::new(self.locks.len()),
+        }
+    }
+
+    /// The number of the location, or the next one for a new location.
+    pub(crate) fn loc_or_next(&self, found: &Found) -> LocId
+        ensures { result ≡ unwrap_or found.now.loc (length self.now.locs) }
+    {
+        match found.loc {
+            Some(loc) => loc,
+            None => LocId::new(self.locs.len()),
+        }
+    }
+
+    /// Gives numbers to the names of a line that have none.
+    pub(crate) fn tell(
+        &mut self,
+        alloc: Global,
+        found: &Found,
+        thread: &[u8],
+        operand: &[u8],
+        location: &[u8],
+    ) -> Result<(), AllocError>
+        requires found { found.now ≡ found_in self.old thread.now operand.now location.now }
+        requires threads { found.now.thread ≡ None → length self.old.threads + 1 < 2 ^ 32 }
+        requires locks { found.now.lock ≡ None → length self.old.locks + 1 < 2 ^ 32 }
+        requires locs { found.now.loc ≡ None → length self.old.locs + 1 < 2 ^ 32 }
+        ensures { OnOk result (self.new ≡ with_names self.old found.now thread.now operand.now location.now) }
+    {
+        self.threads
+            .tell(alloc, found.thread.map(ThreadId::number), thread)?;
+        self.locks
+            .tell(alloc, found.lock.map(LockId::number), operand)?;
+        self.locs
+            .tell(alloc, found.loc.map(LocId::number), location)?;
+        Ok(())
+    }
+}

@@ -1,0 +1,30 @@
+//! Reading a text that is there as a whole.
+ghost use Rattle.std.specs.Prelude.{◌≡◌, ℕ, Ok, Err, IfOk};
+ghost use Rattle.gl_std.specs.Trace.{trace_of, IsTraceOver};
+ghost use Rattle.gl_std.specs.declared.faults.StdKind.{StdKind};
+ghost use Rattle.gl_std.specs.declared.faults.ReadFault.TheVariants.{Line};
+
+use crate::faults::ReadFault;
+use crate::lines::next_line;
+use crate::reader::Reader;
+use crate::trace::Trace;
+use gl_event::Limits;
+use std::alloc::Global;
+
+/// The trace of a text, or the fault of its first line that is no event.
+///
+/// `Memory` comes only where a growth was refused. Time grows with the length of the text: each line
+/// is cut once, and each of its names is looked up once by hash.
+pub fn read_trace(alloc: Global, bytes: &[u8], limits: &Limits) -> Result<Trace, ReadFault>
+    ensures trace { IfOk result (λ t. trace_of limits.now bytes.now ≡ Ok t) }
+    ensures fault { (line : ℕ) (kind : StdKind) → result ≡ Err (Line line kind) → trace_of limits.now bytes.now ≡ Err (Line line kind) }
+    ensures over { IfOk result (IsTraceOver limits.now) }
+{
+    let mut reader = Reader::new(alloc, *limits);
+    let mut rest = bytes;
+    while let Some((line, after)) = next_line(rest) {
+        reader.take(line)?;
+        rest = after;
+    }
+    Ok(reader.into_trace()?)
+}

@@ -1,0 +1,182 @@
+use crate::{Lists, ReadFault, StdKind, Trace, read_trace};
+use gl_event::{Event, Limits, LocId, LockId, ThreadId};
+use std::alloc::Global;
+use std::process::Abort;
+use std::test::Fail;
+
+fn acquire(lock: u32, loc: u32) -> Event {
+    Event::Acquire {
+        lock: LockId::new(lock),
+        loc: LocId::new(loc),
+    }
+}
+
+fn release(lock: u32, loc: u32) -> Event {
+    Event::Release {
+        lock: LockId::new(lock),
+        loc: LocId::new(loc),
+    }
+}
+
+fn greatest() -> Result<Limits, Fail> {
+    Ok(Limits::new(1_024, 65_536, 4_000_000_000, 4_000_000_000)?)
+}
+
+// The thread's events are these.
+fn expect_list(rt: &impl Abort, trace: &Trace, thread: usize, events: &[Event]) {
+    match trace.lists.as_slice().get(thread) {
+        Some(list) => assert_eq!(rt; list.as_slice(), events),
+        None => assert!(rt; false, "no list {thread}"),
+    }
+}
+
+// The text's first fault is this one.
+fn expect_fault(
+    rt: &impl Abort,
+    alloc: Global,
+    text: &[u8],
+    limits: &Limits,
+    line: u64,
+    kind: StdKind,
+) {
+    match read_trace(alloc, text, limits) {
+        Ok(_) => assert!(rt; false, "a trace, not {kind}"),
+        Err(fault) => assert_eq!(rt; fault, ReadFault::Line { line, kind }),
+    }
+}
+
+#[test]
+fn opposite_order(rt: HostRuntime) -> Result<(), Fail> {
+    let text = b"T0|acq(a)|1\nT0|acq(b)|2\nT0|rel(b)|3\nT0|rel(a)|4\nT1|acq(b)|5\nT1|acq(a)|6\n";
+    let trace = read_trace(rt.alloc(), text, &greatest()?)?;
+    assert_eq!(rt; trace.lists.as_slice().len(), 2);
+    expect_list(
+        &rt,
+        &trace,
+        0,
+        &[acquire(0, 0), acquire(1, 1), release(1, 2), release(0, 3)],
+    );
+    expect_list(&rt, &trace, 1, &[acquire(1, 4), acquire(0, 5)]);
+    assert_eq!(rt; trace.names.threads(), 2);
+    assert_eq!(rt; trace.names.locks(), 2);
+    assert_eq!(rt; trace.names.locs(), 6);
+    assert_eq!(rt; trace.names.thread(ThreadId::new(1)), b"T1".as_slice());
+    assert_eq!(rt; trace.names.lock(LockId::new(1)), b"b".as_slice());
+    assert_eq!(rt; trace.names.loc(LocId::new(5)), b"6".as_slice());
+    assert_eq!(rt; (trace.skipped, trace.stray), (0, 0));
+    Ok(())
+}
+
+#[test]
+fn crlf_and_skipped(rt: HostRuntime) -> Result<(), Fail> {
+    let text =
+        b"T0|acq(a)|1\r\n\r\nT0|r(x)|9\r\nT0|acq(b)|A.java:7|x\r\nT0|rel(b)|3\r\nT0|rel(a)|4\r\nT0|begin|3\r\nT1|acq(b)|5\r\nT1|acq(a)|6";
+    let trace = read_trace(rt.alloc(), text, &greatest()?)?;
+    expect_list(
+        &rt,
+        &trace,
+        0,
+        &[acquire(0, 0), acquire(1, 1), release(1, 2), release(0, 3)],
+    );
+    expect_list(&rt, &trace, 1, &[acquire(1, 4), acquire(0, 5)]);
+    assert_eq!(rt; (trace.skipped, trace.stray), (2, 0));
+    assert_eq!(rt; trace.names.find_loc(b"A.java:7|x"), Some(LocId::new(1)));
+    assert_eq!(rt; trace.names.find_loc(b"9"), None);
+    assert_eq!(rt; trace.names.find_lock(b"x"), None);
+    assert_eq!(rt; trace.names.find_thread(b"T1"), Some(ThreadId::new(1)));
+    let lists = Lists::new(trace.lists.into_vec());
+    assert_eq!(rt; lists.as_slice().len(), 2);
+    Ok(())
+}
+
+#[test]
+fn bad_lines(rt: HostRuntime) -> Result<(), Fail> {
+    let limits = greatest()?;
+    expect_fault(
+        &rt,
+        rt.alloc(),
+        b"T0|acq(|3",
+        &limits,
+        1,
+        StdKind::BadOperand,
+    );
+    expect_fault(
+        &rt,
+        rt.alloc(),
+        b"T0|acq|3",
+        &limits,
+        1,
+        StdKind::BadOperand,
+    );
+    expect_fault(
+        &rt,
+        rt.alloc(),
+        b"T0|acq(a)",
+        &limits,
+        1,
+        StdKind::NoLocation,
+    );
+    expect_fault(&rt, rt.alloc(), b"|acq(a)|1", &limits, 1, StdKind::NoThread);
+    expect_fault(&rt, rt.alloc(), b"T0", &limits, 1, StdKind::NoBar);
+    Ok(())
+}
+
+#[test]
+fn stray_release(rt: HostRuntime) -> Result<(), Fail> {
+    let trace = read_trace(rt.alloc(), b"T0|rel(a)|1\nT0|acq(b)|2\n", &greatest()?)?;
+    expect_list(&rt, &trace, 0, &[acquire(0, 0)]);
+    assert_eq!(rt; (trace.skipped, trace.stray), (0, 1));
+    assert_eq!(rt; (trace.names.threads(), trace.names.locks()), (1, 1));
+    assert_eq!(rt; trace.names.find_lock(b"a"), None);
+    Ok(())
+}
+
+#[test]
+fn longest_line(rt: HostRuntime) -> Result<(), Fail> {
+    let limits = greatest()?;
+    for (length, end) in [(65_526, b"\n".as_slice()), (65_526, b"\r\n".as_slice())] {
+        let text = long_line(rt.alloc(), length, end)?;
+        assert!(rt; read_trace(rt.alloc(), &text, &limits).is_ok());
+    }
+    let text = long_line(rt.alloc(), 65_527, b"\n")?;
+    expect_fault(&rt, rt.alloc(), &text, &limits, 1, StdKind::TooLong);
+    Ok(())
+}
+
+// An acquire at a location of so many bytes.
+fn long_line(alloc: Global, length: usize, end: &[u8]) -> Result<Vec<u8>, Fail> {
+    let mut text = Vec::from_slice(alloc, b"T0|acq(a)|")?;
+    for _ in 0..length {
+        text.push(b'x')?;
+    }
+    text.extend_from_slice(end)?;
+    Ok(text)
+}
+
+#[test]
+fn limits_reached(rt: HostRuntime) -> Result<(), Fail> {
+    let mut text = Vec::new(rt.alloc());
+    for lock in 0..65 {
+        text.extend_from_slice(format!(in rt.alloc(); "T0|acq({lock})|1\n")?.as_bytes())?;
+    }
+    expect_fault(&rt, rt.alloc(), &text, &greatest()?, 65, StdKind::HeldFull);
+    let one_event = Limits::new(1_024, 65_536, 1, 4_000_000_000)?;
+    expect_fault(
+        &rt,
+        rt.alloc(),
+        b"T0|acq(a)|1\nT0|acq(a)|2\n",
+        &one_event,
+        2,
+        StdKind::TooManyEvents,
+    );
+    let one_name = Limits::new(1_024, 65_536, 4_000_000_000, 1)?;
+    expect_fault(
+        &rt,
+        rt.alloc(),
+        b"T0|acq(a)|1\nT0|acq(b)|1\n",
+        &one_name,
+        2,
+        StdKind::TooManyNames,
+    );
+    Ok(())
+}

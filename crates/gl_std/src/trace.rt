@@ -1,0 +1,16 @@
+//! What a text says.
+use crate::lists::Lists;
+use crate::names::Names;
+
+/// The events that a text tells, thread by thread, with the names of what they speak of.
+#[derive(Drop)]
+pub struct Trace {
+    /// The names of threads, locks and locations.
+    pub names: Names,
+    /// Each thread's events, by the thread's number.
+    pub lists: Lists,
+    /// How many lines were skipped, since their operation is none that is watched.
+    pub skipped: u64,
+    /// How many releases were dropped, since their thread didn't hold the lock.
+    pub stray: u64,
+}

@@ -1,0 +1,4 @@
+pub mod Answer
+pub mod Ending
+pub mod Lines
+pub mod Stops

@@ -1,0 +1,30 @@
+-- Why a text has no report.
+use Rattle.std.specs.Prelude.{◌≡◌, ℕ, List, Err}
+use Rattle.gl_event.specs.Bounds.{greatest}
+use Rattle.gl_event.specs.declared.events.Segment.{Segment}
+use Rattle.gl_std.specs.Trace.{trace_of}
+use Rattle.gl_std.specs.declared.faults.StdKind.{StdKind}
+use Rattle.gl_std.specs.declared.faults.ReadFault.TheVariants.{Line}
+use Rattle.gl_std.specs.declared.trace.Trace.{Trace}
+use Rattle.goodlock.specs.Answer.{IsLeastBeforeItself}
+use Rattle.goodlock.specs.Lines.{fault_line, inconsistent_line}
+use Rattle.goodlock.specs.declared.answer.Stop.{Stop}
+use Rattle.goodlock.specs.declared.answer.Stop.TheVariants.{Refused, Memory}
+
+-- what holds of the line, if it isn't want of memory
+abbrev pub IfRefused : Stop → (List ℕ → Type 0) → Type 0
+IfRefused (Refused line) P = P line.items
+IfRefused Memory P = Unit {0}
+
+-- the line says the first fault of the text
+pub record IsFaultOfText (text line : List ℕ) : Type 0 where
+  pub number : ℕ
+  pub kind : StdKind
+  pub first : trace_of greatest text ≡ Err (Line number kind)
+  pub said : line ≡ fault_line number kind
+
+-- the line says which segment of the trace is before itself
+pub record IsLoopOf (trace : Trace) (line : List ℕ) : Type 0 where
+  pub at : Segment
+  pub least : IsLeastBeforeItself trace.lists at
+  pub said : line ≡ inconsistent_line trace.names at

@@ -1,0 +1,133 @@
+//! What is answered to a text.
+ghost use Rattle.std.specs.Prelude.{◌≡◌, ◌≢◌, ℕ, Ok, Err, List, IfOk, IfErr, OnOk};
+ghost use Rattle.gl_event.specs.Bounds.{greatest};
+ghost use Rattle.gl_std.specs.Trace.{trace_of, IsTraceOver};
+ghost use Rattle.gl_segments.specs.Clocks.{is_before, OrdersBy};
+ghost use Rattle.gl_segments.specs.Segments.{IsConsistent};
+ghost use Rattle.goodlock.specs.Answer.{IsAnswer, report_of};
+ghost use Rattle.goodlock.specs.Answer.Answer.{Report as Reports, Refusal};
+ghost use Rattle.goodlock.specs.Stops.{IfRefused, IsFaultOfText, IsLoopOf};
+ghost use Rattle.goodlock.specs.Ending.{IsFaultBefore, HasNoFault};
+
+use crate::lines::{ended_lines, fault_line, inconsistent_line};
+use gl_cycles::{Report, search};
+use gl_edges::edges_of;
+use gl_event::{Limits, MAX_EVENTS, MAX_NAMES, MAX_RING, MAX_THREADS, Memory};
+use gl_filters::Query;
+use gl_report::text;
+use gl_segments::{Order, OrderFault};
+use gl_std::{ReadFault, Trace, read_trace};
+use std::alloc::{AllocError, Global};
+
+/// What is printed of a text.
+#[derive(Drop, Debug)]
+pub(crate) struct Printed {
+    /// The report.
+    pub(crate) text: Vec<u8>,
+    /// Whether it lists a cycle.
+    pub(crate) lists_cycle: bool,
+}
+
+/// Why a text has no report.
+#[derive(Drop, Debug)]
+pub(crate) enum Stop {
+    /// This line for standard error says it.
+    Refused(Vec<u8>),
+    /// Memory was refused.
+    Memory,
+}
+
+impl From<AllocError> for Stop {
+    ghost use Rattle.goodlock.specs.declared.answer.Stop.TheVariants.{Memory};
+
+    ghost from_gives = { λ _ e. e ≡ Memory };
+
+    fn from(_e: AllocError) -> Stop {
+        Stop::Memory
+    }
+}
+
+// The greatest limits.
+fn greatest_limits() -> Limits
+    ensures { result ≡ greatest }
+{
+    match Limits::new(MAX_THREADS, MAX_RING, MAX_EVENTS, MAX_NAMES) {
+        Ok(limits) => limits,
+        Err(_) => unreachable!(),
+    }
+}
+
+// The trace of a text, or the line that says its first fault.
+fn trace_or_line(alloc: Global, text: &[u8]) -> Result<Trace, Stop>
+    ensures trace { IfOk result (λ t. trace_of greatest text.now ≡ Ok t) }
+    ensures over { IfOk result (IsTraceOver greatest) }
+    ensures refused { IfErr result (λ stop. IfRefused stop (IsFaultOfText text.now)) }
+{
+    match read_trace(alloc, text, &greatest_limits()) {
+        Ok(trace) => Ok(trace),
+        Err(ReadFault::Line { line, kind }) => {
+            let line = fault_line(alloc, line, kind)?;
+            Err(Stop::Refused(line))
+        }
+        Err(ReadFault::Memory) => Err(Stop::Memory),
+    }
+}
+
+// The order of a trace's segments, or the line that says which one is before itself.
+fn order_or_line(alloc: Global, trace: &Trace) -> Result<Order, Stop>
+    requires { IsTraceOver greatest trace.now }
+    ensures order { IfOk result (λ order. OrdersBy trace.now.lists order) }
+    ensures consistent { OnOk result (IsConsistent trace.now.lists) }
+    ensures refused { IfErr result (λ stop. IfRefused stop (IsLoopOf trace.now)) }
+{
+    match Order::of(alloc, trace.lists.as_slice()) {
+        Ok(order) => Ok(order),
+        Err(OrderFault::Inconsistent { at, ring: _ring }) => {
+            let line = inconsistent_line(alloc, &trace.names, at)?;
+            Err(Stop::Refused(line))
+        }
+        Err(OrderFault::Memory) => Err(Stop::Memory),
+    }
+}
+
+// The report of a trace whose segments have this order.
+fn print_report(
+    alloc: Global,
+    trace: &Trace,
+    order: &Order,
+    query: &Query,
+) -> Result<Printed, Memory>
+    requires { IsTraceOver greatest trace.now }
+    ensures { IfOk result (λ p. Reports p.text.items p.lists_cycle ≡ report_of query.now (is_before order.now) trace.now) }
+{
+    let edges = edges_of(alloc, trace.lists.as_slice())?;
+    let found = search(alloc, &edges, order, query)?;
+    let lists_cycle = !found.cycles.as_slice().is_empty();
+    let report = Report {
+        query: *query,
+        edges,
+        found,
+    };
+    let text = text(alloc, &trace.names, &report)?;
+    Ok(Printed { text, lists_cycle })
+}
+
+/// What is printed of a text, or why it has no report.
+pub(crate) fn answer(alloc: Global, text: &[u8], query: &Query) -> Result<Printed, Stop>
+    ensures printed { IfOk result (λ p. IsAnswer query.now text.now (Reports p.text.items p.lists_cycle)) }
+    ensures refused { IfErr result (λ stop. IfRefused stop (λ line. IsAnswer query.now text.now (Refusal line))) }
+{
+    let trace = trace_or_line(alloc, text)?;
+    let order = order_or_line(alloc, &trace)?;
+    let report = print_report(alloc, &trace, &order, query)?;
+    Ok(report)
+}
+
+/// Looks for a fault in the lines that LF has ended, in a text that wasn't read whole.
+pub(crate) fn judge_front(alloc: Global, text: &[u8]) -> Result<(), Stop>
+    ensures none { OnOk result (HasNoFault text.now) }
+    ensures refused { IfErr result (λ stop. IfRefused stop (IsFaultBefore text.now)) }
+{
+    let _trace = trace_or_line(alloc, ended_lines(text))?;
+    Ok(())
+}

@@ -1,0 +1,54 @@
+//! `goodlock` reads a trace of lock events from standard input and prints the deadlocks that it
+//! predicts.
+#![tactic(auto)]
+
+use ended::{Ended, Form};
+use gl_filters::{Mode, Query};
+use gl_io::FromStd;
+use prediction::predict;
+use std::io::Write;
+use std::process::ExitCode;
+
+mod answer;
+mod ended;
+mod lines;
+mod prediction;
+
+// The most reads of standard input.
+const TURNS: u64 = 1_000_000_000;
+
+// What is asked: all modes' conditions, at most four edges, at most a thousand cycles.
+fn full_query() -> Query {
+    match Query::new(Mode::Full, 4, 1_000) {
+        Ok(query) => query,
+        Err(_) => unreachable!(),
+    }
+}
+
+// The line for standard error and the exit status.
+fn said(ended: &Ended) -> (&[u8], u8) {
+    match ended {
+        Ended::Clean => (b"", 0),
+        Ended::Cycles => (b"", 1),
+        Ended::Refused(line) => (line.as_slice(), 2),
+        Ended::Memory => (b"goodlock: out of memory\n", 3),
+        Ended::ReadFailed => (b"goodlock: read failed\n", 4),
+        Ended::WriteFailed { .. } => (b"goodlock: write failed\n", 4),
+    }
+}
+
+fn main(rt: HostRuntime) -> ExitCode {
+    let mut input = FromStd::new(rt.stdin());
+    let mut output = FromStd::new(rt.stdout());
+    let ended = predict(
+        &rt,
+        &mut input,
+        &mut output,
+        TURNS,
+        &full_query(),
+        Form::Text,
+    );
+    let (line, status) = said(&ended);
+    let _ = rt.stderr().write_all(line);
+    ExitCode::from(status)
+}

@@ -1,0 +1,453 @@
+#!/usr/bin/env python3
+"""Compares a program with the reference on worked traces and on random and damaged ones.
+
+    compare.py [--stage first|full] [--cases N] [--seed S] PROGRAM [ARGUMENT..]
+
+Standard output, standard error and exit status must be equal byte for byte. Further arguments go to the
+program. `--mode`, `--len` and `--max` tell the reference another query than the stage's. A difference is
+shrunk by leaving out lines and written into a file; `--only K` runs case K of the seed alone.
+"""
+
+import argparse
+import os
+import random
+import subprocess
+import sys
+import tempfile
+
+sys.dont_write_bytecode = True
+import reference  # noqa: E402
+
+# --- Worked traces, with answers written by hand -------------------------------------------------------
+
+
+def lines(*events, end="\n"):
+    """`T0 acq a @1` stands for the line `T0|acq(a)|1`."""
+    text = ""
+    for event in events:
+        thread, word, operand, location = event.split(" ")
+        text += f"{thread}|{word}({operand})|{location.removeprefix('@')}{end}"
+    return text.encode()
+
+
+OPPOSITE = ["T0 acq a @1", "T0 acq b @2", "T0 rel b @3", "T0 rel a @4", "T1 acq b @5", "T1 acq a @6"]
+OPPOSITE_REPORT = (
+    b"cycle 1: 2 edges\n  T0 holds a since 1 wants b at 2\n  T1 holds b since 5 wants a at 6\ncycles: 1\n"
+)
+NONE = (b"cycles: 0\n", b"", 0)
+GATE = [
+    "T0 acq g @1", "T0 acq a @2", "T0 acq b @3", "T0 rel b @4", "T0 rel a @5", "T0 rel g @6",
+    "T1 acq g @7", "T1 acq b @8", "T1 acq a @9",
+]  # fmt: skip
+RING = ["T0 acq a @1", "T0 acq b @2", "T1 acq b @3", "T1 acq c @4", "T2 acq c @5", "T2 acq a @6"]
+MANY_OPPOSITE = [
+    f"T{t} {word} {lock} @{t}"
+    for t in range(40)
+    for word, lock in [("acq", "a"), ("acq", "b"), ("rel", "b"), ("rel", "a")]
+    + [("acq", "b"), ("acq", "a"), ("rel", "a"), ("rel", "b")]
+]
+
+
+def cycle(number, *edges):
+    text = f"cycle {number}: {len(edges)} edges\n"
+    for edge in edges:
+        text += "  {} holds {} since {} wants {} at {}\n".format(*edge.split(" "))
+    return text.encode()
+
+
+def refused(line, text):
+    return b"", f"goodlock: line {line}: {text}\n".encode(), 2
+
+
+def worked(stage):
+    """Name, text, answer by hand, whether the reference is quick enough for it."""
+    first = stage == "first"
+    prefix = b"T0|acq(a)|"
+    gate = cycle(1, "T0 a 2 b 3", "T1 b 8 a 9") + b"cycles: 1\n"
+    ring = cycle(1, "T0 a 1 b 2", "T1 b 3 c 4", "T2 c 5 a 6") + b"cycles: 1\n"
+    opposite = (OPPOSITE_REPORT, b"", 1)
+    loop = (b"", b"goodlock: inconsistent: T0.1 precedes itself\n", 2)
+    loops = (b"", b"goodlock: inconsistent: T0.2 precedes itself\n", 2)
+    skipped = (
+        b"T0|acq(a)|1\r\n\r\nT0|r(x)|9\r\nT0|acq(b)|A.java:7|x\r\nT0|rel(b)|3\r\nT0|rel(a)|4\r\n"
+        b"T0|begin|3\r\nT1|acq(b)|5\r\nT1|acq(a)|6"
+    )
+    rounds = [
+        f"T0 {word} {lock} @{4 * k + i}"
+        for k in range(1000)
+        for i, (word, lock) in enumerate([("acq", "a"), ("acq", "b"), ("rel", "b"), ("rel", "a")], 1)
+    ]
+    least = cycle(1, "T0 a 1 b 2", "T1 b 4001 a 4002") + b"cycles: 1\n"
+    two = (
+        cycle(1, "T0 a 1 b 2", "T1 b 9 a 10") + cycle(2, "T0 c 5 d 6", "T1 d 13 c 14") + b"cycles: 2\n"
+    )
+    forks = ["M fork T0 @1", "M join T0 @2", "M fork T1 @3"]
+    holding = ["M acq a @1", "M fork T1 @2", "M acq b @3", "T1 acq b @4", "T1 acq a @5"]
+    return [
+        ("empty_input", b"", NONE, True),
+        ("opposite_order", lines(*OPPOSITE), opposite, True),
+        ("gate_lock", lines(*GATE), (gate, b"", 1) if first else NONE, True),
+        ("joined_before", lines(*forks, *OPPOSITE), opposite if first else NONE, True),
+        (
+            "fork_while_holding",
+            lines(*holding),
+            (cycle(1, "M a 1 b 3", "T1 b 4 a 5") + b"cycles: 1\n", b"", 1),
+            True,
+        ),
+        ("three_lock_ring", lines(*RING), NONE if first else (ring, b"", 1), True),
+        (
+            "reentrant_acquire",
+            lines("T0 acq a @1", "T0 acq a @2", "T0 acq b @3", "T0 rel a @4", "T0 acq c @5")
+            + lines("T1 acq c @6", "T1 acq a @7"),
+            (cycle(1, "T0 a 1 c 5", "T1 c 6 a 7") + b"cycles: 1\n", b"", 1),
+            True,
+        ),
+        ("crossed_releases", lines("T0 acq a @1", "T0 acq b @2", "T0 rel a @3", "T0 acq c @4"), NONE, True),
+        (
+            "one_thread_both_orders",
+            lines(*OPPOSITE[:4], "T0 acq b @5", "T0 acq a @6"),
+            NONE,
+            True,
+        ),
+        ("least_sample", lines(*rounds, "T1 acq b @4001", "T1 acq a @4002"), (least, b"", 1), False),
+        ("crlf_and_skipped", skipped, (OPPOSITE_REPORT.replace(b"b at 2", b"b at A.java:7|x"), b"", 1), True),
+        ("bad_lines, no closing parenthesis", b"T0|acq(|3", refused(1, "bad operand"), True),
+        ("bad_lines, no parenthesis", b"T0|acq|3", refused(1, "bad operand"), True),
+        ("bad_lines, one bar", b"T0|acq(a)", refused(1, "no location field"), True),
+        ("bad_lines, no thread", b"|acq(a)|1", refused(1, "no thread"), True),
+        ("bad_lines, no bar", b"T0", refused(1, "no bar"), True),
+        (
+            "bad_lines, fork of itself",
+            b"T0|fork(T0)|1",
+            NONE if first else refused(1, "thread forks or joins itself"),
+            True,
+        ),
+        ("stray_release", lines("T0 rel a @1", "T0 acq b @2"), NONE, True),
+        (
+            "first_of_two_cycles",
+            lines("T0 acq a @1", "T0 acq b @2", "T0 rel b @3", "T0 rel a @4")
+            + lines("T0 acq c @5", "T0 acq d @6", "T0 rel d @7", "T0 rel c @8")
+            + lines("T1 acq b @9", "T1 acq a @10", "T1 rel a @11", "T1 rel b @12")
+            + lines("T1 acq d @13", "T1 acq c @14"),
+            (two, b"", 1),
+            True,
+        ),
+        ("join_loop", lines("T0 join T1 @1", "T1 join T0 @2"), NONE if first else loop, True),
+        (
+            "fork_join_fork",
+            lines("T0 fork T1 @1", "T0 join T1 @2", "T0 fork T1 @3", "T1 acq a @4"),
+            NONE if first else loops,
+            True,
+        ),
+        ("longest_line", prefix + b"x" * 65_526, NONE, True),
+        ("longest_line, LF", prefix + b"x" * 65_526 + b"\n", NONE, True),
+        ("longest_line, CR LF", prefix + b"x" * 65_526 + b"\r\n", NONE, True),
+        ("longest_line, one more", prefix + b"x" * 65_527 + b"\n", refused(1, "line too long"), True),
+        ("longest_line, CR kept", prefix + b"x" * 65_526 + b"\r", refused(1, "line too long"), True),
+        (
+            "limits_reached, 64 locks held",
+            lines(*[f"T0 acq l{i} @{i}" for i in range(64)], "T0 acq l3 @64", "T0 rel l9 @65"),
+            NONE,
+            False,
+        ),
+        (
+            "limits_reached, 65 locks held",
+            lines(*[f"T0 acq l{i} @{i}" for i in range(65)]),
+            refused(65, "too many locks held"),
+            True,
+        ),
+        ("limits_reached, depth", lines("T0 acq a @1") * 1_000_000, NONE, False),
+        (
+            "limits_reached, depth and one more",
+            lines("T0 acq a @1") * 1_000_001,
+            refused(1_000_001, "lock taken too often"),
+            False,
+        ),
+        ("limits_reached, threads", lines(*[f"T{i} acq a @1" for i in range(1024)]), NONE, False),
+        (
+            "limits_reached, threads and one more",
+            lines(*[f"T{i} acq a @1" for i in range(1025)]),
+            refused(1025, "too many threads"),
+            False,
+        ),
+        (
+            "limits_reached, a forked thread too many",
+            lines(*[f"T{i} acq a @1" for i in range(1024)], "T5 fork T9999 @2", "T5 acq b @3"),
+            NONE if first else refused(1025, "too many threads"),
+            False,
+        ),
+        (
+            "limits_reached, a stray's thread has no number",
+            lines(*[f"T{i} acq a @1" for i in range(1024)], "T9999 rel a @2", "T5 acq b @3"),
+            NONE,
+            False,
+        ),
+        ("more_than_1000_cycles", lines(*MANY_OPPOSITE), None, True),
+    ]
+
+
+# --- Random traces ---------------------------------------------------------------------------------------
+
+PLAIN = ["T0", "T1", "T2", "T3", "T4", "T5"]
+ODD = ["T 0", "\u00e9", "main)", "(", "t\t", "T0 ", "acq(a)", "\x00", "\\", "x\ry"]
+
+
+class Maker:
+    """Makes one random trace; what it keeps only makes likely what is worth testing."""
+
+    def __init__(self, random_, most_lines=34):
+        self.random = random_
+        odd = random_.random() < 0.2
+        names = PLAIN + (ODD if odd else [])
+        self.threads = random_.sample(names, random_.randint(1, 5))
+        locks = ["a", "b", "c", "d", "e", "g"] + (["a ", "a)", "(", "\u00fc", "\r"] if odd else [])
+        self.locks = random_.sample(locks, random_.randint(1, 5))
+        self.stack = {}
+        self.made = []
+        self.size = random_.randint(0, most_lines)
+        self.odd = odd
+
+    def line(self, thread, call):
+        places = [str(len(self.made) + 1)] * 4 + ["Pool.java:88", "", "a|b", "x y"] + (["\r", "(1)"] if self.odd else [])
+        self.made.append(f"{thread}|{call}|{self.random.choice(places)}")
+
+    def acquire(self, thread, lock):
+        self.line(thread, f"acq({lock})")
+        self.stack.setdefault(thread, []).append(lock)
+
+    def release(self, thread, at):
+        self.line(thread, f"rel({self.stack[thread].pop(at)})")
+
+    def block(self):
+        """Nested sections of one thread, mostly released in order."""
+        thread = self.random.choice(self.threads)
+        depth = self.random.choice([2, 2, 2, 3, 4])
+        held = len(self.stack.get(thread, []))
+        for lock in self.random.sample(self.locks, min(depth, len(self.locks))):
+            self.acquire(thread, lock)
+        if self.random.random() < 0.85:
+            while len(self.stack[thread]) > held:
+                self.release(thread, -1)
+
+    def single(self):
+        random_ = self.random
+        thread = random_.choice(self.threads)
+        held = self.stack.get(thread, [])
+        kind = random_.random()
+        if kind < 0.4:
+            self.acquire(thread, random_.choice(self.locks))
+        elif kind < 0.75 and held:
+            self.release(thread, random_.choice([-1, -1, random_.randrange(len(held))]))
+        elif kind < 0.8:
+            self.line(thread, f"rel({random_.choice(self.locks)})")
+        elif kind < 0.9:
+            self.line(thread, random_.choice(["r(x)", "w(y)", "begin", "end", "", "acquire(a)", "ACQ(a)", "acq "]))
+        else:
+            self.link()
+
+    def link(self):
+        word = self.random.choice(["fork", "join"])
+        thread, other = self.random.choice(self.threads), self.random.choice(self.threads + ["X", "Y"])
+        if other != thread or self.random.random() < 0.02:
+            self.line(thread, f"{word}({other})")
+
+    def phases(self):
+        """A main thread forks and joins the others in turn, so that segments are ordered."""
+        main, *others = self.threads
+        for other in others:
+            if self.random.random() < 0.8:
+                self.line(main, f"fork({other})")
+            for _ in range(self.random.randint(0, 2)):
+                self.block()
+            if self.random.random() < 0.5:
+                self.line(main, f"join({other})")
+
+    def relay(self):
+        """Each thread waits for another or is started by it, so that order passes through third threads."""
+        order = self.random.sample(self.threads, len(self.threads))
+        self.locks = self.locks[:2] if self.random.random() < 0.5 else self.locks
+        for before, after in zip([None] + order, order):
+            way = self.random.random()
+            if before is not None and way < 0.4:
+                self.line(before, f"fork({after})")
+            elif before is not None and way < 0.85:
+                self.line(after, f"join({before})")
+            for _ in range(self.random.randint(0, 2)):
+                thread_names, self.threads = self.threads, [after]
+                self.block()
+                self.threads = thread_names
+
+    def make(self):
+        style = self.random.random()
+        if style < 0.2:
+            self.phases()
+        elif style < 0.4:
+            self.relay()
+        while len(self.made) < self.size:
+            if style < 0.75 and self.random.random() < 0.7:
+                self.block()
+            else:
+                self.single()
+        return self.made
+
+
+def joined(random_, made):
+    """The lines as text: LF, CR LF or a mixture, with or without the last line end."""
+    style = random_.random()
+    text = b""
+    for line in made:
+        end = b"\n" if style < 0.6 else b"\r\n" if style < 0.8 else random_.choice([b"\n", b"\r\n", b"\n\n", b"\r\r\n"])
+        text += line.encode() + end
+    if random_.random() < 0.25:
+        text = text.rstrip(b"\n")
+    return text
+
+
+def damaged(random_, text):
+    """Bytes changed, left out or put in; lines cut, doubled or moved."""
+    odd = [b"|", b"(", b")", b"\r", b"\n", b"\x00", b"\xff", b" ", b"a", b"T0", b"acq(", b"fork(T0)", b"||", b"\r\n"]
+    for _ in range(random_.choice([1, 1, 1, 2, 3, 8])):
+        at = random_.randint(0, len(text))
+        kind = random_.random()
+        if kind < 0.3:
+            text = text[:at] + random_.choice(odd) + text[at + 1 :]
+        elif kind < 0.55:
+            text = text[:at] + random_.choice(odd) + text[at:]
+        elif kind < 0.75:
+            text = text[:at] + text[at + random_.randint(1, 3) :]
+        elif kind < 0.8:
+            text = text[:at]
+        elif kind < 0.9:
+            parts = text.split(b"\n")
+            i = random_.randrange(len(parts))
+            parts.insert(random_.randint(0, len(parts)), parts[i])
+            text = b"\n".join(parts)
+        else:
+            text = text[:at] + bytes(random_.randrange(256) for _ in range(random_.randint(1, 4))) + text[at:]
+    return text
+
+
+def huge(random_, made):
+    """One line of about the greatest length, somewhere among the others."""
+    size = 65_536 + random_.choice([-2, -1, 0, 0, 0, 1, 1, 2, 300])
+    shape = random_.choice(["T0|acq(a)|{}", "T0|acq({})|1", "{}|acq(a)|1", "T0|r({})|1", "{}", "T0|{}", "|{}|", "T0|rel({})|9"])
+    fill = size - len(shape) + 2
+    line = shape.format(random_.choice("xxx|(") * fill).encode()
+    text = joined(random_, made)
+    place = random_.choice([0, len(text), text.find(b"\n") + 1])
+    end = random_.choice([b"\n", b"\r\n", b"\r", b""] if place == len(text) else [b"\n", b"\r\n"])
+    return text[:place] + line + end + text[place:]
+
+
+def case(seed, number, most_lines=34):
+    random_ = random.Random(f"{seed}/{number}")
+    kind = random_.random()
+    if kind < 0.02:
+        return huge(random_, Maker(random_, 10).make())
+    text = joined(random_, Maker(random_, most_lines).make())
+    return text if kind < 0.65 else damaged(random_, text)
+
+
+# --- Comparing -------------------------------------------------------------------------------------------
+
+
+def run(command, text):
+    done = subprocess.run(command, input=text, capture_output=True)
+    return done.stdout, done.stderr, done.returncode
+
+
+def shrunk(text, differs):
+    """The text with as many lines left out as keeps the difference."""
+    parts = text.split(b"\n")
+    at = 0
+    while at < len(parts):
+        fewer = parts[:at] + parts[at + 1 :]
+        if differs(b"\n".join(fewer)):
+            parts = fewer
+        else:
+            at += 1
+    return b"\n".join(parts)
+
+
+def show(answer):
+    output, errors, status = answer
+    return f"status {status}\n      output {output[:600]!r}\n      errors {errors[:300]!r}"
+
+
+def unreadable(command):
+    """A directory as input, and a full device as output."""
+    with tempfile.TemporaryDirectory() as folder:
+        handle = os.open(folder, os.O_RDONLY)
+        done = subprocess.run(command, stdin=handle, capture_output=True)
+        os.close(handle)
+        yield "unreadable input", (b"", b"goodlock: read failed\n", 4), (done.stdout, done.stderr, done.returncode)
+    if os.path.exists("/dev/full"):
+        with open("/dev/full", "wb") as full:
+            done = subprocess.run(command, input=b"", stdout=full, stderr=subprocess.PIPE)
+        yield "full output", (b"", b"goodlock: write failed\n", 4), (b"", done.stderr, done.returncode)
+
+
+def main():
+    parser = argparse.ArgumentParser(description=__doc__, formatter_class=argparse.RawDescriptionHelpFormatter)
+    parser.add_argument("--stage", choices=sorted(reference.STAGES), default="full")
+    parser.add_argument("--mode", choices=["basic", "guarded", "full"])
+    parser.add_argument("--len", type=int, dest="length")
+    parser.add_argument("--max", type=int, dest="most")
+    parser.add_argument("--cases", type=int, default=5000)
+    parser.add_argument("--seed", default="1")
+    parser.add_argument("--lines", type=int, default=34, help="most lines of a random trace, about")
+    parser.add_argument("--only", type=int)
+    parser.add_argument("program")
+    parser.add_argument("arguments", nargs=argparse.REMAINDER)
+    options = parser.parse_args()
+    stage = reference.STAGES[options.stage]
+    is_other = options.mode or options.length or options.most
+    query = reference.Query(
+        options.mode or stage.mode, options.length or stage.length, options.most or stage.most, stage.with_forks
+    )
+    command = [os.path.abspath(options.program)] + [a for a in options.arguments if a != "--"]
+    wrong = 0
+    seen = {}
+
+    if options.only is None:
+        for name, text, by_hand, is_quick in worked(options.stage):
+            answers = [("by hand", None if is_other else by_hand), ("program", run(command, text))]
+            if is_quick:
+                answers.append(("reference", reference.predict(text, query)))
+            answers = [pair for pair in answers if pair[1] is not None]
+            if any(answer != answers[0][1] for _, answer in answers):
+                wrong += 1
+                print(f"{name}: answers differ")
+                for who, answer in answers:
+                    print(f"    {who}: {show(answer)}")
+        for name, expected, got in unreadable(command):
+            if got != expected:
+                wrong += 1
+                print(f"{name}: expected {show(expected)}\n    got {show(got)}")
+
+    numbers = range(options.cases) if options.only is None else [options.only]
+    for number in numbers:
+        text = case(options.seed, number, options.lines)
+        expected = reference.predict(text, query)
+        got = run(command, text)
+        sort = expected[1].split(b": ", 2)[-1].strip().decode("latin-1") or f"status {expected[2]}"
+        sort = "inconsistent" if "precedes" in sort else sort
+        seen[sort] = seen.get(sort, 0) + 1
+        if got != expected:
+            wrong += 1
+            small = shrunk(text, lambda t: reference.predict(t, query) != run(command, t))
+            path = os.path.join(tempfile.gettempdir(), f"goodlock-differs-{options.seed}-{number}.std")
+            with open(path, "wb") as file:
+                file.write(small)
+            print(f"case {number}: answers differ on {path}: {small[:400]!r}")
+            print(f"    reference: {show(reference.predict(small, query))}\n    program: {show(run(command, small))}")
+            if wrong >= 10:
+                print("stopped at 10 differences")
+                break
+    print(f"{len(numbers)} random cases: " + ", ".join(f"{kind} {count}" for kind, count in sorted(seen.items())))
+    print("all equal" if wrong == 0 else f"{wrong} differ")
+    return 1 if wrong else 0
+
+
+if __name__ == "__main__":
+    sys.exit(main())

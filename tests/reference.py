@@ -1,0 +1,311 @@
+#!/usr/bin/env python3
+"""A slow, plain reference of goodlock, written straight from the definitions.
+
+It counts over prefixes, follows chains of steps and selects among lists of edges. Nothing is indexed,
+cached or searched cleverly, so it is for small traces only.
+
+    reference.py [--stage first|full] [--mode M] [--len L] [--max N] [--skip-forks] < trace.std
+
+Stage `first` is mode basic, length 2, and forks and joins are skipped like any other operation; stage
+`full` (the default) is mode full, length 4. Both list at most 1,000 cycles.
+"""
+
+import sys
+
+LINE_LIMIT = 65_536
+HELD_LIMIT = 64
+DEPTH_LIMIT = 1_000_000
+THREAD_LIMIT = 1_024
+
+
+class Query:
+    def __init__(self, mode="full", length=4, most=1000, with_forks=True):
+        self.mode = mode  # "basic", "guarded" or "full"
+        self.length = length
+        self.most = most
+        self.with_forks = with_forks
+
+
+STAGES = {"first": Query("basic", 2, 1000, False), "full": Query("full", 4, 1000, True)}
+
+
+class LineFault(Exception):
+    def __init__(self, line, text):
+        super().__init__(line, text)
+        self.line = line
+        self.text = text
+
+
+# --- The text -----------------------------------------------------------------------------------
+
+
+def lines_of(text):
+    """A line ends at LF, and one CR just before it is dropped. A last line without LF keeps its CR."""
+    pieces = text.split(b"\n")
+    ended, last = pieces[:-1], pieces[-1]
+    lines = [piece[:-1] if piece.endswith(b"\r") else piece for piece in ended]
+    return lines + ([last] if last != b"" else [])
+
+
+def depth(events, lock):
+    """Acquires less releases of the lock among these events of one thread."""
+    acquires = sum(1 for e in events if e[0] == "acq" and e[1] == lock)
+    releases = sum(1 for e in events if e[0] == "rel" and e[1] == lock)
+    return acquires - releases
+
+
+def held(events):
+    return {e[1] for e in events if e[0] == "acq" and depth(events, e[1]) > 0}
+
+
+def threads_of(kept):
+    """Names of threads by first mention: the acting thread comes before an operand that is one."""
+    names = []
+    for thread, (word, operand, _) in kept:
+        for name in [thread] + ([operand] if word in ("fork", "join") else []):
+            if name not in names:
+                names.append(name)
+    return names
+
+
+def locks_of(kept):
+    names = []
+    for _, (word, operand, _) in kept:
+        if word in ("acq", "rel") and operand not in names:
+            names.append(operand)
+    return names
+
+
+def judge(line, kept, query):
+    """An event (thread, (word, operand, location)), or None for a line that is passed over."""
+    if len(line) > LINE_LIMIT:
+        raise ValueError("line too long")
+    if line == b"":
+        return None
+    fields = line.split(b"|", 2)
+    if len(fields) == 1:
+        raise ValueError("no bar")
+    if len(fields) == 2:
+        raise ValueError("no location field")
+    thread, call, location = fields
+    if thread == b"":
+        raise ValueError("no thread")
+    word = call.split(b"(", 1)[0]
+    words = [b"acq", b"rel"] + ([b"fork", b"join"] if query.with_forks else [])
+    if word not in words:
+        return None
+    if b"(" not in call or not call.endswith(b")"):
+        raise ValueError("bad operand")
+    operand = call.split(b"(", 1)[1][:-1]
+    if operand == b"":
+        raise ValueError("bad operand")
+    word = word.decode()
+    if word in ("fork", "join") and operand == thread:
+        raise ValueError("thread forks or joins itself")
+    before = [event for acting, event in kept if acting == thread]
+    if word == "rel" and depth(before, operand) == 0:
+        return None
+    if word == "acq" and depth(before, operand) == 0 and len(held(before)) == HELD_LIMIT:
+        raise ValueError("too many locks held")
+    if word == "acq" and depth(before, operand) == DEPTH_LIMIT:
+        raise ValueError("lock taken too often")
+    event = (thread, (word, operand, location))
+    if len(threads_of(kept + [event])) > THREAD_LIMIT:
+        raise ValueError("too many threads")
+    return event
+
+
+def trace_of(text, query):
+    """The kept lines in order; or the first line with a fault."""
+    kept = []
+    for number, line in enumerate(lines_of(text), 1):
+        try:
+            event = judge(line, kept, query)
+        except ValueError as fault:
+            raise LineFault(number, str(fault)) from None
+        if event is not None:
+            kept.append(event)
+    return kept
+
+
+# --- Segments and their order ---------------------------------------------------------------------
+
+
+def segment(events):
+    """Forks and joins among these events of one thread."""
+    return sum(1 for e in events if e[0] in ("fork", "join"))
+
+
+def segments_of(lists):
+    return [(t, i) for t, events in enumerate(lists) for i in range(segment(events) + 1)]
+
+
+def is_step(lists, a, b):
+    """One step of happens-before: program order, a fork to its thread's start, a thread's end to a join.
+    Operands of forks and joins are thread numbers here."""
+    t, i = a
+    u, j = b
+    if t == u and j == i + 1:
+        return True
+    for p, (word, operand, _) in enumerate(lists[t]):
+        if word == "fork" and operand == u and segment(lists[t][:p]) == i and j == 0:
+            return True
+    for p, (word, operand, _) in enumerate(lists[u]):
+        if word == "join" and operand == t and segment(lists[t]) == i and segment(lists[u][:p]) + 1 == j:
+            return True
+    return False
+
+
+def before_relation(lists):
+    """All pairs (a, b) for which a chain of one or more steps leads from a to b."""
+    segments = segments_of(lists)
+    steps = {(a, b) for a in segments for b in segments if is_step(lists, a, b)}
+    chains = set(steps)
+    while True:
+        longer = {(a, c) for a, b in chains for b2, c in steps if b == b2} - chains
+        if not longer:
+            return chains
+        chains |= longer
+
+
+# --- Edges ------------------------------------------------------------------------------------------
+
+
+def opened(events, lock):
+    """The last place at which the lock was acquired at depth 0."""
+    return max(
+        q for q, e in enumerate(events) if e[0] == "acq" and e[1] == lock and depth(events[:q], lock) == 0
+    )
+
+
+def edges_at(t, events, p):
+    """Pairs of an edge and its sample that the event at place p makes."""
+    word, wanted, location = events[p]
+    earlier = events[:p]
+    if word != "acq" or depth(earlier, wanted) > 0:
+        return []
+    guards = tuple(sorted(held(earlier)))
+    made = []
+    for lock in guards:
+        q = opened(earlier, lock)
+        edge = (t, lock, wanted, segment(events[:q]), segment(earlier), guards)
+        made.append((edge, (p, events[q][2], location)))
+    return made
+
+
+def edges_of(lists):
+    """Each edge once, with its sample of least place."""
+    table = {}
+    for t, events in enumerate(lists):
+        for p in range(len(events)):
+            for edge, sample in edges_at(t, events, p):
+                if edge not in table or sample[0] < table[edge][0]:
+                    table[edge] = sample
+    return table
+
+
+# --- Cycles -----------------------------------------------------------------------------------------
+
+
+def linked_lists(edges, size):
+    """All lists of this many edges, of distinct held locks, in which each wanted lock is the next edge's
+    held lock."""
+    if size == 1:
+        return [[e] for e in edges]
+    return [
+        front + [e]
+        for front in linked_lists(edges, size - 1)
+        for e in edges
+        if front[-1][2] == e[1] and e[1] not in [f[1] for f in front]
+    ]
+
+
+def is_cycle(cycle, before, mode):
+    threads = [e[0] for e in cycle]
+    helds = [e[1] for e in cycle]
+    if len(cycle) < 2:
+        return False
+    if any(cycle[i][2] != cycle[(i + 1) % len(cycle)][1] for i in range(len(cycle))):
+        return False
+    if len(set(threads)) < len(threads) or len(set(helds)) < len(helds):
+        return False
+    if threads[0] != min(threads):
+        return False
+    pairs = [(e, f) for i, e in enumerate(cycle) for f in cycle[i + 1 :]]
+    if mode in ("guarded", "full") and any(set(e[5]) & set(f[5]) for e, f in pairs):
+        return False
+
+    def precedes(e, f):
+        return ((e[0], e[4]), (f[0], f[3])) in before
+
+    if mode == "full" and any(precedes(e, f) or precedes(f, e) for e, f in pairs):
+        return False
+    return True
+
+
+def cycles_of(edges, before, query):
+    candidates = [c for size in range(2, query.length + 1) for c in linked_lists(edges, size)]
+    return sorted(c for c in candidates if is_cycle(c, before, query.mode))
+
+
+# --- The report -------------------------------------------------------------------------------------
+
+
+def predict(text, query):
+    """Standard output, standard error and exit status."""
+    try:
+        kept = trace_of(text, query)
+    except LineFault as fault:
+        return b"", b"goodlock: line %d: %s\n" % (fault.line, fault.text.encode()), 2
+    threads, locks = threads_of(kept), locks_of(kept)
+
+    def numbered(event):
+        word, operand, location = event
+        return word, (threads if word in ("fork", "join") else locks).index(operand), location
+
+    lists = [[numbered(event) for acting, event in kept if acting == name] for name in threads]
+    before = before_relation(lists)
+    for t, i in segments_of(lists):
+        if ((t, i), (t, i)) in before:
+            return b"", b"goodlock: inconsistent: %s.%d precedes itself\n" % (threads[t], i), 2
+    table = edges_of(lists)
+    cycles = cycles_of(sorted(table), before, query)
+    listed = cycles[: query.most]
+    report = b""
+    for number, cycle in enumerate(listed, 1):
+        report += b"cycle %d: %d edges\n" % (number, len(cycle))
+        for edge in cycle:
+            _, held_location, wanted_location = table[edge]
+            names = (threads[edge[0]], locks[edge[1]], held_location, locks[edge[2]], wanted_location)
+            report += b"  %s holds %s since %s wants %s at %s\n" % names
+    more = b" (more)" if len(cycles) > len(listed) else b""
+    report += b"cycles: %d%s\n" % (len(listed), more)
+    return report, b"", 1 if listed else 0
+
+
+def main():
+    import argparse
+
+    parser = argparse.ArgumentParser(description=__doc__, formatter_class=argparse.RawDescriptionHelpFormatter)
+    parser.add_argument("--stage", choices=sorted(STAGES), default="full")
+    parser.add_argument("--mode", choices=["basic", "guarded", "full"])
+    parser.add_argument("--len", type=int, dest="length")
+    parser.add_argument("--max", type=int, dest="most")
+    parser.add_argument("--skip-forks", action="store_true")
+    options = parser.parse_args()
+    stage = STAGES[options.stage]
+    query = Query(
+        options.mode or stage.mode,
+        options.length or stage.length,
+        options.most or stage.most,
+        stage.with_forks and not options.skip_forks,
+    )
+    output, errors, status = predict(sys.stdin.buffer.read(), query)
+    sys.stdout.buffer.write(output)
+    sys.stdout.flush()
+    sys.stderr.buffer.write(errors)
+    return status
+
+
+if __name__ == "__main__":
+    sys.exit(main())
