@@ -16,15 +16,19 @@ pub leads_weaker : (S T : Segment → Segment → Type 0) → ((x y : Segment) �
 leads_weaker S T all a [] b h = all a b h
 leads_weaker S T all a (x ∷ v) b h = (all a x h.0, leads_weaker S T all x v b h.1)
 
+-- before is transitive
 pub precedes_trans : (steps : Sources) (a b c : Segment) → Precedes steps a b → Precedes steps b c → Precedes steps a c
 precedes_trans steps a b c p q = (p.0 ++ b ∷ q.0, leads_append (LeadsTo steps) a p.0 b q.0 c p.1 q.1)
 
+-- one step is a chain
 pub precedes_step : (steps : Sources) (a b : Segment) → LeadsTo steps a b → Precedes steps a b
 precedes_step steps a b h = ([], h)
 
+-- one more step at the front of a chain
 pub precedes_cons : (steps : Sources) (a b c : Segment) → LeadsTo steps a b → Precedes steps b c → Precedes steps a c
 precedes_cons steps a b c h q = (b ∷ q.0, (h, q.1))
 
+-- a chain begins at a segment of the table
 leads_inside : (steps : Sources) → IsSound steps → (a : Segment) (v : List Segment) (b : Segment) → Leads (LeadsTo steps) a v b → Has steps a
 leads_inside steps sound a [] b h = sound.inside a b h
 leads_inside steps sound a (x ∷ v) b h = sound.inside a x h.0
@@ -49,9 +53,11 @@ leads_has steps a b h =
       | inr past ↦ let none : sources steps b ≡ [] = get_or_past (row steps b.thread) b.index [] past in absurd (let w = h.1 in let e = ap length none in omega arith)
     ]
 
+-- a chain ends at a segment of the table
 chain_has : (steps : Sources) (a : Segment) (v : List Segment) (b : Segment) → Leads (LeadsTo steps) a v b → Has steps b
 chain_has steps a [] b h = leads_has steps a b h
 chain_has steps a (x ∷ v) b h = chain_has steps x v b h.1
 
+-- what another is before has its place in the table
 pub precedes_has : (steps : Sources) (a b : Segment) → Precedes steps a b → Has steps b
 precedes_has steps a b p = chain_has steps a p.0 b p.1

@@ -40,6 +40,7 @@ may_start_next steps sound clock s t width is apart thread index has = record {
   closed = λ b counted a step. (is a).1 (precedes_cons steps a b s step ((is b).0 counted));
 }
 
+-- a clock of zeros counts nothing
 none_counted : (n t : ℕ) → slice_index (replicate n 0) t ≡ 0
 none_counted zero t = refl
 none_counted (suc n) zero = refl
@@ -54,6 +55,7 @@ may_start_zero steps target = record {
   closed = λ s counted. absurd (omega (arith, none_counted (length steps) s.thread));
 }
 
+-- nothing follows the first entry
 no_links : (found : List Link) (rest : List Segment) → FollowsLinks found 0 rest → rest ≡ []
 no_links found [] h = refl
 no_links found (s ∷ rest) h = absurd (omega (arith, h.1))

@@ -17,6 +17,7 @@ use Rattle.gl_segments.proofs.Cutting.{segment_take, some_at}
 pub before_trans : BeforeIsTransitive
 before_trans lists a b c p q = (p.0 ++ b ∷ q.0, leads_append (IsStep lists) a p.0 b q.0 c p.1 q.1)
 
+-- a chain leads between segments of the lists
 chain_segments : (lists : List (List Event)) (a : Segment) (via : List Segment) (b : Segment) → Leads (IsStep lists) a via b → IsSegment lists a × IsSegment lists b
 chain_segments lists a [] b h = (step_from lists a b h, step_to lists a b h)
 chain_segments lists a (c ∷ via) b h = (step_from lists a c h.0, (chain_segments lists c via b h.1).1)
@@ -36,6 +37,7 @@ earlier_by lists (suc n) a b real same later =
 pub earlier : EarlierIsBefore
 earlier lists a b real same below = earlier_by lists (b.index - a.index - 1) a b real same (omega arith)
 
+-- two tests of one fact agree
 agree_at : (p q : Bool) (P : Type 0) → (IsTrue p ↔ P) → (IsTrue q ↔ P) → p ≡ q
 agree_at true true P h k = refl
 agree_at true false P h k = sym (k.1 (h.0 refl))
@@ -55,11 +57,14 @@ get_front (suc n) (x ∷ xs) (suc p) e h = let r = get_front n xs p e h in (omeg
 -- the whole list of a front
 record IsFrontOf (lists : List (List Event)) (thread : ℕ) (front : List Event) : Type 0 where
   whole : List Event
+  -- it is the thread's
   of_thread : slice_get lists thread ≡ Some whole
   size : ℕ
+  -- the front is its beginning
   is : front ≡ take size whole
 
 module _ (lists fronts : List (List Event)) (are : AreFronts fronts lists) where
+  -- the whole list of a front
   whole_of : (thread : ℕ) (front : List Event) → slice_get fronts thread ≡ Some front → IsFrontOf lists thread front
   whole_of thread front at =
       let within = slice_get_within fronts thread front at in
@@ -67,6 +72,7 @@ module _ (lists fronts : List (List Event)) (are : AreFronts fronts lists) where
       let n = are.each thread es.0 es.1 in
       record { whole = es.0; of_thread = es.1; size = n.0; is = same_Some front (take n.0 es.0) (sym at ∙ n.1) }
 
+  -- a segment of the fronts is one of the lists
   segment_whole : (s : Segment) → IsSegment fronts s → IsSegment lists s
   segment_whole s h =
       let w = whole_of s.thread h.list h.of_thread in
@@ -74,6 +80,7 @@ module _ (lists fronts : List (List Event)) (are : AreFronts fronts lists) where
       let same = ap segment w.is in
       record { list = w.whole; of_thread = w.of_thread; within = let i = h.within in omega arith }
 
+  -- an event stands in the same segment of the whole list
   stands_whole : (s : Segment) (e : Event) → StandsIn fronts s e → StandsIn lists s e
   stands_whole s e h =
       let w = whole_of s.thread h.list h.of_thread in
@@ -98,11 +105,13 @@ module _ (lists fronts : List (List Event)) (are : AreFronts fronts lists) where
             ([], subst (λ i. IsStep lists (record { thread = a.thread; index = i }) b) is step)
       ]
 
+  -- a step of the fronts is a chain of the lists
   step_whole : (a b : Segment) → IsStep fronts a b → Before lists a b
   step_whole a b (inl h) = ([], inl (record { real = segment_whole b h.real; same_thread = h.same_thread; one_later = h.one_later }))
   step_whole a b (inr (inl h)) = ([], inr (inl (record { loc = h.loc; forks = stands_whole a _ h.forks; real = segment_whole b h.real; first = h.first })))
   step_whole a b (inr (inr h)) = join_whole a b h
 
+  -- a chain of the fronts is one of the lists
   chain_whole : (a : Segment) (via : List Segment) (b : Segment) → Leads (IsStep fronts) a via b → Before lists a b
   chain_whole a [] b h = step_whole a b h
   chain_whole a (c ∷ via) b h = before_trans lists a c b (step_whole a c h.0) (chain_whole c via b h.1)

@@ -17,12 +17,16 @@ use Rattle.gl_segments.proofs.Chains.{leads_weaker, precedes_has, thread_inside}
 
 -- the clocks of the first n threads
 pub record AreClocksTo (steps : Sources) (clocks : Clocks) (n : ℕ) : Type 0 where
+  -- there are n of them
   pub size : length clocks ≡ n
+  -- each is its thread's
   pub each : (t : ℕ) → t < n → AreClocksOf steps t (slice_index_or clocks t [])
 
+-- those of no threads
 pub clocks_none : (steps : Sources) → AreClocksTo steps [] 0
 clocks_none steps = record { size = refl; each = λ t below. absurd (omega arith) }
 
+-- those of one more thread
 pub threads_more : (steps : Sources) (clocks : Clocks) (n : ℕ) (new : List (List ℕ)) → AreClocksOf steps n new → AreClocksTo steps clocks n → AreClocksTo steps (clocks ++ new ∷ []) (n + 1)
 threads_more steps clocks n new is so_far = record {
   size = length_push clocks new ∙ ap (λ k. k + 1) so_far.size;
@@ -36,6 +40,7 @@ threads_more steps clocks n new is so_far = record {
 }
 
 module _ (lists : List (List Event)) (steps : Sources) (shows : ShowsSteps lists steps) (sound : IsSound steps) where
+  -- what is before in the lists is before by the table
   precedes : (a b : Segment) → Before lists a b → Precedes steps a b
   precedes a b p = (p.0, leads_weaker (IsStep lists) (LeadsTo steps) shows.forward a p.0 b p.1)
 
@@ -45,6 +50,7 @@ module _ (lists : List (List Event)) (steps : Sources) (shows : ShowsSteps lists
       let q = precedes s s p in
       (so_far.each s.thread below).apart s.index (precedes_has steps s s q) q
 
+  -- the least segment of a thread that is before itself is the least of the lists
   fault_in_thread : (clocks : Clocks) (n : ℕ) (at : Segment) (ring : List Segment) → AreClocksTo steps clocks n → IsFirstOfThread steps n at ring → IsLeastInRing lists at ring
   fault_in_thread clocks n at ring so_far is = record {
     begins = ap (λ xs. slice_get xs 0) is.begins;
@@ -72,9 +78,11 @@ module _ (lists : List (List Event)) (steps : Sources) (shows : ShowsSteps lists
           apart_below clocks (length steps) all s (thread_inside steps s has) p;
     }
 
+    -- the clock of each segment
     clock_of : (b : Segment) → Has steps b → IsClockOf steps (slice_index_or (slice_index_or clocks b.thread []) b.index []) b
     clock_of b has = (all.each b.thread (thread_inside steps b has)).each b.index has
 
+    -- what a clock is looked up for has its place in the table
     counted_has : (a b : Segment) → a.index < ahead clocks b a.thread → Has steps b
     counted_has a b h =
         elim (cases_lt b.thread (length clocks)) [

@@ -15,6 +15,7 @@ use Rattle.gl_segments.proofs.Chains.{precedes_cons, precedes_step, precedes_ins
 place_cases : (n k : ℕ) → k < n + 1 → (k < n) ⊎ (k ≡ n)
 place_cases n k h = grind arith
 
+-- an element of the second of two lists
 slice_get_after : {X : Type 0} (xs ys : List X) (k : ℕ) → slice_get (xs ++ ys) (length xs + k) ≡ slice_get ys k
 slice_get_after [] ys k = let e : 0 + k ≡ k = omega arith in rw e refl
 slice_get_after (x ∷ xs) ys k = let e : suc (length xs) + k ≡ suc (length xs + k) = omega arith in rw e (slice_get_after xs ys k)
@@ -69,6 +70,7 @@ module _ (steps : Sources) (sound : IsSound steps) (target : Segment) where
       let apart : (found ++ e ∷ []) ++ links_back before (length found) (length found + 1) (suc n) ≡ found ++ e ∷ links_back before (length found) (length found + 1) (suc n) = append_assoc found (e ∷ []) (links_back before (length found) (length found + 1) (suc n)) in
       subst (AreLinks steps target) apart (subst (λ p. AreLinks steps target ((found ++ e ∷ []) ++ links_back before (length found) p (suc n))) longer rest)
 
+-- as many links as segments
 pub length-links_back : (n : ℕ) (s : Segment) (next p : ℕ) → length (links_back s next p n) ≡ n
 length-links_back zero s next p = refl
 length-links_back (suc n) s next p = ap suc (length-links_back n (record { thread = s.thread; index = s.index - 1 }) p (p + 1))
@@ -114,6 +116,7 @@ module _ (steps : Sources) (sound : IsSound steps) (target : Segment) where
   abbrev pub raised : List ℕ → Segment → List ℕ
   raised clock a = set clock a.thread (max (slice_index clock a.thread) (a.index + 1))
 
+  -- what is counted was counted before, or is new
   counts_cases : (clock : List ℕ) (a s : Segment) → a.thread < length clock → Counts (raised clock a) s
       → Counts clock s ⊎ ((s.thread ≡ a.thread) × (slice_index clock a.thread ≤ s.index) × (s.index ≤ a.index))
   counts_cases clock a s within h =
@@ -127,6 +130,7 @@ module _ (steps : Sources) (sound : IsSound steps) (target : Segment) where
         | inr other ↦ inl (subst (λ n. s.index < n) (get_or-set_other clock a.thread s.thread _ 0 other) h)
       ]
 
+  -- what was counted stays counted
   counts_more : (clock : List ℕ) (a s : Segment) → a.thread < length clock → Counts clock s → Counts (raised clock a) s
   counts_more clock a s within h =
       elim (cases_eq s.thread a.thread) [
@@ -137,12 +141,15 @@ module _ (steps : Sources) (sound : IsSound steps) (target : Segment) where
         | inr other ↦ subst (λ n. s.index < n) (sym (get_or-set_other clock a.thread s.thread _ 0 other)) h
       ]
 
+  -- the segment is counted now
   counts_itself : (clock : List ℕ) (a : Segment) → a.thread < length clock → Counts (raised clock a) a
   counts_itself clock a within = let now = get_or-set_same clock a.thread (max (slice_index clock a.thread) (a.index + 1)) 0 within in omega arith
 
+  -- what was found stays found
   found_more : (found more : List Link) (s : Segment) → IsFound found s → IsFound (found ++ more) s
   found_more found more s (k, l, pos, here, is) = (k, l, pos, slice_get_before found more k (slice_get_within found k l here) ∙ here, is)
 
+  -- there is an entry
   links_some : (found : List Link) → AreLinks steps target found → 0 < length found
   links_some found links = slice_get_within found 0 links.begins.0 links.begins.1
 
@@ -213,6 +220,7 @@ module _ (steps : Sources) (sound : IsSound steps) (target : Segment) where
   pub item_leads : (items : List Segment) (x : Segment) (i : ℕ) (a : Segment) → items ≡ sources steps x → i < length items → a ≡ get_or items i a → LeadsTo steps a x
   item_leads items x i a are within is = subst (λ ys. Contains ys a) are (i, within, sym is)
 
+  -- its number fits after one more
   pub item_small : (x a : Segment) → LeadsTo steps a x → a.index + 1 < 2 ^ 32
   item_small x a h = let small = sound.small a.thread in let has = sound.inside a x h in omega arith
 
@@ -247,6 +255,7 @@ module _ (steps : Sources) (sound : IsSound steps) (target : Segment) where
         ];
   }
 
+  -- one entry has no later one
   none_later : (x : Link) (k : ℕ) (l : Link) → 0 < k → slice_get (x ∷ []) k ≡ Some l → ⊥
   none_later x zero l pos h = absurd (omega arith)
   none_later x (suc k) l pos h = cc

@@ -19,6 +19,7 @@ use Rattle.gl_segments.proofs.Tabling.{cut_at_is, cut_within}
 cuts_at : (lists : List (List Event)) (t : ℕ) (es : List Event) → slice_get lists t ≡ Some es → slice_get (cuts_of lists) t ≡ Some (filter closes es)
 cuts_at lists t es at = slice_get-map (filter closes) lists t ∙ ap (option_map (filter closes)) at
 
+-- what an option was before it was mapped
 mapped : {X Y : Type 0} (f : X → Y) (o : Option X) (y : Y) → option_map f o ≡ Some y → (x : X) × (o ≡ Some x) × (f x ≡ y)
 mapped f (Some x) y h = (x, refl, same_Some (f x) y h)
 mapped f None y h = cc
@@ -27,6 +28,7 @@ mapped f None y h = cc
 cuts_from : (lists : List (List Event)) (t : ℕ) (cs : List Event) → slice_get (cuts_of lists) t ≡ Some cs → (es : List Event) × (slice_get lists t ≡ Some es) × (filter closes es ≡ cs)
 cuts_from lists t cs at = mapped (filter closes) (slice_get lists t) cs (sym (slice_get-map (filter closes) lists t) ∙ at)
 
+-- the forks and joins of lawful lists can be counted
 pub cuts_small : (lists : List (List Event)) → AreLawful lists → AreSmall (cuts_of lists)
 cuts_small lists lawful = record {
   few = omega (arith, length-map lists (filter closes), lawful.few);
@@ -43,6 +45,7 @@ cuts_small lists lawful = record {
 stands_cut : (lists : List (List Event)) (s : Segment) (e : Event) → closes e ≡ true → (h : StandsIn lists s e) → slice_get (filter closes h.list) s.index ≡ Some e
 stands_cut lists s e closing h = rw h.in_segment (place_to_cut h.list h.place e h.there closing)
 
+-- a segment's fork or join stands in it
 cut_stands : (lists : List (List Event)) (s : Segment) (e : Event) (es : List Event) → slice_get lists s.thread ≡ Some es → slice_get (filter closes es) s.index ≡ Some e → StandsIn lists s e
 cut_stands lists s e es at cut =
     let p = cut_to_place es s.index e cut in
@@ -52,16 +55,20 @@ cut_stands lists s e es at cut =
 stands_inside : (lists : List (List Event)) (s : Segment) (e : Event) → StandsIn lists s e → IsSegment lists s
 stands_inside lists s e h = record { list = h.list; of_thread = h.of_thread; within = let i = h.in_segment in let m = segment_take h.list h.place in omega arith }
 
+-- the first element
 contains_head : {X : Type 0} (xs ys : List X) (x y : X) → xs ≡ x ∷ ys → x ≡ y → Contains xs y
 contains_head xs ys x y is same = rw is (0, omega arith, same)
 
+-- the second element
 contains_second : {X : Type 0} (xs : List X) (w x y : X) → xs ≡ w ∷ x ∷ [] → x ≡ y → Contains xs y
 contains_second xs w x y is same = rw is (1, omega arith, same)
 
+-- an element is the first or a later one
 contains_cons : {X : Type 0} (x y : X) (xs : List X) → Contains (x ∷ xs) y → (x ≡ y) ⊎ Contains xs y
 contains_cons x y xs (zero, within, is) = inl is
 contains_cons x y xs (suc k, within, is) = inr (k, omega arith, is)
 
+-- an empty list contains nothing
 contains_nil : {X : Type 0} (y : X) → Contains [] y → ⊥
 contains_nil y (k, within, is) = absurd (omega arith)
 
@@ -83,10 +90,13 @@ step_to lists a b (inr (inr h)) =
 -- the last segment of a joined thread
 record IsJoined (lists : List (List Event)) (e : Event) (a : Segment) : Type 0 where
   loc : ℕ
+  -- the event is a join of its thread
   is : e ≡ Join a.thread loc
   real : IsSegment lists a
+  -- it is its thread's last
   last : a.index ≡ segment real.list
 
+-- what a join waits for is the last segment of a thread of the lists
 joined_join : (lists : List (List Event)) (thread loc : ℕ) (a : Segment) (o : Option (List Event)) → slice_get (cuts_of lists) thread ≡ o
     → Contains (option_map_or (λ (es : List Event). let s : Segment = record { thread = thread; index = length es } in s ∷ []) o []) a → IsJoined lists (Join thread loc) a
 joined_join lists thread loc a None at h = absurd (contains_nil a h)
@@ -102,6 +112,7 @@ joined_join lists thread loc a (Some cs) at h =
       | inr none ↦ absurd (contains_nil a none)
     ]
 
+-- the same, whichever the event
 joined_cases : (lists : List (List Event)) (e : Event) (a : Segment) → Contains (joined_last (cuts_of lists) e) a → IsJoined lists e a
 joined_cases lists (Acquire lock loc) a h = absurd (contains_nil a h)
 joined_cases lists (Release lock loc) a h = absurd (contains_nil a h)
@@ -110,9 +121,11 @@ joined_cases lists (Join thread loc) a h = joined_join lists thread loc a (slice
 
 module _ (lists : List (List Event)) (steps : Sources) (long : length steps ≡ length lists)
     (rows : (t : ℕ) (cs : List Event) → slice_get (cuts_of lists) t ≡ Some cs → IsRowOf (cuts_of lists) t cs (row steps t)) where
+  -- a row has as many segments as the list
   row_length : (t : ℕ) (es : List Event) → slice_get lists t ≡ Some es → length (row steps t) ≡ segment es + 1
   row_length t es at = (rows t _ (cuts_at lists t es at)).size ∙ ap (λ n. n + 1) (sym (segment_is_length es))
 
+  -- the table has the steps to next segments
   next_shown : (a b : Segment) → IsNext lists a b → LeadsTo steps a b
   next_shown a b h =
       let es = h.real.list in
@@ -123,6 +136,7 @@ module _ (lists : List (List Event)) (steps : Sources) (long : length steps ≡ 
       let here : sources steps b ≡ record { thread = b.thread; index = a.index } ∷ joined_last (cuts_of lists) cut.0 = ap (λ i. slice_index_or (row steps b.thread) i []) h.one_later ∙ r in
       contains_head _ _ (record { thread = b.thread; index = a.index }) a here (ap (λ t. let s : Segment = record { thread = t; index = a.index } in s) h.same_thread)
 
+  -- the table has the steps of forks
   fork_shown : (a b : Segment) → IsFork lists a b → LeadsTo steps a b
   fork_shown a b h =
       let cut = stands_cut lists a (Fork b.thread h.loc) refl h.forks in
@@ -130,6 +144,7 @@ module _ (lists : List (List Event)) (steps : Sources) (long : length steps ≡ 
       let r = (rows b.thread _ (cuts_at lists b.thread h.real.list h.real.of_thread)).first a in
       subst (λ i. Contains (slice_index_or (row steps b.thread) i []) a) (sym h.first) (r.1 (h.loc, at ∙ cut))
 
+  -- the table has the steps of joins
   join_shown : (a b : Segment) → IsJoin lists a b → LeadsTo steps a b
   join_shown a b h =
       let joining : Segment = record { thread = b.thread; index = h.joining } in
@@ -140,6 +155,7 @@ module _ (lists : List (List Event)) (steps : Sources) (long : length steps ≡ 
       let here : sources steps b ≡ joining ∷ last ∷ [] = ap (λ i. slice_index_or (row steps b.thread) i []) h.one_later ∙ r ∙ ap (λ xs. joining ∷ xs) joined in
       contains_second _ joining last a here (ap (λ i. let s : Segment = record { thread = a.thread; index = i } in s) (sym (segment_is_length h.real.list) ∙ sym h.last))
 
+  -- the table has all steps
   shown : (a b : Segment) → IsStep lists a b → LeadsTo steps a b
   shown a b (inl h) = next_shown a b h
   shown a b (inr (inl h)) = fork_shown a b h
@@ -157,9 +173,11 @@ module _ (lists : List (List Event)) (steps : Sources) (long : length steps ≡ 
       let size = row_length s.thread es.0 es.1 in
       record { list = es.0; of_thread = es.1; within = omega arith }
 
+  -- a segment of the lists has its place in the table
   list_has : (s : Segment) → IsSegment lists s → Has steps s
   list_has s h = let size = row_length s.thread h.list h.of_thread in let w = h.within in omega arith
 
+  -- a segment to which a step leads has its place in the table
   source_has : (a b : Segment) → LeadsTo steps a b → Has steps b
   source_has a b h =
       elim (cases_lt b.index (length (row steps b.thread))) [
@@ -195,16 +213,20 @@ module _ (lists : List (List Event)) (steps : Sources) (long : length steps ≡ 
       let cut : slice_get (filter closes l.0) a.index ≡ Some (Fork t f.0) = ap (λ xs. slice_get xs a.index) l.2 ∙ sym (cut_at_is (cuts_of lists) c.0 a c.1) ∙ f.1 in
       inr (inl (record { loc = f.0; forks = cut_stands lists a (Fork t f.0) l.0 l.1 cut; real = real; first = refl }))
 
+  -- the table has only the steps of the lists
   back_at : (a : Segment) (t i : ℕ) → LeadsTo steps a (record { thread = t; index = i }) → IsStep lists a (record { thread = t; index = i })
   back_at a t zero h = first_back a t (has_list _ (source_has a (record { thread = t; index = zero }) h)) h
   back_at a t (suc i) h = later_back a t i (has_list _ (source_has a (record { thread = t; index = suc i }) h)) h
 
+  -- it has exactly the steps of the lists
   pub shows_steps : ShowsSteps lists steps
   shows_steps = record { threads = long; segments = row_length; forward = shown; back = λ a b h. back_at a b.thread b.index h }
 
+  -- its steps lead from its segments
   pub shows_inside : (a b : Segment) → LeadsTo steps a b → Has steps a
   shows_inside a b h = list_has a (step_from lists a b (back_at a b.thread b.index h))
 
+  -- it is sound where the lists are lawful
   pub steps_sound : AreLawful lists → IsSound steps
   steps_sound lawful = record {
     few = let f = lawful.few in omega arith;

@@ -21,6 +21,7 @@ place_cases n k h = grind arith
 pub items_at : (vecs : List (Vec Event)) (i : ℕ) (v : Vec Event) → i < length vecs → v ≡ get_or vecs i v → slice_get (lists_of vecs) i ≡ Some v.items
 items_at vecs i v within is = slice_get-map (λ (w : Vec Event). w.items) vecs i ∙ ap (option_map (λ (w : Vec Event). w.items)) (slice_get_read vecs (length vecs) i v refl within is)
 
+-- one map after another
 pub map_compose : {X Y Z : Type 0} (f : Y → Z) (g : X → Y) (xs : List X) → map f (map g xs) ≡ map (λ x. f (g x)) xs
 map_compose f g [] = refl
 map_compose f g (x ∷ xs) = ap (λ ys. f (g x) ∷ ys) (map_compose f g xs)
@@ -37,9 +38,12 @@ cuts_more lists built i v w within is kept so_far =
 -- the segments that were added for the first n of a thread's forks and joins
 pub record AddsBelow (old new : List Segment) (from : ℕ) (es : List Event) (thread n : ℕ) : Type 0 where
   pub kept : (a : Segment) → Contains old a → Contains new a
+  -- each fork of the thread so far was added
   pub added : (i loc : ℕ) → i < n → slice_get es i ≡ Some (Fork thread loc) → Contains new (record { thread = from; index = i })
+  -- nothing else was added
   pub only : (a : Segment) → Contains new a → Contains old a ⊎ ((a.thread ≡ from) × ((loc : ℕ) × (slice_get es a.index ≡ Some (Fork thread loc))))
 
+-- one more fork of the thread
 pub adds_fork : (old new : List Segment) (from : ℕ) (es : List Event) (thread n : ℕ) (e : Event) → slice_get es n ≡ Some e → ((loc : ℕ) × (e ≡ Fork thread loc))
     → AddsBelow old new from es thread n → AddsBelow old (new ++ record { thread = from; index = n } ∷ []) from es thread (n + 1)
 adds_fork old new from es thread n e at forks so_far =
@@ -58,6 +62,7 @@ adds_fork old new from es thread n e at forks so_far =
           ];
     }
 
+-- one more event that is no fork of it
 pub adds_other : (old new : List Segment) (from : ℕ) (es : List Event) (thread n : ℕ) (e : Event) → slice_get es n ≡ Some e → (((loc : ℕ) × (e ≡ Fork thread loc)) → ⊥)
     → AddsBelow old new from es thread n → AddsBelow old new from es thread (n + 1)
 adds_other old new from es thread n e at other so_far = record {
@@ -70,9 +75,11 @@ adds_other old new from es thread n e at other so_far = record {
   only = so_far.only;
 }
 
+-- nothing was added yet
 pub adds_none : (old : List Segment) (from : ℕ) (es : List Event) (thread : ℕ) → AddsBelow old old from es thread 0
 adds_none old from es thread = record { kept = λ a h. h; added = λ i loc below. absurd (omega arith); only = λ a h. inl h }
 
+-- all were added
 pub adds_all : (old new : List Segment) (from : ℕ) (es : List Event) (thread n : ℕ) → length es ≤ n → AddsBelow old new from es thread n → AddsForks old new from es thread
 adds_all old new from es thread n all so_far = record {
   kept = so_far.kept;
@@ -82,12 +89,16 @@ adds_all old new from es thread n all so_far = record {
 
 -- the segments that forks of a thread close, of the first n threads
 pub record ForksBelow (cuts : List (List Event)) (thread : ℕ) (forks : List Segment) (n : ℕ) : Type 0 where
+  -- each of them is there
   pub all : (a : Segment) → Forks cuts thread a → a.thread < n → Contains forks a
+  -- nothing else was added
   pub only : (a : Segment) → Contains forks a → Forks cuts thread a × (a.thread < n)
 
+-- the fork or join at a segment of a thread's list
 pub cut_at_is : (cuts : List (List Event)) (es : List Event) (a : Segment) → slice_get cuts a.thread ≡ Some es → cut_at cuts a ≡ slice_get es a.index
 cut_at_is cuts es a at = ap (option_and_then (λ xs. slice_get xs a.index)) at
 
+-- those of one more thread
 pub forks_more : (cuts : List (List Event)) (thread : ℕ) (old new : List Segment) (n : ℕ) (es : List Event) → slice_get cuts n ≡ Some es → AddsForks old new n es thread
     → ForksBelow cuts thread old n → ForksBelow cuts thread new (n + 1)
 forks_more cuts thread old new n es at adds so_far = record {
@@ -107,20 +118,26 @@ forks_more cuts thread old new n es at adds so_far = record {
       ];
 }
 
+-- a thread with a fork or join has a list
 pub cut_within : (o : Option (List Event)) (i : ℕ) (e : Event) → option_and_then (λ xs. slice_get xs i) o ≡ Some e → (es : List Event) × (o ≡ Some es)
 cut_within (Some es) i e h = (es, refl)
 cut_within None i e h = cc
 
+-- those of all threads
 pub forks_all : (cuts : List (List Event)) (thread : ℕ) (forks : List Segment) (n : ℕ) → length cuts ≤ n → ForksBelow cuts thread forks n → (a : Segment) → Contains forks a ↔ Forks cuts thread a
 forks_all cuts thread forks n all so_far a =
     (λ h. (so_far.only a h).0, λ f. let r = cut_within (slice_get cuts a.thread) a.index _ f.1 in let w = slice_get_within cuts a.thread r.0 r.1 in so_far.all a f (omega arith))
 
 -- the row of a thread, for the first n of its forks and joins
 pub record RowBelow (cuts : List (List Event)) (thread : ℕ) (es : List Event) (built : List (Vec Segment)) (n : ℕ) : Type 0 where
+  -- one more than forks and joins
   pub size : length built ≡ n + 1
+  -- those of the first segment
   pub first : (a : Segment) → Contains (slice_index_or (map (λ (s : Vec Segment). s.items) built) 0 []) a ↔ Forks cuts thread a
+  -- those of the later ones
   pub later : (i : ℕ) (e : Event) → i < n → slice_get es i ≡ Some e → slice_index_or (map (λ (s : Vec Segment). s.items) built) (i + 1) [] ≡ record { thread = thread; index = i } ∷ joined_last cuts e
 
+-- the row of the first segment
 pub row_begins : (cuts : List (List Event)) (thread : ℕ) (es : List Event) (none : List (Vec Segment)) (w : Vec Segment) → none ≡ [] → ((a : Segment) → Contains w.items a ↔ Forks cuts thread a) → RowBelow cuts thread es (none ++ w ∷ []) 0
 row_begins cuts thread es none w empty forks = rw empty (record {
   size = omega arith;
@@ -128,6 +145,7 @@ row_begins cuts thread es none w empty forks = rw empty (record {
   later = λ i e below. absurd (omega arith);
 })
 
+-- one more segment's
 pub row_more : (cuts : List (List Event)) (thread : ℕ) (es : List Event) (built : List (Vec Segment)) (n : ℕ) (w : Vec Segment) (e : Event) → slice_get es n ≡ Some e → w.items ≡ record { thread = thread; index = n } ∷ joined_last cuts e
     → RowBelow cuts thread es built n → RowBelow cuts thread es (built ++ w ∷ []) (n + 1)
 row_more cuts thread es built n w e at is so_far =
@@ -151,6 +169,7 @@ row_more cuts thread es built n w e at is so_far =
           ];
     }
 
+-- the whole row
 pub row_all : (cuts : List (List Event)) (thread : ℕ) (es : List Event) (built : List (Vec Segment)) (n : ℕ) → n ≡ length es → RowBelow cuts thread es built n → IsRowOf cuts thread es (map (λ (s : Vec Segment). s.items) built)
 row_all cuts thread es built n all so_far = record {
   size = length-map built (λ (s : Vec Segment). s.items) ∙ so_far.size ∙ ap (λ k. k + 1) all;
@@ -170,6 +189,7 @@ rows_more cuts built n r size last before t es below at =
           subst (IsRowOf cuts t es) (sym here) (subst (λ k. IsRowOf cuts k es r) (sym is) (last es (ap (slice_get cuts) (sym is) ∙ at)))
     ]
 
+-- those of no threads
 pub forks_none : (cuts : List (List Event)) (thread : ℕ) → ForksBelow cuts thread [] 0
 forks_none cuts thread = record { all = λ a f below. absurd (omega arith); only = λ a h. absurd (omega (arith, h.1)) }
 
@@ -178,11 +198,13 @@ pub joined_here : (vecs : List (Vec Event)) (thread loc : ℕ) (v : Vec Event) �
     → joined_last (lists_of vecs) (Join thread loc) ≡ record { thread = thread; index = length v.items } ∷ []
 joined_here vecs thread loc v within is = ap (λ o. option_map_or (λ (es : List Event). let s : Segment = record { thread = thread; index = length es } in s ∷ []) o []) (items_at vecs thread v within is)
 
+-- a thread that has no list
 pub joined_none : (vecs : List (Vec Event)) (thread loc : ℕ) → length vecs ≤ thread → joined_last (lists_of vecs) (Join thread loc) ≡ []
 joined_none vecs thread loc past =
     let none : slice_get (lists_of vecs) thread ≡ None = slice_get_past (lists_of vecs) thread (let e = length-map vecs (λ (u : Vec Event). u.items) in omega arith) in
     ap (λ o. option_map_or (λ (es : List Event). let s : Segment = record { thread = thread; index = length es } in s ∷ []) o []) none
 
+-- an event that is no join
 pub joined_other : (cuts : List (List Event)) (e : Event) → ((thread loc : ℕ) → e ≡ Join thread loc → ⊥) → joined_last cuts e ≡ []
 joined_other cuts (Acquire lock loc) other = refl
 joined_other cuts (Release lock loc) other = refl

@@ -15,17 +15,21 @@ use Rattle.gl_event.specs.declared.events.Event.{Event}
 use Rattle.gl_event.specs.declared.events.Event.TheVariants.{Acquire, Release, Fork, Join}
 use Rattle.gl_segments.proofs.Cutting.{length_take_within}
 
+-- the numbers as a set
 abbrev set_of : List ℕ → fin.FinMap nat_cmp (Unit {0})
 set_of ns = fin.from_entries {R = nat_cmp} (map (λ n. (n, tt {0})) ns)
 
+-- one more at most
 either_less : (b : Bool) (n m : ℕ) → n ≤ m → cond b n (n + 1) ≤ suc m
 either_less true n m h = omega arith
 either_less false n m h = omega arith
 
+-- a set has no more members than numbers
 len_set : (ns : List ℕ) → fin.len (set_of ns) ≤ length ns
 len_set [] = rw (fin.len-empty nat_cmp (Unit {0})) (omega arith)
 len_set (n ∷ ns) = rw (fin.len-insert nat_cmp_total (set_of ns) n tt) (either_less (fin.contains_key (set_of ns) n) (fin.len (set_of ns)) (length ns) (len_set ns))
 
+-- no more acquires than events
 locks_few : (es : List Event) → length (filter_map acquired_lock es) ≤ length es
 locks_few [] = omega arith
 locks_few (Acquire l loc ∷ es) = let r = locks_few es in omega arith
@@ -46,22 +50,27 @@ held_few es =
     let few = locks_few es in
     omega arith
 
+-- no deeper than events
 depth_few : (es : List Event) (lock : ℕ) → depth es lock ≤ length es
 unfolding depth
 depth_few es lock = let r = count_by-le-length (acquires lock) es in omega arith
 
+-- locks allow an acquire after a short list
 free_acquire : (es : List Event) (lock loc : ℕ) → length es < 64 → lock_refusal es (Acquire lock loc) ≡ None
 unfolding lock_refusal
 free_acquire es lock loc few = let h = held_few es in let d = depth_few es lock in grind arith
 
+-- an acquire may come after a short list
 pub allowed_acquire : (thread : ℕ) (es : List Event) (lock loc : ℕ) → length es < 64 → refusal greatest thread es (Acquire lock loc) ≡ None
 unfolding refusal
 allowed_acquire thread es lock loc few = let free = free_acquire es lock loc few in grind arith
 
+-- a fork of another thread may
 pub allowed_fork : (thread : ℕ) (es : List Event) (other loc : ℕ) → length es < 64 → other < 1024 → other ≢ thread → refusal greatest thread es (Fork other loc) ≡ None
 unfolding refusal lock_refusal
 allowed_fork thread es other loc few known apart = grind arith
 
+-- a join of another thread may
 pub allowed_join : (thread : ℕ) (es : List Event) (other loc : ℕ) → length es < 64 → other < 1024 → other ≢ thread → refusal greatest thread es (Join other loc) ≡ None
 unfolding refusal lock_refusal
 allowed_join thread es other loc few known apart = grind arith

@@ -39,8 +39,8 @@ impl Order {
     /// The order of the segments of these lists, one list a thread, by number.
     ///
     /// It errs with [`OrderFault::Inconsistent`] exactly where some segment is before itself, and
-    /// with [`OrderFault::Memory`] only where a growth was refused. Takes time and memory as there
-    /// are segments, times the number of threads.
+    /// with [`OrderFault::Memory`] only where a growth was refused. It reads each event once;
+    /// otherwise it takes time and memory as there are segments, times the number of threads.
     pub fn of(alloc: Global, lists: &[Vec<Event>]) -> Result<Order, OrderFault>
         requires few { length lists.now ≤ 1024 }
         requires lawful { (thread : ℕ) (es : List Event) → slice_get (lists_of lists.now) thread ≡ Some es → IsLawful greatest thread es }

@@ -13,6 +13,8 @@ mod answer;
 mod ended;
 mod lines;
 mod prediction;
+#[cfg(test)]
+mod tests;
 
 // The most reads of standard input.
 const TURNS: u64 = 1_000_000_000;
