@@ -61,6 +61,7 @@ wanted_last edges (i ∷ path) g within some last =
     let first = element_at edges i (within 0 0 (omega arith)) in
     let last_at : slice_get edges (get_or (i ∷ path) (length path) 0) ≡ Some g = sym (ap (λ k. slice_get edges (get_or (i ∷ path) k 0)) end) ∙ last in
     sym (ap wanted_after (picked-cons edges i path first.0 first.1) ∙ ap (λ h. h.wanted) (last_of_picked edges i path first.0 g (λ k d lt. within (suc k) d (omega arith)) first.1 last_at))
+
 -- whether a path is closed, by its first and its last edge
 pub leads_back-picked : (edges : List Edge) (path : List ℕ) (e g : Edge) → AreWithin edges path → 0 < length path
     → slice_get edges (get_or path 0 0) ≡ Some e → slice_get edges (get_or path (length path - 1) 0) ≡ Some g → leads_back (picked edges path) ≡ eqb g.wanted e.held

@@ -39,24 +39,24 @@ next_holder_in (suc left) edges k lock long =
     let step = holder_step edges k lock here.0 here.1 in
     elim (cases_eq here.0.held lock) [
       | inl same ↦
-        rw (step, eq-eqb _ _ same) (record {
-          from = omega arith;
-          within = omega arith;
-          holds = (omega arith, λ e at. ap (λ x. x.held) (same_Some e here.0 (sym at ∙ here.1)) ∙ same);
-          skipped = λ i e from below at. absurd (omega arith);
-        })
+          rw (step, eq-eqb _ _ same) (record {
+            from = omega arith;
+            within = omega arith;
+            holds = (omega arith, λ e at. ap (λ x. x.held) (same_Some e here.0 (sym at ∙ here.1)) ∙ same);
+            skipped = λ i e from below at. absurd (omega arith);
+          })
       | inr other ↦
-        let later = next_holder_in left edges (k + 1) lock (omega arith) in
-        rw (step, ne_eqb _ _ other) (record {
-          from = let f = later.from in omega arith;
-          within = later.within;
-          holds = later.holds;
-          skipped = λ i e from below at.
-              elim (cases_eq i k) [
-                | inl same ↦ λ h. other (ap (λ x. x.held) (same_Some here.0 e (sym here.1 ∙ ap (slice_get edges) (sym same) ∙ at)) ∙ h)
-                | inr apart ↦ later.skipped i e (omega arith) below at
-              ];
-        })
+          let later = next_holder_in left edges (k + 1) lock (omega arith) in
+          rw (step, ne_eqb _ _ other) (record {
+            from = let f = later.from in omega arith;
+            within = later.within;
+            holds = later.holds;
+            skipped = λ i e from below at.
+                elim (cases_eq i k) [
+                  | inl same ↦ λ h. other (ap (λ x. x.held) (same_Some here.0 e (sym here.1 ∙ ap (slice_get edges) (sym same) ∙ at)) ∙ h)
+                  | inr apart ↦ later.skipped i e (omega arith) below at
+                ];
+          })
     ]
 
 pub next_holder : (edges : List Edge) (k lock : ℕ) → k ≤ length edges → IsNextHolder edges k lock (holder_from edges k lock)
@@ -89,9 +89,9 @@ module _ (before : Segment → Segment → Bool) (mode : Mode) (edges : List Edg
     skipped_blocks k next is =
         upto-until (λ i. block before mode edges n (front ++ i ∷ [])) k (unwrap_or next (length edges)) is.from
         (λ i from below.
-            let w = is.within in
-            let here = element_at edges i (omega arith) in
-            block-stray before mode edges n front i here.0 here.1 (led here.0 (is.skipped i here.0 from below here.1)))
+        let w = is.within in
+        let here = element_at edges i (omega arith) in
+        block-stray before mode edges n front i here.0 here.1 (led here.0 (is.skipped i here.0 from below here.1)))
 
     pub grow_begin : (old : List (List ℕ)) (next : Option ℕ) → length old ≤ cap → next ≡ holder_from edges 0 lock → HasGrown old old next
     grow_begin old next room is_next =
@@ -112,8 +112,8 @@ module _ (before : Segment → Segment → Bool) (mode : Mode) (edges : List Edg
           reaches = is.within;
           holds = is.holds;
           grown =
-            grown ∙ ap (λ l. take cap (l ++ f i)) had.grown ∙ take-take_append cap (old ++ upto f i) (f i) ∙ ap (take cap) (append_assoc old (upto f i) (f i))
-            ∙ ap (λ l. take cap (old ++ l)) (sym (skipped_blocks (i + 1) next is ∙ upto-more f i));
+              grown ∙ ap (λ l. take cap (l ++ f i)) had.grown ∙ take-take_append cap (old ++ upto f i) (f i) ∙ ap (take cap) (append_assoc old (upto f i) (f i))
+              ∙ ap (λ l. take cap (old ++ l)) (sym (skipped_blocks (i + 1) next is ∙ upto-more f i));
         }
 
   -- a path that isn't closed is no cycle
@@ -149,8 +149,8 @@ module _ (before : Segment → Segment → Bool) (mode : Mode) (edges : List Edg
   closed_block (suc n) closed =
       block-suc before mode edges n front
       ∙ ap (λ l. cond (is_cycle before mode (picked edges front)) (front ∷ []) [] ++ l)
-        (upto-until (λ i. block before mode edges n (front ++ i ∷ [])) 0 (length edges) (omega arith)
-        (λ i from below. let here = element_at edges i below in block-stray before mode edges n front i here.0 here.1 (none_after (picked edges front) here.0 closed)))
+      (upto-until (λ i. block before mode edges n (front ++ i ∷ [])) 0 (length edges) (omega arith)
+      (λ i from below. let here = element_at edges i below in block-stray before mode edges n front i here.0 here.1 (none_after (picked edges front) here.0 closed)))
       ∙ append-nil _
 
   is_closed_cycle : is_path before mode (picked edges front) ≡ true → leads_back (picked edges front) ≡ true → is_cycle before mode (picked edges front) ≡ nat_le 2 (length (picked edges front))

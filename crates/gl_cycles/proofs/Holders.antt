@@ -56,11 +56,11 @@ has_more edges n e first more next found had at is_found updated =
       goes_on = λ i f from at_i.
           elim (cases_eq i n) [
             | inl same ↦
-              let is_e : f ≡ e = same_Some f e (sym at_i ∙ ap (slice_get edges) same ∙ at) in
-              rw (same, is_e) (slice_get-get_or (set next n found) n found (omega (arith, length-set next n found)) ∙ ap Some (get_or-set_same next n found found in_n) ∙ ap Some (is_found ∙ had.begins e.held))
+                let is_e : f ≡ e = same_Some f e (sym at_i ∙ ap (slice_get edges) same ∙ at) in
+                rw (same, is_e) (slice_get-get_or (set next n found) n found (omega (arith, length-set next n found)) ∙ ap Some (get_or-set_same next n found found in_n) ∙ ap Some (is_found ∙ had.begins e.held))
             | inr other ↦
-              let here = had.goes_on i f (omega arith) at_i in
-              let in_i = slice_get_within next i _ here in
-              slice_get-get_or (set next n found) i found (omega (arith, length-set next n found)) ∙ ap Some (get_or-set_other next n i found found other) ∙ sym (slice_get-get_or next i found in_i) ∙ here
+                let here = had.goes_on i f (omega arith) at_i in
+                let in_i = slice_get_within next i _ here in
+                slice_get-get_or (set next n found) i found (omega (arith, length-set next n found)) ∙ ap Some (get_or-set_other next n i found found other) ∙ sym (slice_get-get_or next i found in_i) ∙ here
           ];
     }

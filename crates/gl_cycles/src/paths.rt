@@ -13,7 +13,7 @@ use crate::followers::Followers;
 use crate::found::{Cycles, Found};
 use arrayvec::ArrayVec;
 use gl_edges::{Edge, EdgeList, Sample};
-use gl_event::{Memory};
+use gl_event::Memory;
 use gl_filters::{Mode, Query, goes_with};
 use gl_segments::Order;
 use std::alloc::Global;
@@ -96,12 +96,7 @@ impl Searcher<'_> {
 
     // Adds the cycles that begin with the path, up to the cap.
     #[cycle(grow)]
-    fn grow(
-        &self,
-        alloc: Global,
-        path: &[usize],
-        found: &mut Vec<Vec<usize>>,
-    ) -> Result<(), Memory>
+    fn grow(&self, alloc: Global, path: &[usize], found: &mut Vec<Vec<usize>>) -> Result<(), Memory>
         requires some { 0 < length path.now }
         requires short { length path.now ≤ self.now.len }
         requires fits { self.now.len ≤ PATH }
@@ -173,11 +168,7 @@ fn longer_path(path: &[usize], next: usize) -> ArrayVec<usize, PATH>
 }
 
 // Adds a closed path, which is a cycle if it has two edges or more.
-fn keep_closed(
-    alloc: Global,
-    path: &[usize],
-    found: &mut Vec<Vec<usize>>,
-) -> Result<(), Memory>
+fn keep_closed(alloc: Global, path: &[usize], found: &mut Vec<Vec<usize>>) -> Result<(), Memory>
     ensures { OnOk result (map (λ cycle. cycle.items) found.new.items ≡ map (λ cycle. cycle.items) found.old.items ++ (if nat_le 2 (length path.now) then path.now ∷ [] else [])) }
 {
     if path.len() < 2 {

@@ -36,7 +36,10 @@ fn limits_reached(rt: HostRuntime) {
     for place in 0..MAX_DEPTH {
         assert_eq!(rt; held.acquire(lock, loc, place, 0), Ok(place == 0));
     }
-    assert_eq!(rt; held.acquire(lock, loc, MAX_DEPTH, 0), Err(HeldFault::DepthFull));
+    assert_eq!(rt;
+        held.acquire(lock, loc, MAX_DEPTH, 0),
+        Err(HeldFault::DepthFull)
+    );
     assert!(rt; held.holds(lock));
 }
 
@@ -47,7 +50,10 @@ fn sixty_four_locks(rt: HostRuntime) {
     for number in 0..64 {
         assert_eq!(rt; held.acquire(LockId::new(number), loc, number, 0), Ok(true));
     }
-    assert_eq!(rt; held.acquire(LockId::new(64), loc, 64, 0), Err(HeldFault::HeldFull));
+    assert_eq!(rt;
+        held.acquire(LockId::new(64), loc, 64, 0),
+        Err(HeldFault::HeldFull)
+    );
     assert_eq!(rt; held.acquire(LockId::new(63), loc, 64, 0), Ok(false));
     assert_eq!(rt; held.release(LockId::new(64)), Err(NotHeld));
     assert_eq!(rt; held.release(LockId::new(0)), Ok(true));

@@ -42,12 +42,7 @@ fn loc_name(names: &Names, loc: LocId) -> &[u8]
 }
 
 // Adds who holds what since where.
-fn put_held(
-    out: &mut Vec<u8>,
-    names: &Names,
-    edge: &Edge,
-    sample: &Sample,
-) -> Result<(), Memory>
+fn put_held(out: &mut Vec<u8>, names: &Names, edge: &Edge, sample: &Sample) -> Result<(), Memory>
     ensures { OnOk result (out.new.items ≡ out.old.items ++ held_text names.now (edge.now, sample.now)) }
 {
     out.extend_from_slice(b"  ")?;
@@ -60,12 +55,7 @@ fn put_held(
 }
 
 // Adds what is wanted, and at which place.
-fn put_wanted(
-    out: &mut Vec<u8>,
-    names: &Names,
-    edge: &Edge,
-    sample: &Sample,
-) -> Result<(), Memory>
+fn put_wanted(out: &mut Vec<u8>, names: &Names, edge: &Edge, sample: &Sample) -> Result<(), Memory>
     ensures { OnOk result (out.new.items ≡ out.old.items ++ wanted_text names.now (edge.now, sample.now)) }
 {
     out.extend_from_slice(b" wants ")?;

@@ -66,7 +66,7 @@ pub data HasPredicted (asked : Asked) (turns : ℕ) (old new : Option (List ℕ)
   out_of_memory : Keeps before after → HasPredicted asked turns old new read_failed before after write_failed Memory
   -- a text was read, whole or not
   ended_so : (text : List ℕ) (whole : Bool) (ended : Ended) → HasRead turns old new read_failed text whole → EndsAs asked text whole before after write_failed ended
-    → HasPredicted asked turns old new read_failed before after write_failed ended
+      → HasPredicted asked turns old new read_failed before after write_failed ended
 
 -- what became of this report
 abbrev pub HasWrittenReport : List ℕ → Bool → Option (List ℕ) → Option (List ℕ) → Bool → Ended → Type 0

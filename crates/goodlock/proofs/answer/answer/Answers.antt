@@ -19,13 +19,13 @@ pub returns-in_err-trace-clause-refused : goal.returns-in_err-trace-clause-refus
 returns-in_err-trace-clause-refused c =
     let p = err_from_is_err_and c.from_residual.result c.from_residual.ensures.1 in
     rw (p.1, p.2) (refused_then c.in_err-trace.field-0.0 (IsFaultOfText c.args.text.now) (λ line. IsAnswer c.args.query.now c.args.text.now (Refusal line))
-      (λ line fault. subst (λ l. IsAnswer c.args.query.now c.args.text.now (Refusal l)) (sym fault.said) (bad_line fault.number fault.kind fault.first)) c.in_err-trace.ensures.refused)
+    (λ line fault. subst (λ l. IsAnswer c.args.query.now c.args.text.now (Refusal l)) (sym fault.said) (bad_line fault.number fault.kind fault.first)) c.in_err-trace.ensures.refused)
 
 pub returns-in_err-order-clause-refused : goal.returns-in_err-order-clause-refused
 returns-in_err-order-clause-refused c =
     let p = err_from_is_err_and c.from_residual-in_err-order.result c.from_residual-in_err-order.ensures.1 in
     rw (p.1, p.2) (refused_then c.in_err-order.field-0.0 (IsLoopOf c.in_ok-trace.trace) (λ line. IsAnswer c.args.query.now c.args.text.now (Refusal line))
-      (λ line loop. subst (λ l. IsAnswer c.args.query.now c.args.text.now (Refusal l)) (sym loop.said) (no_order c.in_ok-trace.trace loop.at c.in_ok-trace.ensures.trace loop.least)) c.in_err-order.ensures.refused)
+    (λ line loop. subst (λ l. IsAnswer c.args.query.now c.args.text.now (Refusal l)) (sym loop.said) (no_order c.in_ok-trace.trace loop.at c.in_ok-trace.ensures.trace loop.least)) c.in_err-order.ensures.refused)
 
 pub returns-clause-printed : goal.returns-clause-printed
 returns-clause-printed c =

@@ -14,6 +14,6 @@ returns c =
     elim c.loop-end-test.branch [
       | then-loop-end-test+else-text-end-ne10 w ↦ front_is c.args.text.now c.loop-end.end w.loop-end-test.true c.loop-end.invariant.0 w.if-text-end-ne10.false c.loop-end.invariant.1
       | else-loop-end-test w ↦
-        let none : c.loop-end.end ≡ 0 = omega arith in
-        ap (λ n. take n c.args.text.now) none ∙ sym (c.loop-end.invariant.1 ∙ ap (λ n. ended_lines (take n c.args.text.now)) none)
+          let none : c.loop-end.end ≡ 0 = omega arith in
+          ap (λ n. take n c.args.text.now) none ∙ sym (c.loop-end.invariant.1 ∙ ap (λ n. ended_lines (take n c.args.text.now)) none)
     ]

@@ -20,8 +20,8 @@ grow-returns-then-is_closed t c =
     let s = c.args.self.now in
     on_ok_weaker c.keep_closed.result
     (λ kept. grow_closed (is_before s.order.now) s.mode (edges_of_table s.table.now) c.args.path.now s.cap _ (s.len - length c.args.path.now) _
-      (omega (arith, c.args.found.now.ok.0, c.len.ensures, length-map c.args.found.now.items (λ cycle. cycle.items)))
-      (within_edges s.table.now c.args.path.now c.requires.within) c.requires.is_path (sym c.if-is_closed.ensures) kept)
+    (omega (arith, c.args.found.now.ok.0, c.len.ensures, length-map c.args.found.now.items (λ cycle. cycle.items)))
+    (within_edges s.table.now c.args.path.now c.requires.within) c.requires.is_path (sym c.if-is_closed.ensures) kept)
     c.keep_closed.ensures
 
 -- the path may not be longer
@@ -30,7 +30,7 @@ grow-returns-then-path-self t c =
     let s = c.args.self.now in
     let none : s.len - length c.args.path.now ≡ 0 = omega arith in
     rw none (grow_short (is_before s.order.now) s.mode (edges_of_table s.table.now) c.args.path.now s.cap _
-      (omega (arith, c.requires.room, length-map c.args.found.now.items (λ cycle. cycle.items))) (sym c.if-is_closed.ensures))
+    (omega (arith, c.requires.room, length-map c.args.found.now.items (λ cycle. cycle.items))) (sym c.if-is_closed.ensures))
 
 -- before the first follower
 pub grow-loop-next-init : goal.grow-loop-next-init
@@ -57,18 +57,40 @@ pub grow-grow_by-requires : goal.grow-grow_by-requires
 grow-grow_by-requires t c =
     let s = c.args.self.now in
     let had : Grown s c.args.path.now (map (λ cycle. cycle.items) c.args.found.now.items) (map (λ cycle. cycle.items) c.loop-next.found.items) (Some c.in-Some.i) =
-      subst (Grown s c.args.path.now (map (λ cycle. cycle.items) c.args.found.now.items) (map (λ cycle. cycle.items) c.loop-next.found.items)) c.in-Some.is c.loop-next.invariant in
+    subst (Grown s c.args.path.now (map (λ cycle. cycle.items) c.args.found.now.items) (map (λ cycle. cycle.items) c.loop-next.found.items)) c.in-Some.is c.loop-next.invariant in
     let room = grown_room _ _ _ _ _ _ _ _ _ had in
-    let short = c.requires.short in
-    (search rules, (c.requires.some, (omega arith, (c.requires.fits, (c.requires.within, (omega (arith, had.holds.0, length-map s.table.now (λ pair. pair.0)), (c.requires.is_path, (c.requires.indexed,
-      omega (arith, room, length-map c.loop-next.found.items (λ cycle. cycle.items))))))))))
+    let short = c.requires.short in (
+      search rules,
+      (
+        c.requires.some,
+        (
+          omega arith,
+          (
+            c.requires.fits,
+            (
+              c.requires.within,
+              (
+                omega (arith, had.holds.0, length-map s.table.now (λ pair. pair.0)),
+                (
+                  c.requires.is_path,
+                  (
+                    c.requires.indexed,
+                    omega (arith, room, length-map c.loop-next.found.items (λ cycle. cycle.items)),
+                  ),
+                ),
+              ),
+            ),
+          ),
+        ),
+      ),
+    )
 
 -- the follower is in the index
 pub grow-after-next-requires : goal.grow-after-next-requires
 grow-after-next-requires t c =
     let s = c.args.self.now in
     let had : Grown s c.args.path.now (map (λ cycle. cycle.items) c.args.found.now.items) (map (λ cycle. cycle.items) c.loop-next.found.items) (Some c.in-Some.i) =
-      subst (Grown s c.args.path.now (map (λ cycle. cycle.items) c.args.found.now.items) (map (λ cycle. cycle.items) c.loop-next.found.items)) c.in-Some.is c.loop-next.invariant in
+    subst (Grown s c.args.path.now (map (λ cycle. cycle.items) c.args.found.now.items) (map (λ cycle. cycle.items) c.loop-next.found.items)) c.in-Some.is c.loop-next.invariant in
     let here = element_at (edges_of_table s.table.now) c.in-Some.i had.holds.0 in
     let there = slice_get_within s.index.next.items c.in-Some.i _ (c.requires.indexed.goes_on c.in-Some.i here.0 here.1) in
     omega (arith, there, s.index.next.ok.0)
@@ -77,7 +99,7 @@ pub grow-loop-next-smaller : goal.grow-loop-next-smaller
 grow-loop-next-smaller t c =
     let s = c.args.self.now in
     let had : Grown s c.args.path.now (map (λ cycle. cycle.items) c.args.found.now.items) (map (λ cycle. cycle.items) c.loop-next.found.items) (Some c.in-Some.i) =
-      subst (Grown s c.args.path.now (map (λ cycle. cycle.items) c.args.found.now.items) (map (λ cycle. cycle.items) c.loop-next.found.items)) c.in-Some.is c.loop-next.invariant in
+    subst (Grown s c.args.path.now (map (λ cycle. cycle.items) c.args.found.now.items) (map (λ cycle. cycle.items) c.loop-next.found.items)) c.in-Some.is c.loop-next.invariant in
     let here = element_at (edges_of_table s.table.now) c.in-Some.i had.holds.0 in
     let later = goes_on (edges_of_table s.table.now) c.in-Some.i here.0.held c.after-next.result had.holds.0 (c.after-next.ensures (edges_of_table s.table.now) here.0 c.requires.indexed here.1) in
     let long = length-map s.table.now (λ pair. pair.0) in
@@ -88,7 +110,7 @@ pub grow-loop-next-preserved : goal.grow-loop-next-preserved
 grow-loop-next-preserved t c =
     let s = c.args.self.now in
     let had : Grown s c.args.path.now (map (λ cycle. cycle.items) c.args.found.now.items) (map (λ cycle. cycle.items) c.loop-next.found.items) (Some c.in-Some.i) =
-      subst (Grown s c.args.path.now (map (λ cycle. cycle.items) c.args.found.now.items) (map (λ cycle. cycle.items) c.loop-next.found.items)) c.in-Some.is c.loop-next.invariant in
+    subst (Grown s c.args.path.now (map (λ cycle. cycle.items) c.args.found.now.items) (map (λ cycle. cycle.items) c.loop-next.found.items)) c.in-Some.is c.loop-next.invariant in
     let here = element_at (edges_of_table s.table.now) c.in-Some.i had.holds.0 in
     grow_step (is_before s.order.now) s.mode (edges_of_table s.table.now) (s.len - length c.args.path.now - 1) c.args.path.now s.cap
     (some_picked s.table.now c.args.path.now c.requires.within c.requires.some) _ _ _ c.in-Some.i _ had c.in_ok-grow_by.ensures
@@ -99,7 +121,7 @@ pub grow-returns : goal.grow-returns
 grow-returns t c =
     let s = c.args.self.now in
     let had : Grown s c.args.path.now (map (λ cycle. cycle.items) c.args.found.now.items) (map (λ cycle. cycle.items) c.loop-next.found.items) None =
-      subst (Grown s c.args.path.now (map (λ cycle. cycle.items) c.args.found.now.items) (map (λ cycle. cycle.items) c.loop-next.found.items)) c.in_default.is c.loop-next.invariant in
+    subst (Grown s c.args.path.now (map (λ cycle. cycle.items) c.args.found.now.items) (map (λ cycle. cycle.items) c.loop-next.found.items)) c.in_default.is c.loop-next.invariant in
     let left : suc (s.len - length c.args.path.now - 1) ≡ s.len - length c.args.path.now = omega (arith, c.requires.short) in
     subst (λ n. map (λ cycle. cycle.items) c.loop-next.found.items ≡ take s.cap (map (λ cycle. cycle.items) c.args.found.now.items ++ block (is_before s.order.now) s.mode (edges_of_table s.table.now) n c.args.path.now)) left
     (grow_end (is_before s.order.now) s.mode (edges_of_table s.table.now) (s.len - length c.args.path.now - 1) c.args.path.now s.cap _ _ had (sym c.if-is_closed.ensures))
@@ -118,7 +140,19 @@ grow_by-grow-requires t c =
     let longer = c.as_slice.ensures.value ∙ c.longer_path-longer.ensures in
     let long : length c.as_slice.result.now ≡ length c.args.path.now + 1 = ap length longer ∙ length_push c.args.path.now c.args.next in
     let here = element_at (edges_of_table s.table.now) c.args.next (omega (arith, c.requires.there, length-map s.table.now (λ pair. pair.0))) in
-    let joins = sym (c.if-not-can_join.ensures here.0 here.1) in
-    (omega (arith, long, c.requires.short), (omega arith, (omega (arith, c.requires.short), (c.requires.fits,
-      (rw longer (All-push (λ i. i < length s.table.now) c.args.path.now c.args.next c.requires.within c.requires.there),
-      (rw longer (joined_path (is_before s.order.now) s.mode (edges_of_table s.table.now) c.args.path.now c.args.next here.0 here.1 c.requires.is_path joins), (c.requires.indexed, c.requires.room)))))))
+    let joins = sym (c.if-not-can_join.ensures here.0 here.1) in (
+      omega (arith, long, c.requires.short),
+      (
+        omega arith,
+        (
+          omega (arith, c.requires.short),
+          (
+            c.requires.fits,
+            (
+              rw longer (All-push (λ i. i < length s.table.now) c.args.path.now c.args.next c.requires.within c.requires.there),
+              (rw longer (joined_path (is_before s.order.now) s.mode (edges_of_table s.table.now) c.args.path.now c.args.next here.0 here.1 c.requires.is_path joins), (c.requires.indexed, c.requires.room)),
+            ),
+          ),
+        ),
+      ),
+    )

@@ -36,7 +36,7 @@ returns-then-ne c = λ f at.
     let table = c.args.self.now.table.now in
     let is = is_there table c.args.next c.index-self-next.result f c.requires.there at in
     sym (follow_by_table table c.args.path.now c.requires.within (is_before c.args.self.now.order.now) c.args.self.now.mode f c.index-self-last.result c.index-self-last.result c.requires.some
-      ∙ and_left _ _ (ap (λ x. eqb (get_or table (get_or c.args.path.now (length c.args.path.now - 1) 0) c.index-self-last.result).0.wanted x.held) is ∙ not-true _ (sym c.ne.ensures ∙ c.if-ne.true)))
+    ∙ and_left _ _ (ap (λ x. eqb (get_or table (get_or c.args.path.now (length c.args.path.now - 1) 0) c.index-self-last.result).0.wanted x.held) is ∙ not-true _ (sym c.ne.ensures ∙ c.if-ne.true)))
 
 -- the thread is less than that of the first edge
 pub returns-then-lt : goal.returns-then-lt
@@ -45,7 +45,7 @@ returns-then-lt c = λ f at.
     let is = is_there table c.args.next c.index-self-next.result f c.requires.there at in
     let lesser = ltb-true _ _ (sym (less _ _) ∙ sym c.lt.ensures ∙ c.if-lt.true) in
     sym (follow_by_table table c.args.path.now c.requires.within (is_before c.args.self.now.order.now) c.args.self.now.mode f c.index-self-first.result c.index-self-last.result c.requires.some
-      ∙ and_right _ _ (and_right _ _ (ap (λ x. leb (get_or table (get_or c.args.path.now 0 0) c.index-self-first.result).0.thread x.thread) is ∙ lt-leb _ _ lesser)))
+    ∙ and_right _ _ (and_right _ _ (ap (λ x. leb (get_or table (get_or c.args.path.now 0 0) c.index-self-first.result).0.thread x.thread) is ∙ lt-leb _ _ lesser)))
 
 -- the rest is whether each edge of the path goes with it
 pub returns : goal.returns
@@ -55,4 +55,4 @@ returns c = λ f at.
     let not_less = ltb-false _ _ (sym (less _ _) ∙ sym c.lt.ensures ∙ c.if-lt.false) in
     let led_on = not-false _ (sym c.ne.ensures ∙ c.if-ne.false) in
     rw is (c.goes_with_all.ensures ∙ sym (follow_by_table table c.args.path.now c.requires.within (is_before c.args.self.now.order.now) c.args.self.now.mode _ c.index-self-first.result c.index-self-last.result c.requires.some
-      ∙ both _ _ _ led_on (le-leb _ _ not_less)))
+    ∙ both _ _ _ led_on (le-leb _ _ not_less)))
