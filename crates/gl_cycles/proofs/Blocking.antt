@@ -1,17 +1,17 @@
 -- What lies below a front, by what the front is.
-use Rattle.std.proofs.Common.{◌≡◌, ◌≢◌, ℕ, zero, suc, ◌+◌, ◌-◌, ◌<◌, ◌≤◌, Bool, true, false, ◌&&◌, cond, eqb, leb, List, [], ◌∷◌, ◌++◌, length, map, filter, take, Option, Some, None, refl, sym, ap, ◌∙◌, arith, ◌⊎◌, inl, inr, not}
+use Rattle.std.proofs.Common.{◌≡◌, ◌≢◌, ℕ, suc, Bool, true, false, cond, List, [], ◌∷◌, ◌++◌, length, map, filter, Some, None, refl, sym, ap, ◌∙◌, inl, inr}
 use Rattle.std.specs.Prelude.{slice_get}
-use Rattle.std.specs.List.{filter_map, flat_map, range_with_len, cons_option}
+use Rattle.std.specs.List.{flat_map, range_with_len, cons_option}
 use Rattle.std.proofs.lemmas.Bool.{and_left, and_right, ne_eqb, eq-eqb, eqb-true, cases_eq, not_from_true}
-use Rattle.std.proofs.lemmas.List.{append_assoc, append-nil}
+use Rattle.std.proofs.lemmas.List.{append-nil}
 use Rattle.gl_event.specs.declared.events.Segment.{Segment}
 use Rattle.gl_edges.specs.declared.edge.Edge.{Edge}
 use Rattle.gl_filters.specs.declared.query.Mode.{Mode}
 use Rattle.gl_filters.specs.Test.{goes_with, is_path, is_cycle, can_follow, leads_back, last_of}
 use Rattle.gl_filters.proofs.Paths.{is_path_push, is_path-cut}
 use Rattle.gl_cycles.specs.AllCycles.{picked, lists_below, all_cycles}
-use Rattle.gl_cycles.specs.Blocks.{block, upto, blocks_below}
-use Rattle.gl_cycles.proofs.Lists.{filter-append, filter-flat_map, map-flat_map, same_flat_map, map-one_more, map-nothing, filter-none, upto-until}
+use Rattle.gl_cycles.specs.Blocks.{block, blocks_below}
+use Rattle.gl_cycles.proofs.Lists.{filter-flat_map, map-flat_map, same_flat_map, map-one_more, map-nothing, filter-none}
 
 pub picked-append : (edges : List Edge) (xs ys : List ℕ) → picked edges (xs ++ ys) ≡ picked edges xs ++ picked edges ys
 picked-append edges [] ys = refl

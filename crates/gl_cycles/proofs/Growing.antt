@@ -1,14 +1,14 @@
 -- How a search grows a path: what is found below it, follower by follower.
-use Rattle.std.proofs.Common.{◌≡◌, ◌≢◌, ℕ, zero, suc, ◌+◌, ◌-◌, ◌<◌, ◌≤◌, Bool, true, false, ◌&&◌, cond, eqb, leb, List, [], ◌∷◌, ◌++◌, length, map, take, drop, get_or, Option, Some, None, refl, sym, ap, subst, ◌∙◌, arith, ◌⊎◌, inl, inr, add-one}
+use Rattle.std.proofs.Common.{◌≡◌, ◌≢◌, ℕ, zero, suc, ◌+◌, ◌-◌, ◌<◌, ◌≤◌, Bool, true, false, ◌&&◌, cond, List, [], ◌∷◌, ◌++◌, length, take, Option, Some, None, refl, sym, ap, subst, ◌∙◌, arith, inl, inr}
 use Rattle.std.specs.Prelude.{slice_get, IfSome, unwrap_or, nat_le}
 use Rattle.std.specs.List.{cons_option}
-use Rattle.std.proofs.lemmas.Bool.{eqb-true, eqb-false, ne_eqb, eq-eqb, cases_eq, cases_Bool, and_left, and_right, and_from, false≢true}
+use Rattle.std.proofs.lemmas.Bool.{ne_eqb, eq-eqb, cases_eq, and_right, and_from, false≢true}
 use Rattle.std.proofs.lemmas.List.{append_assoc, append-nil, take_all, length-take, length-append}
 use Rattle.std.proofs.lemmas.Option.{same_Some}
 use Rattle.gl_event.specs.declared.events.Segment.{Segment}
 use Rattle.gl_edges.specs.declared.edge.Edge.{Edge}
 use Rattle.gl_filters.specs.declared.query.Mode.{Mode}
-use Rattle.gl_filters.specs.Test.{is_path, is_cycle, can_follow, leads_back, last_of}
+use Rattle.gl_filters.specs.Test.{is_path, is_cycle, can_follow, leads_back}
 use Rattle.gl_cycles.specs.AllCycles.{picked, all_cycles}
 use Rattle.gl_cycles.specs.Blocks.{block, upto, blocks_below}
 use Rattle.gl_cycles.specs.Followers.{holder_from}

@@ -1,3 +1,4 @@
 pub mod AllCycles
 pub mod Blocks
 pub mod Followers
+pub mod Laws

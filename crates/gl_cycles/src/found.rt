@@ -33,7 +33,14 @@ impl Cycles {
     pub fn as_slice(&self) -> &[Vec<usize>]
         ensures { map (λ cycle. cycle.items) result.now ≡ self.now }
     {
-        self.cycles.as_slice()
+        &self.cycles
+    }
+
+    /// The cycles, in order.
+    pub fn into_vec(self) -> Vec<Vec<usize>>
+        ensures { map (λ cycle. cycle.items) result.items ≡ self }
+    {
+        self.cycles
     }
 }
 

@@ -1,9 +1,21 @@
 //! Cycles of edges: the potential deadlocks that Goodlock predicts.
+//!
+//! Where one thread acquires lock 0 and then lock 1, and another one acquires 1 and then 0, the
+//! first edge leads on to the second one and back: a cycle, with the positions 0 and 1. [`search`]
+//! lists the first cycles of a [`Query`](gl_filters::Query) and says whether there are more.
+//!
+//! The list of all cycles is a definition: the lists of positions that pass the test of a cycle.
+//! That it has exactly the cycles, and in which order, is what [`cycles_are_all`],
+//! [`cycles_ascend`] and [`cycles_ascend_by_edges`] say.
 #![tactic(auto)]
 
 mod followers;
 mod found;
+mod laws;
 mod paths;
+#[cfg(test)]
+mod tests;
 
 pub use found::{Cycles, Found, Report, ReportFault};
+pub use laws::{cycles_are_all, cycles_ascend, cycles_ascend_by_edges};
 pub use paths::search;

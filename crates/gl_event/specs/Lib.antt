@@ -1,4 +1,5 @@
 pub mod Bounds
 pub mod Events
+pub mod Faults
 pub mod Lawful
 pub mod Standing

@@ -28,6 +28,11 @@ pub enum BadLimits {
 }
 
 impl fmt::Display for BadLimits {
+    ghost use Rattle.std.specs.Prelude.{Some};
+    ghost use Rattle.gl_event.specs.Faults.{text_of};
+
+    ghost output = { λ bad. Some (text_of bad) };
+
     fn fmt<W: fmt::Write>(&self, f: &mut fmt::Formatter<W>) -> fmt::Result {
         f.write_str(match self {
             BadLimits::Threads => "the limit of threads is out of range",

@@ -1,1 +1,4 @@
 pub mod Paths
+pub mod Cycling
+pub mod Judged
+pub mod Valid

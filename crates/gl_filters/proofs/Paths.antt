@@ -1,12 +1,12 @@
 -- A path grows edge by edge, and each front of a path is a path.
-use Rattle.std.proofs.Common.{◌≡◌, ℕ, suc, ◌+◌, ◌≤◌, Bool, true, false, ◌&&◌, cond, eqb, leb, List, [], ◌∷◌, ◌++◌, length, refl, sym, ap, ◌∙◌, arith}
+use Rattle.std.proofs.Common.{◌≡◌, Bool, true, false, ◌&&◌, eqb, leb, List, [], ◌∷◌, ◌++◌, refl, sym, ap, ◌∙◌}
 use Rattle.std.specs.List.{list_all}
 use Rattle.std.proofs.lemmas.List.{append_assoc, append-nil}
-use Rattle.std.proofs.lemmas.Bool.{false≢true, and_parts, and_from, cases_Bool, false_from_ne_true}
+use Rattle.std.proofs.lemmas.Bool.{false≢true, and_parts, false_from_ne_true}
 use Rattle.gl_event.specs.declared.events.Segment.{Segment}
 use Rattle.gl_edges.specs.declared.edge.Edge.{Edge}
 use Rattle.gl_filters.specs.declared.query.Mode.{Mode}
-use Rattle.gl_filters.specs.Test.{goes_with, go_together, lead_on, begins_least, is_path, last_of, can_follow}
+use Rattle.gl_filters.specs.Test.{goes_with, go_together, lead_on, is_path, last_of, can_follow}
 
 -- conjunctions in another grouping
 and_four : (a b c d : Bool) → ((a && b) && (c && d)) ≡ ((a && c) && (b && d))

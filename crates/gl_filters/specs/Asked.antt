@@ -1,5 +1,5 @@
 -- What a query asks for, and its ranges.
-use Rattle.std.specs.Prelude.{ℕ, ◌≤◌, Bool, ◌||◌, Option, Some, None, if◌then◌else◌, nat_lt}
+use Rattle.std.specs.Prelude.{ℕ, ◌≤◌, ◌||◌, Option, Some, None, if◌then◌else◌, nat_lt}
 use Rattle.gl_filters.specs.declared.query.TheConstants.{MAX_LEN, MAX_CYCLES}
 use Rattle.gl_filters.specs.declared.query.Mode.{Mode}
 use Rattle.gl_filters.specs.declared.query.BadQuery.{BadQuery}

@@ -1,3 +1,4 @@
 pub mod Asked
 pub mod Cycle
 pub mod Test
+pub mod Judging

@@ -1,8 +1,14 @@
 //! Which lists of edges are cycles: the modes of the analysis, what is asked of it, and the tests.
 #![tactic(auto)]
 
+mod laws;
 mod pairs;
 mod query;
+#[cfg(test)]
+mod tests;
+mod verdict;
 
+pub use laws::{cycles_are_as_tested, valid_lists_are_cycles};
 pub use pairs::{compatible, goes_with};
 pub use query::{BadQuery, MAX_CYCLES, MAX_LEN, Mode, Query};
+pub use verdict::{Verdict, judge};

@@ -10,7 +10,7 @@ use gl_event::Segment;
 use gl_segments::Order;
 
 // Whether the two sets have a lock in common: a gate lock. Sets are small, at most 64 locks.
-fn share_lock(a: &Guards, b: &Guards) -> bool
+pub(crate) fn share_lock(a: &Guards, b: &Guards) -> bool
     ensures { result ≡ share_one a.now b.now }
 {
     let others = b.as_slice();
@@ -19,7 +19,7 @@ fn share_lock(a: &Guards, b: &Guards) -> bool
 
 impl Mode {
     // Whether guard sets of a cycle's edges have no lock in common.
-    fn asks_guards(self) -> bool
+    pub(crate) fn asks_guards(self) -> bool
         ensures { result ≡ asks_guards self }
     {
         match self {
@@ -30,7 +30,7 @@ impl Mode {
     }
 
     // Whether no two edges of a cycle are ordered.
-    fn asks_order(self) -> bool
+    pub(crate) fn asks_order(self) -> bool
         ensures { result ≡ asks_order self }
     {
         match self {
@@ -42,7 +42,7 @@ impl Mode {
 }
 
 // Whether one of the edges is over before the other begins.
-fn are_ordered(order: &Order, e: &Edge, f: &Edge) -> bool
+pub(crate) fn are_ordered(order: &Order, e: &Edge, f: &Edge) -> bool
     ensures { result ≡ is_ordered (is_before order.now) e.now f.now }
 {
     let e_wants = Segment {

@@ -4,3 +4,6 @@
 mod printing;
 
 pub use printing::text;
+
+#[cfg(test)]
+mod tests;

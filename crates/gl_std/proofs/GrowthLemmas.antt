@@ -1,10 +1,12 @@
 -- A line changes nothing of what was told before it.
-use Rattle.std.proofs.Common.{◌≡◌, ℕ, zero, suc, ◌+◌, List, [], ◌∷◌, ◌++◌, length, Option, Some, None, Result, Ok, Err, get_or, refl, sym, ap, subst, ◌∙◌, append_assoc}
+use Rattle.std.proofs.Common.{◌≡◌, ℕ, zero, suc, ◌+◌, Bool, true, false, position, List, [], ◌∷◌, ◌++◌, length, Option, Some, None, Result, Ok, Err, get_or, refl, sym, ap, subst, ◌∙◌, append_assoc}
 use Rattle.std.specs.Prelude.{slice_get, slice_set}
 use Rattle.gl_event.specs.Bounds.{Bounds}
 use Rattle.gl_event.specs.declared.events.Event.{Event}
 use Rattle.gl_std.specs.Laws.{IsFront, Grows, TracesGrow}
-use Rattle.gl_std.specs.Line.{Shape, shape_of}
+use Rattle.std.specs.Str.{bytes_eq}
+use Rattle.gl_std.specs.Names.{NameLists}
+use Rattle.gl_std.specs.Line.{Shape, shape_of, is_on_thread}
 use Rattle.gl_std.specs.Line.Shape.{Blank, Bad, Other, Call}
 use Rattle.gl_std.specs.Lines.{LF, lines}
 use Rattle.gl_std.specs.Trace.{found_in, with_name, with_event, event_told, after_verdict, after_shape, after_line, and_then, read_from}
@@ -14,7 +16,7 @@ use Rattle.gl_std.specs.declared.line.Operation.{Operation}
 use Rattle.gl_std.specs.declared.row.Verdict.{Verdict}
 use Rattle.gl_std.specs.declared.row.Verdict.TheVariants.{Kept, Stray, Fault}
 use Rattle.gl_std.specs.declared.trace.Trace.{Trace}
-use Rattle.gl_std.proofs.StepLemmas.{IsTrace, with_call, same_trace, no_trace, trace_of-append}
+use Rattle.gl_std.proofs.StepLemmas.{IsTrace, acting, place_of, threads_of, locks_of, lists_of, with_call, same_trace, no_trace, trace_of-append}
 
 append_nil : {X : Type 0} (xs : List X) → xs ++ [] ≡ xs
 append_nil [] = refl
@@ -59,6 +61,22 @@ with_event-goes_on : (lists : List (List Event)) (number : Option ℕ) (e : Even
 with_event-goes_on lists None e k es h = GoesOn-same (lists ++ (e ∷ []) ∷ []) k es (push_goes_on lists (e ∷ []) k es h)
 with_event-goes_on lists (Some i) e k es h = set_goes_on lists i e k es h
 
+threads_of-front : (on : Bool) (names : NameLists) (thread operand : List ℕ) → IsFront names.threads (threads_of on names thread operand)
+threads_of-front true names thread operand =
+    IsFront-then names.threads (acting names thread) (threads_of true names thread operand) (with_name-front names.threads (position (bytes_eq thread) names.threads) thread) (with_name-front (acting names thread) (place_of true names thread operand) operand)
+threads_of-front false names thread operand = with_name-front names.threads (position (bytes_eq thread) names.threads) thread
+
+locks_of-front : (on : Bool) (names : NameLists) (thread operand : List ℕ) → IsFront names.locks (locks_of on names thread operand)
+locks_of-front true names thread operand = IsFront-itself names.locks
+locks_of-front false names thread operand = with_name-front names.locks (place_of false names thread operand) operand
+
+lists_of-goes_on : (on : Bool) (lists : List (List Event)) (number place : Option ℕ) (e : Event) (k : ℕ) (es : List Event) → slice_get lists k ≡ Some es → GoesOn (lists_of on lists number place e) k es
+lists_of-goes_on false lists number place e k es h = with_event-goes_on lists number e k es h
+lists_of-goes_on true lists number (Some i) e k es h = with_event-goes_on lists number e k es h
+lists_of-goes_on true lists number None e k es h =
+    let later = with_event-goes_on lists number e k es h in
+    (later.0, push_goes_on (with_event lists number e) [] k (es ++ later.0) later.1)
+
 Grows-itself : (told : Trace) (skipped stray : ℕ) → Grows told (record { names = told.names; lists = told.lists; skipped = skipped; stray = stray })
 Grows-itself told skipped stray =
     record {
@@ -82,12 +100,13 @@ Grows-then a b c one two =
 
 call_grows : (told : Trace) (operation : Operation) (thread operand location : List ℕ) → Grows told (with_call told operation thread operand location)
 call_grows told operation thread operand location =
-    let found = found_in told.names thread operand location in
+    let found = found_in told.names operation thread operand location in
+    let on = is_on_thread operation in
     record {
-      threads = with_name-front told.names.threads found.thread thread;
-      locks = with_name-front told.names.locks found.lock operand;
+      threads = threads_of-front on told.names thread operand;
+      locks = locks_of-front on told.names thread operand;
       locs = with_name-front told.names.locs found.loc location;
-      lists = λ k es h. with_event-goes_on told.lists found.thread (event_told told.names operation found) k es h;
+      lists = λ k es h. lists_of-goes_on on told.lists found.thread found.operand (event_told told.names operation found) k es h;
     }
 
 after_verdict_grows : (line : ℕ) (told kept more : Trace) (v : Verdict) → Grows told kept → IsTrace (after_verdict line told kept v) more → Grows told more

@@ -1,5 +1,5 @@
 -- The place of a name after another name joined the list, and the events of a thread after an event of a thread.
-use Rattle.std.proofs.Common.{◌≡◌, ℕ, ◌<◌, Bool, true, false, cond, nat_lt, List, [], ◌∷◌, ◌++◌, length, get_or, position, Option, Some, None, refl, sym, ap, subst, ◌∙◌, ⊎_elim, arith}
+use Rattle.std.proofs.Common.{◌≡◌, ℕ, ◌<◌, Bool, true, false, ◌&&◌, cond, nat_lt, List, [], ◌∷◌, ◌++◌, length, get_or, position, Option, Some, None, refl, sym, ap, subst, ◌∙◌, ⊎_elim, arith}
 use Rattle.std.specs.Prelude.{slice_set}
 use Rattle.std.specs.Option.{option_map_or}
 use Rattle.std.specs.Str.{bytes_eq}
@@ -11,7 +11,9 @@ use Rattle.std.proofs.lemmas.List.Sums.{position_or_len_is}
 use Rattle.std.proofs.lemmas.List.Quantifiers.{position-Some}
 use Rattle.std.proofs.lemmas.Slice.Eq.{bytes_eq-Decides}
 use Rattle.gl_event.specs.declared.events.Event.{Event}
-use Rattle.gl_std.specs.Trace.{with_name, events_of, with_event}
+use Rattle.gl_std.specs.Line.{is_on_itself, is_on_thread}
+use Rattle.gl_std.specs.Trace.{with_name, events_of, with_event, with_list}
+use Rattle.gl_std.specs.declared.line.Operation.{Operation}
 use Rattle.gl_std.proofs.NameLemmas.{list_any-absent}
 
 append_nil : {X : Type 0} (xs : List X) → xs ++ [] ≡ xs
@@ -110,3 +112,32 @@ events_named-after names lists thread name e each = by (position (bytes_eq threa
     by : (r : Option ℕ) → position (bytes_eq thread) names ≡ r → events_named (with_name names r thread) (with_event lists r e) name ≡ events_named names lists name ++ own (bytes_eq name thread) e
     by None is = new_thread names lists thread name e each is
     by (Some i) is = known_thread names lists thread name e i each is
+
+-- a thread that joins the list changes the events of none
+pub events_named-listed : (names : List (List ℕ)) (lists : List (List Event)) (thread name : List ℕ) → length lists ≡ length names → events_named (with_name names (position (bytes_eq thread) names) thread) (with_list lists (position (bytes_eq thread) names)) name ≡ events_named names lists name
+events_named-listed names lists thread name each = by (position (bytes_eq thread) names) refl
+  where
+    new : (r : Option ℕ) → position (bytes_eq name) names ≡ r → (b : Bool) → events_of (lists ++ [] ∷ []) (place_after r b (length names)) ≡ events_of lists r
+    new (Some i) is b = let at = position-Some (bytes_eq name) names i [] is in past_end lists [] i 0 (omega (arith, at.0, each))
+    new None is true = get_or_push lists [] [] (length names) each
+    new None is false = refl
+
+    by : (r : Option ℕ) → position (bytes_eq thread) names ≡ r → events_named (with_name names r thread) (with_list lists r) name ≡ events_named names lists name
+    by None is = ap (events_of (lists ++ [] ∷ [])) (position-push (bytes_eq name) names thread) ∙ new (position (bytes_eq name) names) refl (bytes_eq name thread)
+    by (Some i) is = refl
+
+-- another name has its place where the acting thread's joins the list, too
+pub place_apart : (names : List (List ℕ)) (thread operand : List ℕ) → bytes_eq operand thread ≡ false → position (bytes_eq operand) (with_name names (position (bytes_eq thread) names) thread) ≡ position (bytes_eq operand) names
+place_apart names thread operand apart = by (position (bytes_eq thread) names)
+  where
+    same : (r : Option ℕ) → place_after r false (length names) ≡ r
+    same (Some i) = refl
+    same None = refl
+
+    by : (r : Option ℕ) → position (bytes_eq operand) (with_name names r thread) ≡ position (bytes_eq operand) names
+    by (Some i) = refl
+    by None = position-push (bytes_eq operand) names thread ∙ ap (λ b. place_after (position (bytes_eq operand) names) b (length names)) apart ∙ same (position (bytes_eq operand) names)
+
+-- the operand of a line has its place where the acting thread's name joins the list, too
+pub operand_place : (operation : Operation) (names : List (List ℕ)) (thread operand : List ℕ) → is_on_itself operation thread operand ≡ false → is_on_thread operation ≡ true → position (bytes_eq operand) names ≡ position (bytes_eq operand) (with_name names (position (bytes_eq thread) names) thread)
+operand_place operation names thread operand apart on = sym (place_apart names thread operand (sym (ap (λ a. a && bytes_eq operand thread) on) ∙ apart))

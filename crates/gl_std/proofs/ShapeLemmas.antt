@@ -6,13 +6,17 @@ use Rattle.std.proofs.lemmas.Bool.{false≢true, eqb-true, eq-eqb}
 use Rattle.std.proofs.lemmas.Bool.Decides.{nat_tests}
 use Rattle.std.proofs.lemmas.List.{get_or_default, take-append-le, take_all, length_push, length-take}
 use Rattle.std.proofs.lemmas.List.Folds.{Any-from_list_any, list_any_at}
-use Rattle.gl_std.specs.Line.{Shape, Says, FieldsSay, cut_at, operation_of, operation_name, operand_of, before_close, shape_of, shape_of_call, shape_of_fields}
-use Rattle.gl_std.specs.Line.Shape.{Blank, Bad, Call}
+use Rattle.gl_std.specs.Line.{Shape, Says, FieldsSay, cut_at, is_on_itself, is_on_thread, operation_of, operation_name, operand_of, before_close, shape_of, shape_of_call, shape_of_fields}
+use Rattle.gl_std.specs.Line.Shape.{Blank, Bad, Other, Call}
 use Rattle.gl_std.specs.Line.Says.{too_long, blank, no_bar, one_bar, fields}
-use Rattle.gl_std.specs.Line.FieldsSay.{no_thread, other_word, no_operand, other_call, call, bad_operand}
-use Rattle.gl_std.specs.declared.faults.StdKind.TheVariants.{TooLong, NoBar, NoLocation, NoThread}
+use Rattle.gl_std.specs.Line.FieldsSay.{no_thread, other_word, no_operand, other_call, call, on_itself, bad_operand}
+use Rattle.gl_std.specs.declared.faults.StdKind.TheVariants.{TooLong, NoBar, NoLocation, NoThread, OnItself}
 use Rattle.gl_std.specs.declared.line.Operation.{Operation}
 use Rattle.gl_std.specs.declared.line.TheConstants.{MAX_LINE, BAR, OPEN, CLOSE}
+use Rattle.gl_std.specs.Reading.{AreApart}
+use Rattle.std.specs.Prelude.{IsTrue}
+use Rattle.std.specs.Str.{bytes_eq}
+use Rattle.std.proofs.lemmas.Slice.Eq.{bytes_eq-Decides}
 use Rattle.gl_std.proofs.CutLemmas.{holds, cut_at-Some, cut_at-None}
 
 holds-none : (byte : ℕ) (text : List ℕ) → ¬ Contains text byte → holds byte text ≡ false
@@ -154,6 +158,28 @@ not_closed rest none = by (before_close rest) refl
     by None e = refl
     by (Some operand) e = let is = before_close-Some rest operand e in absurd (none operand is.1 is.0)
 
+-- what is on another thread isn't on itself
+apart_itself : (operation : Operation) (thread operand : List ℕ) → (IsTrue (is_on_thread operation) → operand ≢ thread) → is_on_itself operation thread operand ≡ false
+apart_itself operation thread operand apart = by (is_on_thread operation) refl (bytes_eq operand thread) refl
+  where
+    by : (a : Bool) → is_on_thread operation ≡ a → (b : Bool) → bytes_eq operand thread ≡ b → (a && b) ≡ false
+    by false on b same = refl
+    by true on false same = refl
+    by true on true same = absurd (apart on ((bytes_eq-Decides operand thread).0 same))
+
+itself_apart : (operation : Operation) (thread operand : List ℕ) → is_on_itself operation thread operand ≡ false → IsTrue (is_on_thread operation) → operand ≢ thread
+itself_apart operation thread operand none on same =
+    let both : is_on_itself operation thread operand ≡ true = ap (λ a. a && bytes_eq operand thread) on ∙ (bytes_eq-Decides operand thread).1 same in
+    false≢true (sym none ∙ both)
+
+shape_apart : (operation : Operation) (thread operand location : List ℕ) → is_on_itself operation thread operand ≡ false → Call operation thread operand location ≡ shape_of_call thread (Some operation) (Some operand) location
+shape_apart operation thread operand location apart = sym (ap (λ v. cond v (Bad OnItself) (Call operation thread operand location)) apart)
+
+shape_itself : (operation : Operation) (thread location : List ℕ) → IsTrue (is_on_thread operation) → Bad OnItself ≡ shape_of_call thread (Some operation) (Some thread) location
+shape_itself operation thread location on =
+    let both : is_on_itself operation thread thread ≡ true = ap (λ a. a && bytes_eq thread thread) on ∙ (bytes_eq-Decides thread thread).1 refl in
+    sym (ap (λ v. cond v (Bad OnItself) (Call operation thread thread location)) both)
+
 fields_shape : (thread field location : List ℕ) (shape : Shape) → FieldsSay thread field location shape → shape ≡ shape_of_fields thread field location
 fields_shape _ _ _ _ (no_thread field location) = refl
 fields_shape _ _ _ _ (other_word thread field location some none is) =
@@ -162,9 +188,14 @@ fields_shape _ _ _ _ (no_operand thread field location operation some none is) =
     sym (ap (λ o. shape_of_call thread o None location) is) ∙ word_call thread field location (holds-none OPEN field none) ∙ shape_of_fields-call thread field location some
 fields_shape _ _ _ _ (other_call thread name rest location some none is) =
     sym (ap (λ o. shape_of_call thread o (before_close rest) location) is) ∙ paren_call thread name rest location (holds-none OPEN name none) ∙ shape_of_fields-call thread (name ++ OPEN ∷ rest) location some
-fields_shape _ _ _ _ (call thread name operand location operation some none is any) =
-    sym (ap (λ q. shape_of_call thread (Some operation) q location) (before_close-append operand any))
+fields_shape _ _ _ _ (call thread name operand location operation some none is any apart) =
+    shape_apart operation thread operand location (apart_itself operation thread operand apart)
+    ∙ sym (ap (λ q. shape_of_call thread (Some operation) q location) (before_close-append operand any))
     ∙ sym (ap (λ o. shape_of_call thread o (before_close (operand ++ CLOSE ∷ [])) location) is) ∙ paren_call thread name (operand ++ CLOSE ∷ []) location (holds-none OPEN name none) ∙ shape_of_fields-call thread (name ++ OPEN ∷ (operand ++ CLOSE ∷ [])) location some
+fields_shape _ _ _ _ (on_itself thread name location operation some none is on) =
+    shape_itself operation thread location on
+    ∙ sym (ap (λ q. shape_of_call thread (Some operation) q location) (before_close-append thread some))
+    ∙ sym (ap (λ o. shape_of_call thread o (before_close (thread ++ CLOSE ∷ [])) location) is) ∙ paren_call thread name (thread ++ CLOSE ∷ []) location (holds-none OPEN name none) ∙ shape_of_fields-call thread (name ++ OPEN ∷ (thread ++ CLOSE ∷ [])) location some
 fields_shape _ _ _ _ (bad_operand thread name rest location operation some none is unclosed) =
     sym (ap (λ q. shape_of_call thread (Some operation) q location) (not_closed rest unclosed))
     ∙ sym (ap (λ o. shape_of_call thread o (before_close rest) location) is) ∙ paren_call thread name rest location (holds-none OPEN name none) ∙ shape_of_fields-call thread (name ++ OPEN ∷ rest) location some
@@ -190,11 +221,21 @@ word_says : (thread field location : List ℕ) → thread ≢ [] → ¬ Contains
 word_says thread field location some none None is = other_word thread field location some none is
 word_says thread field location some none (Some operation) is = no_operand thread field location operation some none is
 
+closed_says : (thread name operand location : List ℕ) (operation : Operation) → thread ≢ [] → ¬ Contains name OPEN → operation_of name ≡ Some operation → operand ≢ [] → FieldsSay thread (name ++ OPEN ∷ (operand ++ CLOSE ∷ [])) location (shape_of_call thread (Some operation) (Some operand) location)
+closed_says thread name operand location operation some none is any = by (is_on_itself operation thread operand) refl
+  where
+    by : (v : Bool) → is_on_itself operation thread operand ≡ v → FieldsSay thread (name ++ OPEN ∷ (operand ++ CLOSE ∷ [])) location (cond v (Bad OnItself) (Call operation thread operand location))
+    by false e = call thread name operand location operation some none is any (itself_apart operation thread operand e)
+    by true e =
+        let on = and_left (is_on_thread operation) (bytes_eq operand thread) e in
+        let same : operand ≡ thread = (bytes_eq-Decides operand thread).0 (and_right (is_on_thread operation) (bytes_eq operand thread) e) in
+        subst (λ o. FieldsSay thread (name ++ OPEN ∷ (o ++ CLOSE ∷ [])) location (Bad OnItself)) (sym same) (on_itself thread name location operation some none is on)
+
 paren_says : (thread name rest location : List ℕ) → thread ≢ [] → ¬ Contains name OPEN → (o : Option Operation) → operation_of name ≡ o → (q : Option (List ℕ)) → before_close rest ≡ q → FieldsSay thread (name ++ OPEN ∷ rest) location (shape_of_call thread o q location)
 paren_says thread name rest location some none None is q closed = other_call thread name rest location some none is
 paren_says thread name rest location some none (Some operation) is (Some operand) closed =
     let parts = before_close-Some rest operand closed in
-    subst (λ r. FieldsSay thread (name ++ OPEN ∷ r) location (Call operation thread operand location)) (sym parts.0) (call thread name operand location operation some none is parts.1)
+    subst (λ r. FieldsSay thread (name ++ OPEN ∷ r) location (shape_of_call thread (Some operation) (Some operand) location)) (sym parts.0) (closed_says thread name operand location operation some none is parts.1)
 paren_says thread name rest location some none (Some operation) is None closed =
     bad_operand thread name rest location operation some none is (λ operand any same. some_none operand (sym (before_close-append operand any) ∙ sym (ap before_close same) ∙ closed))
   where
@@ -243,3 +284,24 @@ line_says (b ∷ line) = by (nat_lt MAX_LINE (length (b ∷ line))) refl
         let fits : length (b ∷ line) ≤ MAX_LINE = grind (arith, nat_tests, e) in
         let some : b ∷ line ≢ [] = λ e. cc in
         subst (Says (b ∷ line)) (shape_of-short (b ∷ line) fits some) (short_says (b ∷ line) fits some)
+
+-- ---- no thread forks or joins itself
+
+fields_apart : (thread field location : List ℕ) (shape : Shape) → FieldsSay thread field location shape → AreApart shape
+fields_apart _ _ _ _ (no_thread field location) = tt
+fields_apart _ _ _ _ (other_word thread field location some none is) = tt
+fields_apart _ _ _ _ (no_operand thread field location operation some none is) = tt
+fields_apart _ _ _ _ (other_call thread name rest location some none is) = tt
+fields_apart _ _ _ _ (call thread name operand location operation some none is any apart) = apart_itself operation thread operand apart
+fields_apart _ _ _ _ (on_itself thread name location operation some none is on) = tt
+fields_apart _ _ _ _ (bad_operand thread name rest location operation some none is unclosed) = tt
+
+says_apart : (line : List ℕ) (shape : Shape) → Says line shape → AreApart shape
+says_apart _ _ (too_long line h) = tt
+says_apart _ _ blank = tt
+says_apart _ _ (no_bar line fits some none) = tt
+says_apart _ _ (one_bar thread rest fits none none_more) = tt
+says_apart _ _ (fields thread field location shape fits none none_more says) = fields_apart thread field location shape says
+
+pub shape_of_apart : (line : List ℕ) → AreApart (shape_of line)
+shape_of_apart line = says_apart line (shape_of line) (line_says line)

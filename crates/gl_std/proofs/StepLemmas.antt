@@ -1,10 +1,10 @@
 -- A line leaves a trace that obeys the limits as one that does.
-use Rattle.std.proofs.Common.{◌≡◌, ◌≢◌, ℕ, zero, suc, ◌+◌, ◌<◌, ◌≤◌, ◌^◌, ◌⊎◌, Bool, true, false, cond, List, [], ◌∷◌, ◌++◌, length, Option, Some, None, Result, Ok, Err, All, AllPairs, get_or, position, is_none, unwrap_or, refl, sym, ap, subst, ◌∙◌, inl, inr, ⊎_elim, add-zero, arith}
-use Rattle.std.specs.Prelude.{slice_get, slice_set, nat_le}
+use Rattle.std.proofs.Common.{◌≡◌, ◌≢◌, ℕ, zero, suc, ◌+◌, ◌<◌, ◌≤◌, ◌^◌, ◌⊎◌, Bool, true, false, ◌&&◌, cond, eqb, List, [], ◌∷◌, ◌++◌, length, Option, Some, None, Result, Ok, Err, All, AllPairs, get_or, position, is_none, unwrap_or, refl, sym, ap, subst, ◌∙◌, inl, inr, ⊎_elim, add-zero, arith}
+use Rattle.std.specs.Prelude.{slice_get, slice_set, nat_le, nat_lt}
 use Rattle.std.specs.Str.{bytes_eq}
-use Rattle.std.proofs.lemmas.Bool.{false≢true}
+use Rattle.std.proofs.lemmas.Bool.{false≢true, ne_eqb}
 use Rattle.std.proofs.lemmas.Bool.Decides.{nat_tests}
-use Rattle.std.proofs.lemmas.List.{length-set, length_push}
+use Rattle.std.proofs.lemmas.List.{length-set, length_push, get_or_push}
 use Rattle.std.proofs.lemmas.List.Elements.{All-push, All-weaker}
 use Rattle.std.proofs.lemmas.List.Folds.{list_any_at}
 use Rattle.std.proofs.lemmas.List.Quantifiers.{position-Some, all_pairs_push}
@@ -16,18 +16,20 @@ use Rattle.gl_event.specs.declared.events.Event.{Event}
 use Rattle.gl_event.specs.declared.events.Event.TheVariants.{Acquire, Release, Fork, Join}
 use Rattle.gl_event.specs.declared.events.Refusal.{Refusal}
 use Rattle.gl_event.specs.declared.events.Refusal.TheVariants.{PlaceFull, NoSuchThread, OnItself, NotHeld, HeldFull as NoRoom, DepthFull as TooDeep}
-use Rattle.gl_std.specs.Line.{Shape, shape_of}
+use Rattle.gl_std.specs.Line.{Shape, shape_of, is_on_itself, is_on_thread}
+use Rattle.gl_std.specs.Reading.{AreApart}
+use Rattle.gl_std.proofs.ShapeLemmas.{shape_of_apart}
 use Rattle.gl_std.specs.Line.Shape.{Blank, Bad, Other, Call}
 use Rattle.gl_std.specs.Laws.{ReadingGoesOn}
 use Rattle.gl_std.specs.Lines.{LF, lines}
 use Rattle.gl_std.proofs.LinesLemmas.{lines-after_line}
 use Rattle.gl_std.specs.Names.{NameLists}
-use Rattle.gl_std.specs.Trace.{found_in, with_name, is_too_many, events_of, with_event, event_of, event_told, limit_fault, verdict_of, with_names, after_verdict, after_call, after_shape, after_line, and_then, read_from, nothing, trace_of, IsNamed, IsTraceOver}
+use Rattle.gl_std.specs.Trace.{found_in, with_name, if_new, threads_after, locks_after, events_of, with_event, with_list, with_lists, event_of, event_told, limit_fault, verdict_of, with_names, after_verdict, after_call, after_shape, after_line, and_then, read_from, nothing, trace_of, IsNamed, IsTraceOver}
 use Rattle.gl_std.specs.declared.faults.StdKind.{StdKind}
 use Rattle.gl_std.specs.declared.faults.ReadFault.{ReadFault}
 use Rattle.gl_std.specs.declared.faults.ReadFault.TheVariants.{Line}
 use Rattle.gl_std.specs.declared.line.Operation.{Operation}
-use Rattle.gl_std.specs.declared.line.Operation.TheVariants.{Acquire as AcquireOf, Release as ReleaseOf}
+use Rattle.gl_std.specs.declared.line.Operation.TheVariants.{Acquire as AcquireOf, Release as ReleaseOf, Fork as ForkOf, Join as JoinOf}
 use Rattle.gl_std.specs.declared.names.Found.{Found}
 use Rattle.gl_std.specs.declared.row.Verdict.{Verdict}
 use Rattle.gl_std.specs.declared.row.Verdict.TheVariants.{Kept, Stray, Fault}
@@ -43,13 +45,9 @@ IsWithin number most = (i : ℕ) → number ≡ Some i → i < most
 found_within : (names : List (List ℕ)) (name : List ℕ) → IsWithin (position (bytes_eq name) names) (length names)
 found_within names name i is = (position-Some (bytes_eq name) names i [] is).0
 
-length-with_name : (names : List (List ℕ)) (number : Option ℕ) (name : List ℕ) → length (with_name names number name) ≡ length names + cond (is_none number) 1 0
+pub length-with_name : (names : List (List ℕ)) (number : Option ℕ) (name : List ℕ) → length (with_name names number name) ≡ length names + cond (is_none number) 1 0
 length-with_name names None name = length_push names name
 length-with_name names (Some i) name = omega arith
-
-names_fit : (most : ℕ) (names : List (List ℕ)) (number : Option ℕ) (name : List ℕ) → length names ≤ most → is_too_many most names number ≡ false → length (with_name names number name) ≤ most
-names_fit most names None name fits room = let below : length names < most = grind (arith, nat_tests, room) in omega (arith, length_push names name)
-names_fit most names (Some i) name fits room = fits
 
 names_grow : (names : List (List ℕ)) (number : Option ℕ) (name : List ℕ) → length names ≤ length (with_name names number name)
 names_grow names None name = omega (arith, length_push names name)
@@ -105,7 +103,7 @@ with_event_at : (lists : List (List Event)) (number : Option ℕ) (e : Event) (k
 with_event_at lists None e k es h = push_at lists (e ∷ []) k es h
 with_event_at lists (Some i) e k es h = set_at lists i (get_or lists i [] ++ e ∷ []) k es h
 
-length-with_event : (lists : List (List Event)) (number : Option ℕ) (e : Event) → length (with_event lists number e) ≡ length lists + cond (is_none number) 1 0
+pub length-with_event : (lists : List (List Event)) (number : Option ℕ) (e : Event) → length (with_event lists number e) ≡ length lists + cond (is_none number) 1 0
 length-with_event lists None e = length_push lists (e ∷ [])
 length-with_event lists (Some i) e = omega (arith, length-set lists i (get_or lists i [] ++ e ∷ []))
 
@@ -116,15 +114,32 @@ events_lawful limits lists (Some i) each = ⊎_elim (λ at. each i (get_or lists
 
 -- ---- an event
 
--- where its list isn't full, only the locks refuse an acquire or a release
-refusal_by_locks : (limits : Bounds) (thread : ℕ) (es : List Event) (operation : Operation) (lock loc : ℕ) → nat_le limits.events (length es) ≡ false → lock_refusal es (event_of operation lock loc) ≡ None → refusal limits thread es (event_of operation lock loc) ≡ None
+-- where its list isn't full, only the locks refuse an acquire or a release, and nothing refuses a fork or a join of
+-- another thread
+refusal_by_locks : (limits : Bounds) (thread : ℕ) (es : List Event) (operation : Operation) (operand loc : ℕ) → nat_le limits.events (length es) ≡ false → lock_refusal es (event_of operation operand loc) ≡ None → (is_on_thread operation ≡ true → (operand < limits.threads) × (operand ≢ thread)) → refusal limits thread es (event_of operation operand loc) ≡ None
 unfolding refusal
-refusal_by_locks limits thread es AcquireOf lock loc room locks = ap (λ v. cond v (Some PlaceFull) (lock_refusal es (Acquire lock loc))) room ∙ locks
-refusal_by_locks limits thread es ReleaseOf lock loc room locks = ap (λ v. cond v (Some PlaceFull) (lock_refusal es (Release lock loc))) room ∙ locks
+refusal_by_locks limits thread es AcquireOf lock loc room locks other = ap (λ v. cond v (Some PlaceFull) (lock_refusal es (Acquire lock loc))) room ∙ locks
+refusal_by_locks limits thread es ReleaseOf lock loc room locks other = ap (λ v. cond v (Some PlaceFull) (lock_refusal es (Release lock loc))) room ∙ locks
+refusal_by_locks limits thread es ForkOf partner loc room locks other =
+    let is = other refl in
+    let below : nat_le limits.threads partner ≡ false = let low = is.0 in grind (arith, nat_tests, low) in
+    let apart = ne_eqb partner thread is.1 in
+    ap (λ v. cond v (Some PlaceFull) (cond (nat_le limits.threads partner) (Some NoSuchThread) (cond (eqb partner thread) (Some OnItself) (lock_refusal es (Fork partner loc))))) room
+    ∙ ap (λ v. cond v (Some NoSuchThread) (cond (eqb partner thread) (Some OnItself) (lock_refusal es (Fork partner loc)))) below
+    ∙ ap (λ v. cond v (Some OnItself) (lock_refusal es (Fork partner loc))) apart ∙ locks
+refusal_by_locks limits thread es JoinOf partner loc room locks other =
+    let is = other refl in
+    let below : nat_le limits.threads partner ≡ false = let low = is.0 in grind (arith, nat_tests, low) in
+    let apart = ne_eqb partner thread is.1 in
+    ap (λ v. cond v (Some PlaceFull) (cond (nat_le limits.threads partner) (Some NoSuchThread) (cond (eqb partner thread) (Some OnItself) (lock_refusal es (Join partner loc))))) room
+    ∙ ap (λ v. cond v (Some NoSuchThread) (cond (eqb partner thread) (Some OnItself) (lock_refusal es (Join partner loc)))) below
+    ∙ ap (λ v. cond v (Some OnItself) (lock_refusal es (Join partner loc))) apart ∙ locks
 
-IsNamed-told : (names : NameLists) (operation : Operation) (lock loc : ℕ) → lock < length names.locks → loc < length names.locs → IsNamed names (event_of operation lock loc)
-IsNamed-told names AcquireOf lock loc a b = (a, b)
-IsNamed-told names ReleaseOf lock loc a b = (a, b)
+IsNamed-told : (names : NameLists) (operation : Operation) (operand loc : ℕ) → (is_on_thread operation ≡ false → operand < length names.locks) → (is_on_thread operation ≡ true → operand < length names.threads) → loc < length names.locs → IsNamed names (event_of operation operand loc)
+IsNamed-told names AcquireOf lock loc a b c = (a refl, c)
+IsNamed-told names ReleaseOf lock loc a b c = (a refl, c)
+IsNamed-told names ForkOf other loc a b c = (b refl, c)
+IsNamed-told names JoinOf other loc a b c = (b refl, c)
 
 IsNamed-more : (old new : NameLists) → length old.threads ≤ length new.threads → length old.locks ≤ length new.locks → length old.locs ≤ length new.locs → (e : Event) → IsNamed old e → IsNamed new e
 IsNamed-more old new a b c (Acquire lock loc) h = (omega (arith, h.0, b), omega (arith, h.1, c))
@@ -132,48 +147,170 @@ IsNamed-more old new a b c (Release lock loc) h = (omega (arith, h.0, b), omega 
 IsNamed-more old new a b c (Fork t loc) h = (omega (arith, h.0, a), omega (arith, h.1, c))
 IsNamed-more old new a b c (Join t loc) h = (omega (arith, h.0, a), omega (arith, h.1, c))
 
+-- what isn't on itself is on another thread
+on_other : (operation : Operation) (thread operand : List ℕ) → is_on_itself operation thread operand ≡ false → is_on_thread operation ≡ true → bytes_eq operand thread ≡ false
+on_other operation thread operand apart on = sym (ap (λ a. a && bytes_eq operand thread) on) ∙ apart
+
+-- ---- the names of a line, where its operand is a thread, and where it is a lock
+
+-- the threads, with the acting one
+abbrev pub acting : NameLists → List ℕ → List (List ℕ)
+acting names thread = with_name names.threads (position (bytes_eq thread) names.threads) thread
+
+-- the number that the operand has
+abbrev pub place_of : Bool → NameLists → List ℕ → List ℕ → Option ℕ
+place_of on names thread operand = position (bytes_eq operand) (cond on (acting names thread) names.locks)
+
+-- the number that the operand gets
+abbrev number_of : Bool → NameLists → List ℕ → List ℕ → ℕ
+number_of on names thread operand =
+    unwrap_or (place_of on names thread operand) (cond on (length names.threads + cond (is_none (position (bytes_eq thread) names.threads)) 1 0) (length names.locks))
+
+-- the threads after the line
+abbrev pub threads_of : Bool → NameLists → List ℕ → List ℕ → List (List ℕ)
+threads_of on names thread operand = cond on (with_name (acting names thread) (place_of on names thread operand) operand) (acting names thread)
+
+-- the locks after the line
+abbrev pub locks_of : Bool → NameLists → List ℕ → List ℕ → List (List ℕ)
+locks_of on names thread operand = cond on names.locks (with_name names.locks (place_of on names thread operand) operand)
+
+-- the lists after the line
+abbrev pub lists_of : Bool → List (List Event) → Option ℕ → Option ℕ → Event → List (List Event)
+lists_of on lists number place e = cond on (with_list (with_event lists number e) place) (with_event lists number e)
+
+length-threads_of : (on : Bool) (names : NameLists) (thread operand : List ℕ) → length (threads_of on names thread operand) ≡ length names.threads + cond (is_none (position (bytes_eq thread) names.threads)) 1 0 + cond on (cond (is_none (place_of on names thread operand)) 1 0) 0
+length-threads_of true names thread operand =
+    omega (arith, length-with_name names.threads (position (bytes_eq thread) names.threads) thread, length-with_name (acting names thread) (place_of true names thread operand) operand)
+length-threads_of false names thread operand = omega (arith, length-with_name names.threads (position (bytes_eq thread) names.threads) thread)
+
+length-locks_of : (on : Bool) (names : NameLists) (thread operand : List ℕ) → length (locks_of on names thread operand) ≡ length names.locks + cond on 0 (cond (is_none (place_of on names thread operand)) 1 0)
+length-locks_of true names thread operand = omega arith
+length-locks_of false names thread operand = length-with_name names.locks (place_of false names thread operand) operand
+
+length-with_list : (lists : List (List Event)) (number : Option ℕ) → length (with_list lists number) ≡ length lists + cond (is_none number) 1 0
+length-with_list lists None = length_push lists []
+length-with_list lists (Some i) = omega arith
+
+length-lists_of : (on : Bool) (lists : List (List Event)) (number place : Option ℕ) (e : Event) → length (lists_of on lists number place e) ≡ length lists + cond (is_none number) 1 0 + cond on (cond (is_none place) 1 0) 0
+length-lists_of true lists number place e = omega (arith, length-with_event lists number e, length-with_list (with_event lists number e) place)
+length-lists_of false lists number place e = omega (arith, length-with_event lists number e)
+
+threads_of-differ : (on : Bool) (names : NameLists) (thread operand : List ℕ) → AllPairs (λ a b. a ≢ b) names.threads → AllPairs (λ a b. a ≢ b) (threads_of on names thread operand)
+threads_of-differ true names thread operand differ =
+    names_differ (acting names thread) (place_of true names thread operand) operand refl (names_differ names.threads (position (bytes_eq thread) names.threads) thread refl differ)
+threads_of-differ false names thread operand differ = names_differ names.threads (position (bytes_eq thread) names.threads) thread refl differ
+
+locks_of-differ : (on : Bool) (names : NameLists) (thread operand : List ℕ) → AllPairs (λ a b. a ≢ b) names.locks → AllPairs (λ a b. a ≢ b) (locks_of on names thread operand)
+locks_of-differ true names thread operand differ = differ
+locks_of-differ false names thread operand differ = names_differ names.locks (place_of false names thread operand) operand refl differ
+
+-- an operand's number is that of a name
+lock_named : (on : Bool) (names : NameLists) (thread operand : List ℕ) → on ≡ false → number_of on names thread operand < length (locks_of on names thread operand)
+lock_named true names thread operand h = absurd (false≢true (sym h))
+lock_named false names thread operand h = number_below names.locks (place_of false names thread operand) operand (found_within names.locks operand)
+
+thread_named : (on : Bool) (names : NameLists) (thread operand : List ℕ) → on ≡ true → number_of on names thread operand < length (threads_of on names thread operand)
+thread_named true names thread operand h =
+    let below = number_below (acting names thread) (place_of true names thread operand) operand (found_within (acting names thread) operand) in
+    let size = length-with_name names.threads (position (bytes_eq thread) names.threads) thread in
+    subst (λ n. unwrap_or (place_of true names thread operand) n < length (threads_of true names thread operand)) size below
+thread_named false names thread operand h = absurd (false≢true h)
+
+-- the acting thread has its name's number
+acting_at : (names : List (List ℕ)) (thread : List ℕ) → get_or (with_name names (position (bytes_eq thread) names) thread) (unwrap_or (position (bytes_eq thread) names) (length names)) [] ≡ thread
+acting_at names thread = by (position (bytes_eq thread) names) refl
+  where
+    by : (r : Option ℕ) → position (bytes_eq thread) names ≡ r → get_or (with_name names r thread) (unwrap_or r (length names)) [] ≡ thread
+    by None e = get_or_push names thread [] (length names) refl
+    by (Some i) e = let at = position-Some (bytes_eq thread) names i [] e in sym ((bytes_eq-Decides thread (get_or names i [])).0 at.1)
+
+-- another thread has another number
+numbers_differ : (on : Bool) (names : NameLists) (thread operand : List ℕ) → on ≡ true → bytes_eq operand thread ≡ false → number_of on names thread operand ≢ unwrap_or (position (bytes_eq thread) names.threads) (length names.threads)
+numbers_differ false names thread operand h apart same = absurd (false≢true h)
+numbers_differ true names thread operand h apart same = by (place_of true names thread operand) refl same
+  where
+    number : Option ℕ
+    number = position (bytes_eq thread) names.threads
+
+    by : (r : Option ℕ) → place_of true names thread operand ≡ r → unwrap_or r (length names.threads + cond (is_none number) 1 0) ≡ unwrap_or number (length names.threads) → ⊥
+    by None e same =
+        let below = number_below names.threads number thread (found_within names.threads thread) in
+        let size = length-with_name names.threads number thread in
+        omega (arith, same, below, size)
+    by (Some j) e same =
+        let at = position-Some (bytes_eq operand) (acting names thread) j [] e in
+        false≢true (sym apart ∙ ap (bytes_eq operand) (sym (acting_at names.threads thread) ∙ ap (λ n. get_or (acting names thread) n []) (sym same)) ∙ at.1)
+
+-- a list after the line is one after the event, or is empty
+lists_of_at : (on : Bool) (lists : List (List Event)) (number place : Option ℕ) (e : Event) (k : ℕ) (es : List Event) → slice_get (lists_of on lists number place e) k ≡ Some es → (slice_get (with_event lists number e) k ≡ Some es) ⊎ (es ≡ [])
+lists_of_at false lists number place e k es h = inl h
+lists_of_at true lists number (Some i) e k es h = inl h
+lists_of_at true lists number None e k es h = ⊎_elim (λ old. inl old) (λ new. inr new.0) (push_at (with_event lists number e) [] k es h)
+
+-- what holds of no events, of each list from before, and of the thread's with its event, holds of each list after the line
+each_list : (P : ℕ → List Event → Type 0) (on : Bool) (lists : List (List Event)) (number place : Option ℕ) (e : Event) → ((k : ℕ) → P k []) → ((k : ℕ) (es : List Event) → slice_get lists k ≡ Some es → P k es) → P (thread_number lists number) (events_of lists number ++ e ∷ []) → (k : ℕ) (es : List Event) → slice_get (lists_of on lists number place e) k ≡ Some es → P k es
+each_list P on lists number place e none each own k es at =
+    ⊎_elim
+    (λ told. ⊎_elim (λ old. each k es old) (λ here. subst (P k) (sym here.0) (subst (λ n. P n (events_of lists number ++ e ∷ [])) (sym here.1) own)) (with_event_at lists number e k es told))
+    (λ nil. subst (P k) (sym nil) (none k))
+    (lists_of_at on lists number place e k es at)
+
 -- no limit forbids the event
-record IsAllowed (limits : Bounds) (told : Trace) (found : Found) : Type 0 where
-  threads : is_too_many limits.threads told.names.threads found.thread ≡ false
+record IsAllowed (limits : Bounds) (told : Trace) (operation : Operation) (found : Found) : Type 0 where
+  threads : nat_lt limits.threads (threads_after told.names operation found) ≡ false
   events : nat_le limits.events (length (events_of told.lists found.thread)) ≡ false
-  locks : is_too_many limits.names told.names.locks found.lock ≡ false
-  locs : is_too_many limits.names told.names.locs found.loc ≡ false
+  locks : nat_lt limits.names (locks_after told.names operation found) ≡ false
+  locs : nat_lt limits.names (length told.names.locs + if_new found.loc) ≡ false
+
+not_over : (most n : ℕ) → nat_lt most n ≡ false → n ≤ most
+not_over most n h = grind (arith, nat_tests, h)
 
 -- the trace with one more event
 abbrev pub with_call : Trace → Operation → List ℕ → List ℕ → List ℕ → Trace
 with_call told operation thread operand location =
-    let found = found_in told.names thread operand location in
-    record told { names = with_names told.names found thread operand location; lists = with_event told.lists found.thread (event_told told.names operation found) }
+    let found = found_in told.names operation thread operand location in
+    record told { names = with_names told.names operation found thread operand location; lists = with_lists told.lists operation found (event_told told.names operation found) }
 
-kept_over : (limits : Bounds) (told : Trace) (operation : Operation) (thread operand location : List ℕ) → IsTraceOver limits told → IsAllowed limits told (found_in told.names thread operand location) → lock_refusal (events_of told.lists (found_in told.names thread operand location).thread) (event_told told.names operation (found_in told.names thread operand location)) ≡ None → IsTraceOver limits (with_call told operation thread operand location)
-kept_over limits told operation thread operand location over allowed locks =
+kept_over : (limits : Bounds) (told : Trace) (operation : Operation) (thread operand location : List ℕ) → IsTraceOver limits told → is_on_itself operation thread operand ≡ false → IsAllowed limits told operation (found_in told.names operation thread operand location) → lock_refusal (events_of told.lists (found_in told.names operation thread operand location).thread) (event_told told.names operation (found_in told.names operation thread operand location)) ≡ None → IsTraceOver limits (with_call told operation thread operand location)
+kept_over limits told operation thread operand location over apart allowed locks =
     let names = told.names in
-    let found = found_in names thread operand location in
+    let on = is_on_thread operation in
+    let found = found_in names operation thread operand location in
     let event = event_told names operation found in
-    let new = with_names names found thread operand location in
-    let within_locks = found_within names.locks operand in
+    let number = number_of on names thread operand in
+    let new = with_names names operation found thread operand location in
     let within_locs = found_within names.locs location in
     let es0 = events_of told.lists found.thread in
     let k0 = thread_number told.lists found.thread in
+    let threads_size = length-threads_of on names thread operand in
+    let locks_size = length-locks_of on names thread operand in
+    let locs_size = length-with_name names.locs found.loc location in
+    let threads_fit : length new.threads ≤ limits.threads = let fits = not_over limits.threads (threads_after names operation found) allowed.threads in omega (arith, threads_size, fits) in
+    let other_named = thread_named on names thread operand in
+    let differ : on ≡ true → number ≢ k0 = λ h. subst (λ n. number ≢ unwrap_or found.thread n) (sym over.one_list_each) (numbers_differ on names thread operand h (on_other operation thread operand apart h)) in
     let lawful0 : IsLawful limits k0 (es0 ++ event ∷ []) =
-    IsLawful-push limits k0 es0 event (events_lawful limits told.lists found.thread over.lawful) (refusal_by_locks limits k0 es0 operation (unwrap_or found.lock (length names.locks)) (unwrap_or found.loc (length names.locs)) allowed.events locks) in
+    IsLawful-push limits k0 es0 event (events_lawful limits told.lists found.thread over.lawful) (refusal_by_locks limits k0 es0 operation number (unwrap_or found.loc (length names.locs)) allowed.events locks (λ h. (let low = other_named h in omega (arith, low, threads_fit), differ h))) in
     let named_event : IsNamed new event =
-    IsNamed-told new operation (unwrap_or found.lock (length names.locks)) (unwrap_or found.loc (length names.locs)) (number_below names.locks found.lock operand within_locks) (number_below names.locs found.loc location within_locs) in
-    let more = IsNamed-more names new (names_grow names.threads found.thread thread) (names_grow names.locks found.lock operand) (names_grow names.locs found.loc location) in
+    IsNamed-told new operation number (unwrap_or found.loc (length names.locs)) (lock_named on names thread operand) other_named (number_below names.locs found.loc location within_locs) in
+    let more_threads : length names.threads ≤ length new.threads = omega (arith, threads_size) in
+    let more_locks : length names.locks ≤ length new.locks = omega (arith, locks_size) in
+    let more = IsNamed-more names new more_threads more_locks (names_grow names.locs found.loc location) in
+    let named_nil : All (IsNamed new) [] = λ k d h. absurd (omega arith) in
     let named0 : All (IsNamed new) (es0 ++ event ∷ []) =
-    All-push (IsNamed new) es0 event (events_have (All (IsNamed new)) told.lists found.thread (λ k d h. absurd (omega arith)) (λ k es at. All-weaker (IsNamed names) (IsNamed new) more es (over.named k es at))) named_event in
+    All-push (IsNamed new) es0 event (events_have (All (IsNamed new)) told.lists found.thread named_nil (λ k es at. All-weaker (IsNamed names) (IsNamed new) more es (over.named k es at))) named_event in
     let fits0 : length (es0 ++ event ∷ []) ≤ limits.events = let room : length es0 < limits.events = grind (arith, nat_tests, allowed.events) in omega (arith, length_push es0 event) in
+    let each = λ (P : ℕ → List Event → Type 0). each_list P on told.lists found.thread found.operand event in
     record {
-      one_list_each = omega (arith, length-with_event told.lists found.thread event, length-with_name names.threads found.thread thread, over.one_list_each);
-      threads_fit = names_fit limits.threads names.threads found.thread thread over.threads_fit allowed.threads;
-      locks_fit = names_fit limits.names names.locks found.lock operand over.locks_fit allowed.locks;
-      locs_fit = names_fit limits.names names.locs found.loc location over.locs_fit allowed.locs;
-      threads_differ = names_differ names.threads found.thread thread refl over.threads_differ;
-      locks_differ = names_differ names.locks found.lock operand refl over.locks_differ;
+      one_list_each = omega (arith, length-lists_of on told.lists found.thread found.operand event, threads_size, over.one_list_each);
+      threads_fit = threads_fit;
+      locks_fit = let fits = not_over limits.names (locks_after names operation found) allowed.locks in omega (arith, locks_size, fits);
+      locs_fit = let fits = not_over limits.names (length names.locs + if_new found.loc) allowed.locs in omega (arith, locs_size, fits);
+      threads_differ = threads_of-differ on names thread operand over.threads_differ;
+      locks_differ = locks_of-differ on names thread operand over.locks_differ;
       locs_differ = names_differ names.locs found.loc location refl over.locs_differ;
-      events_fit = λ k es at. ⊎_elim (λ old. over.events_fit k es old) (λ here. subst (λ l. length l ≤ limits.events) (sym here.0) fits0) (with_event_at told.lists found.thread event k es at);
-      lawful = λ k es at. ⊎_elim (λ old. over.lawful k es old) (λ here. subst (λ l. IsLawful limits k l) (sym here.0) (subst (λ n. IsLawful limits n (es0 ++ event ∷ [])) (sym here.1) lawful0)) (with_event_at told.lists found.thread event k es at);
-      named = λ k es at. ⊎_elim (λ old. All-weaker (IsNamed names) (IsNamed new) more es (over.named k es old)) (λ here. subst (All (IsNamed new)) (sym here.0) named0) (with_event_at told.lists found.thread event k es at);
+      events_fit = each (λ k es. length es ≤ limits.events) (λ k. omega arith) over.events_fit fits0;
+      lawful = each (IsLawful limits) (IsLawful-nil limits) over.lawful lawful0;
+      named = each (λ k es. All (IsNamed new) es) (λ k. named_nil) (λ k es old. All-weaker (IsNamed names) (IsNamed new) more es (over.named k es old)) named0;
     }
 
 -- ---- a line
@@ -226,9 +363,9 @@ no_limit k1 k2 k3 k4 false false true d h = absurd cc
 no_limit k1 k2 k3 k4 false false false true h = absurd cc
 no_limit k1 k2 k3 k4 false false false false h = (refl, refl, refl, refl)
 
-allowed : (limits : Bounds) (told : Trace) (found : Found) → limit_fault limits told found ≡ None → IsAllowed limits told found
-allowed limits told found h =
-    let all = no_limit _ _ _ _ (is_too_many limits.threads told.names.threads found.thread) (nat_le limits.events (length (events_of told.lists found.thread))) (is_too_many limits.names told.names.locks found.lock) (is_too_many limits.names told.names.locs found.loc) h in
+allowed : (limits : Bounds) (told : Trace) (operation : Operation) (found : Found) → limit_fault limits told operation found ≡ None → IsAllowed limits told operation found
+allowed limits told operation found h =
+    let all = no_limit _ _ _ _ (nat_lt limits.threads (threads_after told.names operation found)) (nat_le limits.events (length (events_of told.lists found.thread))) (nat_lt limits.names (locks_after told.names operation found)) (nat_lt limits.names (length told.names.locs + if_new found.loc)) h in
     record { threads = all.0; events = all.1; locks = all.2; locs = all.3 }
 
 after_verdict_over : (limits : Bounds) (line : ℕ) (told kept more : Trace) (v : Verdict) → IsTraceOver limits told → (v ≡ Kept → IsTraceOver limits kept) → IsTrace (after_verdict line told kept v) more → IsTraceOver limits more
@@ -236,25 +373,25 @@ after_verdict_over limits line told kept more Kept over new is = subst (IsTraceO
 after_verdict_over limits line told kept more Stray over new is = subst (IsTraceOver limits) (same_trace (record told { stray = told.stray + 1 }) more is) (counted_over limits told told.skipped (told.stray + 1) over)
 after_verdict_over limits line told kept more (Fault kind) over new is = absurd (no_trace (Line line kind) more is)
 
-after_call_over : (limits : Bounds) (line : ℕ) (told more : Trace) (operation : Operation) (thread operand location : List ℕ) → IsTraceOver limits told → IsTrace (after_call limits line told operation thread operand location) more → IsTraceOver limits more
-after_call_over limits line told more operation thread operand location over is =
-    let found = found_in told.names thread operand location in
+after_call_over : (limits : Bounds) (line : ℕ) (told more : Trace) (operation : Operation) (thread operand location : List ℕ) → IsTraceOver limits told → is_on_itself operation thread operand ≡ false → IsTrace (after_call limits line told operation thread operand location) more → IsTraceOver limits more
+after_call_over limits line told more operation thread operand location over apart is =
+    let found = found_in told.names operation thread operand location in
     let event = event_told told.names operation found in
     let refused = lock_refusal (events_of told.lists found.thread) event in
-    let limit = limit_fault limits told found in
+    let limit = limit_fault limits told operation found in
     after_verdict_over limits line told (with_call told operation thread operand location) more (verdict_of refused limit) over
-    (λ keeps. let none = kept_verdict refused limit keeps in kept_over limits told operation thread operand location over (allowed limits told found none.1) none.0)
+    (λ keeps. let none = kept_verdict refused limit keeps in kept_over limits told operation thread operand location over apart (allowed limits told operation found none.1) none.0)
     is
 
-after_shape_over : (limits : Bounds) (line : ℕ) (told more : Trace) (shape : Shape) → IsTraceOver limits told → IsTrace (after_shape limits line told shape) more → IsTraceOver limits more
-after_shape_over limits line told more Blank over is = subst (IsTraceOver limits) (same_trace told more is) over
-after_shape_over limits line told more (Bad kind) over is = absurd (no_trace (Line line kind) more is)
-after_shape_over limits line told more Other over is = subst (IsTraceOver limits) (same_trace (record told { skipped = told.skipped + 1 }) more is) (counted_over limits told (told.skipped + 1) told.stray over)
-after_shape_over limits line told more (Call operation thread operand location) over is = after_call_over limits line told more operation thread operand location over is
+after_shape_over : (limits : Bounds) (line : ℕ) (told more : Trace) (shape : Shape) → AreApart shape → IsTraceOver limits told → IsTrace (after_shape limits line told shape) more → IsTraceOver limits more
+after_shape_over limits line told more Blank apart over is = subst (IsTraceOver limits) (same_trace told more is) over
+after_shape_over limits line told more (Bad kind) apart over is = absurd (no_trace (Line line kind) more is)
+after_shape_over limits line told more Other apart over is = subst (IsTraceOver limits) (same_trace (record told { skipped = told.skipped + 1 }) more is) (counted_over limits told (told.skipped + 1) told.stray over)
+after_shape_over limits line told more (Call operation thread operand location) apart over is = after_call_over limits line told more operation thread operand location over apart is
 
 -- a line leaves a trace that obeys the limits
 pub after_line_over : (limits : Bounds) (number : ℕ) (told more : Trace) (line : List ℕ) → IsTraceOver limits told → IsTrace (after_line limits number told line) more → IsTraceOver limits more
-after_line_over limits number told more line over is = after_shape_over limits number told more (shape_of line) over is
+after_line_over limits number told more line over is = after_shape_over limits number told more (shape_of line) (shape_of_apart line) over is
 
 -- and so do all lines
 read_from_over : (limits : Bounds) (ls : List (List ℕ)) (number : ℕ) (told more : Trace) → IsTraceOver limits told → IsTrace (read_from limits number told ls) more → IsTraceOver limits more
@@ -291,10 +428,27 @@ trace_of_over limits text trace is = read_from_over limits (lines text) 1 nothin
 
 -- ---- reading
 
+-- an event that is kept, by what was found out of it
+pub after_call_kept : (limits : Bounds) (line : ℕ) (told : Trace) (operation : Operation) (thread operand location : List ℕ) (found : Found) (event : Event) (limit : Option StdKind) (names : NameLists) (lists : List (List Event)) → found ≡ found_in told.names operation thread operand location → event ≡ event_told told.names operation found → limit ≡ limit_fault limits told operation found → Kept ≡ verdict_of (lock_refusal (events_of told.lists found.thread) event) limit → names ≡ with_names told.names operation found thread operand location → lists ≡ with_lists told.lists operation found event → after_call limits line told operation thread operand location ≡ Ok (record { names = names; lists = lists; skipped = told.skipped; stray = told.stray })
+after_call_kept limits line told operation thread operand location found event limit names lists is_found is_event is_limit is_kept are_names are_lists =
+    let found1 = found_in told.names operation thread operand location in
+    let event1 = event_told told.names operation found1 in
+    let es1 = events_of told.lists found1.thread in
+    let to_event : event ≡ event1 = is_event ∙ ap (event_told told.names operation) is_found in
+    let to_limit : limit ≡ limit_fault limits told operation found1 = is_limit ∙ ap (limit_fault limits told operation) is_found in
+    let kept : Kept ≡ verdict_of (lock_refusal es1 event1) (limit_fault limits told operation found1) =
+    is_kept ∙ ap (λ f. verdict_of (lock_refusal (events_of told.lists f.thread) event) limit) is_found
+    ∙ ap (λ e. verdict_of (lock_refusal es1 e) limit) to_event ∙ ap (verdict_of (lock_refusal es1 event1)) to_limit in
+    let to_names : names ≡ with_names told.names operation found1 thread operand location = are_names ∙ ap (λ f. with_names told.names operation f thread operand location) is_found in
+    let to_lists : lists ≡ with_lists told.lists operation found1 event1 = are_lists ∙ ap (λ f. with_lists told.lists operation f event) is_found ∙ ap (with_lists told.lists operation found1) to_event in
+    let whole : NameLists → List (List Event) → Trace = λ ns ls. record { names = ns; lists = ls; skipped = told.skipped; stray = told.stray } in
+    ap (after_verdict line told (with_call told operation thread operand location)) (sym kept)
+    ∙ ap (λ ns. Ok (whole ns (with_lists told.lists operation found1 event1))) (sym to_names) ∙ ap (λ ls. Ok (whole names ls)) (sym to_lists)
+
 -- a thread's events are no more than a place can count
-pub few_events : (limits : Bounds) (told : Trace) (number : Option ℕ) → AreWithinRange limits → IsTraceOver limits told → length (events_of told.lists number) < 2 ^ 32
+pub few_events : (limits : Bounds) (told : Trace) (number : Option ℕ) → AreWithinRange limits → IsTraceOver limits told → length (events_of told.lists number) + 1 < 2 ^ 32
 few_events limits told number range over =
-    events_have (λ es. length es < 2 ^ 32) told.lists number (omega arith)
+    events_have (λ es. length es + 1 < 2 ^ 32) told.lists number (omega arith)
     (λ k es at. let fits = over.events_fit k es at in omega (arith, fits, range.events_fit))
 
 -- the trace of a text is that of its lines

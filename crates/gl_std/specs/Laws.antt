@@ -1,9 +1,9 @@
 -- What holds of the traces of all texts.
 use Rattle.std.specs.Prelude.{◌≡◌, ℕ, ◌+◌, List, [], ◌∷◌, ◌++◌, Some, Result, Ok, Err, length, map, filter, fold, position, slice_get, if◌then◌else◌}
-use Rattle.std.specs.List.{list_any}
+use Rattle.std.specs.List.{list_any, flat_map}
 use Rattle.std.specs.Str.{bytes_eq}
 use Rattle.gl_event.specs.Lawful.{lock_refusal}
-use Rattle.gl_std.specs.Line.{Shape, shape_of}
+use Rattle.gl_std.specs.Line.{Shape, shape_of, is_on_thread}
 use Rattle.gl_std.specs.Line.Shape.{Blank, Bad, Other, Call}
 use Rattle.gl_std.specs.declared.faults.ReadFault.{ReadFault}
 use Rattle.gl_std.specs.declared.row.Verdict.{Verdict}
@@ -40,8 +40,12 @@ TracesGrow = (limits : Bounds) (front rest : List ℕ) (old new : Trace) → tra
 
 -- a line that is kept as an event: its names, and the event by their numbers
 pub record KeptLine : Type 0 where
+  -- the acting thread
   pub thread : List ℕ
-  pub lock : List ℕ
+  -- the threads that the line names: the acting one, and then one that it forks or joins
+  pub threads : List (List ℕ)
+  -- the lock that the line names, if it does
+  pub locks : List (List ℕ)
   pub loc : List ℕ
   pub event : Event
 
@@ -57,11 +61,17 @@ kept_in limits told Blank = []
 kept_in limits told (Bad kind) = []
 kept_in limits told Other = []
 kept_in limits told (Call operation thread operand location) =
-    let found = found_in told.names thread operand location in
+    let found = found_in told.names operation thread operand location in
     let event = event_told told.names operation found in
     if_kept
-    (verdict_of (lock_refusal (events_of told.lists found.thread) event) (limit_fault limits told found))
-    (record { thread = thread; lock = operand; loc = location; event = event })
+    (verdict_of (lock_refusal (events_of told.lists found.thread) event) (limit_fault limits told operation found))
+    (record {
+      thread = thread;
+      threads = thread ∷ (if is_on_thread operation then operand ∷ [] else []);
+      locks = if is_on_thread operation then [] else operand ∷ [];
+      loc = location;
+      event = event;
+    })
 
 -- what follows from a trace, or nothing after a fault
 abbrev pub if_told : Result Trace ReadFault → (Trace → List KeptLine) → List KeptLine
@@ -84,8 +94,8 @@ first_mentions names = fold mention [] names
 
 -- the trace tells these lines: names have numbers by first mention, and each thread's events are those of its lines, in order
 pub record TellsLines (kept : List KeptLine) (trace : Trace) : Type 0 where
-  pub threads : trace.names.threads ≡ first_mentions (map (λ line. line.thread) kept)
-  pub locks : trace.names.locks ≡ first_mentions (map (λ line. line.lock) kept)
+  pub threads : trace.names.threads ≡ first_mentions (flat_map (λ line. line.threads) kept)
+  pub locks : trace.names.locks ≡ first_mentions (flat_map (λ line. line.locks) kept)
   pub locs : trace.names.locs ≡ first_mentions (map (λ line. line.loc) kept)
   pub lists : (thread : List ℕ) → events_of trace.lists (position (bytes_eq thread) trace.names.threads) ≡ map (λ line. line.event) (filter (λ line. bytes_eq thread line.thread) kept)
 

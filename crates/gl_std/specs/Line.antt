@@ -1,11 +1,11 @@
 -- What a line says, taken alone.
-use Rattle.std.specs.Prelude.{◌≡◌, ◌≢◌, ℕ, ◌-◌, ◌<◌, ◌≤◌, ◌&&◌, List, [], ◌∷◌, ◌++◌, Contains, Option, Some, None, length, take, nat_lt, slice_index, ◌==◌, if◌then◌else◌, codes}
+use Rattle.std.specs.Prelude.{◌≡◌, ◌≢◌, ℕ, ◌-◌, ◌<◌, ◌≤◌, Bool, true, false, ◌&&◌, List, [], ◌∷◌, ◌++◌, Contains, Option, Some, None, IsTrue, length, take, nat_lt, slice_index, ◌==◌, if◌then◌else◌, codes}
 use Rattle.std.specs.Option.{option_map, option_map_or}
 use Rattle.std.specs.Str.{bytes_eq}
 use Rattle.gl_std.specs.declared.faults.StdKind.{StdKind}
-use Rattle.gl_std.specs.declared.faults.StdKind.TheVariants.{TooLong, NoBar, NoLocation, NoThread, BadOperand}
+use Rattle.gl_std.specs.declared.faults.StdKind.TheVariants.{TooLong, NoBar, NoLocation, NoThread, BadOperand, OnItself}
 use Rattle.gl_std.specs.declared.line.Operation.{Operation}
-use Rattle.gl_std.specs.declared.line.Operation.TheVariants.{Acquire, Release}
+use Rattle.gl_std.specs.declared.line.Operation.TheVariants.{Acquire, Release, Fork, Join}
 use Rattle.gl_std.specs.declared.line.Shape.{Shape as Said}
 use Rattle.gl_std.specs.declared.line.Shape.TheVariants.{Blank as SaidBlank, Bad as SaidBad, Other as SaidOther, Call as SaidCall}
 use Rattle.gl_std.specs.declared.line.TheConstants.{MAX_LINE, BAR, OPEN, CLOSE}
@@ -27,7 +27,20 @@ abbrev pub operation_of : List ℕ → Option Operation
 operation_of name =
     if bytes_eq name (codes "acq") then Some Acquire
     else (if bytes_eq name (codes "rel") then Some Release
-    else None)
+    else (if bytes_eq name (codes "fork") then Some Fork
+    else (if bytes_eq name (codes "join") then Some Join
+    else None)))
+
+-- the operation is on another thread, and not on a lock
+abbrev pub is_on_thread : Operation → Bool
+is_on_thread Acquire = false
+is_on_thread Release = false
+is_on_thread Fork = true
+is_on_thread Join = true
+
+-- the operation is a fork or join of the line's own thread
+abbrev pub is_on_itself : Operation → List ℕ → List ℕ → Bool
+is_on_itself operation thread operand = is_on_thread operation && bytes_eq operand thread
 
 -- the name of an operation: what stands before the first parenthesis, or all
 abbrev pub operation_name : List ℕ → List ℕ
@@ -46,7 +59,8 @@ operand_of field = option_map_or (λ parts. before_close parts.1) (cut_at OPEN f
 abbrev pub shape_of_call : List ℕ → Option Operation → Option (List ℕ) → List ℕ → Shape
 shape_of_call thread None operand location = Other
 shape_of_call thread (Some operation) None location = Bad BadOperand
-shape_of_call thread (Some operation) (Some operand) location = Call operation thread operand location
+shape_of_call thread (Some operation) (Some operand) location =
+    if is_on_itself operation thread operand then Bad OnItself else Call operation thread operand location
 
 -- what the three fields of a line say
 abbrev pub shape_of_fields : List ℕ → List ℕ → List ℕ → Shape
@@ -72,13 +86,14 @@ shown SaidOther = Other
 shown (SaidCall operation thread operand location) = Call operation thread.now operand.now location.now
 
 -- the operation's name is what stands before the first parenthesis, or the whole field; an event has an operand,
--- between that parenthesis and one that is the field's last byte
+-- between that parenthesis and one that is the field's last byte, and no thread forks or joins itself
 pub data FieldsSay : List ℕ → List ℕ → List ℕ → Shape → Type 0 where
   no_thread : (field location : List ℕ) → FieldsSay [] field location (Bad NoThread)
   other_word : (thread field location : List ℕ) → thread ≢ [] → ¬ Contains field OPEN → operation_of field ≡ None → FieldsSay thread field location Other
   no_operand : (thread field location : List ℕ) (operation : Operation) → thread ≢ [] → ¬ Contains field OPEN → operation_of field ≡ Some operation → FieldsSay thread field location (Bad BadOperand)
   other_call : (thread name rest location : List ℕ) → thread ≢ [] → ¬ Contains name OPEN → operation_of name ≡ None → FieldsSay thread (name ++ OPEN ∷ rest) location Other
-  call : (thread name operand location : List ℕ) (operation : Operation) → thread ≢ [] → ¬ Contains name OPEN → operation_of name ≡ Some operation → operand ≢ [] → FieldsSay thread (name ++ OPEN ∷ (operand ++ CLOSE ∷ [])) location (Call operation thread operand location)
+  call : (thread name operand location : List ℕ) (operation : Operation) → thread ≢ [] → ¬ Contains name OPEN → operation_of name ≡ Some operation → operand ≢ [] → (IsTrue (is_on_thread operation) → operand ≢ thread) → FieldsSay thread (name ++ OPEN ∷ (operand ++ CLOSE ∷ [])) location (Call operation thread operand location)
+  on_itself : (thread name location : List ℕ) (operation : Operation) → thread ≢ [] → ¬ Contains name OPEN → operation_of name ≡ Some operation → IsTrue (is_on_thread operation) → FieldsSay thread (name ++ OPEN ∷ (thread ++ CLOSE ∷ [])) location (Bad OnItself)
   bad_operand : (thread name rest location : List ℕ) (operation : Operation) → thread ≢ [] → ¬ Contains name OPEN → operation_of name ≡ Some operation → ((operand : List ℕ) → operand ≢ [] → rest ≢ operand ++ CLOSE ∷ []) → FieldsSay thread (name ++ OPEN ∷ rest) location (Bad BadOperand)
 
 -- a line is empty, or has three fields that the first two bars separate, or is at fault

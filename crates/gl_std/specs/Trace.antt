@@ -1,5 +1,5 @@
 -- What a text says, line by line and as a whole.
-use Rattle.std.specs.Prelude.{◌≡◌, ◌≢◌, ℕ, ◌+◌, ◌<◌, ◌≤◌, Bool, ◌&&◌, List, [], ◌∷◌, ◌++◌, Option, Some, None, Result, Ok, Err, length, position, is_none, unwrap_or, slice_get, slice_set, slice_index_or, nat_le, if◌then◌else◌, All, AllPairs}
+use Rattle.std.specs.Prelude.{◌≡◌, ◌≢◌, ℕ, ◌+◌, ◌<◌, ◌≤◌, List, [], ◌∷◌, ◌++◌, Option, Some, None, Result, Ok, Err, length, position, is_none, unwrap_or, slice_get, slice_set, slice_index_or, nat_le, nat_lt, if◌then◌else◌, All, AllPairs}
 use Rattle.std.specs.Option.{option_map_or}
 use Rattle.std.specs.Str.{bytes_eq}
 use Rattle.gl_event.specs.Bounds.{Bounds}
@@ -8,7 +8,7 @@ use Rattle.gl_event.specs.declared.events.Event.{Event}
 use Rattle.gl_event.specs.declared.events.Event.TheVariants.{Acquire, Release, Fork, Join}
 use Rattle.gl_event.specs.declared.events.Refusal.{Refusal}
 use Rattle.gl_event.specs.declared.events.Refusal.TheVariants.{HeldFull as NoRoom, DepthFull as TooDeep}
-use Rattle.gl_std.specs.Line.{Shape, shape_of}
+use Rattle.gl_std.specs.Line.{Shape, shape_of, is_on_thread}
 use Rattle.gl_std.specs.Line.Shape.{Blank, Bad, Other, Call}
 use Rattle.gl_std.specs.Lines.{lines}
 use Rattle.gl_std.specs.Names.{NameLists}
@@ -17,28 +17,39 @@ use Rattle.gl_std.specs.declared.faults.StdKind.TheVariants.{HeldFull, DepthFull
 use Rattle.gl_std.specs.declared.faults.ReadFault.{ReadFault}
 use Rattle.gl_std.specs.declared.faults.ReadFault.TheVariants.{Line}
 use Rattle.gl_std.specs.declared.line.Operation.{Operation}
-use Rattle.gl_std.specs.declared.line.Operation.TheVariants.{Acquire as AcquireOf, Release as ReleaseOf}
+use Rattle.gl_std.specs.declared.line.Operation.TheVariants.{Acquire as AcquireOf, Release as ReleaseOf, Fork as ForkOf, Join as JoinOf}
 use Rattle.gl_std.specs.declared.names.Found.{Found}
 use Rattle.gl_std.specs.declared.row.Verdict.{Verdict}
 use Rattle.gl_std.specs.declared.row.Verdict.TheVariants.{Kept, Stray, Fault}
 use Rattle.gl_std.specs.declared.trace.Trace.{Trace}
 
--- the numbers of the thread, of the operand and of the location that a line names, where they have one: their places
-abbrev pub found_in : NameLists → List ℕ → List ℕ → List ℕ → Found
-found_in names thread operand location =
-    record {
-      thread = position (bytes_eq thread) names.threads;
-      lock = position (bytes_eq operand) names.locks;
-      loc = position (bytes_eq location) names.locs;
-    }
-
 -- the names, with this one at the end if it has no number
 abbrev pub with_name : List (List ℕ) → Option ℕ → List ℕ → List (List ℕ)
 with_name names number name = option_map_or (λ _. names) number (names ++ name ∷ [])
 
--- the name is new, and there are as many as may be
-abbrev pub is_too_many : ℕ → List (List ℕ) → Option ℕ → Bool
-is_too_many most names number = is_none number && nat_le most (length names)
+-- the numbers of the thread, of the operand and of the location that a line names, where they have one: their places;
+-- an operand that is a thread comes after the acting thread
+abbrev pub found_in : NameLists → Operation → List ℕ → List ℕ → List ℕ → Found
+found_in names operation thread operand location =
+    let number = position (bytes_eq thread) names.threads in
+    record {
+      thread = number;
+      operand = position (bytes_eq operand) (if is_on_thread operation then with_name names.threads number thread else names.locks);
+      loc = position (bytes_eq location) names.locs;
+    }
+
+-- one, if the name has no number
+abbrev pub if_new : Option ℕ → ℕ
+if_new number = if is_none number then 1 else 0
+
+-- how many threads there are after the line
+abbrev pub threads_after : NameLists → Operation → Found → ℕ
+threads_after names operation found =
+    length names.threads + if_new found.thread + (if is_on_thread operation then if_new found.operand else 0)
+
+-- how many locks there are after the line
+abbrev pub locks_after : NameLists → Operation → Found → ℕ
+locks_after names operation found = length names.locks + (if is_on_thread operation then 0 else if_new found.operand)
 
 -- the events of the thread, or none of a new one
 abbrev pub events_of : List (List Event) → Option ℕ → List Event
@@ -48,22 +59,39 @@ events_of lists number = option_map_or (λ i. slice_index_or lists i []) number 
 abbrev pub with_event : List (List Event) → Option ℕ → Event → List (List Event)
 with_event lists number event = option_map_or (λ i. slice_set lists i (slice_index_or lists i [] ++ event ∷ [])) number (lists ++ (event ∷ []) ∷ [])
 
--- the event of an operation
+-- the lists, with one of no events at the end for a thread that has no number
+abbrev pub with_list : List (List Event) → Option ℕ → List (List Event)
+with_list lists number = option_map_or (λ _. lists) number (lists ++ [] ∷ [])
+
+-- the lists, with the event at the end of the thread's, and with a list for a new thread that it forks or joins
+abbrev pub with_lists : List (List Event) → Operation → Found → Event → List (List Event)
+with_lists lists operation found event =
+    let told = with_event lists found.thread event in
+    if is_on_thread operation then with_list told found.operand else told
+
+-- the event of an operation on this lock or thread
 abbrev pub event_of : Operation → ℕ → ℕ → Event
 event_of AcquireOf lock loc = Acquire lock loc
 event_of ReleaseOf lock loc = Release lock loc
+event_of ForkOf other loc = Fork other loc
+event_of JoinOf other loc = Join other loc
+
+-- the operand's number: a new name gets the next one, and a new thread's comes after the acting thread's
+abbrev pub operand_number : NameLists → Operation → Found → ℕ
+operand_number names operation found =
+    unwrap_or found.operand (if is_on_thread operation then length names.threads + if_new found.thread else length names.locks)
 
 -- the event that a line tells: a new name gets the next number
 abbrev pub event_told : NameLists → Operation → Found → Event
-event_told names operation found = event_of operation (unwrap_or found.lock (length names.locks)) (unwrap_or found.loc (length names.locs))
+event_told names operation found = event_of operation (operand_number names operation found) (unwrap_or found.loc (length names.locs))
 
 -- the first limit that doesn't allow the event
-abbrev pub limit_fault : Bounds → Trace → Found → Option StdKind
-limit_fault limits told found =
-    if is_too_many limits.threads told.names.threads found.thread then Some TooManyThreads
+abbrev pub limit_fault : Bounds → Trace → Operation → Found → Option StdKind
+limit_fault limits told operation found =
+    if nat_lt limits.threads (threads_after told.names operation found) then Some TooManyThreads
     else (if nat_le limits.events (length (events_of told.lists found.thread)) then Some TooManyEvents
-    else (if is_too_many limits.names told.names.locks found.lock then Some TooManyNames
-    else (if is_too_many limits.names told.names.locs found.loc then Some TooManyNames
+    else (if nat_lt limits.names (locks_after told.names operation found) then Some TooManyNames
+    else (if nat_lt limits.names (length told.names.locs + if_new found.loc) then Some TooManyNames
     else None)))
 
 -- what becomes of an event: the locks' reasons come before the limits', and the last one is that a lock that is
@@ -76,11 +104,12 @@ verdict_of (Some TooDeep) limit = Fault DepthFull
 verdict_of (Some other) limit = Stray
 
 -- the names, with those of the three that are new
-abbrev pub with_names : NameLists → Found → List ℕ → List ℕ → List ℕ → NameLists
-with_names names found thread operand location =
+abbrev pub with_names : NameLists → Operation → Found → List ℕ → List ℕ → List ℕ → NameLists
+with_names names operation found thread operand location =
+    let threads = with_name names.threads found.thread thread in
     record {
-      threads = with_name names.threads found.thread thread;
-      locks = with_name names.locks found.lock operand;
+      threads = if is_on_thread operation then with_name threads found.operand operand else threads;
+      locks = if is_on_thread operation then names.locks else with_name names.locks found.operand operand;
       locs = with_name names.locs found.loc location;
     }
 
@@ -93,11 +122,11 @@ after_verdict line told kept (Fault kind) = Err (Line line kind)
 -- the trace after an event
 abbrev pub after_call : Bounds → ℕ → Trace → Operation → List ℕ → List ℕ → List ℕ → Result Trace ReadFault
 after_call limits line told operation thread operand location =
-    let found = found_in told.names thread operand location in
+    let found = found_in told.names operation thread operand location in
     let event = event_told told.names operation found in
     after_verdict line told
-    (record told { names = with_names told.names found thread operand location; lists = with_event told.lists found.thread event })
-    (verdict_of (lock_refusal (events_of told.lists found.thread) event) (limit_fault limits told found))
+    (record told { names = with_names told.names operation found thread operand location; lists = with_lists told.lists operation found event })
+    (verdict_of (lock_refusal (events_of told.lists found.thread) event) (limit_fault limits told operation found))
 
 -- the trace after a line that says this
 abbrev pub after_shape : Bounds → ℕ → Trace → Shape → Result Trace ReadFault

@@ -24,7 +24,7 @@ pub enum StdKind {
     HeldFull,
     /// The thread has acquired the lock 1,000,000 times without a release.
     DepthFull,
-    /// One more thread than the limit allows.
+    /// More threads than the limit allows, with those that the line names for the first time.
     TooManyThreads,
     /// One more event of the thread than the limit allows.
     TooManyEvents,

@@ -10,10 +10,11 @@
 //! ```
 //!
 //! [`read_trace`] gives each thread's events as a list, with threads, locks and locations as numbers
-//! in order of first mention, and the [`Names`] that the numbers stand for. `acq` and `rel` are
-//! events; a line with another operation is skipped and counted, and so is a release of a lock that
-//! its thread doesn't hold. The first line that is no event decides the text: [`ReadFault::Line`]
-//! has its number and what is wrong with it.
+//! in order of first mention, and the [`Names`] that the numbers stand for. `acq` and `rel` of a lock
+//! are events, and so are `fork` and `join` of another thread, which gets a number and a list of its
+//! own. A line with another operation is skipped and counted, and so is a release of a lock that its
+//! thread doesn't hold. The first line that is at fault decides the text: [`ReadFault::Line`] has its
+//! number and what is wrong with it.
 //!
 //! The definitions go from bytes to lines (`specs/Lines`), from a line alone to what it says
 //! (`specs/Line`), and from lines to the trace (`specs/Trace`), one step a line. Above them stand
@@ -35,6 +36,7 @@ mod tests;
 mod trace;
 
 pub use faults::{ReadFault, StdKind};
+pub use gl_io::{Failed, FromStd, Sink, Source};
 pub use laws::{
     lines_are_unique, lines_follow_lines, lines_say_one_thing, reading_goes_on, traces_grow,
     traces_obey_limits, traces_tell_lines,

@@ -1,7 +1,7 @@
 //! What a line says, taken alone.
 ghost use Rattle.std.specs.Prelude.{◌≡◌};
 ghost use Rattle.std.specs.Option.{option_map};
-ghost use Rattle.gl_std.specs.Line.{cut_at, before_close, operation_of, shape_of, shape_of_call, shape_of_fields, shown};
+ghost use Rattle.gl_std.specs.Line.{cut_at, before_close, is_on_itself, is_on_thread, operation_of, shape_of, shape_of_call, shape_of_fields, shown};
 
 use crate::faults::StdKind;
 use bstr::ByteSlice;
@@ -22,6 +22,22 @@ pub(crate) enum Operation {
     Acquire,
     /// The thread releases a lock.
     Release,
+    /// The thread starts another thread.
+    Fork,
+    /// The thread waits for another thread to end.
+    Join,
+}
+
+impl Operation {
+    /// Whether the operand is a thread, and not a lock.
+    pub(crate) fn is_on_thread(self) -> bool
+        ensures { result ≡ is_on_thread self }
+    {
+        match self {
+            Operation::Acquire | Operation::Release => false,
+            Operation::Fork | Operation::Join => true,
+        }
+    }
 }
 
 /// What a line says.
@@ -95,16 +111,31 @@ fn shape_of_call<'a>(
 {
     match operation_of(name) {
         Some(operation) => match operand {
-            Some(operand) => Shape::Call {
-                operation,
-                thread,
-                operand,
-                location,
-            },
+            Some(operand) => {
+                if is_on_itself(operation, thread, operand) {
+                    return Shape::Bad(StdKind::OnItself);
+                }
+                Shape::Call {
+                    operation,
+                    thread,
+                    operand,
+                    location,
+                }
+            }
             None => Shape::Bad(StdKind::BadOperand),
         },
         None => Shape::Other,
     }
+}
+
+/// Whether the operation is a fork or join of the line's own thread.
+fn is_on_itself(operation: Operation, thread: &[u8], operand: &[u8]) -> bool
+    ensures { result ≡ is_on_itself operation thread.now operand.now }
+{
+    if !operation.is_on_thread() {
+        return false;
+    }
+    operand == thread
 }
 
 /// The operation with this name.
@@ -116,6 +147,12 @@ fn operation_of(name: &[u8]) -> Option<Operation>
     }
     if name == b"rel".as_slice() {
         return Some(Operation::Release);
+    }
+    if name == b"fork".as_slice() {
+        return Some(Operation::Fork);
+    }
+    if name == b"join".as_slice() {
+        return Some(Operation::Join);
     }
     None
 }

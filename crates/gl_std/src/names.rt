@@ -2,6 +2,7 @@
 ghost use Rattle.std.specs.Prelude.{◌≡◌, ◌≢◌, ◌+◌, ◌^◌, ◌<◌, [], ◌∷◌, ◌++◌, Some, None, length, position, slice_get, unwrap_or, AllPairs, OnOk, OnErr};
 ghost use Rattle.std.specs.Str.{bytes_eq};
 
+use crate::line::Operation;
 use gl_event::{LocId, LockId, ThreadId};
 use indexmap::IndexSet;
 use std::alloc::{AllocError, Global};
@@ -87,12 +88,41 @@ impl NameList {
     }
 }
 
-/// The numbers of the names in a line, of those that have one.
+/// The numbers of the names in a line, of those that have one. The operand is a lock or a thread, as
+/// the operation says.
 #[derive(Clone, Copy, Debug)]
 pub(crate) struct Found {
     pub(crate) thread: Option<ThreadId>,
-    pub(crate) lock: Option<LockId>,
+    pub(crate) operand: Option<u32>,
     pub(crate) loc: Option<LocId>,
+}
+
+impl Found {
+    ghost use Rattle.std.specs.Prelude.{if◌then◌else◌};
+    ghost use Rattle.gl_std.specs.Line.{is_on_thread};
+    ghost use Rattle.gl_std.specs.Trace.{if_new};
+
+    /// How many of the threads are new.
+    pub(crate) fn new_threads(&self, operation: Operation) -> u64
+        ensures { result ≡ if_new self.now.thread + (if is_on_thread operation then if_new self.now.operand else 0) }
+    {
+        let partner = if operation.is_on_thread() {
+            u64::from(self.operand.is_none())
+        } else {
+            0
+        };
+        u64::from(self.thread.is_none()) + partner
+    }
+
+    /// How many of the locks are new.
+    pub(crate) fn new_locks(&self, operation: Operation) -> u64
+        ensures { result ≡ (if is_on_thread operation then 0 else if_new self.now.operand) }
+    {
+        if operation.is_on_thread() {
+            return 0;
+        }
+        u64::from(self.operand.is_none())
+    }
 }
 
 /// The names of threads, of locks and of locations. Those of each kind have numbers from 0, in order
@@ -115,7 +145,9 @@ impl Model for Names {
 }
 
 impl Names {
-    ghost use Rattle.gl_std.specs.Trace.{found_in, with_names};
+    ghost use Rattle.std.specs.Prelude.{false, if◌then◌else◌};
+    ghost use Rattle.gl_std.specs.Line.{is_on_itself, is_on_thread};
+    ghost use Rattle.gl_std.specs.Trace.{found_in, if_new, locks_after, operand_number, threads_after, with_name, with_names};
 
     /// No names.
     pub(crate) fn new(alloc: Global) -> Names
@@ -198,23 +230,42 @@ impl Names {
     }
 
     /// The numbers of the names in a line. One look-up by hash for each.
-    pub(crate) fn find(&self, thread: &[u8], operand: &[u8], location: &[u8]) -> Found
-        ensures { result ≡ found_in self.now thread.now operand.now location.now }
+    pub(crate) fn find(
+        &self,
+        operation: Operation,
+        thread: &[u8],
+        operand: &[u8],
+        location: &[u8],
+    ) -> Found
+        requires { is_on_itself operation thread.now operand.now ≡ false }
+        ensures { result ≡ found_in self.now operation thread.now operand.now location.now }
     {
+        let operand = if operation.is_on_thread() {
+            self.threads.find(operand)
+        } else {
+            self.locks.find(operand)
+        };
         Found {
             thread: self.find_thread(thread),
-            lock: self.find_lock(operand),
+            operand,
             loc: self.find_loc(location),
         }
     }
 
-    /// The number of the lock, or the next one for a new lock.
-    pub(crate) fn lock_or_next(&self, found: &Found) -> LockId
-        ensures { result ≡ unwrap_or found.now.lock (length self.now.locks) }
+    /// The number of the operand, or the next one for a new lock or thread.
+    pub(crate) fn operand_or_next(&self, operation: Operation, found: &Found) -> u32
+        requires { threads_after self.now operation found.now < 2 ^ 32 }
+        ensures { result ≡ operand_number self.now operation found.now }
     {
-        match found.lock {
-            Some(lock) => lock,
-            None => LockId::new(self.locks.len()),
+        match found.operand {
+            Some(number) => number,
+            None => {
+                if operation.is_on_thread() {
+                    self.threads() + u32::from(found.thread.is_none())
+                } else {
+                    self.locks()
+                }
+            }
         }
     }
 
@@ -232,23 +283,43 @@ impl Names {
     pub(crate) fn tell(
         &mut self,
         alloc: Global,
+        operation: Operation,
         found: &Found,
         thread: &[u8],
         operand: &[u8],
         location: &[u8],
     ) -> Result<(), AllocError>
-        requires found { found.now ≡ found_in self.old thread.now operand.now location.now }
-        requires threads { found.now.thread ≡ None → length self.old.threads + 1 < 2 ^ 32 }
-        requires locks { found.now.lock ≡ None → length self.old.locks + 1 < 2 ^ 32 }
-        requires locs { found.now.loc ≡ None → length self.old.locs + 1 < 2 ^ 32 }
-        ensures { OnOk result (self.new ≡ with_names self.old found.now thread.now operand.now location.now) }
+        requires found { found.now ≡ found_in self.old operation thread.now operand.now location.now }
+        requires threads { threads_after self.old operation found.now < 2 ^ 32 }
+        requires locks { locks_after self.old operation found.now < 2 ^ 32 }
+        requires locs { length self.old.locs + if_new found.now.loc < 2 ^ 32 }
+        ensures { OnOk result (self.new ≡ with_names self.old operation found.now thread.now operand.now location.now) }
     {
         self.threads
             .tell(alloc, found.thread.map(ThreadId::number), thread)?;
-        self.locks
-            .tell(alloc, found.lock.map(LockId::number), operand)?;
+        self.tell_operand(alloc, operation, found.operand, operand)?;
         self.locs
             .tell(alloc, found.loc.map(LocId::number), location)?;
         Ok(())
+    }
+
+    // Gives a number to an operand that has none.
+    fn tell_operand(
+        &mut self,
+        alloc: Global,
+        operation: Operation,
+        number: Option<u32>,
+        name: &[u8],
+    ) -> Result<(), AllocError>
+        requires found { number ≡ position (bytes_eq name.now) (if is_on_thread operation then self.old.threads else self.old.locks) }
+        requires room { number ≡ None → length (if is_on_thread operation then self.old.threads else self.old.locks) + 1 < 2 ^ 32 }
+        ensures threads { OnOk result (self.new.threads ≡ (if is_on_thread operation then with_name self.old.threads number name.now else self.old.threads)) }
+        ensures locks { OnOk result (self.new.locks ≡ (if is_on_thread operation then self.old.locks else with_name self.old.locks number name.now)) }
+        ensures locs { self.new.locs ≡ self.old.locs }
+    {
+        if operation.is_on_thread() {
+            return self.threads.tell(alloc, number, name);
+        }
+        self.locks.tell(alloc, number, name)
     }
 }

@@ -1,7 +1,8 @@
 //! Reading a text line by line.
-ghost use Rattle.std.specs.Prelude.{◌≡◌, ℕ, ◌+◌, ◌^◌, ◌<◌, ◌≤◌, List, [], ◌∷◌, ◌++◌, Ok, Err, Some, None, Option, OnOk, IfOk, IfSome, length, slice_get, vec_len};
+ghost use Rattle.std.specs.Prelude.{◌≡◌, ℕ, ◌+◌, ◌^◌, ◌<◌, ◌≤◌, List, [], ◌∷◌, ◌++◌, Ok, Err, Some, None, Option, OnOk, IfOk, IfSome, length, slice_get, vec_len, if◌then◌else◌};
 ghost use Rattle.gl_event.specs.Lawful.{lock_refusal};
-ghost use Rattle.gl_std.specs.Trace.{event_of, events_of, verdict_of, with_event};
+ghost use Rattle.gl_std.specs.Trace.{event_of, events_of, verdict_of, with_event, with_list, with_lists};
+ghost use Rattle.gl_std.specs.Line.{is_on_thread};
 ghost use Rattle.gl_std.specs.declared.row.Verdict.TheVariants.{Kept, Stray};
 
 use crate::faults::{ReadFault, StdKind};
@@ -10,7 +11,7 @@ use crate::lists::Lists;
 use crate::names::{Found, Names};
 use crate::row::{Row, Verdict};
 use crate::trace::Trace;
-use gl_event::{Limits, LocId, LockId, ThreadId};
+use gl_event::{Event, Limits, LocId, LockId, ThreadId};
 use std::alloc::{AllocError, Global};
 
 /// The trace of the lines so far.
@@ -27,8 +28,9 @@ pub(crate) struct Reader {
 
 impl Reader {
     ghost use Rattle.gl_event.specs.Bounds.{AreWithinRange};
-    ghost use Rattle.gl_std.specs.Line.{shown};
-    ghost use Rattle.gl_std.specs.Reading.{told_by, IsReady};
+    ghost use Rattle.std.specs.Prelude.{false};
+    ghost use Rattle.gl_std.specs.Line.{is_on_itself, shown};
+    ghost use Rattle.gl_std.specs.Reading.{told_by, AreApart, IsReady};
     ghost use Rattle.gl_std.specs.Trace.{after_line, after_shape, after_call, found_in, limit_fault, nothing};
     ghost use Rattle.gl_std.specs.declared.faults.StdKind.{StdKind};
 
@@ -68,6 +70,7 @@ impl Reader {
     // Reads a line that says this.
     fn take_shape(&mut self, shape: Shape<'_>) -> Result<(), ReadFault>
         requires ready { IsReady self.old }
+        requires apart { AreApart (shown shape) }
         requires countable { self.old.line + 1 < 2 ^ 64 }
         ensures ok { OnOk result (after_shape self.old.limits self.old.line (told_by self.old) (shown shape.entry) ≡ Ok (told_by self.new)) }
         ensures fault { (number : ℕ) (kind : StdKind) → result ≡ Err (ReadFault.Line number kind)
@@ -105,6 +108,7 @@ impl Reader {
         location: &[u8],
     ) -> Result<(), ReadFault>
         requires ready { IsReady self.old }
+        requires apart { is_on_itself operation thread.now operand.now ≡ false }
         requires countable { self.old.line + 1 < 2 ^ 64 }
         ensures ok { OnOk result (after_call self.old.limits self.old.line (told_by self.old) operation thread.now operand.now location.now ≡ Ok (told_by self.new)) }
         ensures fault { (number : ℕ) (kind : StdKind) → result ≡ Err (ReadFault.Line number kind)
@@ -115,13 +119,15 @@ impl Reader {
         ensures few_stray { self.new.stray ≤ self.old.stray + 1 }
     {
         let alloc = self.alloc;
-        let found = self.names.find(thread, operand, location);
-        let limit = self.limit_fault(&found);
-        let lock = self.names.lock_or_next(&found);
+        let found = self.names.find(operation, thread, operand, location);
+        let limit = self.limit_fault(operation, &found);
+        let number = self.names.operand_or_next(operation, &found);
         let loc = self.names.loc_or_next(&found);
-        match judge(alloc, &mut self.rows, &found, operation, lock, loc, limit)? {
+        let event = event_of(operation, number, loc);
+        match judge(alloc, &mut self.rows, operation, &found, event, limit)? {
             Verdict::Kept => {
-                self.names.tell(alloc, &found, thread, operand, location)?;
+                self.names
+                    .tell(alloc, operation, &found, thread, operand, location)?;
                 Ok(())
             }
             Verdict::Stray => {
@@ -136,21 +142,24 @@ impl Reader {
     }
 
     // The first limit that doesn't allow an event of these names.
-    fn limit_fault(&self, found: &Found) -> Option<StdKind>
+    fn limit_fault(&self, operation: Operation, found: &Found) -> Option<StdKind>
         requires { IfSome found.now.thread (λ i. i < length self.now.rows.items) }
-        ensures fault { result ≡ limit_fault self.now.limits (told_by self.now) found.now }
+        ensures fault { result ≡ limit_fault self.now.limits (told_by self.now) operation found.now }
         ensures within { AreWithinRange self.now.limits }
     {
-        if found.thread.is_none() && self.names.threads() >= self.limits.threads() {
+        let threads = u64::from(self.names.threads()) + found.new_threads(operation);
+        if threads > u64::from(self.limits.threads()) {
             return Some(StdKind::TooManyThreads);
         }
         if self.events(found.thread) >= self.limits.events() as usize {
             return Some(StdKind::TooManyEvents);
         }
-        if found.lock.is_none() && self.names.locks() >= self.limits.names() {
+        let locks = u64::from(self.names.locks()) + found.new_locks(operation);
+        if locks > u64::from(self.limits.names()) {
             return Some(StdKind::TooManyNames);
         }
-        if found.loc.is_none() && self.names.locs() >= self.limits.names() {
+        let locs = u64::from(self.names.locs()) + u64::from(found.loc.is_none());
+        if locs > u64::from(self.limits.names()) {
             return Some(StdKind::TooManyNames);
         }
         None
@@ -181,46 +190,113 @@ impl Reader {
     }
 }
 
-// Puts the event of the thread, known or new, into the rows, unless the held locks or `limit` refuse it.
+// The event of an operation on the lock or thread with this number.
+fn event_of(operation: Operation, operand: u32, loc: LocId) -> Event
+    ensures { result ≡ event_of operation operand loc }
+{
+    match operation {
+        Operation::Acquire => Event::Acquire {
+            lock: LockId::new(operand),
+            loc,
+        },
+        Operation::Release => Event::Release {
+            lock: LockId::new(operand),
+            loc,
+        },
+        Operation::Fork => Event::Fork {
+            thread: ThreadId::new(operand),
+            loc,
+        },
+        Operation::Join => Event::Join {
+            thread: ThreadId::new(operand),
+            loc,
+        },
+    }
+}
+
+// Puts the event of the thread into the rows, with a row for a new thread that it forks or joins,
+// unless the held locks or `limit` refuse it.
 fn judge(
     alloc: Global,
     rows: &mut Vec<Row>,
-    found: &Found,
     operation: Operation,
-    lock: LockId,
-    loc: LocId,
+    found: &Found,
+    event: Event,
     limit: Option<StdKind>,
 ) -> Result<Verdict, AllocError>
     requires known { IfSome found.now.thread (λ i. i < vec_len rows.old) }
-    requires fits { length (events_of rows.old.items found.now.thread) < 2 ^ 32 }
-    ensures verdict { IfOk result (λ v. v ≡ verdict_of (lock_refusal (events_of rows.old.items found.now.thread) (event_of operation lock loc)) limit) }
-    ensures kept { result ≡ Ok Kept → rows.new.items ≡ with_event rows.old.items found.now.thread (event_of operation lock loc) }
+    requires fits { length (events_of rows.old.items found.now.thread) + 1 < 2 ^ 32 }
+    ensures verdict { IfOk result (λ v. v ≡ verdict_of (lock_refusal (events_of rows.old.items found.now.thread) event) limit) }
+    ensures kept { result ≡ Ok Kept → rows.new.items ≡ with_lists rows.old.items operation found.now event }
+    ensures stray { result ≡ Ok Stray → rows.new.items ≡ rows.old.items }
+{
+    match judge_own(alloc, rows, found, event, limit)? {
+        Verdict::Kept => {
+            add_partner(alloc, rows, operation, found)?;
+            Ok(Verdict::Kept)
+        }
+        Verdict::Stray => Ok(Verdict::Stray),
+        Verdict::Fault(kind) => Ok(Verdict::Fault(kind)),
+    }
+}
+
+// `judge`, for the row of the acting thread, known or new.
+fn judge_own(
+    alloc: Global,
+    rows: &mut Vec<Row>,
+    found: &Found,
+    event: Event,
+    limit: Option<StdKind>,
+) -> Result<Verdict, AllocError>
+    requires known { IfSome found.now.thread (λ i. i < vec_len rows.old) }
+    requires fits { length (events_of rows.old.items found.now.thread) + 1 < 2 ^ 32 }
+    ensures verdict { IfOk result (λ v. v ≡ verdict_of (lock_refusal (events_of rows.old.items found.now.thread) event) limit) }
+    ensures kept { result ≡ Ok Kept → rows.new.items ≡ with_event rows.old.items found.now.thread event }
     ensures stray { result ≡ Ok Stray → rows.new.items ≡ rows.old.items }
 {
     match found.thread {
         Some(number) => {
             let row = &mut rows[number.number() as usize];
-            row.take(alloc, operation, lock, loc, limit)
+            row.take(alloc, event, limit)
         }
-        None => judge_first(alloc, rows, operation, lock, loc, limit),
+        None => judge_first(alloc, rows, event, limit),
     }
 }
 
-// `judge`, for the first event of a thread.
-fn judge_first(
+// Gives a new thread that the event forks or joins a row without events.
+fn add_partner(
     alloc: Global,
     rows: &mut Vec<Row>,
     operation: Operation,
-    lock: LockId,
-    loc: LocId,
+    found: &Found,
+) -> Result<(), AllocError>
+    ensures { OnOk result (rows.new.items ≡ (if is_on_thread operation then with_list rows.old.items found.now.operand else rows.old.items)) }
+{
+    if !operation.is_on_thread() {
+        return Ok(());
+    }
+    match found.operand {
+        Some(_) => Ok(()),
+        None => {
+            rows.push(Row::new(alloc))?;
+            Ok(())
+        }
+    }
+}
+
+// `judge_own`, for the first event of a thread.
+fn judge_first(
+    alloc: Global,
+    rows: &mut Vec<Row>,
+    event: Event,
     limit: Option<StdKind>,
 ) -> Result<Verdict, AllocError>
-    ensures verdict { IfOk result (λ v. v ≡ verdict_of (lock_refusal [] (event_of operation lock loc)) limit) }
-    ensures kept { result ≡ Ok Kept → rows.new.items ≡ rows.old.items ++ (event_of operation lock loc ∷ []) ∷ [] }
+    ensures verdict { IfOk result (λ v. v ≡ verdict_of (lock_refusal [] event) limit) }
+    ensures kept { result ≡ Ok Kept → rows.new.items ≡ rows.old.items ++ (event ∷ []) ∷ [] }
     ensures stray { result ≡ Ok Stray → rows.new.items ≡ rows.old.items }
 {
     let mut row = Row::new(alloc);
-    match row.take(alloc, operation, lock, loc, limit)? {
+    match row.take(alloc, event, limit)? {
         Verdict::Kept => {
             rows.push(row)?;
             Ok(Verdict::Kept)

@@ -3,7 +3,6 @@ ghost use Rattle.std.specs.Prelude.{◌≡◌, ◌^◌, ◌<◌, [], ◌∷◌, 
 ghost use Rattle.gl_event.specs.Lawful.{lock_refusal};
 
 use crate::faults::StdKind;
-use crate::line::Operation;
 use gl_event::{Event, Held, HeldFault, LocId, LockId};
 use std::alloc::{AllocError, Global};
 use std::marker::Model;
@@ -42,7 +41,9 @@ impl Model for Row {
 }
 
 impl Row {
-    ghost use Rattle.gl_std.specs.Trace.{event_of, verdict_of};
+    ghost use Rattle.std.specs.Prelude.{◌+◌, true};
+    ghost use Rattle.gl_event.specs.Events.{closes};
+    ghost use Rattle.gl_std.specs.Trace.{verdict_of};
     ghost use Rattle.gl_std.specs.declared.row.Verdict.TheVariants.{Kept, Stray};
     ghost use Rattle.gl_event.specs.declared.events.Event.TheVariants.{Acquire, Release};
 
@@ -76,19 +77,40 @@ impl Row {
     pub(crate) fn take(
         &mut self,
         alloc: Global,
-        operation: Operation,
-        lock: LockId,
-        loc: LocId,
+        event: Event,
         limit: Option<StdKind>,
     ) -> Result<Verdict, AllocError>
-        requires { length self.old < 2 ^ 32 }
-        ensures verdict { IfOk result (λ v. v ≡ verdict_of (lock_refusal self.old (event_of operation lock loc)) limit) }
-        ensures kept { result ≡ Ok Kept → self.new ≡ self.old ++ event_of operation lock loc ∷ [] }
+        requires { length self.old + 1 < 2 ^ 32 }
+        ensures verdict { IfOk result (λ v. v ≡ verdict_of (lock_refusal self.old event) limit) }
+        ensures kept { result ≡ Ok Kept → self.new ≡ self.old ++ event ∷ [] }
         ensures stray { result ≡ Ok Stray → self.new ≡ self.old }
     {
-        match operation {
-            Operation::Acquire => self.acquire(alloc, lock, loc, limit),
-            Operation::Release => self.release(alloc, lock, loc, limit),
+        match event {
+            Event::Acquire { lock, loc } => self.acquire(alloc, lock, loc, limit),
+            Event::Release { lock, loc } => self.release(alloc, lock, loc, limit),
+            Event::Fork { .. } => self.close(event, limit),
+            Event::Join { .. } => self.close(event, limit),
+        }
+    }
+
+    // `take`, for a fork or a join.
+    fn close(&mut self, event: Event, limit: Option<StdKind>) -> Result<Verdict, AllocError>
+        requires few { length self.old + 1 < 2 ^ 32 }
+        requires closes { closes event ≡ true }
+        ensures verdict { IfOk result (λ v. v ≡ verdict_of (lock_refusal self.old event) limit) }
+        ensures kept { result ≡ Ok Kept → self.new ≡ self.old ++ event ∷ [] }
+        ensures stray { result ≡ Ok Stray → self.new ≡ self.old }
+    {
+        if let Some(kind) = limit {
+            return Ok(Verdict::Fault(kind));
+        }
+        let closed = self.closed + 1;
+        match self.events.push(event) {
+            Ok(()) => {
+                self.closed = closed;
+                Ok(Verdict::Kept)
+            }
+            Err(_) => Err(AllocError),
         }
     }
 

@@ -18,6 +18,20 @@ fn release(lock: u32, loc: u32) -> Event {
     }
 }
 
+fn fork(thread: u32, loc: u32) -> Event {
+    Event::Fork {
+        thread: ThreadId::new(thread),
+        loc: LocId::new(loc),
+    }
+}
+
+fn join(thread: u32, loc: u32) -> Event {
+    Event::Join {
+        thread: ThreadId::new(thread),
+        loc: LocId::new(loc),
+    }
+}
+
 fn greatest() -> Result<Limits, Fail> {
     Ok(Limits::new(1_024, 65_536, 4_000_000_000, 4_000_000_000)?)
 }
@@ -118,6 +132,59 @@ fn bad_lines(rt: HostRuntime) -> Result<(), Fail> {
     );
     expect_fault(&rt, rt.alloc(), b"|acq(a)|1", &limits, 1, StdKind::NoThread);
     expect_fault(&rt, rt.alloc(), b"T0", &limits, 1, StdKind::NoBar);
+    expect_fault(
+        &rt,
+        rt.alloc(),
+        b"T0|fork(T0)|1",
+        &limits,
+        1,
+        StdKind::OnItself,
+    );
+    Ok(())
+}
+
+#[test]
+fn joined_before(rt: HostRuntime) -> Result<(), Fail> {
+    let mut text = Vec::from_slice(rt.alloc(), b"M|fork(T0)|1\nM|join(T0)|2\nM|fork(T1)|3\n")?;
+    let front = read_trace(rt.alloc(), &text, &greatest()?)?;
+    assert_eq!(rt; front.names.find_thread(b"M"), Some(ThreadId::new(0)));
+    assert_eq!(rt; front.names.find_thread(b"T0"), Some(ThreadId::new(1)));
+    assert_eq!(rt; front.names.find_thread(b"T1"), Some(ThreadId::new(2)));
+    assert_eq!(rt;
+        (
+            front.names.threads(),
+            front.names.locks(),
+            front.names.locs()
+        ),
+        (3, 0, 3)
+    );
+    assert_eq!(rt; front.lists.as_slice().len(), 3);
+    expect_list(&rt, &front, 0, &[fork(1, 0), join(1, 1), fork(2, 2)]);
+    expect_list(&rt, &front, 1, &[]);
+    expect_list(&rt, &front, 2, &[]);
+    text.extend_from_slice(
+        b"T0|acq(a)|1\nT0|acq(b)|2\nT0|rel(b)|3\nT0|rel(a)|4\nT1|acq(b)|5\nT1|acq(a)|6\n",
+    )?;
+    let trace = read_trace(rt.alloc(), &text, &greatest()?)?;
+    assert_eq!(rt; trace.lists.as_slice().len(), 3);
+    expect_list(&rt, &trace, 0, &[fork(1, 0), join(1, 1), fork(2, 2)]);
+    expect_list(
+        &rt,
+        &trace,
+        1,
+        &[acquire(0, 0), acquire(1, 1), release(1, 2), release(0, 3)],
+    );
+    expect_list(&rt, &trace, 2, &[acquire(1, 4), acquire(0, 5)]);
+    assert_eq!(rt; (trace.skipped, trace.stray), (0, 0));
+    Ok(())
+}
+
+#[test]
+fn join_loop(rt: HostRuntime) -> Result<(), Fail> {
+    let trace = read_trace(rt.alloc(), b"T0|join(T1)|1\nT1|join(T0)|2\n", &greatest()?)?;
+    assert_eq!(rt; trace.lists.as_slice().len(), 2);
+    expect_list(&rt, &trace, 0, &[join(1, 0)]);
+    expect_list(&rt, &trace, 1, &[join(0, 1)]);
     Ok(())
 }
 
@@ -160,6 +227,15 @@ fn limits_reached(rt: HostRuntime) -> Result<(), Fail> {
         text.extend_from_slice(format!(in rt.alloc(); "T0|acq({lock})|1\n")?.as_bytes())?;
     }
     expect_fault(&rt, rt.alloc(), &text, &greatest()?, 65, StdKind::HeldFull);
+    let two_threads = Limits::new(2, 65_536, 4_000_000_000, 4_000_000_000)?;
+    expect_fault(
+        &rt,
+        rt.alloc(),
+        b"T0|acq(a)|1\nT0|fork(T1)|2\nT2|acq(a)|3\n",
+        &two_threads,
+        3,
+        StdKind::TooManyThreads,
+    );
     let one_event = Limits::new(1_024, 65_536, 1, 4_000_000_000)?;
     expect_fault(
         &rt,

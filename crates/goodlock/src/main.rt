@@ -2,6 +2,9 @@
 //! predicts.
 #![tactic(auto)]
 
+ghost use Rattle.std.specs.Prelude.{◌≡◌};
+ghost use Rattle.goodlock.specs.Said.{line_of, status_of};
+
 use ended::{Ended, Form};
 use gl_filters::{Mode, Query};
 use gl_io::FromStd;
@@ -28,7 +31,10 @@ fn full_query() -> Query {
 }
 
 // The line for standard error and the exit status.
-fn said(ended: &Ended) -> (&[u8], u8) {
+fn said(ended: &Ended) -> (&[u8], u8)
+    ensures line { result.0.now ≡ line_of ended.now }
+    ensures status { result.1 ≡ status_of ended.now }
+{
     match ended {
         Ended::Clean => (b"", 0),
         Ended::Cycles => (b"", 1),

@@ -1,5 +1,5 @@
 use Rattle.std.specs.Prelude.{slice_get}
-use Rattle.gl_report.specs.Text.{edge_line, cycle_line}
+use Rattle.gl_report.specs.Text.{edge_line}
 use Rattle.gl_report.proofs.Parts.{edges_more}
 use Rattle.gl_report.proofs.printing.put_cycle.Goals as goal
 

@@ -1,8 +1,7 @@
-use Rattle.std.proofs.Common.{[], ◌++◌, refl, sym, ap, ◌∙◌}
+use Rattle.std.proofs.Common.{[], refl, sym, ap}
 use Rattle.std.specs.Option.{option_map_or}
-use Rattle.std.proofs.lemmas.List.{append_assoc}
 use Rattle.std.proofs.lemmas.Option.{slice_get_read}
-use Rattle.gl_report.specs.Text.{held_text, wanted_text, edge_line}
+use Rattle.gl_report.specs.Text.{edge_line}
 use Rattle.gl_report.proofs.Parts.{two_parts}
 use Rattle.gl_report.proofs.printing.put_edge.Goals as goal
 

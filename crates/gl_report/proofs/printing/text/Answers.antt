@@ -1,4 +1,4 @@
-use Rattle.std.proofs.Common.{◌≡◌, ◌+◌, ◌++◌, get_or, sym, ap, ◌∙◌}
+use Rattle.std.proofs.Common.{◌+◌, ◌++◌, ap, ◌∙◌}
 use Rattle.gl_report.specs.Text.{cycle_text}
 use Rattle.gl_report.proofs.Parts.{cycles_more}
 use Rattle.gl_report.proofs.printing.text.Goals as goal

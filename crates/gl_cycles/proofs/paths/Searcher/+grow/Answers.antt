@@ -1,5 +1,5 @@
-use Rattle.std.proofs.Common.{◌≡◌, ◌≢◌, ℕ, suc, ◌+◌, ◌-◌, ◌<◌, ◌≤◌, List, length, map, get_or, Some, refl, sym, ap, subst, ◌∙◌, arith, rules}
-use Rattle.std.specs.Prelude.{slice_get, unwrap_or}
+use Rattle.std.proofs.Common.{◌≡◌, ℕ, suc, ◌+◌, ◌-◌, ◌<◌, ◌≤◌, List, length, map, Some, sym, ap, subst, ◌∙◌, arith, rules}
+use Rattle.std.specs.Prelude.{unwrap_or}
 use Rattle.std.proofs.lemmas.List.{length-map, length_push}
 use Rattle.std.proofs.lemmas.List.Elements.{All-push}
 use Rattle.std.proofs.Common.{Option, None, take, ◌++◌}
@@ -10,8 +10,8 @@ use Rattle.gl_cycles.specs.declared.paths.Searcher.{Searcher}
 use Rattle.gl_segments.specs.Clocks.{is_before}
 use Rattle.gl_cycles.specs.AllCycles.{edges_of_table}
 use Rattle.gl_cycles.specs.Followers.{holder_from}
-use Rattle.gl_cycles.proofs.Fronts.{edge_at, element_at, within_edges, wanted_by_table, some_picked}
-use Rattle.gl_cycles.proofs.Growing.{HasGrown, grow_begin, grow_step, grow_end, grow_full, grow_short, grow_closed, grown_room, goes_on, grow_stray, joined_path}
+use Rattle.gl_cycles.proofs.Fronts.{element_at, within_edges, wanted_by_table, some_picked}
+use Rattle.gl_cycles.proofs.Growing.{HasGrown, grow_begin, grow_step, grow_end, grow_short, grow_closed, grown_room, goes_on, grow_stray, joined_path}
 use Rattle.gl_cycles.proofs.paths.Searcher.+grow.Goals as goal
 
 -- the path is closed

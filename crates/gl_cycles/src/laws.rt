@@ -1,0 +1,30 @@
+//! What holds of the definitions, for all lists of edges. Each function here does nothing: its
+//! contract is a law.
+ghost use Rattle.std.specs.Prelude.{◌↔◌, ℕ, Bool, List, map, Contains};
+ghost use Rattle.std.specs.Cmp.Lexicographic.{slice_cmp};
+ghost use Rattle.std.specs.List.Sorted.{IsStrictlySortedBy};
+ghost use Rattle.std.specs.Ordering.{nat_cmp};
+ghost use Rattle.gl_cycles.specs.AllCycles.{picked, all_cycles};
+ghost use Rattle.gl_cycles.specs.Laws.{IsCycleAt};
+ghost use Rattle.gl_edges.specs.Order.{edge_cmp};
+ghost use Rattle.gl_edges.specs.declared.edge.Edge.{Edge};
+ghost use Rattle.gl_event.specs.declared.events.Segment.{Segment};
+ghost use Rattle.gl_filters.specs.declared.query.Mode.{Mode};
+
+/// The list of all cycles ascends: each cycle is below those after it, where the first position in
+/// which two cycles differ decides. So each cycle is listed once.
+pub fn cycles_ascend()
+    ensures { (before : Segment → Segment → Bool) (mode : Mode) (len : ℕ) (edges : List Edge) → IsStrictlySortedBy (slice_cmp nat_cmp) (all_cycles before mode len edges) }
+{}
+
+/// Over edges that ascend, the list of all cycles ascends by the cycles' edges: the first edge in
+/// which two cycles differ decides.
+pub fn cycles_ascend_by_edges()
+    ensures { (before : Segment → Segment → Bool) (mode : Mode) (len : ℕ) (edges : List Edge) → IsStrictlySortedBy edge_cmp edges → IsStrictlySortedBy (slice_cmp edge_cmp) (map (picked edges) (all_cycles before mode len edges)) }
+{}
+
+/// The list of all cycles has exactly the lists of positions whose edges are a cycle of this mode
+/// and of at most so many edges.
+pub fn cycles_are_all()
+    ensures { (before : Segment → Segment → Bool) (mode : Mode) (len : ℕ) (edges : List Edge) (positions : List ℕ) → Contains (all_cycles before mode len edges) positions ↔ IsCycleAt before mode len edges positions }
+{}

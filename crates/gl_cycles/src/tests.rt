@@ -1,0 +1,377 @@
+//! Worked examples.
+ghost use Rattle.std.specs.Prelude.{◌≡◌, ◌≢◌, ◌<◌, ◌≤◌, ℕ, List, [], ◌∷◌, ◌++◌, map, length, slice_get, None, Some, IsTrue};
+ghost use Rattle.gl_event.specs.Bounds.{greatest};
+ghost use Rattle.gl_event.specs.Lawful.{IsLawful, lock_refusal, refusal};
+ghost use Rattle.gl_event.specs.declared.events.Event.{Event};
+ghost use Rattle.gl_edges.specs.Tracking.{Tracks};
+
+use crate::found::{Cycles, Found};
+use crate::paths::search;
+use gl_edges::edges_of;
+use gl_event::{Event, Held, LocId, LockId, MAX_EVENTS, MAX_THREADS, Memory, ThreadId};
+use gl_filters::{Mode, Query};
+use gl_segments::Order;
+use std::alloc::Global;
+use std::test::Fail;
+
+// An acquire.
+fn acq(lock: u32, loc: u32) -> Event {
+    Event::Acquire {
+        lock: LockId::new(lock),
+        loc: LocId::new(loc),
+    }
+}
+
+// A release.
+fn rel(lock: u32, loc: u32) -> Event {
+    Event::Release {
+        lock: LockId::new(lock),
+        loc: LocId::new(loc),
+    }
+}
+
+// A fork of a thread.
+fn fork(thread: u32, loc: u32) -> Event {
+    Event::Fork {
+        thread: ThreadId::new(thread),
+        loc: LocId::new(loc),
+    }
+}
+
+// A join of a thread.
+fn join(thread: u32, loc: u32) -> Event {
+    Event::Join {
+        thread: ThreadId::new(thread),
+        loc: LocId::new(loc),
+    }
+}
+
+// Whether the thread may fork or join the other one.
+fn is_other(thread: ThreadId, other: ThreadId) -> bool
+    ensures known { IsTrue result → other < 1024 }
+    ensures apart { IsTrue result → other ≢ thread }
+{
+    if other.number() >= MAX_THREADS {
+        return false;
+    }
+    other != thread
+}
+
+// Whether the event is no fork or join of the thread itself, or of an unknown one.
+fn is_allowed(thread: ThreadId, event: &Event) -> bool
+    ensures { IsTrue result → (es : List Event) → length es < 4000000000 → lock_refusal es event.now ≡ None → refusal greatest thread es event.now ≡ None }
+{
+    match *event {
+        Event::Acquire { .. } => true,
+        Event::Release { .. } => true,
+        Event::Fork { thread: other, .. } => is_other(thread, other),
+        Event::Join { thread: other, .. } => is_other(thread, other),
+    }
+}
+
+// A thread after its events so far.
+#[derive(Drop)]
+struct Follower {
+    thread: ThreadId,
+    held: Held,
+    place: u32,
+    segment: u32,
+}
+
+// Takes the event, if it is lawful next.
+fn take(tracker: &mut Follower, event: Event) -> bool
+    ensures allowed { IsTrue result → (thread : ℕ) (es : List Event) → Tracks thread es (record { thread = tracker.old.thread; held = tracker.old.held; place = tracker.old.place; segment = tracker.old.segment }) → refusal greatest thread es event ≡ None }
+    ensures follows { IsTrue result → (thread : ℕ) (es : List Event) → Tracks thread es (record { thread = tracker.old.thread; held = tracker.old.held; place = tracker.old.place; segment = tracker.old.segment })
+        → Tracks thread (es ++ event ∷ []) (record { thread = tracker.new.thread; held = tracker.new.held; place = tracker.new.place; segment = tracker.new.segment }) }
+{
+    if tracker.place >= MAX_EVENTS || tracker.segment >= MAX_EVENTS {
+        return false;
+    }
+    if !is_allowed(tracker.thread, &event) {
+        return false;
+    }
+    let place = tracker.place;
+    tracker.place = place + 1;
+    match event {
+        Event::Acquire { lock, loc } => {
+            let answer = tracker.held.acquire(lock, loc, place, tracker.segment);
+            answer.is_ok()
+        }
+        Event::Release { lock, .. } => {
+            let answer = tracker.held.release(lock);
+            answer.is_ok()
+        }
+        Event::Fork { .. } | Event::Join { .. } => {
+            tracker.segment += 1;
+            true
+        }
+    }
+}
+
+// Whether the list is lawful under the greatest limits.
+fn is_lawful(thread: ThreadId, list: &[Event]) -> bool
+    ensures { IsTrue result → IsLawful greatest thread list.now }
+{
+    let mut tracker = Follower {
+        thread,
+        held: Held::new(),
+        place: 0,
+        segment: 0,
+    };
+    for event in list {
+        if !take(&mut tracker, *event) {
+            return false;
+        }
+    }
+    true
+}
+
+// Whether there are few enough lists, and each is lawful under the greatest limits.
+fn are_lawful(lists: &[Vec<Event>]) -> bool
+    ensures few { IsTrue result → length lists.now ≤ 1024 }
+    ensures lawful { IsTrue result → (thread : ℕ) (es : List Event) → slice_get (map (λ v. v.items) lists.now) thread ≡ Some es → IsLawful greatest thread es }
+{
+    if lists.len() > 1024 {
+        return false;
+    }
+    for (number, list) in lists.iter().enumerate() {
+        if !is_lawful(ThreadId::new(number as u32), list.as_slice()) {
+            return false;
+        }
+    }
+    true
+}
+
+// Whether these cycles are listed.
+fn are_listed(cycles: &[Vec<usize>], wanted: &[&[usize]]) -> bool {
+    if cycles.len() != wanted.len() {
+        return false;
+    }
+    for (cycle, want) in cycles.iter().zip(wanted) {
+        if cycle.as_slice() != *want {
+            return false;
+        }
+    }
+    true
+}
+
+// Whether these cycles were found and no more.
+fn are_all(found: &Found, wanted: &[&[usize]]) -> bool {
+    are_listed(found.cycles.as_slice(), wanted) && !found.more
+}
+
+// No lists.
+#[test]
+fn empty_input(rt: HostRuntime) -> Result<(), Fail> {
+    let alloc = rt.alloc();
+    let lists = Vec::new(alloc);
+    assert!(rt; are_lawful(&lists));
+    let edges = edges_of(alloc, &lists)?;
+    let order = Order::of(alloc, &lists)?;
+    let found = search(alloc, &edges, &order, &Query::new(Mode::Full, 4, 1_000)?)?;
+    assert!(rt; are_all(&found, &[]));
+    Ok(())
+}
+
+// Two threads take two locks in opposite orders.
+#[test]
+fn opposite_order(rt: HostRuntime) -> Result<(), Fail> {
+    let alloc = rt.alloc();
+    let lists = vec![in alloc;
+        vec![in alloc; acq(0, 1), acq(1, 2), rel(1, 3), rel(0, 4)]?,
+        vec![in alloc; acq(1, 5), acq(0, 6)]?,
+    ]?;
+    assert!(rt; are_lawful(&lists));
+    let edges = edges_of(alloc, &lists)?;
+    let order = Order::of(alloc, &lists)?;
+    let found = search(alloc, &edges, &order, &Query::new(Mode::Full, 4, 1_000)?)?;
+    assert!(rt; are_all(&found, &[&[0, 1]]));
+    Ok(())
+}
+
+// Both threads hold lock 0 while they take locks 1 and 2 in opposite orders.
+#[test]
+fn gate_lock(rt: HostRuntime) -> Result<(), Fail> {
+    let alloc = rt.alloc();
+    let lists = vec![in alloc;
+        vec![in alloc;
+            acq(0, 1),
+            acq(1, 2),
+            acq(2, 3),
+            rel(2, 4),
+            rel(1, 5),
+            rel(0, 6)
+        ]?,
+        vec![in alloc; acq(0, 7), acq(2, 8), acq(1, 9)]?,
+    ]?;
+    assert!(rt; are_lawful(&lists));
+    let edges = edges_of(alloc, &lists)?;
+    let order = Order::of(alloc, &lists)?;
+    let basic = search(alloc, &edges, &order, &Query::new(Mode::Basic, 4, 1_000)?)?;
+    assert!(rt; are_all(&basic, &[&[2, 5]]));
+    let guarded = search(alloc, &edges, &order, &Query::new(Mode::Guarded, 4, 1_000)?)?;
+    assert!(rt; are_all(&guarded, &[]));
+    let full = search(alloc, &edges, &order, &Query::new(Mode::Full, 4, 1_000)?)?;
+    assert!(rt; are_all(&full, &[]));
+    Ok(())
+}
+
+// A gate lock of two edges that are no neighbours in the cycle.
+#[test]
+fn gate_lock_four_threads(rt: HostRuntime) -> Result<(), Fail> {
+    let alloc = rt.alloc();
+    let lists = vec![in alloc;
+        vec![in alloc; acq(0, 1), acq(1, 2), acq(2, 3)]?,
+        vec![in alloc; acq(2, 4), acq(3, 5)]?,
+        vec![in alloc; acq(0, 6), acq(3, 7), acq(4, 8)]?,
+        vec![in alloc; acq(4, 9), acq(1, 10)]?,
+    ]?;
+    assert!(rt; are_lawful(&lists));
+    let edges = edges_of(alloc, &lists)?;
+    let order = Order::of(alloc, &lists)?;
+    let basic = search(alloc, &edges, &order, &Query::new(Mode::Basic, 4, 1_000)?)?;
+    assert!(rt; are_all(&basic, &[&[2, 3, 6, 7]]));
+    let guarded = search(alloc, &edges, &order, &Query::new(Mode::Guarded, 4, 1_000)?)?;
+    assert!(rt; are_all(&guarded, &[]));
+    Ok(())
+}
+
+// Thread 0 joins thread 1 before it forks thread 2: then the two never run at once.
+#[test]
+fn joined_before(rt: HostRuntime) -> Result<(), Fail> {
+    let alloc = rt.alloc();
+    let lists = vec![in alloc;
+        vec![in alloc; fork(1, 1), join(1, 2), fork(2, 3)]?,
+        vec![in alloc; acq(0, 4), acq(1, 5), rel(1, 6), rel(0, 7)]?,
+        vec![in alloc; acq(1, 8), acq(0, 9)]?,
+    ]?;
+    assert!(rt; are_lawful(&lists));
+    let edges = edges_of(alloc, &lists)?;
+    let order = Order::of(alloc, &lists)?;
+    let guarded = search(alloc, &edges, &order, &Query::new(Mode::Guarded, 4, 1_000)?)?;
+    assert!(rt; are_all(&guarded, &[&[0, 1]]));
+    let full = search(alloc, &edges, &order, &Query::new(Mode::Full, 4, 1_000)?)?;
+    assert!(rt; are_all(&full, &[]));
+    Ok(())
+}
+
+// A thread is forked while a lock is held: the acquire after the fork may meet it.
+#[test]
+fn fork_while_holding(rt: HostRuntime) -> Result<(), Fail> {
+    let alloc = rt.alloc();
+    let lists = vec![in alloc;
+        vec![in alloc; acq(0, 1), fork(1, 2), acq(1, 3)]?,
+        vec![in alloc; acq(1, 4), acq(0, 5)]?,
+    ]?;
+    assert!(rt; are_lawful(&lists));
+    let edges = edges_of(alloc, &lists)?;
+    let order = Order::of(alloc, &lists)?;
+    let found = search(alloc, &edges, &order, &Query::new(Mode::Full, 4, 1_000)?)?;
+    assert!(rt; are_all(&found, &[&[0, 1]]));
+    Ok(())
+}
+
+// Three threads, each of which takes two of three locks, round.
+#[test]
+fn three_lock_ring(rt: HostRuntime) -> Result<(), Fail> {
+    let alloc = rt.alloc();
+    let lists = vec![in alloc;
+        vec![in alloc; acq(0, 1), acq(1, 2)]?,
+        vec![in alloc; acq(1, 3), acq(2, 4)]?,
+        vec![in alloc; acq(2, 5), acq(0, 6)]?,
+    ]?;
+    assert!(rt; are_lawful(&lists));
+    let edges = edges_of(alloc, &lists)?;
+    let order = Order::of(alloc, &lists)?;
+    let three = search(alloc, &edges, &order, &Query::new(Mode::Full, 3, 1_000)?)?;
+    assert!(rt; are_all(&three, &[&[0, 1, 2]]));
+    let two = search(alloc, &edges, &order, &Query::new(Mode::Full, 2, 1_000)?)?;
+    assert!(rt; are_all(&two, &[]));
+    Ok(())
+}
+
+// A lock that is acquired twice and released once is still held.
+#[test]
+fn reentrant_acquire(rt: HostRuntime) -> Result<(), Fail> {
+    let alloc = rt.alloc();
+    let lists = vec![in alloc;
+        vec![in alloc; acq(0, 1), acq(0, 2), acq(1, 3), rel(0, 4), acq(2, 5)]?,
+        vec![in alloc; acq(2, 6), acq(0, 7)]?,
+    ]?;
+    assert!(rt; are_lawful(&lists));
+    let edges = edges_of(alloc, &lists)?;
+    let order = Order::of(alloc, &lists)?;
+    let found = search(alloc, &edges, &order, &Query::new(Mode::Full, 4, 1_000)?)?;
+    assert!(rt; are_all(&found, &[&[1, 3]]));
+    Ok(())
+}
+
+// One thread takes two locks in both orders, and never meets itself.
+#[test]
+fn one_thread_both_orders(rt: HostRuntime) -> Result<(), Fail> {
+    let alloc = rt.alloc();
+    let lists = vec![in alloc;
+        vec![in alloc;
+            acq(0, 1),
+            acq(1, 2),
+            rel(1, 3),
+            rel(0, 4),
+            acq(1, 5),
+            acq(0, 6)
+        ]?,
+    ]?;
+    assert!(rt; are_lawful(&lists));
+    let edges = edges_of(alloc, &lists)?;
+    let order = Order::of(alloc, &lists)?;
+    for mode in [Mode::Basic, Mode::Guarded, Mode::Full] {
+        let found = search(alloc, &edges, &order, &Query::new(mode, 4, 1_000)?)?;
+        assert!(rt; are_all(&found, &[]));
+    }
+    Ok(())
+}
+
+// Two cycles, of which one is asked for, and then both.
+#[test]
+fn first_of_two_cycles(rt: HostRuntime) -> Result<(), Fail> {
+    let alloc = rt.alloc();
+    let lists = vec![in alloc;
+        vec![in alloc;
+            acq(0, 1),
+            acq(1, 2),
+            rel(1, 3),
+            rel(0, 4),
+            acq(2, 5),
+            acq(3, 6),
+            rel(3, 7),
+            rel(2, 8)
+        ]?,
+        vec![in alloc;
+            acq(1, 9),
+            acq(0, 10),
+            rel(0, 11),
+            rel(1, 12),
+            acq(3, 13),
+            acq(2, 14)
+        ]?,
+    ]?;
+    assert!(rt; are_lawful(&lists));
+    let edges = edges_of(alloc, &lists)?;
+    let order = Order::of(alloc, &lists)?;
+    let one = search(alloc, &edges, &order, &Query::new(Mode::Full, 4, 1)?)?;
+    assert!(rt; are_listed(one.cycles.as_slice(), &[&[0, 2]]));
+    assert!(rt; one.more);
+    let two = search(alloc, &edges, &order, &Query::new(Mode::Full, 4, 2)?)?;
+    assert!(rt; are_all(&two, &[&[0, 2], &[1, 3]]));
+    Ok(())
+}
+
+// Cycles are made from a list of lists and give it back.
+#[test]
+fn cycles_of_lists(rt: HostRuntime) -> Result<(), Fail> {
+    let alloc = rt.alloc();
+    let lists = vec![in alloc; vec![in alloc; 0, 2]?, vec![in alloc; 1, 3]?]?;
+    let cycles = Cycles::from_vec(lists);
+    assert!(rt; are_listed(cycles.as_slice(), &[&[0, 2], &[1, 3]]));
+    assert!(rt; are_listed(&cycles.into_vec(), &[&[0, 2], &[1, 3]]));
+    Ok(())
+}

@@ -1,0 +1,6 @@
+use Rattle.std.proofs.Common.{ℕ, ◌<◌}
+use Rattle.gl_filters.specs.Judging.{picked, IsNotLesserAt}
+use Rattle.gl_filters.proofs.verdict.first_lesser.Given as goal
+
+abbrev pub invariant-loop-i : goal.invariant-loop-i
+invariant-loop-i l = (k : ℕ) → k < l.i → IsNotLesserAt (picked l.table l.cycle) k

@@ -1,0 +1,36 @@
+use Rattle.std.proofs.Common.{◌≡◌, Some, below_more, arith, rules, ap, sym, subst, ◌∙◌}
+use Rattle.std.specs.Prelude.{slice_get}
+use Rattle.std.proofs.lemmas.Option.{same_Some}
+use Rattle.gl_filters.specs.Judging.{picked, following, IsClosedAt}
+use Rattle.gl_edges.specs.declared.edge.Edge.{Edge}
+use Rattle.gl_filters.proofs.Judged.{picked_length}
+use Rattle.gl_filters.proofs.verdict.first_open.Goals as goal
+
+pub returns-then-ne : goal.returns-then-ne
+returns-then-ne c =
+    let same = picked_length c.args.table.now c.args.cycle.now c.requires.within in
+    let next_is = c.next_place-next.ensures.next ∙ ap (λ n. following n c.loop-i.i) (sym same) in
+    record {
+      one = c.edge_at.result.now;
+      next = c.edge_at-in-loop-i.result.now;
+      at_one = c.edge_at.ensures;
+      at_next = subst (λ k. slice_get (picked c.args.table.now c.args.cycle.now) k ≡ Some c.edge_at-in-loop-i.result.now) next_is c.edge_at-in-loop-i.ensures;
+      open_here = search rules;
+      closed_before = c.loop-i.invariant;
+    }
+
+pub loop-i-preserved : goal.loop-i-preserved
+loop-i-preserved c =
+    let same = picked_length c.args.table.now c.args.cycle.now c.requires.within in
+    let next_is = c.next_place-next.ensures.next ∙ ap (λ n. following n c.loop-i.i) (sym same) in
+    below_more (IsClosedAt (picked c.args.table.now c.args.cycle.now)) c.loop-i.i c.loop-i.invariant
+    (λ e f one next.
+    let e_is = same_Some _ e (sym c.edge_at.ensures ∙ one) in
+    let f_is = same_Some _ f (sym c.edge_at-in-loop-i.ensures ∙ ap (slice_get (picked c.args.table.now c.args.cycle.now)) next_is ∙ next) in
+    let equal : c.edge_at.result.now.wanted ≡ c.edge_at-in-loop-i.result.now.held = search rules in
+    ap (λ (x : Edge). x.wanted) (sym e_is) ∙ (equal ∙ ap (λ (x : Edge). x.held) f_is))
+
+pub returns : goal.returns
+returns c = λ i within.
+    let same = picked_length c.args.table.now c.args.cycle.now c.requires.within in
+    c.loop-i.invariant i (omega (arith, same, c.loop-i-test.false))

@@ -1,0 +1,22 @@
+//! What holds of the definitions, for all lists of edges. Each function here does nothing: its
+//! contract is a law.
+ghost use Rattle.std.specs.Prelude.{◌≡◌, ◌≤◌, ◌↔◌, ℕ, Bool, true, List, length};
+ghost use Rattle.gl_edges.specs.declared.edge.Edge.{Edge};
+ghost use Rattle.gl_event.specs.declared.events.Segment.{Segment};
+ghost use Rattle.gl_filters.specs.Asked.{Asked};
+ghost use Rattle.gl_filters.specs.Cycle.{IsCycle};
+ghost use Rattle.gl_filters.specs.Judging.{IsVerdict};
+ghost use Rattle.gl_filters.specs.declared.verdict.Verdict.TheVariants.{Valid};
+ghost use Rattle.gl_filters.specs.Test.{is_cycle};
+ghost use Rattle.gl_filters.specs.declared.query.Mode.{Mode};
+
+/// A list of edges is a cycle of at most so many edges exactly if it is no longer and passes the
+/// test of a cycle, whatever the order of segments is.
+pub fn cycles_are_as_tested()
+    ensures { (before : Segment → Segment → Bool) (mode : Mode) (len : ℕ) (cycle : List Edge) → IsCycle before mode len cycle ↔ ((length cycle ≤ len) × (is_cycle before mode cycle ≡ true)) }
+{}
+
+/// A list of edges has no fault exactly if it is a cycle that the query asks for.
+pub fn valid_lists_are_cycles()
+    ensures { (before : Segment → Segment → Bool) (asked : Asked) (es : List Edge) → IsVerdict before asked es Valid ↔ IsCycle before asked.mode asked.len es }
+{}

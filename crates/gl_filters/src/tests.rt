@@ -1,0 +1,251 @@
+//! Worked examples.
+ghost use Rattle.std.specs.Prelude.{◌≡◌, ◌≢◌, ℕ, ◌<◌, ◌≤◌, List, length, slice_get, None, Some, IsTrue};
+ghost use Rattle.gl_event.specs.Bounds.{greatest};
+ghost use Rattle.gl_event.specs.Lawful.{IsLawful, refusal};
+ghost use Rattle.gl_event.specs.declared.events.Event.{Event};
+ghost use Rattle.gl_segments.specs.Orders.{lists_of};
+
+use crate::pairs::{compatible, goes_with};
+use crate::query::{BadQuery, MAX_CYCLES, MAX_LEN, Mode, Query};
+use crate::verdict::{Verdict, judge};
+use gl_edges::{EdgeList, edges_of};
+use gl_event::{Event, LocId, LockId, MAX_THREADS, ThreadId};
+use gl_segments::Order;
+use std::test::Fail;
+
+// An acquire.
+fn acq(lock: u32, loc: u32) -> Event {
+    Event::Acquire {
+        lock: LockId::new(lock),
+        loc: LocId::new(loc),
+    }
+}
+
+// A fork.
+fn fork(thread: u32, loc: u32) -> Event {
+    Event::Fork {
+        thread: ThreadId::new(thread),
+        loc: LocId::new(loc),
+    }
+}
+
+// A join.
+fn join(thread: u32, loc: u32) -> Event {
+    Event::Join {
+        thread: ThreadId::new(thread),
+        loc: LocId::new(loc),
+    }
+}
+
+// Whether the thread may fork or join the other one.
+fn is_other(thread: ThreadId, other: ThreadId) -> bool
+    ensures known { IsTrue result → other < 1024 }
+    ensures apart { IsTrue result → other ≢ thread }
+{
+    if other.number() >= MAX_THREADS {
+        return false;
+    }
+    other.number() != thread.number()
+}
+
+// Whether the event may come next in a short list of the thread's.
+fn is_allowed(thread: ThreadId, event: Event) -> bool
+    ensures { IsTrue result → (es : List Event) → length es < 64 → refusal greatest thread es event ≡ None }
+{
+    match event {
+        Event::Acquire { .. } => true,
+        Event::Release { .. } => false,
+        Event::Fork { thread: other, .. } => is_other(thread, other),
+        Event::Join { thread: other, .. } => is_other(thread, other),
+    }
+}
+
+// Whether the list is short, releases nothing and is lawful under the greatest limits.
+fn is_lawful(thread: ThreadId, list: &[Event]) -> bool
+    ensures { IsTrue result → IsLawful greatest thread list.now }
+{
+    if list.len() > 64 {
+        return false;
+    }
+    for event in list {
+        if !is_allowed(thread, *event) {
+            return false;
+        }
+    }
+    true
+}
+
+// Whether there are few enough lists, and each is short, releases nothing and is lawful.
+fn are_lawful(lists: &[Vec<Event>]) -> bool
+    ensures few { IsTrue result → length lists.now ≤ 1024 }
+    ensures lawful { IsTrue result → (thread : ℕ) (es : List Event) → slice_get (lists_of lists.now) thread ≡ Some es → IsLawful greatest thread es }
+{
+    if lists.len() > 1024 {
+        return false;
+    }
+    for (number, list) in lists.iter().enumerate() {
+        if !is_lawful(ThreadId::new(number as u32), list.as_slice()) {
+            return false;
+        }
+    }
+    true
+}
+
+fn is_refused(query: Result<Query, BadQuery>, wanted: BadQuery) -> bool {
+    match query {
+        Ok(_) => false,
+        Err(found) => found == wanted,
+    }
+}
+
+// The length is looked at before the number of cycles.
+#[test]
+fn query_refused(rt: HostRuntime) -> Result<(), Fail> {
+    assert!(rt; is_refused(Query::new(Mode::Basic, 1, 0), BadQuery::Len));
+    assert!(rt; is_refused(Query::new(Mode::Basic, 2, 0), BadQuery::Max));
+    assert!(rt; is_refused(Query::new(Mode::Full, 17, 1), BadQuery::Len));
+    assert!(rt; is_refused(Query::new(Mode::Full, 16, 100_001), BadQuery::Max));
+    assert!(rt; Query::new(Mode::Basic, 2, 1).is_ok());
+    match Query::new(Mode::Guarded, MAX_LEN, MAX_CYCLES) {
+        Ok(query) => {
+            assert!(rt; query.mode() == Mode::Guarded);
+            assert!(rt; query.len() == 16);
+            assert!(rt; query.max() == 100_000);
+        }
+        Err(_) => assert!(rt; false),
+    }
+    Ok(())
+}
+
+// M (thread 0) joins T0 (thread 1) before it forks T1 (thread 2), and these take two locks in
+// opposite orders: only Full sees that they never wait for each other.
+#[test]
+fn ordered_or_shared_guard(rt: HostRuntime) -> Result<(), Fail> {
+    let alloc = rt.alloc();
+    let lists = vec![in alloc;
+        vec![in alloc; fork(1, 1), join(1, 2), fork(2, 3)]?,
+        vec![in alloc; acq(0, 4), acq(1, 5)]?,
+        vec![in alloc; acq(1, 6), acq(0, 7)]?,
+    ]?;
+    assert!(rt; are_lawful(&lists));
+    let order = Order::of(alloc, &lists)?;
+    let edges = edges_of(alloc, &lists)?;
+    match edges.entries() {
+        [(e, _), (f, _)] => {
+            assert!(rt; compatible(Mode::Basic, &order, e, f));
+            assert!(rt; compatible(Mode::Guarded, &order, e, f));
+            assert!(rt; compatible(Mode::Guarded, &order, f, e));
+            assert!(rt; !compatible(Mode::Full, &order, e, f));
+            assert!(rt; !compatible(Mode::Full, &order, f, e));
+            assert!(rt; goes_with(Mode::Guarded, &order, e, f));
+            assert!(rt; !goes_with(Mode::Full, &order, e, f));
+        }
+        _ => assert!(rt; false),
+    }
+    if let (Ok(full), Ok(guarded)) = (
+        Query::new(Mode::Full, 4, 1),
+        Query::new(Mode::Guarded, 4, 1),
+    ) {
+        assert!(rt; is_judged(&full, &order, &edges, &[0, 1], Verdict::Ordered(0, 1)));
+        assert!(rt; is_judged(&guarded, &order, &edges, &[0, 1], Verdict::Valid));
+    } else {
+        assert!(rt; false);
+    }
+    Ok(())
+}
+
+// Two threads take locks 1 and 2 in opposite orders, but both hold lock 0: a gate lock.
+#[test]
+fn gate_lock(rt: HostRuntime) -> Result<(), Fail> {
+    let alloc = rt.alloc();
+    let lists = vec![in alloc;
+        vec![in alloc; acq(0, 1), acq(1, 2), acq(2, 3)]?,
+        vec![in alloc; acq(0, 7), acq(2, 8), acq(1, 9)]?,
+    ]?;
+    assert!(rt; are_lawful(&lists));
+    let order = Order::of(alloc, &lists)?;
+    let edges = edges_of(alloc, &lists)?;
+    match edges.entries() {
+        [_, _, (e, _), _, (d, _), (f, _)] => {
+            assert!(rt; compatible(Mode::Basic, &order, e, f));
+            assert!(rt; compatible(Mode::Basic, &order, f, e));
+            assert!(rt; !compatible(Mode::Guarded, &order, e, f));
+            assert!(rt; !compatible(Mode::Full, &order, e, f));
+            // The edges d and f are of one thread, and e leads on to no edge from lock 0.
+            assert!(rt; !compatible(Mode::Basic, &order, d, f));
+            assert!(rt; !compatible(Mode::Basic, &order, e, d));
+            assert!(rt; goes_with(Mode::Basic, &order, e, d));
+            assert!(rt; !goes_with(Mode::Basic, &order, d, f));
+        }
+        _ => assert!(rt; false),
+    }
+    let gate = Verdict::SharedGuard(0, 1, LockId::new(0));
+    if let (Ok(guarded), Ok(basic)) = (
+        Query::new(Mode::Guarded, 4, 1),
+        Query::new(Mode::Basic, 4, 1),
+    ) {
+        assert!(rt; is_judged(&guarded, &order, &edges, &[2, 5], gate));
+        assert!(rt; is_judged(&basic, &order, &edges, &[2, 5], Verdict::Valid));
+    } else {
+        assert!(rt; false);
+    }
+    Ok(())
+}
+
+// Whether the verdict on the edges at these positions is this one.
+fn is_judged(
+    query: &Query,
+    order: &Order,
+    edges: &EdgeList,
+    cycle: &[usize],
+    wanted: Verdict,
+) -> bool {
+    let count = edges.entries().len();
+    if !cycle.iter().all(|p| *p < count) {
+        return false;
+    }
+    judge(query, order, edges, cycle) == wanted
+}
+
+// The edges are 0 to 1, 0 to 2 and 1 to 2 of the first thread, and 2 to 0 of the second.
+#[test]
+fn judge_by_cases(rt: HostRuntime) -> Result<(), Fail> {
+    let alloc = rt.alloc();
+    let lists = vec![in alloc;
+        vec![in alloc; acq(0, 1), acq(0, 2), acq(1, 3), acq(2, 4)]?,
+        vec![in alloc; acq(2, 5), acq(0, 6)]?,
+    ]?;
+    assert!(rt; are_lawful(&lists));
+    let order = Order::of(alloc, &lists)?;
+    let edges = edges_of(alloc, &lists)?;
+    if let (Ok(query), Ok(short)) = (Query::new(Mode::Full, 4, 1), Query::new(Mode::Full, 2, 1)) {
+        assert!(rt; is_judged(&query, &order, &edges, &[], Verdict::TooShort));
+        assert!(rt; is_judged(&query, &order, &edges, &[1], Verdict::TooShort));
+        assert!(rt; is_judged(&query, &order, &edges, &[0, 3], Verdict::NotClosed(0)));
+        assert!(rt; is_judged(&query, &order, &edges, &[2, 3], Verdict::NotClosed(1)));
+        assert!(rt;
+            is_judged(
+                &query,
+                &order,
+                &edges,
+                &[1, 3, 1, 3],
+                Verdict::SameLock(0, 2)
+            )
+        );
+        assert!(rt;
+            is_judged(
+                &query,
+                &order,
+                &edges,
+                &[0, 2, 3],
+                Verdict::SameThread(0, 1)
+            )
+        );
+        assert!(rt; is_judged(&query, &order, &edges, &[3, 1], Verdict::NotLeast(1)));
+        assert!(rt; is_judged(&query, &order, &edges, &[1, 3], Verdict::Valid));
+        assert!(rt; is_judged(&short, &order, &edges, &[0, 2, 3], Verdict::TooLong));
+    } else {
+        assert!(rt; false);
+    }
+    Ok(())
+}

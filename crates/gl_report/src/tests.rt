@@ -1,0 +1,168 @@
+//! Worked reports, with edges and cycles as they are found in the texts that give the names.
+ghost use Rattle.std.specs.Prelude.{IsTrue};
+ghost use Rattle.gl_edges.specs.Order.{IsAboveLast};
+
+use crate::text;
+use gl_cycles::{Cycles, Found, Report};
+use gl_edges::{Edge, EdgeList, Guards, Sample};
+use gl_event::{Limits, LocId, LockId, Memory, ThreadId};
+use gl_filters::{Mode, Query};
+use gl_std::{Names, read_trace};
+use std::alloc::Global;
+use std::cmp::Ordering;
+use std::process::Abort;
+use std::test::Fail;
+
+// The names that a text gives.
+fn names_of(alloc: Global, lines: &[u8]) -> Result<Names, Fail> {
+    let limits = Limits::new(1_024, 65_536, 4_000_000_000, 4_000_000_000)?;
+    Ok(read_trace(alloc, lines, &limits)?.names)
+}
+
+// An edge with its locations: thread, held lock, wanted lock, and where each was acquired.
+#[derive(Clone, Copy)]
+struct EdgeRow {
+    thread: u32,
+    held: u32,
+    wanted: u32,
+    held_loc: u32,
+    wanted_loc: u32,
+}
+
+fn row(thread: u32, held: u32, wanted: u32, held_loc: u32, wanted_loc: u32) -> EdgeRow {
+    EdgeRow {
+        thread,
+        held,
+        wanted,
+        held_loc,
+        wanted_loc,
+    }
+}
+
+// Whether the edge is above the last one.
+fn is_above(pairs: &[(Edge, Sample)], edge: &Edge) -> bool
+    ensures { IsTrue result → IsAboveLast pairs.now edge.now }
+{
+    match pairs.last() {
+        Some(pair) => pair.0.cmp(edge) == Ordering::Less,
+        None => true,
+    }
+}
+
+// Appends the edge where it is above the last one.
+fn add(alloc: Global, list: &mut EdgeList, row: &EdgeRow) -> Result<bool, Memory> {
+    let held = LockId::new(row.held);
+    let edge = Edge {
+        thread: ThreadId::new(row.thread),
+        held,
+        wanted: LockId::new(row.wanted),
+        first: 0,
+        second: 0,
+        guards: Guards::new(vec![in alloc; held]?),
+    };
+    if !is_above(list.entries(), &edge) {
+        return Ok(false);
+    }
+    let sample = Sample {
+        place: 1,
+        held_loc: LocId::new(row.held_loc),
+        wanted_loc: LocId::new(row.wanted_loc),
+    };
+    list.push(edge, sample)?;
+    Ok(true)
+}
+
+// The report of these edges and these cycles has this text.
+fn expect_text(
+    rt: &impl Abort,
+    alloc: Global,
+    lines: &[u8],
+    rows: &[EdgeRow],
+    cycles: Vec<Vec<usize>>,
+    more: bool,
+    want: &[u8],
+) -> Result<(), Fail> {
+    let names = names_of(alloc, lines)?;
+    let mut edges = EdgeList::new(alloc);
+    for row in rows {
+        assert!(rt; add(alloc, &mut edges, row)?);
+    }
+    let report = Report {
+        query: Query::new(Mode::Full, 4, 1_000)?,
+        edges,
+        found: Found {
+            cycles: Cycles::from_vec(cycles),
+            more,
+        },
+    };
+    let printed = text(alloc, &names, &report)?;
+    assert_eq!(rt; printed.as_slice(), want);
+    Ok(())
+}
+
+#[test]
+fn empty_input(rt: HostRuntime) -> Result<(), Fail> {
+    let alloc = rt.alloc();
+    expect_text(&rt, alloc, b"", &[], Vec::new(alloc), false, b"cycles: 0\n")
+}
+
+#[test]
+fn opposite_order(rt: HostRuntime) -> Result<(), Fail> {
+    let alloc = rt.alloc();
+    expect_text(
+        &rt,
+        alloc,
+        b"T0|acq(a)|1\nT0|acq(b)|2\nT0|rel(b)|3\nT0|rel(a)|4\nT1|acq(b)|5\nT1|acq(a)|6\n",
+        &[row(0, 0, 1, 0, 1), row(1, 1, 0, 4, 5)],
+        vec![in alloc; vec![in alloc; 0, 1]?]?,
+        false,
+        b"cycle 1: 2 edges\n  T0 holds a since 1 wants b at 2\n  T1 holds b since 5 wants a at 6\ncycles: 1\n",
+    )
+}
+
+// Names are printed as their bytes: a bar, a backslash, bytes that are no text, no byte at all, and
+// the CR of a last line without LF.
+#[test]
+fn odd_bytes(rt: HostRuntime) -> Result<(), Fail> {
+    let alloc = rt.alloc();
+    expect_text(
+        &rt,
+        alloc,
+        b"T 0|acq(\\)|A.java:7|x\nT 0|acq(\xc3\xa9)|\n\xff|acq(\xc3\xa9)|\"\n\xff|acq(\\)|6\r",
+        &[row(0, 0, 1, 0, 1), row(1, 1, 0, 2, 3)],
+        vec![in alloc; vec![in alloc; 0, 1]?]?,
+        false,
+        b"cycle 1: 2 edges\n  T 0 holds \\ since A.java:7|x wants \xc3\xa9 at \n  \xff holds \xc3\xa9 since \" wants \\ at 6\r\ncycles: 1\n",
+    )
+}
+
+#[test]
+fn first_of_two_cycles(rt: HostRuntime) -> Result<(), Fail> {
+    let alloc = rt.alloc();
+    let lines =
+        b"T0|acq(a)|1\nT0|acq(b)|2\nT0|rel(b)|3\nT0|rel(a)|4\nT0|acq(c)|5\nT0|acq(d)|6\nT0|rel(d)|7\nT0|rel(c)|8\nT1|acq(b)|9\nT1|acq(a)|10\nT1|rel(a)|11\nT1|rel(b)|12\nT1|acq(d)|13\nT1|acq(c)|14\n";
+    let rows = [
+        row(0, 0, 1, 0, 1),
+        row(0, 2, 3, 4, 5),
+        row(1, 1, 0, 8, 9),
+        row(1, 3, 2, 12, 13),
+    ];
+    expect_text(
+        &rt,
+        alloc,
+        lines,
+        &rows,
+        vec![in alloc; vec![in alloc; 0, 2]?]?,
+        true,
+        b"cycle 1: 2 edges\n  T0 holds a since 1 wants b at 2\n  T1 holds b since 9 wants a at 10\ncycles: 1 (more)\n",
+    )?;
+    expect_text(
+        &rt,
+        alloc,
+        lines,
+        &rows,
+        vec![in alloc; vec![in alloc; 0, 2]?, vec![in alloc; 1, 3]?]?,
+        false,
+        b"cycle 1: 2 edges\n  T0 holds a since 1 wants b at 2\n  T1 holds b since 9 wants a at 10\ncycle 2: 2 edges\n  T0 holds c since 5 wants d at 6\n  T1 holds d since 13 wants c at 14\ncycles: 2\n",
+    )
+}

@@ -1,0 +1,253 @@
+-- A world's rows and its state, step by step.
+use Rattle.std.proofs.Common.{◌≡◌, ◌≢◌, ℕ, zero, suc, ◌+◌, ◌<◌, ◌≤◌, List, [], ◌∷◌, ◌++◌, length, map, set, get_or, Option, Some, None, refl, sym, ap, ◌∙◌, arith, subst, take, Vec, Global, ◌⊎◌, inl, inr}
+use Rattle.std.specs.Prelude.{slice_get}
+use Rattle.std.specs.Option.{option_map}
+use Rattle.std.proofs.lemmas.Bool.{cases_eq, eq-eqb, ne_eqb}
+use Rattle.std.proofs.lemmas.List.{take_all, length-map, map-set}
+use Rattle.std.proofs.lemmas.Option.{slice_get-map, slice_get_past, slice_get_within, get_or_from_slice_get}
+use Rattle.gl_event.specs.Bounds.{Bounds}
+use Rattle.gl_event.specs.declared.events.Event.{Event}
+use Rattle.gl_event.specs.declared.notes.Note.{Note}
+use Rattle.gl_intake.specs.Stream.{note_refusal, accepted_as}
+use Rattle.gl_intake.specs.declared.notes.Refused.{Refused as Reason}
+use Rattle.gl_intake.specs.declared.notes.Refused.TheVariants.{Memory}
+use Rattle.gl_intake.proofs.Next.{none_of_next}
+use Rattle.gl_world.specs.Machine.{Lane, State, Turn, Moved, fresh_lane, take_turn, end_turn, pop_note, turned, idle, pull_note, again_note, step, run}
+use Rattle.gl_world.specs.Keeping.{Keeper, AreKeepers, IsSound, IsWorld, lanes_of}
+use Rattle.gl_world.specs.declared.steps.Step.{Step}
+use Rattle.gl_world.specs.declared.steps.Step.TheVariants.{Take, End, Pull, Again}
+use Rattle.gl_world.specs.declared.steps.Did.{Did}
+use Rattle.gl_world.specs.declared.steps.Did.TheVariants.{Pulled, Refused}
+use Rattle.gl_world.proofs.Sound.{take_more, sound_start, get_set_same, get_set_other, front_is_next, other_isnt_next}
+use Rattle.gl_world.proofs.Schedules.{sound_step, run_push}
+
+abbrev pub state_of : Bounds → ℕ → List Keeper → List Note → State
+state_of limits shards keepers stream = record { limits = limits; shards = shards; lanes = lanes_of keepers; stream = stream }
+
+pub found_within : {X : Type 0} (xs : List X) (i : ℕ) → i < length xs → (x : X) × (slice_get xs i ≡ Some x)
+found_within [] i h = absurd (omega arith)
+found_within (x ∷ xs) zero h = (x, refl)
+found_within (x ∷ xs) (suc i) h = found_within xs i (omega arith)
+
+pub get_at : {X : Type 0} (xs : List X) (i : ℕ) (x : X) → i < length xs → x ≡ get_or xs i x → slice_get xs i ≡ Some x
+get_at [] i x h is = absurd (omega arith)
+get_at (y ∷ xs) zero x h is = ap Some (sym is)
+get_at (y ∷ xs) (suc i) x h is = get_at xs i x (omega arith) is
+
+-- ---- one step of a state, case by case
+
+module _ (s : State) (thread : ℕ) where
+  pub take_unknown : length s.lanes ≤ thread → step s (Take thread) ≡ idle s
+  unfolding step
+  take_unknown strange = rw (slice_get_past s.lanes thread strange)
+
+  pub end_unknown : length s.lanes ≤ thread → step s (End thread) ≡ idle s
+  unfolding step
+  end_unknown strange = rw (slice_get_past s.lanes thread strange)
+
+  pub pull_unknown : length s.lanes ≤ thread → step s (Pull thread) ≡ idle s
+  unfolding step
+  pull_unknown strange = rw (slice_get_past s.lanes thread strange)
+
+  pub again_unknown : (place : ℕ) → length s.lanes ≤ thread → step s (Again thread place) ≡ idle s
+  unfolding step
+  again_unknown place strange = rw (slice_get_past s.lanes thread strange)
+
+  module _ (lane : Lane) (at : slice_get s.lanes thread ≡ Some lane) where
+    take_known : step s (Take thread) ≡ turned s thread (take_turn s.limits thread lane)
+    unfolding step
+    take_known = rw at
+
+    end_known : step s (End thread) ≡ turned s thread (end_turn s.limits thread lane)
+    unfolding step
+    end_known = rw at
+
+    pub pull_known : (note : Option Note) → slice_get lane.pushed lane.popped ≡ note → step s (Pull thread) ≡ pull_note s thread lane note
+    unfolding step
+    pull_known found is = rw (at, is)
+
+    pub again_known : (place : ℕ) (note : Option Note) → slice_get lane.pushed place ≡ note → step s (Again thread place) ≡ again_note s lane place note
+    unfolding step
+    again_known place found is = rw (at, is)
+
+    same_by : (place : ℕ) → place ≡ lane.popped → (note : Option Note) → again_note s lane place note ≡ idle s
+    same_by place same None = refl
+    same_by place same (Some note) = rw (eq-eqb place lane.popped same)
+
+    pub again_same : (place : ℕ) → place ≡ lane.popped → step s (Again thread place) ≡ idle s
+    again_same place same = again_known place (slice_get lane.pushed place) refl ∙ same_by place same (slice_get lane.pushed place)
+
+-- a note that isn't the next of its lane is refused
+pub refused_as : (s : State) → IsSound s → (thread place : ℕ) (note : Note) → thread < length s.lanes
+    → ((lane : Lane) → slice_get s.lanes thread ≡ Some lane → place ≢ lane.popped) → ((lane : Lane) → slice_get s.lanes thread ≡ Some lane → slice_get lane.pushed place ≡ Some note)
+    → (why : Reason) → note_refusal s.limits s.stream note ≡ Some why → (let m : Moved = record { after = s; did = Refused why } in step s (Again thread place) ≡ m)
+refused_as s sound thread place note known other there why is =
+    let found = found_within s.lanes thread known in
+    again_known s thread found.0 found.1 place (Some note) (there found.0 found.1) ∙ rw (ne_eqb place found.0.popped (other found.0 found.1), is)
+
+pub never_next : (s : State) → IsSound s → (thread place : ℕ) (note : Note) → thread < length s.lanes
+    → ((lane : Lane) → slice_get s.lanes thread ≡ Some lane → place ≢ lane.popped) → ((lane : Lane) → slice_get s.lanes thread ≡ Some lane → slice_get lane.pushed place ≡ Some note)
+    → note_refusal s.limits s.stream note ≢ None
+never_next s sound thread place note known other there =
+    let found = found_within s.lanes thread known in
+    other_isnt_next s.limits thread s.stream found.0 (sound.lanes thread found.0 found.1) place note (there found.0 found.1) (other found.0 found.1)
+
+-- the next note of a lane is next in the stream
+pub front_allowed : (s : State) → IsSound s → (thread : ℕ) (note : Note) → thread < length s.lanes
+    → ((lane : Lane) → slice_get s.lanes thread ≡ Some lane → slice_get lane.pushed lane.popped ≡ Some note) → note_refusal s.limits s.stream note ≡ None
+front_allowed s sound thread note known front =
+    let found = found_within s.lanes thread known in
+    none_of_next s.limits s.stream note (front_is_next s.limits thread s.stream found.0 (sound.lanes thread found.0 found.1) found.0.popped note (front found.0 found.1) refl)
+
+-- a note that is next is refused for want of memory alone
+pub refused_for_memory : (r : Option Reason) (why : Reason) → r ≡ None → (r ≡ Some why) ⊎ ((r ≡ None) × (why ≡ Memory)) → why ≡ Memory
+refused_for_memory r why none (inl some) = absurd (let e : None ≡ Some why = sym none ∙ some in cc)
+refused_for_memory r why none (inr both) = both.1
+
+pub refused_for_cause : (r : Option Reason) (why : Reason) → r ≢ None → (r ≡ Some why) ⊎ ((r ≡ None) × (why ≡ Memory)) → r ≡ Some why
+refused_for_cause r why some (inl is) = is
+refused_for_cause r why some (inr both) = absurd (some both.0)
+
+-- one step more of a list
+pub run_next : (s now new : State) (steps : List Step) (i : ℕ) (x : Step) (did : Did) → now ≡ run s (take i steps) → slice_get steps i ≡ Some x
+    → (let m : Moved = record { after = new; did = did } in step now x ≡ m) → new ≡ run s (take (i + 1) steps)
+run_next s now new steps i x did is at moved =
+    sym (ap (λ (m : Moved). m.after) moved) ∙ ap (λ (q : State). (step q x).after) is ∙ sym (run_push s (take i steps) x) ∙ ap (run s) (sym (take_more steps i x at))
+
+pub run_all : (s : State) (steps : List Step) (i : ℕ) → length steps ≤ i → run s (take i steps) ≡ run s steps
+run_all s steps i all = ap (run s) (take_all i steps all)
+
+pub get_in : {X : Type 0} (xs : List X) (i : ℕ) (d : X) → i < length xs → slice_get xs i ≡ Some (get_or xs i d)
+get_in [] i d h = absurd (omega arith)
+get_in (x ∷ xs) zero d h = refl
+get_in (x ∷ xs) (suc i) d h = get_in xs i d (omega arith)
+
+-- ---- one row changed
+
+module _ (limits : Bounds) (shards : ℕ) (keepers : List Keeper) (stream : List Note) (collecting : Bounds) (world : IsWorld limits shards keepers stream collecting)
+    (i : ℕ) (was : Keeper) (within : i < length keepers) (here : was ≡ get_or keepers i was) where
+  row_at : slice_get keepers i ≡ Some was
+  row_at = get_at keepers i was within here
+
+  pub lane_at : slice_get (lanes_of keepers) i ≡ Some was.lane
+  lane_at = slice_get-map (λ k. k.lane) keepers i ∙ ap (option_map (λ (k : Keeper). k.lane)) row_at
+
+  -- the state has no other lane of this thread
+  pub lane_is : (s : State) → state_of limits shards keepers stream ≡ s → (lane : Lane) → slice_get s.lanes i ≡ Some lane → lane ≡ was.lane
+  lane_is s e lane found =
+      let here : slice_get s.lanes i ≡ Some was.lane = subst (λ (s : State). slice_get s.lanes i ≡ Some was.lane) e lane_at in
+      let same : Some lane ≡ Some was.lane = sym found ∙ here in
+      cc
+
+  own : was.thread ≡ i
+  own = world.keeping.in_place i was row_at
+
+  own_limits : was.limits ≡ limits
+  own_limits = world.keeping.same_limits i was row_at
+
+  found_now : (now : Keeper) (t : ℕ) (k : Keeper) → i ≡ t → slice_get (set keepers i now) t ≡ Some k → k ≡ now
+  found_now now t k same at =
+      let is : Some k ≡ Some now = sym at ∙ ap (slice_get (set keepers i now)) (sym same) ∙ get_set_same keepers i now within in
+      cc
+
+  keeping_set : (now : Keeper) → now.thread ≡ was.thread → now.limits ≡ was.limits → AreKeepers limits (set keepers i now)
+  keeping_set now thread_is limits_is = record {
+    in_place = λ t k at.
+        elim (cases_eq i t) [
+          | inl same ↦ (let is = found_now now t k same at in rw is (thread_is ∙ own ∙ same))
+          | inr other ↦ world.keeping.in_place t k (sym (get_set_other keepers i t now other) ∙ at)
+        ];
+    same_limits = λ t k at.
+        elim (cases_eq i t) [
+          | inl same ↦ (let is = found_now now t k same at in rw is (limits_is ∙ own_limits))
+          | inr other ↦ world.keeping.same_limits t k (sym (get_set_other keepers i t now other) ∙ at)
+        ];
+  }
+
+  moved_as : (turn : Turn) (now : Keeper) (did : Did) → now.lane ≡ turn.lane → did ≡ turn.did
+      → (let m : Moved = record { after = state_of limits shards (set keepers i now) stream; did = did } in turned (state_of limits shards keepers stream) i turn ≡ m)
+  moved_as turn now did lane_is did_is = rw (map-set (λ (k : Keeper). k.lane) keepers i now, lane_is, did_is)
+
+  pub take_moved : (now : Keeper) (did : Did) → now ≡ record was { lane = (take_turn was.limits was.thread was.lane).lane } → did ≡ (take_turn was.limits was.thread was.lane).did
+      → (let m : Moved = record { after = state_of limits shards (set keepers i now) stream; did = did } in step (state_of limits shards keepers stream) (Take i) ≡ m)
+  take_moved now did is says =
+      let same : take_turn was.limits was.thread was.lane ≡ take_turn limits i was.lane = rw (own, own_limits) in
+      take_known (state_of limits shards keepers stream) i was.lane lane_at
+      ∙ moved_as (take_turn limits i was.lane) now did (ap (λ (k : Keeper). k.lane) is ∙ ap (λ (t : Turn). t.lane) same) (says ∙ ap (λ (t : Turn). t.did) same)
+
+  pub end_moved : (now : Keeper) (did : Did) → now ≡ record was { lane = (end_turn was.limits was.thread was.lane).lane } → did ≡ (end_turn was.limits was.thread was.lane).did
+      → (let m : Moved = record { after = state_of limits shards (set keepers i now) stream; did = did } in step (state_of limits shards keepers stream) (End i) ≡ m)
+  end_moved now did is says =
+      let same : end_turn was.limits was.thread was.lane ≡ end_turn limits i was.lane = rw (own, own_limits) in
+      end_known (state_of limits shards keepers stream) i was.lane lane_at
+      ∙ moved_as (end_turn limits i was.lane) now did (ap (λ (k : Keeper). k.lane) is ∙ ap (λ (t : Turn). t.lane) same) (says ∙ ap (λ (t : Turn). t.did) same)
+
+  pub pull_moved : (note : Note) → slice_get was.lane.pushed was.lane.popped ≡ Some note → (now : Keeper) → now ≡ record was { lane = pop_note was.lane }
+      → (let m : Moved = record { after = state_of limits shards (set keepers i now) (stream ++ note ∷ []); did = Pulled (accepted_as note.place note.body) } in
+      step (state_of limits shards keepers stream) (Pull i) ≡ m)
+  pull_moved note front now is = pull_known (state_of limits shards keepers stream) i was.lane lane_at (Some note) front ∙ rw (map-set (λ (k : Keeper). k.lane) keepers i now, is)
+
+  -- the world after a step that changed this row
+  world_after : (x : Step) (now : Keeper) (after : List Note) (did : Did)
+      → (let m : Moved = record { after = state_of limits shards (set keepers i now) after; did = did } in step (state_of limits shards keepers stream) x ≡ m)
+      → now.thread ≡ was.thread → now.limits ≡ was.limits → IsWorld limits shards (set keepers i now) after collecting
+  world_after x now after did is thread_is limits_is = record {
+    sound = subst (λ (m : Moved). IsSound m.after) is (sound_step (state_of limits shards keepers stream) world.sound x);
+    keeping = keeping_set now thread_is limits_is;
+    same_limits = world.same_limits;
+  }
+
+  pub take_world : (now : Keeper) (did : Did) → now ≡ record was { lane = (take_turn was.limits was.thread was.lane).lane } → did ≡ (take_turn was.limits was.thread was.lane).did
+      → IsWorld limits shards (set keepers i now) stream collecting
+  take_world now did is says = world_after (Take i) now stream did (take_moved now did is says) (ap (λ (k : Keeper). k.thread) is) (ap (λ (k : Keeper). k.limits) is)
+
+  pub end_world : (now : Keeper) (did : Did) → now ≡ record was { lane = (end_turn was.limits was.thread was.lane).lane } → did ≡ (end_turn was.limits was.thread was.lane).did
+      → IsWorld limits shards (set keepers i now) stream collecting
+  end_world now did is says = world_after (End i) now stream did (end_moved now did is says) (ap (λ (k : Keeper). k.thread) is) (ap (λ (k : Keeper). k.limits) is)
+
+  pub pull_world : (note : Note) → slice_get was.lane.pushed was.lane.popped ≡ Some note → (now : Keeper) → now ≡ record was { lane = pop_note was.lane }
+      → IsWorld limits shards (set keepers i now) (stream ++ note ∷ []) collecting
+  pull_world note front now is =
+      world_after (Pull i) now (stream ++ note ∷ []) (Pulled (accepted_as note.place note.body)) (pull_moved note front now is) (ap (λ (k : Keeper). k.thread) is) (ap (λ (k : Keeper). k.limits) is)
+
+-- ---- fresh rows
+
+-- a row of this thread under these limits
+abbrev pub IsFreshRow : Bounds → ℕ → Keeper → Type 0
+IsFreshRow limits thread keeper = (keeper.thread ≡ thread) × (keeper.limits ≡ limits)
+
+pub all_fresh : (limits : Bounds) (keepers : List Keeper) → ((i : ℕ) (d : Keeper) → i < length keepers → IsFreshRow limits i (get_or keepers i d)) → AreKeepers limits keepers
+all_fresh limits keepers each = record {
+  in_place = λ t k found. (let is = each t k (slice_get_within keepers t k found) in rw (get_or_from_slice_get keepers t k k found) at is.0);
+  same_limits = λ t k found. (let is = each t k (slice_get_within keepers t k found) in rw (get_or_from_slice_get keepers t k k found) at is.1);
+}
+
+pub nothing_left : {X : Type 0} (xs : List X) → length xs ≡ 0 → xs ≡ []
+nothing_left [] h = refl
+nothing_left (x ∷ xs) h = absurd (omega arith)
+
+map_push : {X Y : Type 0} (f : X → Y) (xs : List X) (x : X) → map f (xs ++ x ∷ []) ≡ map f xs ++ f x ∷ []
+map_push f [] x = refl
+map_push f (y ∷ xs) x = ap (λ ys. f y ∷ ys) (map_push f xs x)
+
+pub lanes_push : {X : Type 0} (f : X → Lane) (keepers : List Keeper) (k : Keeper) (lists : List X) (x : X) → lanes_of keepers ≡ map f lists → k.lane ≡ f x
+    → lanes_of (keepers ++ k ∷ []) ≡ map f (lists ++ x ∷ [])
+lanes_push f keepers k lists x so_far is =
+    let ends : lanes_of keepers ++ k.lane ∷ [] ≡ map f lists ++ f x ∷ [] = rw (so_far, is) in
+    map_push (λ (k : Keeper). k.lane) keepers k ∙ ends ∙ sym (map_push f lists x)
+
+pub fresh_lists : (lists : List (Vec Event Global)) → map fresh_lane (map (λ v. v.items) lists) ≡ map (λ v. fresh_lane v.items) lists
+fresh_lists [] = refl
+fresh_lists (v ∷ lists) = ap (λ ls. fresh_lane v.items ∷ ls) (fresh_lists lists)
+
+-- a new world
+pub world_new : (limits : Bounds) (shards : ℕ) (keepers : List Keeper) (lists : List (Vec Event Global)) → length lists ≡ limits.threads → AreKeepers limits keepers
+    → lanes_of keepers ≡ map (λ v. fresh_lane v.items) lists → IsWorld limits shards keepers [] limits
+world_new limits shards keepers lists count keeping lanes_are =
+    let same : map fresh_lane (map (λ (v : Vec Event Global). v.items) lists) ≡ lanes_of keepers = fresh_lists lists ∙ sym lanes_are in
+    record {
+      sound = subst (λ (ls : List Lane). IsSound (let s : State = record { limits = limits; shards = shards; lanes = ls; stream = [] } in s)) same
+          (sound_start limits shards (map (λ (v : Vec Event Global). v.items) lists) (length-map lists (λ (v : Vec Event Global). v.items) ∙ count));
+      keeping = keeping;
+      same_limits = refl;
+    }

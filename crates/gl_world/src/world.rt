@@ -1,0 +1,233 @@
+//! Recorders, their lanes and a collector, step by step.
+ghost use Rattle.std.specs.Prelude.{◌≡◌, ◌≢◌, ◌<◌, ◌≤◌, ℕ, List, length, map, take, Some, None, OnOk, OnErr, IfOk, IfErr, slice_get};
+ghost use Rattle.gl_intake.specs.Stream.{events_of, AreInOrder};
+ghost use Rattle.gl_world.specs.Machine.{State, Lane, start, step, run, taken_of, fresh_lane, IsPrefixOf};
+ghost use Rattle.gl_world.specs.Keeping.{AreKeepers, lanes_of};
+ghost use Rattle.gl_world.specs.declared.steps.Step.TheVariants.{Take, End, Pull, Again};
+
+use crate::row::Row;
+use crate::steps::{Did, Step};
+use gl_event::{Event, Limits, Memory, Note, ThreadId};
+use gl_intake::{Intake, Refused};
+use std::alloc::{AllocError, Global};
+use std::marker::Model;
+
+/// The most shards.
+pub const MAX_SHARDS: u32 = 16;
+
+/// A recorder with a lane for each thread, and a collector.
+///
+/// Contracts see the machine's state.
+#[derive(Drop, Debug)]
+pub struct World {
+    limits: Limits,
+    shards: u32,
+    rows: Vec<Row>,
+    intake: Intake,
+}
+
+impl Model for World {
+    ghost use Rattle.gl_world.specs.Machine.{State};
+    ghost use Rattle.gl_world.specs.Keeping.{IsWorld, lanes_of};
+
+    ghost Value = { State };
+
+    ghost view = { λ w. record { limits = w.limits; shards = w.shards; lanes = lanes_of w.rows.items; stream = w.intake.stream } };
+
+    ghost invariant = { λ w. IsWorld w.limits w.shards w.rows.items w.intake.stream w.intake.limits };
+}
+
+// A row for each thread, with its wishes.
+fn fresh_rows(
+    alloc: Global,
+    limits: &Limits,
+    wishes: Vec<Vec<Event>>,
+) -> Result<Vec<Row>, AllocError>
+    requires { length wishes.items ≡ limits.now.threads }
+    ensures lanes { IfOk result (λ rows. lanes_of rows.items ≡ map (λ w. fresh_lane w.items) wishes.items) }
+    ensures keepers { IfOk result (λ rows. AreKeepers limits.now rows.items) }
+{
+    let mut rows = Vec::new(alloc);
+    let mut thread = 0;
+    for list in wishes {
+        rows.push(Row::new(alloc, ThreadId::new(thread), limits, list))?;
+        thread += 1;
+    }
+    Ok(rows)
+}
+
+impl World {
+    /// A new world under these limits, with this many shards, and with the events that each thread
+    /// is to take, in the order of thread numbers. Each lane has the capacity of a ring.
+    ///
+    /// It takes memory for a row of each thread.
+    pub fn new(
+        alloc: Global,
+        limits: &Limits,
+        shards: u32,
+        wishes: Vec<Vec<Event>>,
+    ) -> Result<World, Memory>
+        requires each_thread { length wishes.items ≡ limits.now.threads }
+        requires some_shard { 1 ≤ shards }
+        requires shards_fit { shards ≤ MAX_SHARDS }
+        ensures { IfOk result (λ world. world ≡ start limits.now shards (map (λ w. w.items) wishes.items)) }
+    {
+        let intake = Intake::new(alloc, limits)?;
+        let rows = fresh_rows(alloc, limits, wishes)?;
+        Ok(World {
+            limits: *limits,
+            shards,
+            rows,
+            intake,
+        })
+    }
+
+    /// Makes one step, and answers what it did; `Memory` only where a list had to grow for a step
+    /// that is enabled, and could not. Nothing changes then.
+    ///
+    /// A step looks through the at most 64 locks that the thread holds, and appends to at most two
+    /// lists.
+    pub fn step(&mut self, next: Step) -> Result<Did, Memory>
+        ensures moved { IfOk result (λ did. step self.old next ≡ record { after = self.new; did = did }) }
+        ensures unchanged { OnErr result (self.new ≡ self.old) }
+    {
+        match next {
+            Step::Take(thread) => self.take(thread),
+            Step::End(thread) => self.end(thread),
+            Step::Pull(thread) => self.pull(thread),
+            Step::Again(thread, place) => self.again(thread, place),
+        }
+    }
+
+    /// Makes these steps in turn. Where one finds no memory, the answer has its place in the list:
+    /// the steps before it are done, and it and those after it aren't.
+    pub fn run(&mut self, steps: &[Step]) -> Result<(), (usize, Memory)>
+        ensures done { OnOk result (self.new ≡ run self.old steps.now) }
+        ensures within { IfErr result (λ stop. stop.0 < length steps.now) }
+        ensures stopped { IfErr result (λ stop. self.new ≡ run self.old (take stop.0 steps.now)) }
+    {
+        for place in 0..steps.len() {
+            match self.step(steps[place]) {
+                Ok(_) => {}
+                Err(memory) => return Err((place, memory)),
+            }
+        }
+        Ok(())
+    }
+
+    /// The events that the thread took.
+    pub fn taken(&self, thread: ThreadId) -> &[Event]
+        requires { thread < self.now.limits.threads }
+        ensures { (lane : Lane) → slice_get self.now.lanes thread ≡ Some lane → result.now ≡ taken_of thread lane }
+    {
+        self.rows[thread.number() as usize].taken()
+    }
+
+    /// The events of the thread that were collected: how those that it took begin.
+    pub fn log(&self, thread: ThreadId) -> &[Event]
+        requires { thread < self.now.limits.threads }
+        ensures value { result.now ≡ events_of thread self.now.stream }
+        ensures front { (lane : Lane) → slice_get self.now.lanes thread ≡ Some lane → IsPrefixOf result.now (taken_of thread lane) }
+    {
+        self.intake.log(thread)
+    }
+
+    /// All collected notes, in the order in which they were collected. Each was its thread's next one
+    /// after those before it, so that none follows its thread's end mark.
+    pub fn stream(&self) -> &[Note]
+        ensures value { result.now ≡ self.now.stream }
+        ensures in_order { AreInOrder self.now.limits self.now.stream }
+    {
+        self.intake.stream()
+    }
+
+    fn take(&mut self, thread: ThreadId) -> Result<Did, Memory>
+        ensures moved { IfOk result (λ did. step self.old (Take thread) ≡ record { after = self.new; did = did }) }
+        ensures unchanged { OnErr result (self.new ≡ self.old) }
+    {
+        let index = thread.number() as usize;
+        if index >= self.rows.len() {
+            return Ok(Did::Nothing);
+        }
+        let did = self.rows[index].take()?;
+        Ok(did)
+    }
+
+    fn end(&mut self, thread: ThreadId) -> Result<Did, Memory>
+        ensures moved { IfOk result (λ did. step self.old (End thread) ≡ record { after = self.new; did = did }) }
+        ensures unchanged { OnErr result (self.new ≡ self.old) }
+    {
+        let index = thread.number() as usize;
+        if index >= self.rows.len() {
+            return Ok(Did::Nothing);
+        }
+        let did = self.rows[index].end()?;
+        Ok(did)
+    }
+
+    fn pull(&mut self, thread: ThreadId) -> Result<Did, Memory>
+        ensures moved { IfOk result (λ did. step self.old (Pull thread) ≡ record { after = self.new; did = did }) }
+        ensures unchanged { OnErr result (self.new ≡ self.old) }
+    {
+        let index = thread.number() as usize;
+        if index >= self.rows.len() {
+            return Ok(Did::Nothing);
+        }
+        match self.rows[index].front() {
+            Some(note) => self.collect(thread, &note),
+            None => Ok(Did::Nothing),
+        }
+    }
+
+    // Adds the note, which is next in the thread's lane, to the stream.
+    fn collect(&mut self, thread: ThreadId, note: &Note) -> Result<Did, Memory>
+        requires known { thread < length self.old.lanes }
+        requires front { (lane : Lane) → slice_get self.old.lanes thread ≡ Some lane → slice_get lane.pushed lane.popped ≡ Some note.now }
+        ensures moved { IfOk result (λ did. step self.old (Pull thread) ≡ record { after = self.new; did = did }) }
+        ensures unchanged { OnErr result (self.new ≡ self.old) }
+    {
+        match self.intake.offer(*note) {
+            Ok(accepted) => {
+                self.rows[thread.number() as usize].pop();
+                Ok(Did::Pulled(accepted))
+            }
+            Err(why) => match why {
+                Refused::Memory => Err(AllocError),
+                // the next note of a lane is its thread's next one in the stream
+                _ => unreachable!(),
+            },
+        }
+    }
+
+    fn again(&mut self, thread: ThreadId, place: u32) -> Result<Did, Memory>
+        ensures moved { IfOk result (λ did. step self.old (Again thread place) ≡ record { after = self.new; did = did }) }
+        ensures unchanged { OnErr result (self.new ≡ self.old) }
+    {
+        let index = thread.number() as usize;
+        if index >= self.rows.len() {
+            return Ok(Did::Nothing);
+        }
+        if place as usize == self.rows[index].popped() {
+            return Ok(Did::Nothing);
+        }
+        match self.rows[index].note(place as usize) {
+            Some(note) => Ok(self.refuse(thread, place, &note)),
+            None => Ok(Did::Nothing),
+        }
+    }
+
+    // Offers the collector the note, which isn't next in the thread's lane.
+    fn refuse(&mut self, thread: ThreadId, place: u32, note: &Note) -> Did
+        requires other { (lane : Lane) → slice_get self.old.lanes thread ≡ Some lane → place ≢ lane.popped }
+        requires known { thread < length self.old.lanes }
+        requires there { (lane : Lane) → slice_get self.old.lanes thread ≡ Some lane → slice_get lane.pushed place ≡ Some note.now }
+        ensures unchanged { self.new ≡ self.old }
+        ensures moved { step self.old (Again thread place) ≡ record { after = self.new; did = result } }
+    {
+        match self.intake.offer(*note) {
+            Err(why) => Did::Refused(why),
+            // only the next note of a lane is its thread's next one in the stream
+            Ok(_) => unreachable!(),
+        }
+    }
+}
