@@ -14,6 +14,7 @@ use std::process::ExitCode;
 
 mod answer;
 mod ended;
+mod laws;
 mod lines;
 mod prediction;
 #[cfg(test)]

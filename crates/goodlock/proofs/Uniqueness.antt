@@ -1,0 +1,67 @@
+-- A text has one answer.
+use Rattle.std.proofs.Common.{◌≡◌, ℕ, ◌<◌, Bool, List, [], Result, Ok, Err, sym, ap, subst, ◌∙◌, inl, inr, arith}
+use Rattle.gl_event.specs.Bounds.{greatest}
+use Rattle.gl_event.specs.declared.events.Event.{Event}
+use Rattle.gl_event.specs.declared.events.Segment.{Segment}
+use Rattle.gl_std.specs.Trace.{trace_of}
+use Rattle.gl_std.specs.declared.faults.ReadFault.{ReadFault}
+use Rattle.gl_std.specs.declared.faults.ReadFault.TheVariants.{Line, Memory}
+use Rattle.gl_std.specs.declared.trace.Trace.{Trace}
+use Rattle.gl_segments.specs.Laws.{DecidesBefore}
+use Rattle.gl_segments.specs.Segments.{Before, IsBelow}
+use Rattle.gl_segments.proofs.LawLemmas.{agree}
+use Rattle.gl_filters.specs.Asked.{Asked}
+use Rattle.goodlock.specs.Answer.{Answer, IsAnswer, IsLeastBeforeItself, AnswersAreUnique, report_of}
+use Rattle.goodlock.specs.Answer.Answer.{Report, Refusal}
+use Rattle.goodlock.specs.Answer.IsAnswer.{bad_line, no_order, reported}
+use Rattle.goodlock.specs.Lines.{fault_line, inconsistent_line}
+
+abbrev trace_in : Trace → Result Trace ReadFault → Trace
+trace_in other (Ok trace) = trace
+trace_in other (Err fault) = other
+
+abbrev said_of : Result Trace ReadFault → List ℕ
+said_of (Ok trace) = []
+said_of (Err (Line line kind)) = fault_line line kind
+said_of (Err Memory) = []
+
+same_trace : (r : Result Trace ReadFault) (s t : Trace) → r ≡ Ok s → r ≡ Ok t → s ≡ t
+same_trace r s t p q = ap (trace_in s) (sym p ∙ q)
+
+-- of two segments of which neither is below the other
+same_segment : (a b : Segment) → ¬ IsBelow a b → ¬ IsBelow b a → a ≡ b
+same_segment a b not_below not_above =
+    let thread_low : ¬ (a.thread < b.thread) = (λ l. not_below (inl l)) in
+    let thread_high : ¬ (b.thread < a.thread) = (λ l. not_above (inl l)) in
+    let threads : a.thread ≡ b.thread = omega arith in
+    let index_low : ¬ (a.index < b.index) = (λ l. not_below (inr (threads, l))) in
+    let index_high : ¬ (b.index < a.index) = (λ l. not_above (inr (sym threads, l))) in
+    let indexes : a.index ≡ b.index = omega arith in
+    (λ i. record { thread = threads i; index = indexes i })
+
+same_least : (lists : List (List Event)) (a b : Segment) → IsLeastBeforeItself lists a → IsLeastBeforeItself lists b → a ≡ b
+same_least lists a b of_a of_b = same_segment a b (of_b.least a of_a.loops) (of_a.least b of_b.loops)
+
+loops_agree : (s t : Trace) (a b : Segment) → s ≡ t → IsLeastBeforeItself s.lists a → IsLeastBeforeItself t.lists b → inconsistent_line s.names a ≡ inconsistent_line t.names b
+loops_agree s t a b e of_a of_b =
+    let same : a ≡ b = same_least s.lists a b of_a (subst (λ (u : Trace). IsLeastBeforeItself u.lists b) (sym e) of_b) in
+    (λ i. inconsistent_line (e i).names (same i))
+
+reports_agree : (asked : Asked) (s t : Trace) (p q : Segment → Segment → Bool) → s ≡ t → DecidesBefore s.lists p → DecidesBefore t.lists q → report_of asked p s ≡ report_of asked q t
+reports_agree asked s t p q e of_p of_q =
+    let here = subst (λ (u : Trace). DecidesBefore u.lists q) (sym e) of_q in
+    (λ i. report_of asked (λ a b. agree s.lists p q of_p here a b i) (e i))
+
+pub unique : AnswersAreUnique
+unique asked text _ _ (bad_line l k p) (bad_line m n q) = ap Refusal (ap said_of (sym p ∙ q))
+unique asked text _ _ (bad_line l k p) (no_order t at q least) = cc
+unique asked text _ _ (bad_line l k p) (reported t before q fine decides) = cc
+unique asked text _ _ (no_order s at p least) (bad_line m n q) = cc
+unique asked text _ _ (no_order s at p least) (no_order t there q lowest) = ap Refusal (loops_agree s t at there (same_trace (trace_of greatest text) s t p q) least lowest)
+unique asked text _ _ (no_order s at p least) (reported t before q fine decides) =
+    absurd (fine.each at (subst (λ (u : Trace). Before u.lists at at) (same_trace (trace_of greatest text) s t p q) least.loops))
+unique asked text _ _ (reported s before p fine decides) (bad_line m n q) = cc
+unique asked text _ _ (reported s before p fine decides) (no_order t at q least) =
+    absurd (fine.each at (subst (λ (u : Trace). Before u.lists at at) (sym (same_trace (trace_of greatest text) s t p q)) least.loops))
+unique asked text _ _ (reported s before p fine decides) (reported t other q sound settles) =
+    reports_agree asked s t before other (same_trace (trace_of greatest text) s t p q) decides settles
