@@ -1,7 +1,7 @@
 -- A world's rows and its state, step by step.
-use Rattle.std.proofs.Common.{◌≡◌, ◌≢◌, ℕ, zero, suc, ◌+◌, ◌<◌, ◌≤◌, List, [], ◌∷◌, ◌++◌, length, map, set, get_or, Option, Some, None, refl, sym, ap, ◌∙◌, arith, subst, take, Vec, Global, ◌⊎◌, inl, inr}
-use Rattle.std.specs.Prelude.{slice_get}
-use Rattle.std.specs.Option.{option_map}
+use Rattle.std.proofs.Common.{◌≡◌, ◌≢◌, ℕ, Bool, true, false, cond, eqb, zero, suc, ◌+◌, ◌<◌, ◌≤◌, List, [], ◌∷◌, ◌++◌, length, map, set, get_or, Option, Some, None, refl, sym, ap, ◌∙◌, arith, subst, take, Vec, Global, ◌⊎◌, inl, inr}
+use Rattle.std.specs.Prelude.{slice_get, Result, Ok, Err, IfOk, OnOk}
+use Rattle.std.specs.Option.{option_map, option_map_or}
 use Rattle.std.proofs.lemmas.Bool.{cases_eq, eq-eqb, ne_eqb}
 use Rattle.std.proofs.lemmas.List.{take_all, length-map, map-set}
 use Rattle.std.proofs.lemmas.Option.{slice_get-map, slice_get_past, slice_get_within, get_or_from_slice_get}
@@ -12,7 +12,7 @@ use Rattle.gl_intake.specs.Stream.{note_refusal, accepted_as}
 use Rattle.gl_intake.specs.declared.notes.Refused.{Refused as Reason}
 use Rattle.gl_intake.specs.declared.notes.Refused.TheVariants.{Memory}
 use Rattle.gl_intake.proofs.Next.{none_of_next}
-use Rattle.gl_world.specs.Machine.{Lane, State, Turn, Moved, fresh_lane, take_turn, end_turn, pop_note, turned, idle, pull_note, again_note, step, run}
+use Rattle.gl_world.specs.Machine.{Lane, State, Turn, Moved, fresh_lane, take_turn, end_turn, pop_note, turned, idle, pull_note, again_note, answer_again, step, run}
 use Rattle.gl_world.specs.Keeping.{Keeper, AreKeepers, IsSound, IsWorld, lanes_of}
 use Rattle.gl_world.specs.declared.steps.Step.{Step}
 use Rattle.gl_world.specs.declared.steps.Step.TheVariants.{Take, End, Pull, Again}
@@ -251,3 +251,40 @@ world_new limits shards keepers lists count keeping lanes_are =
       keeping = keeping;
       same_limits = refl;
     }
+
+-- ---- the limits stay
+
+on_lane_limits : (s : State) (move : Lane → Moved) (found : Option Lane) → ((lane : Lane) → (move lane).after.limits ≡ s.limits) → (option_map_or move found (idle s)).after.limits ≡ s.limits
+on_lane_limits s move None each = refl
+on_lane_limits s move (Some lane) each = each lane
+
+pull_limits : (s : State) (thread : ℕ) (lane : Lane) (note : Option Note) → (pull_note s thread lane note).after.limits ≡ s.limits
+pull_limits s thread lane None = refl
+pull_limits s thread lane (Some note) = refl
+
+either_limits : (s : State) (test : Bool) (answer : Did) → (cond test (idle s) (record { after = s; did = answer })).after.limits ≡ s.limits
+either_limits s true answer = refl
+either_limits s false answer = refl
+
+again_limits : (s : State) (lane : Lane) (place : ℕ) (note : Option Note) → (again_note s lane place note).after.limits ≡ s.limits
+again_limits s lane place None = refl
+again_limits s lane place (Some note) = either_limits s (eqb place lane.popped) (answer_again s note)
+
+step_limits : (s : State) (x : Step) → (step s x).after.limits ≡ s.limits
+unfolding step
+step_limits s (Take thread) = on_lane_limits s (λ lane. turned s thread (take_turn s.limits thread lane)) (slice_get s.lanes thread) (λ lane. refl)
+step_limits s (End thread) = on_lane_limits s (λ lane. turned s thread (end_turn s.limits thread lane)) (slice_get s.lanes thread) (λ lane. refl)
+step_limits s (Pull thread) = on_lane_limits s (λ lane. pull_note s thread lane (slice_get lane.pushed lane.popped)) (slice_get s.lanes thread) (λ lane. pull_limits s thread lane (slice_get lane.pushed lane.popped))
+step_limits s (Again thread place) = on_lane_limits s (λ lane. again_note s lane place (slice_get lane.pushed place)) (slice_get s.lanes thread) (λ lane. again_limits s lane place (slice_get lane.pushed place))
+
+-- a step that did what the machine does keeps the limits
+pub moved_limits : (s t : State) (x : Step) (did : Did) → step s x ≡ record { after = t; did = did } → t.limits ≡ s.limits
+moved_limits s t x did moved = sym (ap (λ m. m.after.limits) moved) ∙ step_limits s x
+
+pub run_limits : (s : State) (steps : List Step) → (run s steps).limits ≡ s.limits
+run_limits s [] = refl
+run_limits s (x ∷ xs) = run_limits (step s x).after xs ∙ step_limits s x
+
+pub limits_if_moved : {E : Type 0} (result : Result Did E) (s t : State) (x : Step) → IfOk result (λ did. step s x ≡ record { after = t; did = did }) → OnOk result (t.limits ≡ s.limits)
+limits_if_moved (Ok did) s t x moved = moved_limits s t x did moved
+limits_if_moved (Err e) s t x moved = tt

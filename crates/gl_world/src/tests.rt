@@ -137,8 +137,14 @@ fn again_in_a_wide_ring(rt: HostRuntime) -> Result<(), Fail> {
     assert_eq!(rt; world.log(ThreadId::new(0)).len(), 0);
     let first = [take(0), take(0)];
     assert_eq!(rt; world.run(first.as_slice()), Ok(()));
+    let taken = [acquire(0, 0), acquire(1, 1)];
+    assert_eq!(rt; world.taken(ThreadId::new(0)), taken.as_slice());
+    assert!(rt; world.log(ThreadId::new(0)).is_empty());
     assert_eq!(rt; world.step(again(0, 1)), Ok(misplaced(0, 1)));
     assert_eq!(rt; world.step(again(0, 0)), Ok(Did::Nothing));
+    assert_eq!(rt; world.run([pull(0)].as_slice()), Ok(()));
+    let log = [acquire(0, 0)];
+    assert_eq!(rt; world.log(ThreadId::new(0)), log.as_slice());
     Ok(())
 }
 

@@ -89,6 +89,7 @@ impl World {
     /// lists.
     pub fn step(&mut self, next: Step) -> Result<Did, Memory>
         ensures moved { IfOk result (λ did. step self.old next ≡ record { after = self.new; did = did }) }
+        ensures limits { OnOk result (self.new.limits ≡ self.old.limits) }
         ensures unchanged { OnErr result (self.new ≡ self.old) }
     {
         match next {
@@ -103,6 +104,7 @@ impl World {
     /// the steps before it are done, and it and those after it aren't.
     pub fn run(&mut self, steps: &[Step]) -> Result<(), (usize, Memory)>
         ensures done { OnOk result (self.new ≡ run self.old steps.now) }
+        ensures limits { self.new.limits ≡ self.old.limits }
         ensures within { IfErr result (λ stop. stop.0 < length steps.now) }
         ensures stopped { IfErr result (λ stop. self.new ≡ run self.old (take stop.0 steps.now)) }
     {

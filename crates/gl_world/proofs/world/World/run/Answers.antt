@@ -1,7 +1,16 @@
-use Rattle.gl_world.proofs.Worlds.{get_at, run_next}
+use Rattle.std.proofs.Common.{ap, ◌∙◌, take}
+use Rattle.gl_world.specs.Machine.{State}
+use Rattle.gl_world.proofs.Worlds.{get_at, run_next, run_limits}
 use Rattle.gl_world.proofs.world.World.run.Goals as goal
 
 pub loop-place-preserved : goal.loop-place-preserved
 loop-place-preserved c =
     run_next c.args.self.now c.loop-place.self c.step.new.self c.args.steps.now c.loop-place.place c.index-steps-place.result c.in-Ok.field-0 c.loop-place.invariant
     (get_at c.args.steps.now c.loop-place.place c.index-steps-place.result c.loop-place-test.true c.index-steps-place.is) c.in-Ok.ensures.moved
+
+pub returns-in-Err-clause-limits : goal.returns-in-Err-clause-limits
+returns-in-Err-clause-limits c =
+    ap (λ (s : State). s.limits) c.in-Err.ensures.unchanged ∙ ap (λ (s : State). s.limits) c.loop-place.invariant ∙ run_limits c.args.self.now (take c.loop-place.place c.args.steps.now)
+
+pub returns-clause-limits : goal.returns-clause-limits
+returns-clause-limits c = ap (λ (s : State). s.limits) c.loop-place.invariant ∙ run_limits c.args.self.now (take c.loop-place.place c.args.steps.now)
