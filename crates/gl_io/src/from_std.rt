@@ -1,5 +1,6 @@
 //! Sources and sinks over the readers and writers of std.
 ghost use Rattle.std.specs.Prelude.{◌≡◌, false};
+ghost use Rattle.gl_io.specs.Wrapped.{inner_of, has_failed};
 
 use crate::sink::Sink;
 use crate::source::{Failed, Source};
@@ -16,8 +17,8 @@ pub struct FromStd<T> {
 impl<T> FromStd<T> {
     /// The reader or writer, which hasn't failed yet.
     pub fn new(inner: T) -> FromStd<T>
-        ensures inner { result.inner ≡ inner }
-        ensures sound { result.is_failed ≡ false }
+        ensures inner { inner_of result ≡ inner }
+        ensures sound { has_failed result ≡ false }
     {
         FromStd {
             inner,
@@ -27,16 +28,16 @@ impl<T> FromStd<T> {
 
     /// The reader or writer itself.
     pub fn into_inner(self) -> T
-        ensures { result ≡ self.inner }
+        ensures { result ≡ inner_of self }
     {
         self.inner
     }
 }
 
 impl<R: io::Read> Source for FromStd<R> {
-    ghost remaining = { λ s. R.remaining s.inner };
+    ghost remaining = { λ s. R.remaining (inner_of s) };
 
-    ghost failed = { λ s. s.is_failed };
+    ghost failed = { has_failed };
 
     fn read(&mut self, buffer: &mut [u8]) -> Result<usize, Failed> {
         match self.inner.read(buffer) {
@@ -50,9 +51,9 @@ impl<R: io::Read> Source for FromStd<R> {
 }
 
 impl<W: io::Write> Sink for FromStd<W> {
-    ghost contents = { λ s. W.contents s.inner };
+    ghost contents = { λ s. W.contents (inner_of s) };
 
-    ghost failed = { λ s. s.is_failed };
+    ghost failed = { has_failed };
 
     fn write(&mut self, bytes: &[u8]) -> Result<usize, Failed> {
         match self.inner.write(bytes) {
