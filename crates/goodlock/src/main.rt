@@ -3,6 +3,7 @@
 #![tactic(auto)]
 
 ghost use Rattle.std.specs.Prelude.{◌≡◌};
+ghost use Rattle.gl_filters.specs.declared.query.Mode.TheVariants.{Full};
 ghost use Rattle.goodlock.specs.Said.{line_of, status_of};
 
 use ended::{Ended, Form};
@@ -24,7 +25,9 @@ mod tests;
 const TURNS: u64 = 1_000_000_000;
 
 // What is asked: all modes' conditions, at most four edges, at most a thousand cycles.
-fn full_query() -> Query {
+fn full_query() -> Query
+    ensures { result ≡ record { mode = Full; len = 4; max = 1000 } }
+{
     match Query::new(Mode::Full, 4, 1_000) {
         Ok(query) => query,
         Err(_) => unreachable!(),
