@@ -32,6 +32,10 @@ pub enum BadQuery {
 }
 
 impl fmt::Display for BadQuery {
+    ghost use Rattle.gl_filters.specs.Faults.{text_of};
+
+    ghost output = { λ bad. Some (text_of bad) };
+
     fn fmt<W: fmt::Write>(&self, f: &mut fmt::Formatter<W>) -> fmt::Result {
         f.write_str(match self {
             BadQuery::Len => "the greatest length of a cycle is out of range",
