@@ -1,4 +1,5 @@
 pub mod Clocks
+pub mod Faults
 pub mod Orders
 pub mod Search
 pub mod Segments

@@ -18,9 +18,14 @@ pub enum OrderFault {
 }
 
 impl fmt::Display for OrderFault {
+    ghost use Rattle.std.specs.Prelude.{Some};
+    ghost use Rattle.gl_segments.specs.Faults.{text_of};
+
+    ghost output = { λ fault. Some (text_of fault) };
+
     fn fmt<W: fmt::Write>(&self, f: &mut fmt::Formatter<W>) -> fmt::Result {
         f.write_str(match self {
-            OrderFault::Inconsistent { .. } => "a segment is before itself",
+            OrderFault::Inconsistent { .. } => "a segment precedes itself",
             OrderFault::Memory => "out of memory",
         })
     }
