@@ -6,6 +6,7 @@ ghost use Rattle.gl_event.specs.declared.events.Segment.{Segment};
 ghost use Rattle.gl_filters.specs.Asked.{Asked};
 ghost use Rattle.gl_filters.specs.Cycle.{IsCycle};
 ghost use Rattle.gl_filters.specs.Judging.{IsVerdict};
+ghost use Rattle.gl_filters.specs.declared.verdict.Verdict.{Verdict};
 ghost use Rattle.gl_filters.specs.declared.verdict.Verdict.TheVariants.{Valid};
 ghost use Rattle.gl_filters.specs.Test.{is_cycle};
 ghost use Rattle.gl_filters.specs.declared.query.Mode.{Mode};
@@ -19,4 +20,10 @@ pub fn cycles_are_as_tested()
 /// A list of edges has no fault exactly if it is a cycle that the query asks for.
 pub fn valid_lists_are_cycles()
     ensures { (before : Segment → Segment → Bool) (asked : Asked) (es : List Edge) → IsVerdict before asked es Valid ↔ IsCycle before asked.mode asked.len es }
+{}
+
+/// A list of edges has one verdict: which of the tests it fails first, and where, or none. So a list
+/// that is a cycle is judged valid, and nothing else is.
+pub fn verdicts_are_unique()
+    ensures { (before : Segment → Segment → Bool) (asked : Asked) (es : List Edge) (a b : Verdict) → IsVerdict before asked es a → IsVerdict before asked es b → a ≡ b }
 {}

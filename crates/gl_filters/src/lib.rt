@@ -8,7 +8,7 @@ mod query;
 mod tests;
 mod verdict;
 
-pub use laws::{cycles_are_as_tested, valid_lists_are_cycles};
+pub use laws::{cycles_are_as_tested, valid_lists_are_cycles, verdicts_are_unique};
 pub use pairs::{compatible, goes_with};
 pub use query::{BadQuery, MAX_CYCLES, MAX_LEN, Mode, Query};
 pub use verdict::{Verdict, judge};
