@@ -66,7 +66,7 @@ pub table_alike : (known : BTreeMap Edge Sample) (xs ys : List (Edge × Sample))
 table_alike known xs ys to from is = record { each = λ edge. is.each edge ∙ ap (λ t. table.get t edge) (same_table xs ys to from) }
 
 -- pairs that follow the same front
-append_among : (pairs xs ys : List (Edge × Sample)) → AreAmong xs ys → AreAmong (pairs ++ xs) (pairs ++ ys)
+pub append_among : (pairs xs ys : List (Edge × Sample)) → AreAmong xs ys → AreAmong (pairs ++ xs) (pairs ++ ys)
 append_among pairs xs ys to pair at =
     elim (Contains-append_cases pairs xs pair at) [
       | inl front ↦ Contains-append_left pairs ys pair front
@@ -102,7 +102,7 @@ module _ (thread : ℕ) (es : List Event) (tracker : Tracker) (tracked : Tracks 
       )
 
   -- each pair of an entry is one of the definition
-  pairs_made : AreAmong (map (pair_for tracker wanted loc) tracker.held) (map (pair_at thread es wanted loc) (held es))
+  pub pairs_made : AreAmong (map (pair_for tracker wanted loc) tracker.held) (map (pair_at thread es wanted loc) (held es))
   pairs_made pair at =
       let (h, there, is) = contains_map_from (pair_for tracker wanted loc) pair tracker.held at in
       let entry : h ≡ entry_of es h.lock = All-contains (λ h. h ≡ entry_of es h.lock) tracker.held h tracked.stands.each there in
@@ -111,25 +111,12 @@ module _ (thread : ℕ) (es : List Event) (tracker : Tracker) (tracked : Tracks 
       (contains_map (pair_at thread es wanted loc) h.lock (held es) (held_where_deep es h.lock deep))
 
   -- each pair of the definition is that of an entry
-  pairs_all : AreAmong (map (pair_at thread es wanted loc) (held es)) (map (pair_for tracker wanted loc) tracker.held)
+  pub pairs_all : AreAmong (map (pair_at thread es wanted loc) (held es)) (map (pair_for tracker wanted loc) tracker.held)
   pairs_all pair at =
       let (lock, there, is) = contains_map_from (pair_at thread es wanted loc) pair (held es) at in
       let entry = tracked.stands.whole lock (deep_where_held es lock there) in
       subst (Contains (map (pair_for tracker wanted loc) tracker.held)) (pair_for_is lock (entry_of es lock) refl ∙ is)
       (contains_map (pair_for tracker wanted loc) (entry_of es lock) tracker.held entry)
-
-  -- a table that grew by the pairs of the entries grew by the edges of the acquire
-  pub table_acquire : (known : BTreeMap Edge Sample) (pairs : List (Edge × Sample)) → depth es wanted ≡ 0
-      → IsTableOf known (pairs ++ map (pair_for tracker wanted loc) tracker.held) → IsTableOf known (pairs ++ edges_wanting thread es loc wanted)
-  table_acquire known pairs free is =
-      table_same known _ _ (ap (λ xs. pairs ++ xs) (sym (wanting_is thread es loc wanted free)))
-      (table_alike known _ _ (append_among pairs _ _ pairs_made) (append_among pairs _ _ pairs_all) is)
-
--- an acquire of a held lock adds nothing
-pub table_none : (known : BTreeMap Edge Sample) (pairs : List (Edge × Sample)) (thread : ℕ) (es : List Event) (loc wanted : ℕ) → 0 < depth es wanted
-    → IsTableOf known pairs → IsTableOf known (pairs ++ edges_wanting thread es loc wanted)
-table_none known pairs thread es loc wanted deep is =
-    table_same known _ _ (ap (λ xs. pairs ++ xs) (sym (wanting_none thread es loc wanted deep))) (table_nil known pairs is)
 
 -- a lock that the test doesn't find isn't held
 pub not_deep : (b : Bool) (d : ℕ) → (0 < d → b ≡ true) → b ≡ false → d ≡ 0
@@ -142,7 +129,7 @@ not_deep b d found missed =
 -- ---- whole lists
 
 -- a range with one more number
-range_push : (a n : ℕ) → range_with_len a (suc n) ≡ range_with_len a n ++ (a + n) ∷ []
+pub range_push : (a n : ℕ) → range_with_len a (suc n) ≡ range_with_len a n ++ (a + n) ∷ []
 range_push a zero = ap (λ k. k ∷ []) (omega arith)
 range_push a (suc n) =
     ap (λ ks. a ∷ ks) (range_push (a + 1) n)
@@ -184,11 +171,9 @@ module _ (thread : ℕ) (es : List Event) (i : ℕ) (e : Event) (tracker : Track
   pub followed : (new : Tracker) → Tracks thread (take i es ++ e ∷ []) new → Tracks thread (take (i + 1) es) new
   followed new is = subst (λ xs. Tracks thread xs new) (ap (λ x. take i es ++ x ∷ []) item ∙ sym (take_more es i e within)) is
 
-  -- the table then has the edges of one place more
-  pub table_event : (known : BTreeMap Edge Sample) (pairs : List (Edge × Sample)) → IsTableOf known ((pairs ++ edges_below thread es i) ++ edges_after thread (take i es) e)
-      → IsTableOf known (pairs ++ edges_below thread es (i + 1))
-  table_event known pairs is =
-      table_same known _ _ (append_assoc pairs (edges_below thread es i) (edges_after thread (take i es) e) ∙ ap (λ xs. pairs ++ xs) (sym (edges_below_more thread es i e at_place))) is
+  -- the pairs then have the edges of one place more
+  pub pairs_event : (pairs : List (Edge × Sample)) → (pairs ++ edges_below thread es i) ++ edges_after thread (take i es) e ≡ pairs ++ edges_below thread es (i + 1)
+  pairs_event pairs = append_assoc pairs (edges_below thread es i) (edges_after thread (take i es) e) ∙ ap (λ xs. pairs ++ xs) (sym (edges_below_more thread es i e at_place))
 
 -- before the first event
 pub tracks_start : (thread : ℕ) (es : List Event) (tracker : Tracker) → Tracks thread [] tracker → Tracks thread (take 0 es) tracker

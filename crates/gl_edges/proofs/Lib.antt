@@ -7,6 +7,9 @@ pub mod Tables
 pub mod Merging
 pub mod Following
 pub mod Gathering
+pub mod Fronts
+pub mod Nestings
+pub mod Remembering
 pub mod Steps
 pub mod Made
 pub mod MadeFirst

@@ -76,7 +76,7 @@ at_has thread es place wanted loc pair is made =
 -- ---- the edges of all lists
 
 -- each element stands with its number
-contains_enumerate : {X : Type 0} (n : ℕ) (xs : List X) (i : ℕ) (x : X) → slice_get xs i ≡ Some x → Contains (enumerate_from n xs) (n + i, x)
+pub contains_enumerate : {X : Type 0} (n : ℕ) (xs : List X) (i : ℕ) (x : X) → slice_get xs i ≡ Some x → Contains (enumerate_from n xs) (n + i, x)
 contains_enumerate n [] i x at = absurd (cc)
 contains_enumerate n (y ∷ xs) zero x at =
     let same : y ≡ x = cc in
@@ -87,7 +87,7 @@ contains_enumerate n (y ∷ xs) (suc i) x at =
     contains_later (n, y) (n + suc i, x) (enumerate_from (n + 1) xs) (subst (λ k. Contains (enumerate_from (n + 1) xs) (k, x)) here (contains_enumerate (n + 1) xs i x at))
 
 -- and nothing else does
-contains_enumerate_from : {X : Type 0} (n : ℕ) (xs : List X) (pair : ℕ × X) → Contains (enumerate_from n xs) pair → (i : ℕ) × (n + i ≡ pair.0) × (slice_get xs i ≡ Some pair.1)
+pub contains_enumerate_from : {X : Type 0} (n : ℕ) (xs : List X) (pair : ℕ × X) → Contains (enumerate_from n xs) pair → (i : ℕ) × (n + i ≡ pair.0) × (slice_get xs i ≡ Some pair.1)
 contains_enumerate_from n [] pair at = absurd (contains_none pair at)
 contains_enumerate_from n (y ∷ xs) pair at =
     elim (contains_cases (n, y) pair (enumerate_from (n + 1) xs) at) [

@@ -23,7 +23,7 @@ is_less Equal e = cc
 is_less Greater e = cc
 
 -- what isn't below what isn't below c isn't below c
-not_below_trans : {K : Type 0} {R : K → K → Ordering} → IsTotalOrder R → (a b c : K) → is_lt (R a b) ≡ false → is_lt (R b c) ≡ false → is_lt (R a c) ≡ false
+pub not_below_trans : {K : Type 0} {R : K → K → Ordering} → IsTotalOrder R → (a b c : K) → is_lt (R a b) ≡ false → is_lt (R b c) ≡ false → is_lt (R a c) ≡ false
 not_below_trans {R = R} o a b c ab bc =
     elim (R a c) as (λ r. R a c ≡ r → is_lt r ≡ false) [
       | Less ↦ λ ac.

@@ -17,13 +17,13 @@ pub sample_cmp_total : IsTotalOrder sample_cmp
 sample_cmp_total = search (comparing, rules) depth 9
 
 -- a chain of two orders ties exactly where both do
-ties_first : (a b : Ordering) → ordering_then a b ≡ Equal → a ≡ Equal
+pub ties_first : (a b : Ordering) → ordering_then a b ≡ Equal → a ≡ Equal
 ties_first Less b e = e
 ties_first Equal b e = refl
 ties_first Greater b e = e
 
 -- and the second one too
-ties_second : (a b : Ordering) → ordering_then a b ≡ Equal → b ≡ Equal
+pub ties_second : (a b : Ordering) → ordering_then a b ≡ Equal → b ≡ Equal
 ties_second Less b e = cc
 ties_second Equal b e = e
 ties_second Greater b e = cc

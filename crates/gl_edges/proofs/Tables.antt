@@ -117,7 +117,7 @@ below_all_from R k [] all = tt
 below_all_from R k (e ∷ es) all = both _ _ (subst (λ r. T (is_lt r)) (sym all.0) tt) (below_all_from R k es all.1)
 
 -- keys in order, by the test
-is_sorted_from : {K X : Type 0} (R : K → K → Ordering) (es : List (K × X)) → IsStrictlySortedBy R (keys_of es) → T (is_sorted R es)
+pub is_sorted_from : {K X : Type 0} (R : K → K → Ordering) (es : List (K × X)) → IsStrictlySortedBy R (keys_of es) → T (is_sorted R es)
 unfolding IsStrictlySortedBy
 is_sorted_from R [] all = tt
 is_sorted_from R (e ∷ es) all = both _ _ (below_all_from R e.0 es all.0) (is_sorted_from R es all.1)

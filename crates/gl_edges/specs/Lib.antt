@@ -1,5 +1,7 @@
 pub mod Edges
+pub mod Gatherers
 pub mod Laws
 pub mod Order
 pub mod Samples
+pub mod Seen
 pub mod Tracking

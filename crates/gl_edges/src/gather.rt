@@ -1,10 +1,11 @@
 //! The edges of whole lists of events.
-ghost use Rattle.std.specs.Prelude.{◌≡◌, ◌≤◌, ℕ, List, [], ◌∷◌, ◌++◌, map, length, slice_get, Some, OnOk, IfOk};
+ghost use Rattle.std.specs.Prelude.{◌≡◌, ◌≤◌, ◌+◌, ℕ, List, [], ◌∷◌, ◌++◌, map, length, slice_get, Some, OnOk, IfOk};
 ghost use Rattle.gl_event.specs.Bounds.{greatest};
 ghost use Rattle.gl_event.specs.Events.{depth};
 ghost use Rattle.gl_event.specs.Lawful.{IsLawful};
 ghost use Rattle.gl_event.specs.declared.events.Event.{Event};
 ghost use Rattle.gl_edges.specs.Edges.{edges_wanting, edges_after, edges_of_list, edges};
+ghost use Rattle.gl_edges.specs.Gatherers.{Gathers};
 ghost use Rattle.gl_edges.specs.Samples.{IsTableOf};
 ghost use Rattle.gl_edges.specs.Tracking.{Tracks, MayFollow, pair_for};
 ghost use Rattle.gl_edges.specs.declared.edge.Edge.{Edge};
@@ -13,22 +14,25 @@ ghost use Rattle.gl_edges.specs.declared.edge.Sample.{Sample};
 use crate::edge::{Edge, Sample};
 use crate::guards::Guards;
 use crate::list::EdgeList;
+use crate::seen::Seen;
 use crate::table::{into_list, keep};
 use crate::tracker::Tracker;
 use gl_event::{Event, LocId, LockId, Memory, ThreadId};
 use std::alloc::Global;
 use std::collections::BTreeMap;
 
-// The edges found so far, and one edge whose fields are set in turn to look others up.
+// The edges found so far, one edge whose fields are set in turn to look others up, and acquires that
+// the current thread made before.
 #[derive(Drop)]
 struct Gatherer {
     table: BTreeMap<Edge, Sample>,
     edge: Edge,
+    seen: Seen,
 }
 
 impl Gatherer {
-    // Puts in the edges of an acquire of a lock that the thread doesn't hold: one for each lock
-    // that it holds.
+    // Puts in the edges of an acquire of a lock that the thread doesn't hold. Where it was made before
+    // they are in already, with lesser samples.
     fn add_acquire(
         &mut self,
         alloc: Global,
@@ -36,7 +40,25 @@ impl Gatherer {
         wanted: LockId,
         loc: LocId,
     ) -> Result<(), Memory>
-        ensures { OnOk result ((pairs : List (Edge × Sample)) → IsTableOf self.old.table pairs → IsTableOf self.new.table (pairs ++ map (pair_for tracker.now wanted loc) tracker.now.held)) }
+        ensures { OnOk result ((pairs : List (Edge × Sample)) → Gathers pairs tracker.now.place self.old → Gathers (pairs ++ map (pair_for tracker.now wanted loc) tracker.now.held) (tracker.now.place + 1) self.new) }
+    {
+        if self.seen.note(alloc, tracker, wanted)? {
+            return Ok(());
+        }
+        self.add_each(alloc, tracker, wanted, loc)
+    }
+
+    // Puts in the edges of an acquire of a lock that the thread doesn't hold: one for each lock
+    // that it holds.
+    fn add_each(
+        &mut self,
+        alloc: Global,
+        tracker: &Tracker,
+        wanted: LockId,
+        loc: LocId,
+    ) -> Result<(), Memory>
+        ensures table { OnOk result ((pairs : List (Edge × Sample)) → IsTableOf self.old.table pairs → IsTableOf self.new.table (pairs ++ map (pair_for tracker.now wanted loc) tracker.now.held)) }
+        ensures seen { OnOk result (self.new.seen ≡ self.old.seen) }
     {
         let entries = tracker.held.entries();
         self.edge.thread = tracker.thread;
@@ -58,7 +80,7 @@ impl Gatherer {
 
     // Puts in the edges that the next event of the thread makes.
     fn add_edges(&mut self, alloc: Global, tracker: &Tracker, event: &Event) -> Result<(), Memory>
-        ensures { OnOk result ((thread : ℕ) (es : List Event) (pairs : List (Edge × Sample)) → Tracks thread es tracker.now → IsTableOf self.old.table pairs → IsTableOf self.new.table (pairs ++ edges_after thread es event.now)) }
+        ensures { OnOk result ((thread : ℕ) (es : List Event) (pairs : List (Edge × Sample)) → Tracks thread es tracker.now → Gathers pairs (length es) self.old → Gathers (pairs ++ edges_after thread es event.now) (length es + 1) self.new) }
     {
         let Event::Acquire { lock, loc } = *event else {
             return Ok(());
@@ -72,7 +94,7 @@ impl Gatherer {
     // Takes the next event of the thread.
     fn take(&mut self, alloc: Global, tracker: &mut Tracker, event: Event) -> Result<(), Memory>
         requires { MayFollow tracker.old event }
-        ensures table { OnOk result ((thread : ℕ) (es : List Event) (pairs : List (Edge × Sample)) → Tracks thread es tracker.old → IsTableOf self.old.table pairs → IsTableOf self.new.table (pairs ++ edges_after thread es event)) }
+        ensures gathers { OnOk result ((thread : ℕ) (es : List Event) (pairs : List (Edge × Sample)) → Tracks thread es tracker.old → Gathers pairs (length es) self.old → Gathers (pairs ++ edges_after thread es event) (length es + 1) self.new) }
         ensures follows { OnOk result ((thread : ℕ) (es : List Event) → Tracks thread es tracker.old → Tracks thread (es ++ event ∷ []) tracker.new) }
     {
         self.add_edges(alloc, tracker, &event)?;
@@ -85,6 +107,7 @@ impl Gatherer {
         requires { IsLawful greatest thread list.now }
         ensures { OnOk result ((pairs : List (Edge × Sample)) → IsTableOf self.old.table pairs → IsTableOf self.new.table (pairs ++ edges_of_list thread list.now)) }
     {
+        self.seen.clear();
         let mut tracker = Tracker::new(thread);
         for event in list {
             self.take(alloc, &mut tracker, *event)?;
@@ -97,7 +120,8 @@ impl Gatherer {
 /// position of its list.
 ///
 /// It takes a step for each event, and for each lock held at an acquire a look-up among the edges.
-/// An edge that was seen before takes no memory.
+/// Where many locks are held, an acquire that the thread made before takes a step for each of them and
+/// one look-up. An acquire that makes no new edge takes no memory.
 pub fn edges_of(alloc: Global, lists: &[Vec<Event>]) -> Result<EdgeList, Memory>
     requires few { length lists.now ≤ 1024 }
     requires lawful { (thread : ℕ) (es : List Event) → slice_get (map (λ v. v.items) lists.now) thread ≡ Some es → IsLawful greatest thread es }
@@ -113,6 +137,7 @@ pub fn edges_of(alloc: Global, lists: &[Vec<Event>]) -> Result<EdgeList, Memory>
             second: 0,
             guards: Guards::empty(alloc),
         },
+        seen: Seen::new(alloc),
     };
     for (number, list) in lists.iter().enumerate() {
         gatherer.take_list(alloc, ThreadId::new(number as u32), list.as_slice())?;

@@ -1,15 +1,16 @@
 //! What holds of the definitions, for all lists of events. Each function here does nothing: its
 //! contract is a law.
-ghost use Rattle.std.specs.Prelude.{◌≡◌, ◌<◌, ◌↔◌, ℕ, List, ◌++◌, map, Contains};
+ghost use Rattle.std.specs.Prelude.{◌≡◌, ◌<◌, ◌↔◌, ℕ, List, [], ◌∷◌, ◌++◌, map, length, Contains};
 ghost use Rattle.std.specs.Cmp.{IsTotalOrder};
 ghost use Rattle.std.specs.FinMap.{IsAntisymmetric};
 ghost use Rattle.gl_edges.specs.declared.edge.Edge.{Edge};
 ghost use Rattle.gl_edges.specs.declared.edge.Sample.{Sample};
+ghost use Rattle.std.specs.List.{flat_map, enumerate_from};
 ghost use Rattle.std.specs.List.Sorted.{IsStrictlySortedBy};
 ghost use Rattle.std.specs.Ordering.{nat_cmp};
 ghost use Rattle.gl_event.specs.Events as events;
 ghost use Rattle.gl_event.specs.declared.events.Event.{Event};
-ghost use Rattle.gl_edges.specs.Edges.{edges, once};
+ghost use Rattle.gl_edges.specs.Edges.{edges, edges_at, edges_of_list, once};
 ghost use Rattle.gl_edges.specs.Laws.{IsMade, IsMadeFirst, AreAmong};
 ghost use Rattle.gl_edges.specs.Order.{edge_cmp, sample_cmp, AreAscending};
 ghost use Rattle.gl_edges.specs.contracts.edge.EdgeOrd.TheImpl as edge_order;
@@ -54,6 +55,17 @@ pub fn samples_are_of_the_first_place()
 pub fn once_needs_no_order()
     ensures order { (xs ys : List (Edge × Sample)) → AreAmong xs ys → AreAmong ys xs → once xs ≡ once ys }
     ensures merged { (xs ys : List (Edge × Sample)) → once (once xs ++ once ys) ≡ once (xs ++ ys) }
+{}
+
+/// The edges of a thread's list are those of its events, one after the other: a list without events
+/// has none, and one more event adds the edges that it makes after those before it, which are what
+/// a tracker's step answers. So the edges of whole lists are those of all steps, each once with its
+/// least sample.
+pub fn edges_come_step_by_step()
+    ensures none { (thread : ℕ) → edges_of_list thread [] ≡ [] }
+    ensures more { (thread : ℕ) (es : List Event) (e : Event) → edges_of_list thread (es ++ e ∷ []) ≡ edges_of_list thread es ++ edges_at thread (es ++ e ∷ []) (length es) }
+    ensures front { (thread : ℕ) (front rest : List Event) (place : ℕ) → place < length front → edges_at thread (front ++ rest) place ≡ edges_at thread front place }
+    ensures all { (lists : List (List Event)) → edges lists ≡ once (flat_map (λ numbered. edges_of_list numbered.0 numbered.1) (enumerate_from 0 lists)) }
 {}
 
 /// The guards of an edge are the locks that are held, and these are the locks of positive depth,

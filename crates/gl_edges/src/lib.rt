@@ -16,6 +16,7 @@ mod gather;
 mod guards;
 mod laws;
 mod list;
+mod seen;
 mod table;
 #[cfg(test)]
 mod tests;
@@ -25,7 +26,7 @@ pub use edge::{Edge, Sample};
 pub use gather::edges_of;
 pub use guards::Guards;
 pub use laws::{
-    edges_are_ordered_by_their_fields, edges_are_those_made, edges_ascend,
+    edges_are_ordered_by_their_fields, edges_are_those_made, edges_ascend, edges_come_step_by_step,
     held_locks_are_those_of_positive_depth, once_needs_no_order, samples_are_of_the_first_place,
     samples_are_ordered_by_their_fields,
 };

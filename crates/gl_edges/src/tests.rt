@@ -375,3 +375,78 @@ fn least_sample(rt: HostRuntime) -> Result<(), Fail> {
     assert!(rt; are_as_wanted(found.entries(), &wants));
     Ok(())
 }
+
+// Puts acquires of the locks 0 to 4 at the end, one inside the other, and their releases.
+fn nest(list: &mut Vec<Event>) -> Result<(), Memory> {
+    for lock in 0..5 {
+        list.push(acq(lock, 1))?;
+    }
+    for lock in 0..5 {
+        list.push(rel(lock, 2))?;
+    }
+    Ok(())
+}
+
+// How many of the edges want the lock.
+fn count_wanting(pairs: &[(Edge, Sample)], lock: u32) -> usize {
+    pairs
+        .iter()
+        .filter(|pair| pair.0.wanted == LockId::new(lock))
+        .count()
+}
+
+// Whether two lists have the same edges with the same samples.
+fn are_equal(pairs: &[(Edge, Sample)], others: &[(Edge, Sample)]) -> bool {
+    pairs.len() == others.len() && pairs.iter().zip(others).all(|(pair, other)| pair == other)
+}
+
+// Locks that are taken one inside the other make the same edges with the same samples, however often
+// it happens; in another segment they make others.
+#[test]
+fn repeated_nesting(rt: HostRuntime) -> Result<(), Fail> {
+    let alloc = rt.alloc();
+    let mut one = Vec::new(alloc);
+    nest(&mut one)?;
+    let mut three = Vec::new(alloc);
+    nest(&mut three)?;
+    nest(&mut three)?;
+    nest(&mut three)?;
+    let mut forking = Vec::new(alloc);
+    nest(&mut forking)?;
+    forking.push(fork(1, 3))?;
+    nest(&mut forking)?;
+
+    let one = vec![in alloc; one]?;
+    let three = vec![in alloc; three]?;
+    let forking = vec![in alloc; forking]?;
+    assert!(rt; are_lawful(&one));
+    assert!(rt; are_lawful(&three));
+    assert!(rt; are_lawful(&forking));
+    let once = edges_of(alloc, &one)?;
+    assert!(rt; once.entries().len() == 10);
+    assert!(rt; are_equal(edges_of(alloc, &three)?.entries(), once.entries()));
+    assert!(rt; edges_of(alloc, &forking)?.entries().len() == 20);
+    Ok(())
+}
+
+// Lock 3 is opened once more, in another segment than before: that makes one edge more to lock 4,
+// while those from the locks that stayed held are there already.
+#[test]
+fn opened_again(rt: HostRuntime) -> Result<(), Fail> {
+    let alloc = rt.alloc();
+    let mut list = Vec::new(alloc);
+    for lock in 0..4 {
+        list.push(acq(lock, 1))?;
+    }
+    list.push(fork(1, 2))?;
+    list.push(acq(4, 3))?;
+    list.push(rel(4, 4))?;
+    list.push(rel(3, 5))?;
+    list.push(acq(3, 6))?;
+    list.push(acq(4, 7))?;
+    let lists = vec![in alloc; list]?;
+    assert!(rt; are_lawful(&lists));
+    let found = edges_of(alloc, &lists)?;
+    assert!(rt; count_wanting(found.entries(), 4) == 5);
+    Ok(())
+}

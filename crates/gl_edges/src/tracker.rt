@@ -53,8 +53,9 @@ impl Tracker {
         Ok(edges)
     }
 
-    // The edges that the event makes as the next one, ascending.
-    fn next_edges(&self, alloc: Global, event: &Event) -> Result<Vec<(Edge, Sample)>, Memory>
+    /// The edges that the event would make as the next one, ascending: what `step` answers. It isn't
+    /// taken.
+    pub fn next_edges(&self, alloc: Global, event: &Event) -> Result<Vec<(Edge, Sample)>, Memory>
         ensures { (thread : ℕ) (es : List Event) → Tracks thread es self.now → IfOk result (λ v. v.items ≡ edges_after thread es event.now) }
     {
         let Event::Acquire { lock, loc } = *event else {
@@ -99,8 +100,9 @@ impl Tracker {
         Ok(pairs)
     }
 
-    /// Takes the next event.
-    pub(crate) fn advance(&mut self, event: Event)
+    /// Takes the next event, which has to be lawful next under the greatest limits, without its edges.
+    /// It takes no memory.
+    pub fn advance(&mut self, event: Event)
         requires { MayFollow self.old event }
         ensures { (thread : ℕ) (es : List Event) → Tracks thread es self.old → Tracks thread (es ++ event ∷ []) self.new }
     {

@@ -1,10 +1,13 @@
-use Rattle.std.proofs.Common.{◌++◌, take, arith}
+use Rattle.std.proofs.Common.{◌+◌, ◌++◌, length, take, sym, subst, arith}
+use Rattle.std.proofs.lemmas.List.{length-take-le}
 use Rattle.gl_edges.specs.Edges.{edges_below}
-use Rattle.gl_edges.proofs.Gathering.{table_nil, follows_next, followed, table_event, table_list}
+use Rattle.gl_edges.specs.Gatherers.{Gathers}
+use Rattle.gl_edges.proofs.Gathering.{follows_next, followed, pairs_event, table_list}
+use Rattle.gl_edges.proofs.Remembering.{gathers_start}
 use Rattle.gl_edges.proofs.gather.Gatherer.take_list.Goals as goal
 
 pub loop-event-init : goal.loop-event-init
-loop-event-init c = record { follows = c.new-tracker.ensures; known = λ pairs is. table_nil _ pairs is }
+loop-event-init c = record { follows = c.new-tracker.ensures; known = λ pairs is. gathers_start pairs _ c.clear.ensures is }
 
 pub take-requires : goal.take-requires
 take-requires c =
@@ -18,13 +21,16 @@ loop-event-preserved c =
     let event = c.event-item.result in
     let tracker = c.loop-event.tracker in
     let before = c.loop-event.invariant.follows in
+    let long = length-take-le i list (omega (arith, c.loop-event-test.true)) in
     record {
       follows = followed thread list i event tracker c.loop-event-test.true c.event-item.is before c.take.new.tracker (c.in_ok-take.ensures.follows thread (take i list) before);
       known = λ pairs is.
-          table_event thread list i event tracker c.loop-event-test.true c.event-item.is before c.take.new.self.table pairs
-          (c.in_ok-take.ensures.table thread (take i list) (pairs ++ edges_below thread list i) before (c.loop-event.invariant.known pairs is));
+          subst (λ n. Gathers (pairs ++ edges_below thread list (i + 1)) (n + 1) c.take.new.self) long
+          (subst (λ xs. Gathers xs (length (take i list) + 1) c.take.new.self) (pairs_event thread list i event tracker c.loop-event-test.true c.event-item.is before pairs)
+          (c.in_ok-take.ensures.gathers thread (take i list) (pairs ++ edges_below thread list i) before
+          (subst (λ n. Gathers (pairs ++ edges_below thread list i) n c.loop-event.self) (sym long) (c.loop-event.invariant.known pairs is))));
     }
 
 pub returns : goal.returns
 returns c = λ pairs is.
-    table_list c.loop-event.self.table pairs c.args.thread c.args.list.now c.loop-event.event-index (omega arith) (c.loop-event.invariant.known pairs is)
+    table_list c.loop-event.self.table pairs c.args.thread c.args.list.now c.loop-event.event-index (omega arith) (c.loop-event.invariant.known pairs is).table

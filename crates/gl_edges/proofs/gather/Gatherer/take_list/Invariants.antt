@@ -1,5 +1,6 @@
 use Rattle.std.proofs.Common.{List, ◌++◌, take}
 use Rattle.gl_edges.specs.Edges.{edges_below}
+use Rattle.gl_edges.specs.Gatherers.{Gathers}
 use Rattle.gl_edges.specs.Samples.{IsTableOf}
 use Rattle.gl_edges.specs.Tracking.{Tracks}
 use Rattle.gl_edges.specs.declared.edge.Edge.{Edge}
@@ -9,5 +10,5 @@ use Rattle.gl_edges.proofs.gather.Gatherer.take_list.Given as goal
 abbrev pub invariant-loop-event : goal.invariant-loop-event
 invariant-loop-event l = record {
   follows : Tracks l.fn.thread (take l.event-index l.list) l.tracker;
-  known : (pairs : List (Edge × Sample)) → IsTableOf l.fn.self.table pairs → IsTableOf l.self.table (pairs ++ edges_below l.fn.thread l.list l.event-index);
+  known : (pairs : List (Edge × Sample)) → IsTableOf l.fn.self.table pairs → Gathers (pairs ++ edges_below l.fn.thread l.list l.event-index) l.event-index l.self;
 }

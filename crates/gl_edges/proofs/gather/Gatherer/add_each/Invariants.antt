@@ -4,7 +4,7 @@ use Rattle.gl_edges.specs.Samples.{IsTableOf}
 use Rattle.gl_edges.specs.Tracking.{pair_for}
 use Rattle.gl_edges.specs.declared.edge.Edge.{Edge}
 use Rattle.gl_edges.specs.declared.edge.Sample.{Sample}
-use Rattle.gl_edges.proofs.gather.Gatherer.add_acquire.Given as goal
+use Rattle.gl_edges.proofs.gather.Gatherer.add_each.Given as goal
 
 abbrev pub invariant-loop-entry : goal.invariant-loop-entry
 invariant-loop-entry l = record {
@@ -12,5 +12,6 @@ invariant-loop-entry l = record {
   wants : l.self.edge.wanted ≡ l.fn.wanted;
   in_segment : l.self.edge.second ≡ l.tracker.segment;
   guarded : l.self.edge.guards ≡ ascending (map (λ h. h.lock) l.tracker.held);
+  same_seen : l.self.seen ≡ l.fn.self.seen;
   known : (pairs : List (Edge × Sample)) → IsTableOf l.fn.self.table pairs → IsTableOf l.self.table (pairs ++ map (pair_for l.tracker l.fn.wanted l.fn.loc) (take l.entry-index l.tracker.held));
 }

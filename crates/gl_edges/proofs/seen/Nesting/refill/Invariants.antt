@@ -1,0 +1,11 @@
+use Rattle.std.proofs.Common.{◌≡◌, map, take}
+use Rattle.gl_edges.specs.Seen.{opened_of}
+use Rattle.gl_edges.proofs.seen.Nesting.refill.Given as goal
+
+abbrev pub invariant-loop-entry : goal.invariant-loop-entry
+invariant-loop-entry l = record {
+  of_thread : l.self.thread ≡ l.tracker.thread;
+  wants : l.self.wanted ≡ l.fn.wanted;
+  in_segment : l.self.second ≡ l.tracker.segment;
+  so_far : l.self.held.items ≡ map opened_of (take l.entry-index l.tracker.held);
+}
