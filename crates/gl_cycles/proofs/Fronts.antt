@@ -11,7 +11,7 @@ use Rattle.gl_edges.specs.declared.edge.Edge.{Edge}
 use Rattle.gl_edges.specs.declared.edge.Sample.{Sample}
 use Rattle.gl_filters.specs.declared.query.Mode.{Mode}
 use Rattle.gl_filters.specs.Test.{goes_with, can_follow, leads_back, last_of}
-use Rattle.gl_filters.proofs.Paths.{list_all_push}
+use Rattle.gl_filters.proofs.Paths.{list_all_push, last_of_push}
 use Rattle.gl_cycles.specs.AllCycles.{edges_of_table, picked}
 use Rattle.gl_cycles.proofs.Blocking.{picked-append, picked-push}
 
@@ -54,13 +54,28 @@ abbrev pub wanted_after : List Edge → ℕ
 wanted_after [] = 0
 wanted_after (e ∷ es) = (last_of e es).wanted
 
-wanted_last : (edges : List Edge) (path : List ℕ) (g : Edge) → AreWithin edges path → 0 < length path → slice_get edges (get_or path (length path - 1) 0) ≡ Some g → g.wanted ≡ wanted_after (picked edges path)
+-- the lock that the last edge of a path wants
+pub wanted_last : (edges : List Edge) (path : List ℕ) (g : Edge) → AreWithin edges path → 0 < length path → slice_get edges (get_or path (length path - 1) 0) ≡ Some g → g.wanted ≡ wanted_after (picked edges path)
 wanted_last edges [] g within some last = absurd (omega arith)
 wanted_last edges (i ∷ path) g within some last =
     let end : length (i ∷ path) - 1 ≡ length path = omega arith in
     let first = element_at edges i (within 0 0 (omega arith)) in
     let last_at : slice_get edges (get_or (i ∷ path) (length path) 0) ≡ Some g = sym (ap (λ k. slice_get edges (get_or (i ∷ path) k 0)) end) ∙ last in
     sym (ap wanted_after (picked-cons edges i path first.0 first.1) ∙ ap (λ h. h.wanted) (last_of_picked edges i path first.0 g (λ k d lt. within (suc k) d (omega arith)) first.1 last_at))
+
+-- the lock that the first of these edges holds
+abbrev pub held_first : List Edge → ℕ
+held_first [] = 0
+held_first (e ∷ es) = e.held
+
+-- whether one more edge closes a path
+pub leads_back-push : (es : List Edge) (f : Edge) → 0 < length es → leads_back (es ++ f ∷ []) ≡ eqb f.wanted (held_first es)
+leads_back-push [] f some = absurd (omega arith)
+leads_back-push (e ∷ es) f some = ap (λ h. eqb h.wanted e.held) (last_of_push e es f)
+
+first_held : (edges : List Edge) (path : List ℕ) (e : Edge) → 0 < length path → slice_get edges (get_or path 0 0) ≡ Some e → e.held ≡ held_first (picked edges path)
+first_held edges [] e some first = absurd (omega arith)
+first_held edges (i ∷ path) e some first = sym (ap held_first (picked-cons edges i path e first))
 
 -- whether a path is closed, by its first and its last edge
 pub leads_back-picked : (edges : List Edge) (path : List ℕ) (e g : Edge) → AreWithin edges path → 0 < length path
@@ -122,6 +137,10 @@ module _ (table : List (Edge × Sample)) (path : List ℕ) (within : All (λ i. 
   -- the lock that the last edge of the path wants
   pub wanted_by_table : (d : Edge × Sample) → 0 < length path → (get_or table (get_or path (length path - 1) 0) d).0.wanted ≡ wanted_after (picked (edges_of_table table) path)
   wanted_by_table d some = wanted_last (edges_of_table table) path _ within_edges some (at_path (length path - 1) d (omega arith))
+
+  -- the lock that its first one holds
+  pub held_by_table : (d : Edge × Sample) → 0 < length path → (get_or table (get_or path 0 0) d).0.held ≡ held_first (picked (edges_of_table table) path)
+  held_by_table d some = first_held (edges_of_table table) path _ some (at_path 0 d some)
 
   pub some_picked : 0 < length path → 0 < length (picked (edges_of_table table) path)
   some_picked some = let l = length-picked (edges_of_table table) path within_edges in omega arith

@@ -1,112 +1,62 @@
 -- How a search grows a path: what is found below it, follower by follower.
-use Rattle.std.proofs.Common.{◌≡◌, ◌≢◌, ℕ, zero, suc, ◌+◌, ◌-◌, ◌<◌, ◌≤◌, Bool, true, false, ◌&&◌, cond, List, [], ◌∷◌, ◌++◌, length, take, Option, Some, None, refl, sym, ap, subst, ◌∙◌, arith, inl, inr}
+use Rattle.std.proofs.Common.{◌≡◌, ◌≢◌, ℕ, zero, suc, ◌+◌, ◌<◌, ◌≤◌, Bool, true, false, ◌&&◌, cond, List, [], ◌∷◌, ◌++◌, length, take, Option, Some, None, refl, sym, ap, ◌∙◌, arith, inl, inr}
 use Rattle.std.specs.Prelude.{slice_get, IfSome, unwrap_or, nat_le}
 use Rattle.std.specs.List.{cons_option}
-use Rattle.std.proofs.lemmas.Bool.{ne_eqb, eq-eqb, cases_eq, and_right, and_from, false≢true}
+use Rattle.std.proofs.lemmas.Bool.{cases_eq, ne_eqb, and_right, and_from, false≢true}
 use Rattle.std.proofs.lemmas.List.{append_assoc, append-nil, take_all, length-take, length-append}
-use Rattle.std.proofs.lemmas.Option.{same_Some}
 use Rattle.gl_event.specs.declared.events.Segment.{Segment}
 use Rattle.gl_edges.specs.declared.edge.Edge.{Edge}
 use Rattle.gl_filters.specs.declared.query.Mode.{Mode}
 use Rattle.gl_filters.specs.Test.{is_path, is_cycle, can_follow, leads_back}
 use Rattle.gl_cycles.specs.AllCycles.{picked, all_cycles}
 use Rattle.gl_cycles.specs.Blocks.{block, upto, blocks_below}
-use Rattle.gl_cycles.specs.Followers.{holder_from}
-use Rattle.gl_cycles.proofs.Holders.{holder_step, holder_past}
+use Rattle.gl_cycles.specs.Followers.{IsNextWith, held_lock, both_locks}
+use Rattle.gl_cycles.specs.Loops.{IsOffLoops}
 use Rattle.gl_cycles.proofs.Lists.{upto-more, upto-until, take-take_append, take-full}
 use Rattle.gl_cycles.proofs.Blocking.{all_cycles-block, block-zero, block-suc, block-stray, not_led_on, none_after_closed, picked-push}
 use Rattle.gl_filters.proofs.Paths.{is_path_push}
-use Rattle.gl_cycles.proofs.Fronts.{AreWithin, wanted_after, element_at, length-picked}
-
--- the answer is the next position from k on whose edge holds the lock, and none before it does
-pub record IsNextHolder (edges : List Edge) (k lock : ℕ) (next : Option ℕ) : Type 0 where
-  pub from : k ≤ unwrap_or next (length edges)
-  pub within : unwrap_or next (length edges) ≤ length edges
-  pub holds : IfSome next (λ i. (i < length edges) × ((e : Edge) → slice_get edges i ≡ Some e → e.held ≡ lock))
-  pub skipped : (i : ℕ) (e : Edge) → k ≤ i → i < unwrap_or next (length edges) → slice_get edges i ≡ Some e → e.held ≢ lock
-
--- by how many positions are left
-next_holder_in : (left : ℕ) (edges : List Edge) (k lock : ℕ) → k + left ≡ length edges → IsNextHolder edges k lock (holder_from edges k lock)
-next_holder_in zero edges k lock long =
-    rw (holder_past edges k lock (omega arith)) (record {
-      from = omega arith;
-      within = omega arith;
-      holds = tt;
-      skipped = λ i e from below at. absurd (omega arith);
-    })
-next_holder_in (suc left) edges k lock long =
-    let here = element_at edges k (omega arith) in
-    let step = holder_step edges k lock here.0 here.1 in
-    elim (cases_eq here.0.held lock) [
-      | inl same ↦
-          rw (step, eq-eqb _ _ same) (record {
-            from = omega arith;
-            within = omega arith;
-            holds = (omega arith, λ e at. ap (λ x. x.held) (same_Some e here.0 (sym at ∙ here.1)) ∙ same);
-            skipped = λ i e from below at. absurd (omega arith);
-          })
-      | inr other ↦
-          let later = next_holder_in left edges (k + 1) lock (omega arith) in
-          rw (step, ne_eqb _ _ other) (record {
-            from = let f = later.from in omega arith;
-            within = later.within;
-            holds = later.holds;
-            skipped = λ i e from below at.
-                elim (cases_eq i k) [
-                  | inl same ↦ λ h. other (ap (λ x. x.held) (same_Some here.0 e (sym here.1 ∙ ap (slice_get edges) (sym same) ∙ at)) ∙ h)
-                  | inr apart ↦ later.skipped i e (omega arith) below at
-                ];
-          })
-    ]
-
-pub next_holder : (edges : List Edge) (k lock : ℕ) → k ≤ length edges → IsNextHolder edges k lock (holder_from edges k lock)
-next_holder edges k lock within = next_holder_in (length edges - k) edges k lock (omega arith)
+use Rattle.gl_cycles.proofs.Level.{block-off}
+use Rattle.gl_cycles.proofs.Fronts.{AreWithin, held_first, leads_back-push, wanted_after, element_at, length-picked}
 
 pub length-first : {X : Type 0} (n : ℕ) (xs : List X) → length (take n xs) ≤ n
 length-first n xs = let l = length-take n xs in omega arith
 
 module _ (before : Segment → Segment → Bool) (mode : Mode) (edges : List Edge) (n : ℕ) (front : List ℕ) (cap : ℕ) where
-  -- what was found before the next follower of the front
-  pub record HasGrown (old now : List (List ℕ)) (next : Option ℕ) : Type 0 where
+  -- what was found before the next edge with this key
+  pub record HasGrown {K : Type 0} (key : Edge → K) (k : K) (old now : List (List ℕ)) (next : Option ℕ) : Type 0 where
     pub reaches : unwrap_or next (length edges) ≤ length edges
-    pub holds : IfSome next (λ i. (i < length edges) × ((e : Edge) → slice_get edges i ≡ Some e → e.held ≡ wanted_after (picked edges front)))
+    pub holds : IfSome next (λ i. (i < length edges) × ((e : Edge) → slice_get edges i ≡ Some e → key e ≡ k))
     pub grown : now ≡ take cap (old ++ blocks_below before mode edges n front (unwrap_or next (length edges)))
 
-  module _ (some : 0 < length (picked edges front)) where
-    abbrev lock : ℕ
-    lock = wanted_after (picked edges front)
+  -- with another key an edge leads to no cycle
+  abbrev pub OthersAreStray : {K : Type 0} → (Edge → K) → K → Type 0
+  OthersAreStray key k = (i : ℕ) (f : Edge) → slice_get edges i ≡ Some f → key f ≢ k → block before mode edges n (front ++ i ∷ []) ≡ []
 
-    led : (f : Edge) → f.held ≢ lock → can_follow before mode (picked edges front) f ≡ false
-    led = led_in (picked edges front) some
-      where
-        led_in : (es : List Edge) → 0 < length es → (f : Edge) → f.held ≢ wanted_after es → can_follow before mode es f ≡ false
-        led_in [] none f other = absurd (omega arith)
-        led_in (e ∷ es) some f other = not_led_on before mode edges e es f (λ same. other (sym same))
-
-    -- what doesn't hold the lock leads to no cycle
-    skipped_blocks : (k : ℕ) (next : Option ℕ) → IsNextHolder edges k lock next
-        → blocks_below before mode edges n front (unwrap_or next (length edges)) ≡ blocks_below before mode edges n front k
-    skipped_blocks k next is =
-        upto-until (λ i. block before mode edges n (front ++ i ∷ [])) k (unwrap_or next (length edges)) is.from
+  module _ {K : Type 0} (key : Edge → K) (k : K) (stray : OthersAreStray key k) where
+    -- what is passed over leads to no cycle
+    skipped_blocks : (m : ℕ) (next : Option ℕ) → IsNextWith key edges k m next
+        → blocks_below before mode edges n front (unwrap_or next (length edges)) ≡ blocks_below before mode edges n front m
+    skipped_blocks m next is =
+        upto-until (λ i. block before mode edges n (front ++ i ∷ [])) m (unwrap_or next (length edges)) is.from
         (λ i from below.
         let w = is.within in
         let here = element_at edges i (omega arith) in
-        block-stray before mode edges n front i here.0 here.1 (led here.0 (is.skipped i here.0 from below here.1)))
+        elim (is.skipped i here.0 from below here.1) [
+          | inl other ↦ stray i here.0 here.1 other
+          | inr off ↦ block-off before mode edges n front i here.0 here.1 off
+        ])
 
-    pub grow_begin : (old : List (List ℕ)) (next : Option ℕ) → length old ≤ cap → next ≡ holder_from edges 0 lock → HasGrown old old next
-    grow_begin old next room is_next =
-        let is : IsNextHolder edges 0 lock next = subst (IsNextHolder edges 0 lock) (sym is_next) (next_holder edges 0 lock (omega arith)) in
+    pub grow_begin : (old : List (List ℕ)) (next : Option ℕ) → length old ≤ cap → IsNextWith key edges k 0 next → HasGrown key k old old next
+    grow_begin old next room is =
         record {
           reaches = is.within;
           holds = is.holds;
           grown = sym (ap (λ l. take cap (old ++ l)) (skipped_blocks 0 next is) ∙ ap (take cap) (append-nil old) ∙ take_all cap old room);
         }
 
-    pub grow_step : (old now more : List (List ℕ)) (i : ℕ) (next : Option ℕ) → HasGrown old now (Some i) → more ≡ take cap (now ++ block before mode edges n (front ++ i ∷ []))
-        → next ≡ holder_from edges (i + 1) lock → HasGrown old more next
-    grow_step old now more i next had grown is_next =
-        let within = had.holds.0 in
-        let is : IsNextHolder edges (i + 1) lock next = subst (IsNextHolder edges (i + 1) lock) (sym is_next) (next_holder edges (i + 1) lock (omega arith)) in
+    pub grow_step : (old now more : List (List ℕ)) (i : ℕ) (next : Option ℕ) → HasGrown key k old now (Some i) → more ≡ take cap (now ++ block before mode edges n (front ++ i ∷ []))
+        → IsNextWith key edges k (i + 1) next → HasGrown key k old more next
+    grow_step old now more i next had grown is =
         let f = λ (j : ℕ). block before mode edges n (front ++ j ∷ []) in
         record {
           reaches = is.within;
@@ -116,14 +66,38 @@ module _ (before : Segment → Segment → Bool) (mode : Mode) (edges : List Edg
               ∙ ap (λ l. take cap (old ++ l)) (sym (skipped_blocks (i + 1) next is ∙ upto-more f i));
         }
 
+  -- an edge that doesn't hold the lock which the last one wants
+  pub other_lock : 0 < length (picked edges front) → OthersAreStray held_lock (wanted_after (picked edges front))
+  other_lock some = λ i f at other. block-stray before mode edges n front i f at (led (picked edges front) some f other)
+    where
+      led : (es : List Edge) → 0 < length es → (f : Edge) → f.held ≢ wanted_after es → can_follow before mode es f ≡ false
+      led [] none f other = absurd (omega arith)
+      led (e ∷ es) some f other = not_led_on before mode edges e es f (λ same. other (sym same))
+
   -- a path that isn't closed is no cycle
   not_cycle : leads_back (picked edges front) ≡ false → is_cycle before mode (picked edges front) ≡ false
   unfolding is_cycle
   not_cycle unclosed = and_right _ _ (and_right _ _ unclosed)
 
-  pub grow_end : (old now : List (List ℕ)) → HasGrown old now None → leads_back (picked edges front) ≡ false → now ≡ take cap (old ++ block before mode edges (suc n) front)
-  grow_end old now had unclosed =
+  pub grow_end : {K : Type 0} (key : Edge → K) (k : K) (old now : List (List ℕ)) → HasGrown key k old now None → leads_back (picked edges front) ≡ false → now ≡ take cap (old ++ block before mode edges (suc n) front)
+  grow_end key k old now had unclosed =
       had.grown ∙ ap (λ l. take cap (old ++ l)) (sym (block-suc before mode edges n front ∙ ap (λ b. cond b (front ∷ []) [] ++ blocks_below before mode edges n front (length edges)) (not_cycle unclosed)))
+
+-- with one edge left to add, also one that doesn't want the lock which the first one holds
+pub other_locks : (before : Segment → Segment → Bool) (mode : Mode) (edges : List Edge) (front : List ℕ) (cap : ℕ) → 0 < length (picked edges front)
+    → OthersAreStray before mode edges 0 front cap both_locks (wanted_after (picked edges front), held_first (picked edges front))
+other_locks before mode edges front cap some = λ i f at other.
+    elim (cases_eq f.held (wanted_after (picked edges front))) [
+      | inl same ↦
+          elim (cases_eq f.wanted (held_first (picked edges front))) [
+            | inl closed ↦ absurd (other (λ j. (same j, closed j)))
+            | inr unclosed ↦
+                block-zero before mode edges (front ++ i ∷ [])
+                ∙ ap (λ b. cond b ((front ++ i ∷ []) ∷ []) [])
+                (not_cycle before mode edges 0 (front ++ i ∷ []) cap (ap leads_back (picked-push edges front i f at) ∙ leads_back-push (picked edges front) f some ∙ ne_eqb _ _ unclosed))
+          ]
+      | inr apart ↦ other_lock before mode edges 0 front cap some i f at apart
+    ]
 
 and_true : (b : Bool) → (b && true) ≡ b
 and_true true = refl
@@ -169,18 +143,23 @@ module _ (before : Segment → Segment → Bool) (mode : Mode) (edges : List Edg
       is_now ∙ sym (ap (λ l. take cap (old ++ l)) block_is ∙ take_all cap (old ++ cond (nat_le 2 (length front)) (front ∷ []) []) (at_most_one room (nat_le 2 (length front))))
 
 -- no more than the cap was found
-pub grown_room : (before : Segment → Segment → Bool) (mode : Mode) (edges : List Edge) (n : ℕ) (front : List ℕ) (cap : ℕ) (old now : List (List ℕ)) (next : Option ℕ)
-    → HasGrown before mode edges n front cap old now next → length now ≤ cap
-grown_room before mode edges n front cap old now next had =
+pub grown_room : {K : Type 0} (before : Segment → Segment → Bool) (mode : Mode) (edges : List Edge) (n : ℕ) (front : List ℕ) (cap : ℕ) (key : Edge → K) (k : K) (old now : List (List ℕ)) (next : Option ℕ)
+    → HasGrown before mode edges n front cap key k old now next → length now ≤ cap
+grown_room before mode edges n front cap key k old now next had =
     let first = length-first cap (old ++ blocks_below before mode edges n front (unwrap_or next (length edges))) in
     omega (arith, ap length had.grown)
 
 -- the next follower lies behind
-pub goes_on : (edges : List Edge) (i lock : ℕ) (next : Option ℕ) → i < length edges → next ≡ holder_from edges (i + 1) lock → (i < unwrap_or next (length edges)) × (unwrap_or next (length edges) ≤ length edges)
-goes_on edges i lock next within is_next =
-    let is : IsNextHolder edges (i + 1) lock next = subst (IsNextHolder edges (i + 1) lock) (sym is_next) (next_holder edges (i + 1) lock (omega arith)) in
+pub goes_on : {K : Type 0} (key : Edge → K) (edges : List Edge) (i : ℕ) (k : K) (next : Option ℕ) → IsNextWith key edges k (i + 1) next → (i < unwrap_or next (length edges)) × (unwrap_or next (length edges) ≤ length edges)
+goes_on key edges i k next is =
     let from = is.from in
     (omega arith, is.within)
+
+-- an edge that lies on no loop adds nothing
+pub grow_off : (before : Segment → Segment → Bool) (mode : Mode) (edges : List Edge) (n : ℕ) (front : List ℕ) (cap : ℕ) (old : List (List ℕ)) (i : ℕ) (f : Edge)
+    → length old ≤ cap → slice_get edges i ≡ Some f → IsOffLoops edges f → old ≡ take cap (old ++ block before mode edges n (front ++ i ∷ []))
+grow_off before mode edges n front cap old i f room at off =
+    sym (ap (λ l. take cap (old ++ l)) (block-off before mode edges n front i f at off) ∙ ap (take cap) (append-nil old) ∙ take_all cap old room)
 
 -- an edge that can't follow adds nothing
 pub grow_stray : (before : Segment → Segment → Bool) (mode : Mode) (edges : List Edge) (n : ℕ) (front : List ℕ) (cap : ℕ) (old : List (List ℕ)) (i : ℕ) (f : Edge)

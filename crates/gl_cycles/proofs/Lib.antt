@@ -1,4 +1,4 @@
-pub mod Holders
+pub mod Listed
 pub mod Lists
 pub mod Blocking
 pub mod Fronts
@@ -7,3 +7,5 @@ pub mod Trials
 pub mod Ascending
 pub mod Members
 pub mod ByEdges
+pub mod Uniqueness
+pub mod Level

@@ -1,52 +1,113 @@
-//! An index of edges by the lock that they hold.
-ghost use Rattle.std.specs.Prelude.{◌≡◌, ◌+◌, ◌<◌, List, slice_get, vec_len, Some, IfOk};
-ghost use Rattle.std.specs.Ordering.{nat_cmp};
+//! An index of the edges that may follow an edge.
+ghost use Rattle.std.specs.Prelude.{◌≡◌, ◌+◌, ◌<◌, ℕ, Bool, true, false, List, length, map, slice_get, vec_len, Some, IfOk, OnOk};
 ghost use Rattle.gl_cycles.specs.AllCycles.{edges_of_table};
-ghost use Rattle.gl_cycles.specs.Followers.{IsIndexOf, holder_from};
+ghost use Rattle.gl_cycles.specs.Followers.{IsNextWith, AreHolders, IsIndexOf, first_of_lock, held_lock};
+ghost use Rattle.gl_cycles.specs.Loops.{IsOffLoops, KeepsLoops};
 ghost use Rattle.gl_edges.specs.declared.edge.Edge.{Edge};
 
+use crate::closers::Closers;
 use gl_edges::{Edge, Sample};
 use gl_event::{LockId, Memory};
 use std::alloc::Global;
-use std::collections::BTreeMap;
+use std::collections::HashMap;
 
-/// Leads from a lock through the positions of the edges that hold it, ascending.
+/// Leads from an edge through the positions of its followers, ascending. These are the edges that
+/// hold the lock which it wants, but for edges that lie on no loop.
 #[derive(Drop)]
 pub(crate) struct Followers {
-    // the first position of each lock that is held
-    pub(crate) first: BTreeMap<LockId, usize>,
+    // for each position the first follower of the edge there
+    pub(crate) first: Vec<Option<usize>>,
     // for each position the next one with the same held lock
     pub(crate) next: Vec<Option<usize>>,
+    // the followers by the lock to which they lead
+    pub(crate) closers: Closers,
 }
 
 impl Followers {
-    /// The index of these edges. One look-up for each edge.
-    pub(crate) fn of(alloc: Global, edges: &[(Edge, Sample)]) -> Result<Followers, Memory>
-        ensures { IfOk result (λ index. IsIndexOf (edges_of_table edges.now) index) }
+    /// The index of the edges of a table, of which some are kept. Five look-ups for each edge
+    /// at most.
+    pub(crate) fn of(
+        alloc: Global,
+        table: &[(Edge, Sample)],
+        kept: &[bool],
+    ) -> Result<Followers, Memory>
+        requires { KeepsLoops (edges_of_table table.now) kept.now }
+        ensures { IfOk result (λ index. IsIndexOf (edges_of_table table.now) index) }
     {
-        let mut first = BTreeMap::new(alloc);
-        let mut next = vec![in alloc; None; edges.len()]?;
-        for i in (0..edges.len()).rev() {
-            let lock = edges[i].0.held;
-            let found = first.get(&lock).copied();
-            next[i] = found;
-            first.insert(lock, i)?;
-        }
-        Ok(Followers { first, next })
+        let holders = Holders::of(alloc, table, kept)?;
+        let first = holders.firsts(alloc, table)?;
+        Ok(Followers {
+            first,
+            next: holders.next,
+            closers: Closers::of(alloc, table, kept)?,
+        })
     }
 
-    /// The first position of an edge that holds the lock.
-    pub(crate) fn begin(&self, lock: LockId) -> Option<usize>
-        ensures { (edges : List Edge) → IsIndexOf edges self.now → result ≡ holder_from edges 0 lock }
+    /// The position of the first follower of the edge at `i`.
+    pub(crate) fn begin(&self, i: usize) -> Option<usize>
+        requires { i < vec_len self.now.first }
+        ensures { (edges : List Edge) (e : Edge) → IsIndexOf edges self.now → slice_get edges i ≡ Some e → IsNextWith held_lock edges e.wanted 0 result }
     {
-        self.first.get(&lock).copied()
+        self.first[i]
     }
 
-    /// The position after `i` of an edge that holds the lock that the edge at `i` holds.
+    /// The position after `i` of the next edge that holds the lock which the edge at `i` holds.
     pub(crate) fn after(&self, i: usize) -> Option<usize>
         requires { i < vec_len self.now.next }
-        ensures { (edges : List Edge) (e : Edge) → IsIndexOf edges self.now → slice_get edges i ≡ Some e → result ≡ holder_from edges (i + 1) e.held }
+        ensures { (edges : List Edge) (e : Edge) → IsIndexOf edges self.now → slice_get edges i ≡ Some e → IsNextWith held_lock edges e.held (i + 1) result }
     {
         self.next[i]
+    }
+}
+
+// Leads from a lock through the positions of the edges that hold it, ascending.
+#[derive(Drop)]
+struct Holders {
+    // the first position of each lock that is held
+    first: HashMap<LockId, usize>,
+    // for each position the next one with the same held lock
+    next: Vec<Option<usize>>,
+}
+
+impl Holders {
+    // The index of the edges of a table, but for those that are left out.
+    fn of(alloc: Global, table: &[(Edge, Sample)], kept: &[bool]) -> Result<Holders, Memory>
+        requires { KeepsLoops (edges_of_table table.now) kept.now }
+        ensures { IfOk result (λ holders. AreHolders (edges_of_table table.now) 0 holders) }
+    {
+        let mut holders = Holders {
+            first: HashMap::new(alloc),
+            next: vec![in alloc; None; table.len()]?,
+        };
+        for i in (0..table.len()).rev() {
+            holders.put(i, table[i].0.held, kept[i])?;
+        }
+        Ok(holders)
+    }
+
+    // Puts the edge at a position before those that are in the index. An edge that is left out
+    // leads on, but nothing leads to it.
+    fn put(&mut self, i: usize, lock: LockId, is_kept: bool) -> Result<(), Memory>
+        requires { i < vec_len self.old.next }
+        ensures { (edges : List Edge) (e : Edge) → AreHolders edges (i + 1) self.old → slice_get edges i ≡ Some e → e.held ≡ lock
+            → (is_kept ≡ false → IsOffLoops edges e) → OnOk result (AreHolders edges i self.new) }
+    {
+        self.next[i] = self.first.get(&lock).copied();
+        if !is_kept {
+            return Ok(());
+        }
+        self.first.insert(lock, i)?;
+        Ok(())
+    }
+
+    // For each edge the first position of the lock that it wants.
+    fn firsts(&self, alloc: Global, table: &[(Edge, Sample)]) -> Result<Vec<Option<usize>>, Memory>
+        ensures { IfOk result (λ firsts. firsts.items ≡ map (λ pair. first_of_lock self.now pair.0.wanted) table.now) }
+    {
+        let mut firsts = Vec::new(alloc);
+        for i in 0..table.len() {
+            firsts.push(self.first.get(&table[i].0.wanted).copied())?;
+        }
+        Ok(firsts)
     }
 }

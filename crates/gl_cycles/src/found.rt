@@ -4,6 +4,9 @@ ghost use Rattle.std.specs.Prelude.{◌≡◌, map};
 use gl_edges::EdgeList;
 use gl_event::Segment;
 use gl_filters::Query;
+use std::alloc::AllocError;
+use std::error::Error;
+use std::fmt;
 use std::marker::Model;
 
 /// Cycles, each as the positions of its edges in a list of edges. Contracts see a list of lists of
@@ -73,4 +76,30 @@ pub enum ReportFault {
     Inconsistent { at: Segment, ring: Vec<Segment> },
     /// Memory was refused.
     Memory,
+}
+
+impl fmt::Display for ReportFault {
+    ghost use Rattle.std.specs.Prelude.{Some};
+    ghost use Rattle.gl_cycles.specs.Faults.{text_of};
+
+    ghost output = { λ fault. Some (text_of fault) };
+
+    fn fmt<W: fmt::Write>(&self, f: &mut fmt::Formatter<W>) -> fmt::Result {
+        f.write_str(match self {
+            ReportFault::Inconsistent { .. } => "a segment precedes itself",
+            ReportFault::Memory => "out of memory",
+        })
+    }
+}
+
+impl Error for ReportFault {}
+
+impl From<AllocError> for ReportFault {
+    ghost use Rattle.gl_cycles.specs.declared.found.ReportFault.TheVariants.{Memory};
+
+    ghost from_gives = { λ _ e. e ≡ Memory };
+
+    fn from(_e: AllocError) -> ReportFault {
+        ReportFault::Memory
+    }
 }

@@ -1,11 +1,13 @@
 //! What holds of the definitions, for all lists of edges. Each function here does nothing: its
 //! contract is a law.
-ghost use Rattle.std.specs.Prelude.{◌↔◌, ℕ, Bool, List, map, Contains};
+ghost use Rattle.gl_cycles.specs.Reports.{ReportsAreUnique, LoopsAreUnique, NoReportOfLoops};
+ghost use Rattle.std.specs.Prelude.{◌≡◌, ◌↔◌, ℕ, Bool, List, map, All, Contains};
 ghost use Rattle.std.specs.Cmp.Lexicographic.{slice_cmp};
 ghost use Rattle.std.specs.List.Sorted.{IsStrictlySortedBy};
 ghost use Rattle.std.specs.Ordering.{nat_cmp};
 ghost use Rattle.gl_cycles.specs.AllCycles.{picked, all_cycles};
 ghost use Rattle.gl_cycles.specs.Laws.{IsCycleAt};
+ghost use Rattle.gl_cycles.specs.Loops.{IsNeverFalling};
 ghost use Rattle.gl_edges.specs.Order.{edge_cmp};
 ghost use Rattle.gl_edges.specs.declared.edge.Edge.{Edge};
 ghost use Rattle.gl_event.specs.declared.events.Segment.{Segment};
@@ -27,4 +29,20 @@ pub fn cycles_ascend_by_edges()
 /// and of at most so many edges.
 pub fn cycles_are_all()
     ensures { (before : Segment → Segment → Bool) (mode : Mode) (len : ℕ) (edges : List Edge) (positions : List ℕ) → Contains (all_cycles before mode len edges) positions ↔ IsCycleAt before mode len edges positions }
+{}
+
+/// What was asked, the edges and the lists decide the report: no two reports fit them. Where a segment
+/// of the lists is before itself they decide the least one, and no report fits.
+pub fn reports_are_unique()
+    ensures report { ReportsAreUnique }
+    ensures segment { LoopsAreUnique }
+    ensures either { NoReportOfLoops }
+{}
+
+/// For ranks of locks that never fall along an edge, each edge of a cycle leads from a lock to one of
+/// the same rank: going round, the rank comes back to where it was. So a search may leave out each
+/// edge along which the rank rises.
+pub fn cycles_are_level()
+    ensures { (before : Segment → Segment → Bool) (mode : Mode) (len : ℕ) (edges : List Edge) (rank : ℕ → ℕ) (positions : List ℕ) → IsNeverFalling rank edges
+        → Contains (all_cycles before mode len edges) positions → All (λ e. rank e.held ≡ rank e.wanted) (picked edges positions) }
 {}

@@ -7,15 +7,27 @@
 //! The list of all cycles is a definition: the lists of positions that pass the test of a cycle.
 //! That it has exactly the cycles, and in which order, is what [`cycles_are_all`],
 //! [`cycles_ascend`] and [`cycles_ascend_by_edges`] say.
+//!
+//! The search leaves out edges that lie on no loop of the lock-order graph. That these are in no
+//! cycle is seen by ranks of locks which fall along no edge: round a loop they stay the same, as
+//! [`cycles_are_level`] says. How the ranks are found is not proved; they are checked.
 #![tactic(auto)]
 
+mod closers;
+mod components;
 mod followers;
 mod found;
 mod laws;
+mod loops;
 mod paths;
+mod ranks;
+mod reports;
 #[cfg(test)]
 mod tests;
 
 pub use found::{Cycles, Found, Report, ReportFault};
-pub use laws::{cycles_are_all, cycles_ascend, cycles_ascend_by_edges};
+pub use laws::{
+    cycles_are_all, cycles_are_level, cycles_ascend, cycles_ascend_by_edges, reports_are_unique,
+};
 pub use paths::search;
+pub use reports::report_over;

@@ -1,5 +1,5 @@
 //! The search for cycles: paths of edges that lead on from each other, grown from each edge.
-ghost use Rattle.std.specs.Prelude.{◌≡◌, ◌+◌, ◌-◌, ◌<◌, ◌≤◌, [], ◌∷◌, ◌++◌, ◌↔◌, true, List, Some, length, map, take, slice_get, nat_le, if◌then◌else◌, IsTrue, IfOk, OnOk, All};
+ghost use Rattle.std.specs.Prelude.{◌≡◌, ◌+◌, ◌-◌, ◌<◌, ◌≤◌, [], ◌∷◌, ◌++◌, ◌↔◌, true, false, List, Some, length, map, take, slice_get, nat_le, if◌then◌else◌, IsTrue, IfOk, OnOk, All};
 ghost use Rattle.gl_cycles.specs.declared.paths.TheConstants.{PATH};
 ghost use Rattle.gl_segments.specs.Clocks.{is_before};
 ghost use Rattle.std.specs.List.{list_all};
@@ -7,10 +7,12 @@ ghost use Rattle.gl_filters.specs.Test.{can_follow, goes_with, leads_back, is_pa
 ghost use Rattle.gl_cycles.specs.AllCycles.{edges_of_table, picked, all_cycles};
 ghost use Rattle.gl_cycles.specs.Blocks.{block};
 ghost use Rattle.gl_cycles.specs.Followers.{IsIndexOf};
+ghost use Rattle.gl_cycles.specs.Loops.{KeepsLoops};
 ghost use Rattle.gl_edges.specs.declared.edge.Edge.{Edge};
 
 use crate::followers::Followers;
 use crate::found::{Cycles, Found};
+use crate::loops::edges_on_loops;
 use arrayvec::ArrayVec;
 use gl_edges::{Edge, EdgeList, Sample};
 use gl_event::Memory;
@@ -27,6 +29,8 @@ struct Searcher<'a> {
     table: &'a [(Edge, Sample)],
     order: &'a Order,
     mode: Mode,
+    // which edges may lie on a loop
+    kept: Vec<bool>,
     index: Followers,
     // how many edges a cycle may have
     len: usize,
@@ -83,15 +87,38 @@ impl Searcher<'_> {
     fn first_cycles(&self, alloc: Global) -> Result<Vec<Vec<usize>>, Memory>
         requires some { 0 < self.now.len }
         requires fits { self.now.len ≤ PATH }
+        requires kept { KeepsLoops (edges_of_table self.now.table.now) self.now.kept.items }
         requires indexed { IsIndexOf (edges_of_table self.now.table.now) self.now.index }
         ensures { IfOk result (λ found. map (λ cycle. cycle.items) found.items
             ≡ take self.now.cap (all_cycles (is_before self.now.order.now) self.now.mode self.now.len (edges_of_table self.now.table.now))) }
     {
         let mut found = Vec::new(alloc);
         for root in 0..self.table.len() {
-            self.grow(alloc, &[root], &mut found)?;
+            self.grow_from(alloc, root, &mut found)?;
         }
         Ok(found)
+    }
+
+    // Adds the cycles that begin with the edge at a position, up to the cap.
+    fn grow_from(
+        &self,
+        alloc: Global,
+        root: usize,
+        found: &mut Vec<Vec<usize>>,
+    ) -> Result<(), Memory>
+        requires some { 0 < self.now.len }
+        requires fits { self.now.len ≤ PATH }
+        requires there { root < length self.now.table.now }
+        requires kept { KeepsLoops (edges_of_table self.now.table.now) self.now.kept.items }
+        requires indexed { IsIndexOf (edges_of_table self.now.table.now) self.now.index }
+        requires room { length found.old.items ≤ self.now.cap }
+        ensures { OnOk result (map (λ cycle. cycle.items) found.new.items ≡ take self.now.cap (map (λ cycle. cycle.items) found.old.items
+            ++ block (is_before self.now.order.now) self.now.mode (edges_of_table self.now.table.now) (self.now.len - 1) (root ∷ []))) }
+    {
+        if !self.kept[root] {
+            return Ok(());
+        }
+        self.grow(alloc, &[root], found)
     }
 
     // Adds the cycles that begin with the path, up to the cap.
@@ -116,12 +143,44 @@ impl Searcher<'_> {
         if path.len() == self.len {
             return Ok(());
         }
+        if path.len() + 1 == self.len {
+            return self.close(alloc, path, found);
+        }
         let last = path[path.len() - 1];
-        let lock = self.table[last].0.wanted;
-        let mut next = self.index.begin(lock);
+        let mut next = self.index.begin(last);
         while let Some(i) = next {
             self.grow_by(alloc, path, i, found)?;
             next = self.index.after(i);
+        }
+        Ok(())
+    }
+
+    // Adds the cycles that the path and one more edge make, up to the cap.
+    #[cycle(grow)]
+    fn close(
+        &self,
+        alloc: Global,
+        path: &[usize],
+        found: &mut Vec<Vec<usize>>,
+    ) -> Result<(), Memory>
+        requires some { 0 < length path.now }
+        requires one_left { length path.now + 1 ≡ self.now.len }
+        requires fits { self.now.len ≤ PATH }
+        requires within { All (λ i. i < length self.now.table.now) path.now }
+        requires is_path { is_path (is_before self.now.order.now) self.now.mode (picked (edges_of_table self.now.table.now) path.now) ≡ true }
+        requires unclosed { leads_back (picked (edges_of_table self.now.table.now) path.now) ≡ false }
+        requires indexed { IsIndexOf (edges_of_table self.now.table.now) self.now.index }
+        requires room { length found.old.items ≤ self.now.cap }
+        ensures { OnOk result (map (λ cycle. cycle.items) found.new.items ≡ take self.now.cap (map (λ cycle. cycle.items) found.old.items
+            ++ block (is_before self.now.order.now) self.now.mode (edges_of_table self.now.table.now) (self.now.len - length path.now) path.now)) }
+    {
+        let first = path[0];
+        let last = path[path.len() - 1];
+        let closers = &self.index.closers;
+        let mut next = closers.begin(self.table[last].0.wanted, self.table[first].0.held);
+        while let Some(i) = next {
+            self.grow_by(alloc, path, i, found)?;
+            next = closers.after(i);
         }
         Ok(())
     }
@@ -180,8 +239,12 @@ fn keep_closed(alloc: Global, path: &[usize], found: &mut Vec<Vec<usize>>) -> Re
 }
 
 /// The first cycles of a query over these edges, in the order of their edges, and whether there are
-/// more. Each edge in turn is the first of paths, which grow by every edge that may follow; the
-/// search ends where one cycle more than are listed was found.
+/// more. Each edge in turn is the first of paths, which grow by every edge that may follow, but edges
+/// that lie on no loop of the lock-order graph are left out before. The search ends where one cycle
+/// more than are listed was found.
+///
+/// To find the edges on loops takes some look-ups for each edge. There may be as many paths as these
+/// edges to the power of the greatest length of a cycle less one.
 ///
 /// Err where memory was refused.
 pub fn search(
@@ -195,11 +258,14 @@ pub fn search(
 {
     let table = edges.entries();
     let max = query.max() as usize;
+    let kept = edges_on_loops(alloc, table)?;
+    let index = Followers::of(alloc, table, &kept)?;
     let search = Searcher {
         table,
         order,
         mode: query.mode(),
-        index: Followers::of(alloc, table)?,
+        kept,
+        index,
         len: query.len() as usize,
         cap: max + 1,
     };

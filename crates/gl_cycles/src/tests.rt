@@ -5,9 +5,11 @@ ghost use Rattle.gl_event.specs.Lawful.{IsLawful, lock_refusal, refusal};
 ghost use Rattle.gl_event.specs.declared.events.Event.{Event};
 ghost use Rattle.gl_edges.specs.Tracking.{Tracks};
 
-use crate::found::{Cycles, Found};
+use crate::components::{Step, components};
+use crate::found::{Cycles, Found, Report, ReportFault};
 use crate::paths::search;
-use gl_edges::edges_of;
+use crate::reports::report_over;
+use gl_edges::{EdgeList, edges_of};
 use gl_event::{Event, Held, LocId, LockId, MAX_EVENTS, MAX_THREADS, Memory, ThreadId};
 use gl_filters::{Mode, Query};
 use gl_segments::Order;
@@ -365,6 +367,145 @@ fn first_of_two_cycles(rt: HostRuntime) -> Result<(), Fail> {
     Ok(())
 }
 
+// Locks 0 and 1 are a loop, and so are 2 and 3. The second edge leads from the one to the other, and
+// no edge leads back.
+#[test]
+fn two_loops_and_a_bridge(rt: HostRuntime) -> Result<(), Fail> {
+    let alloc = rt.alloc();
+    let lists = vec![in alloc;
+        vec![in alloc;
+            acq(0, 1),
+            acq(1, 2),
+            rel(0, 3),
+            acq(2, 4),
+            rel(1, 5),
+            acq(3, 6)
+        ]?,
+        vec![in alloc;
+            acq(1, 7),
+            acq(0, 8),
+            rel(0, 9),
+            rel(1, 10),
+            acq(3, 11),
+            acq(2, 12)
+        ]?,
+    ]?;
+    assert!(rt; are_lawful(&lists));
+    let edges = edges_of(alloc, &lists)?;
+    let order = Order::of(alloc, &lists)?;
+    for mode in [Mode::Basic, Mode::Guarded, Mode::Full] {
+        let found = search(alloc, &edges, &order, &Query::new(mode, 4, 1_000)?)?;
+        assert!(rt; are_all(&found, &[&[0, 3], &[2, 4]]));
+    }
+    Ok(())
+}
+
+// Two loops go through lock 1. The third edge of the first thread leads on from lock 2 to a lock
+// from which nothing leads.
+#[test]
+fn two_loops_through_one_lock(rt: HostRuntime) -> Result<(), Fail> {
+    let alloc = rt.alloc();
+    let lists = vec![in alloc;
+        vec![in alloc;
+            acq(0, 1),
+            acq(1, 2),
+            rel(0, 3),
+            acq(2, 4),
+            rel(1, 5),
+            acq(9, 6)
+        ]?,
+        vec![in alloc;
+            acq(1, 7),
+            acq(0, 8),
+            rel(0, 9),
+            rel(1, 10),
+            acq(2, 11),
+            acq(1, 12)
+        ]?,
+    ]?;
+    assert!(rt; are_lawful(&lists));
+    let edges = edges_of(alloc, &lists)?;
+    let order = Order::of(alloc, &lists)?;
+    let found = search(alloc, &edges, &order, &Query::new(Mode::Full, 4, 1_000)?)?;
+    assert!(rt; are_all(&found, &[&[0, 3], &[1, 4]]));
+    Ok(())
+}
+
+// A ring of three locks with great numbers, an edge into it and one out of it.
+#[test]
+fn ring_with_a_way_in_and_a_way_out(rt: HostRuntime) -> Result<(), Fail> {
+    let alloc = rt.alloc();
+    let low = 3_000_000_000;
+    let mid = 4_000_000_000;
+    let high = 4_294_967_295;
+    let lists = vec![in alloc;
+        vec![in alloc; acq(5, 1), acq(low, 2), rel(5, 3), acq(mid, 4)]?,
+        vec![in alloc; acq(mid, 5), acq(high, 6), rel(mid, 7), acq(7, 8)]?,
+        vec![in alloc; acq(high, 9), acq(low, 10)]?,
+    ]?;
+    assert!(rt; are_lawful(&lists));
+    let edges = edges_of(alloc, &lists)?;
+    let order = Order::of(alloc, &lists)?;
+    let three = search(alloc, &edges, &order, &Query::new(Mode::Full, 3, 1_000)?)?;
+    assert!(rt; are_all(&three, &[&[1, 2, 4]]));
+    let two = search(alloc, &edges, &order, &Query::new(Mode::Full, 2, 1_000)?)?;
+    assert!(rt; are_all(&two, &[]));
+    Ok(())
+}
+
+// A step of a graph.
+fn step(from: usize, to: usize) -> Step {
+    Step { from, to }
+}
+
+// Places in a row, against the order of their numbers: each is a component.
+#[test]
+fn components_of_a_row(rt: HostRuntime) -> Result<(), Fail> {
+    let steps = [step(3, 2), step(2, 1), step(1, 0), step(3, 0)];
+    let numbers = components(rt.alloc(), 4, &steps)?;
+    assert!(rt; numbers[3].is_some());
+    assert!(rt; numbers[3] < numbers[2]);
+    assert!(rt; numbers[2] < numbers[1]);
+    assert!(rt; numbers[1] < numbers[0]);
+    Ok(())
+}
+
+// Two rings and a bridge: one number for each ring, and the one behind the bridge is greater.
+#[test]
+fn components_of_two_rings(rt: HostRuntime) -> Result<(), Fail> {
+    let steps = [
+        step(4, 0),
+        step(0, 2),
+        step(2, 4),
+        step(2, 1),
+        step(1, 3),
+        step(3, 1),
+        step(3, 3),
+    ];
+    let numbers = components(rt.alloc(), 5, &steps)?;
+    assert!(rt; numbers[0].is_some());
+    assert!(rt; numbers[0] == numbers[2]);
+    assert!(rt; numbers[2] == numbers[4]);
+    assert!(rt; numbers[1] == numbers[3]);
+    assert!(rt; numbers[0] < numbers[1]);
+    Ok(())
+}
+
+// Places that no step touches, and two that lead to one.
+#[test]
+fn components_without_rings(rt: HostRuntime) -> Result<(), Fail> {
+    let steps = [step(0, 3), step(4, 3), step(4, 0)];
+    let numbers = components(rt.alloc(), 5, &steps)?;
+    assert!(rt; numbers[4] < numbers[0]);
+    assert!(rt; numbers[0] < numbers[3]);
+    assert!(rt; numbers[1].is_some());
+    assert!(rt; numbers[2].is_some());
+    assert!(rt; numbers[1] != numbers[2]);
+    assert!(rt; numbers[1] != numbers[3]);
+    assert!(rt; numbers[2] != numbers[3]);
+    Ok(())
+}
+
 // Cycles are made from a list of lists and give it back.
 #[test]
 fn cycles_of_lists(rt: HostRuntime) -> Result<(), Fail> {
@@ -373,5 +514,57 @@ fn cycles_of_lists(rt: HostRuntime) -> Result<(), Fail> {
     let cycles = Cycles::from_vec(lists);
     assert!(rt; are_listed(cycles.as_slice(), &[&[0, 2], &[1, 3]]));
     assert!(rt; are_listed(&cycles.into_vec(), &[&[0, 2], &[1, 3]]));
+    Ok(())
+}
+
+// Whether the answer is that the second segments of threads 0 and 1 wait for each other.
+fn is_loop_of_joins(answer: &Result<Report, ReportFault>) -> bool {
+    match answer {
+        Err(ReportFault::Inconsistent { at, ring }) => {
+            at.thread == ThreadId::new(0)
+                && at.index == 1
+                && ring.len() == 2
+                && ring[1].thread == ThreadId::new(1)
+                && ring[1].index == 1
+        }
+        _ => false,
+    }
+}
+
+// The edges, the query and the cycle of the lists.
+#[test]
+fn report_over_own_edges(rt: HostRuntime) -> Result<(), Fail> {
+    let alloc = rt.alloc();
+    let lists = vec![in alloc;
+        vec![in alloc; acq(0, 1), acq(1, 2)]?,
+        vec![in alloc; acq(1, 5), acq(0, 6)]?,
+    ]?;
+    assert!(rt; are_lawful(&lists));
+    let edges = edges_of(alloc, &lists)?;
+    let query = Query::new(Mode::Full, 3, 7)?;
+    let report = report_over(alloc, edges, &lists, &query)?;
+    assert!(rt; report.query == query);
+    assert!(rt; report.edges.entries().len() == 2);
+    assert!(rt; are_all(&report.found, &[&[0, 1]]));
+    Ok(())
+}
+
+// Over no edges there is no cycle; but lists that wait for each other's end have no report at all.
+#[test]
+fn report_over_no_edges(rt: HostRuntime) -> Result<(), Fail> {
+    let alloc = rt.alloc();
+    let query = Query::new(Mode::Basic, 2, 1)?;
+    let lists = vec![in alloc;
+        vec![in alloc; acq(0, 1), acq(1, 2)]?,
+        vec![in alloc; acq(1, 5), acq(0, 6)]?,
+    ]?;
+    assert!(rt; are_lawful(&lists));
+    let report = report_over(alloc, EdgeList::new(alloc), &lists, &query)?;
+    assert!(rt; are_all(&report.found, &[]));
+
+    let waiting = vec![in alloc; vec![in alloc; join(1, 1)]?, vec![in alloc; join(0, 2)]?]?;
+    assert!(rt; are_lawful(&waiting));
+    let answer = report_over(alloc, EdgeList::new(alloc), &waiting, &query);
+    assert!(rt; is_loop_of_joins(&answer));
     Ok(())
 }

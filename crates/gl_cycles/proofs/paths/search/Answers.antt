@@ -1,5 +1,7 @@
-use Rattle.std.proofs.Common.{◌≡◌, ℕ, ◌+◌, ◌≤◌, List, map, take, sym, ap, ◌∙◌, arith}
-use Rattle.std.proofs.lemmas.List.{take-map, take-take}
+use Rattle.std.proofs.Common.{◌≡◌, ℕ, ◌+◌, ◌<◌, ◌≤◌, List, length, map, take, sym, subst, ap, ◌∙◌, arith}
+use Rattle.std.specs.Prelude.{IsTrue, nat_lt, ◌↔◌}
+use Rattle.std.proofs.lemmas.Bool.{ltb-true, lt-ltb}
+use Rattle.std.proofs.lemmas.List.{length-map, length-take, take-map, take-take}
 use Rattle.gl_segments.specs.Clocks.{is_before}
 use Rattle.gl_filters.specs.declared.query.Mode.{Mode}
 use Rattle.gl_edges.specs.declared.edge.Edge.{Edge}
@@ -19,3 +21,19 @@ returns-clause-cycles c =
     c.from_vec.ensures ∙ ap (map (λ cycle. cycle.items)) c.truncate.ensures.items ∙ sym (take-map (λ cycle. cycle.items) c.max-max.result c.in_ok-cycles.cycles.items)
     ∙ first_of_more c.max-max.result (c.max-max.result + 1) _ _ (omega arith) c.in_ok-cycles.ensures
     ∙ (λ i. take (max_is i) (all (c.mode.ensures.value i) (c.len.ensures.value i) (c.entries-table.ensures.pairs i)))
+
+-- one more than the first ones was found exactly if there is one
+more_than : {X : Type 0} (max found : ℕ) (cycles all : List X) → found ≡ length cycles → cycles ≡ take (max + 1) all → IsTrue (nat_lt max found) ↔ (max < length all)
+more_than max found cycles all long is =
+    let first = length-take (max + 1) all in
+    let same = ap length is in
+    (λ more. let above = ltb-true max found more in omega arith, λ above. lt-ltb max found (omega arith))
+
+pub returns-clause-more : goal.returns-clause-more
+returns-clause-more c =
+    let max_is = c.max-max.ensures.value in
+    let all = λ (m : Mode) (n : ℕ) (table : List (Edge × Sample)). all_cycles (is_before c.args.order.now) m n (edges_of_table table) in
+    let found = c.in_ok-cycles.cycles.items in
+    subst (λ n. IsTrue (nat_lt c.max-max.result c.len-2.result) ↔ (n < length (all c.args.query.now.mode c.args.query.now.len c.args.edges.now))) max_is
+    (subst (λ cycles. IsTrue (nat_lt c.max-max.result c.len-2.result) ↔ (c.max-max.result < length cycles)) (λ i. all (c.mode.ensures.value i) (c.len.ensures.value i) (c.entries-table.ensures.pairs i))
+    (more_than c.max-max.result c.len-2.result (map (λ cycle. cycle.items) found) _ (omega (arith, c.len-2.ensures, c.in_ok-cycles.cycles.ok.0, length-map found (λ cycle. cycle.items))) c.in_ok-cycles.ensures))

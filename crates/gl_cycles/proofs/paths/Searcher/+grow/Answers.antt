@@ -1,17 +1,17 @@
-use Rattle.std.proofs.Common.{◌≡◌, ℕ, suc, ◌+◌, ◌-◌, ◌<◌, ◌≤◌, List, length, map, Some, sym, ap, subst, ◌∙◌, arith, rules}
-use Rattle.std.specs.Prelude.{unwrap_or}
+use Rattle.std.proofs.Common.{◌≡◌, ℕ, suc, ◌+◌, ◌-◌, ◌<◌, ◌≤◌, List, length, map, get_or, Some, sym, ap, subst, ◌∙◌, arith, rules}
+use Rattle.std.specs.Prelude.{All, slice_get, unwrap_or}
 use Rattle.std.proofs.lemmas.List.{length-map, length_push}
 use Rattle.std.proofs.lemmas.List.Elements.{All-push}
 use Rattle.std.proofs.Common.{Option, None, take, ◌++◌}
 use Rattle.gl_cycles.specs.Blocks.{block}
-use Rattle.std.proofs.lemmas.Option.{slice_get_within}
 use Rattle.std.proofs.lemmas.Result.{on_ok_weaker}
 use Rattle.gl_cycles.specs.declared.paths.Searcher.{Searcher}
 use Rattle.gl_segments.specs.Clocks.{is_before}
-use Rattle.gl_cycles.specs.AllCycles.{edges_of_table}
-use Rattle.gl_cycles.specs.Followers.{holder_from}
-use Rattle.gl_cycles.proofs.Fronts.{element_at, within_edges, wanted_by_table, some_picked}
-use Rattle.gl_cycles.proofs.Growing.{HasGrown, grow_begin, grow_step, grow_end, grow_short, grow_closed, grown_room, goes_on, grow_stray, joined_path}
+use Rattle.gl_edges.specs.declared.edge.Edge.{Edge}
+use Rattle.gl_cycles.specs.AllCycles.{edges_of_table, picked}
+use Rattle.gl_cycles.specs.Followers.{IsNextWith, held_lock, both_locks}
+use Rattle.gl_cycles.proofs.Fronts.{element_at, within_edges, wanted_after, wanted_last, held_first, wanted_by_table, held_by_table, some_picked}
+use Rattle.gl_cycles.proofs.Growing.{HasGrown, OthersAreStray, other_lock, other_locks, grow_begin, grow_step, grow_end, grow_short, grow_closed, grown_room, goes_on, grow_stray, joined_path}
 use Rattle.gl_cycles.proofs.paths.Searcher.+grow.Goals as goal
 
 -- the path is closed
@@ -32,18 +32,34 @@ grow-returns-then-path-self t c =
     rw none (grow_short (is_before s.order.now) s.mode (edges_of_table s.table.now) c.args.path.now s.cap _
     (omega (arith, c.requires.room, length-map c.args.found.now.items (λ cycle. cycle.items))) (sym c.if-is_closed.ensures))
 
+-- the index gives the first edge that may follow the path
+first_follower : (s : Searcher) (path : List ℕ) → All (λ i. i < length s.table.now) path → 0 < length path → (first : Option ℕ)
+    → ((e : Edge) → slice_get (edges_of_table s.table.now) (get_or path (length path - 1) 0) ≡ Some e → IsNextWith held_lock (edges_of_table s.table.now) e.wanted 0 first)
+    → IsNextWith held_lock (edges_of_table s.table.now) (wanted_after (picked (edges_of_table s.table.now) path)) 0 first
+first_follower s path within some first is =
+    let last = element_at (edges_of_table s.table.now) (get_or path (length path - 1) 0) (within_edges s.table.now path within (length path - 1) 0 (omega arith)) in
+    subst (λ lock. IsNextWith held_lock (edges_of_table s.table.now) lock 0 first) (wanted_last (edges_of_table s.table.now) path last.0 (within_edges s.table.now path within) some last.1) (is last.0 last.1)
+
+-- the path's last edge is in the index
+pub grow-begin-next-requires : goal.grow-begin-next-requires
+grow-begin-next-requires t c =
+    let s = c.args.self.now in
+    let within = c.requires.within (length c.args.path.now - 1) 0 (omega (arith, c.requires.some)) in
+    omega (arith, within, c.requires.indexed.long, length-map s.table.now (λ pair. pair.0), s.index.first.ok.0)
+
 -- before the first follower
 pub grow-loop-next-init : goal.grow-loop-next-init
 grow-loop-next-init t c =
     let s = c.args.self.now in
-    grow_begin (is_before s.order.now) s.mode (edges_of_table s.table.now) (s.len - length c.args.path.now - 1) c.args.path.now s.cap
-    (some_picked s.table.now c.args.path.now c.requires.within c.requires.some) _ _
+    grow_begin (is_before s.order.now) s.mode (edges_of_table s.table.now) (s.len - length c.args.path.now - 1) c.args.path.now s.cap held_lock _
+    (other_lock (is_before s.order.now) s.mode (edges_of_table s.table.now) (s.len - length c.args.path.now - 1) c.args.path.now s.cap (some_picked s.table.now c.args.path.now c.requires.within c.requires.some)) _ _
     (omega (arith, c.requires.room, length-map c.args.found.now.items (λ cycle. cycle.items)))
-    (c.begin-next.ensures (edges_of_table s.table.now) c.requires.indexed ∙ ap (λ lock. holder_from (edges_of_table s.table.now) 0 lock) (wanted_by_table s.table.now c.args.path.now c.requires.within _ c.requires.some))
+    (first_follower s c.args.path.now c.requires.within c.requires.some c.begin-next.result (λ e at. c.begin-next.ensures (edges_of_table s.table.now) e c.requires.indexed at))
 
 -- what has grown where the next follower is known
 abbrev Grown : (s : Searcher) → List ℕ → List (List ℕ) → List (List ℕ) → Option ℕ → Type 0
-Grown s path old now next = HasGrown (is_before s.order.now) s.mode (edges_of_table s.table.now) (s.len - length path - 1) path s.cap old now next
+Grown s path old now next =
+    HasGrown (is_before s.order.now) s.mode (edges_of_table s.table.now) (s.len - length path - 1) path s.cap held_lock (wanted_after (picked (edges_of_table s.table.now) path)) old now next
 
 -- fewer positions are left behind a later follower
 closer : (n m i : ℕ) (now next : Option ℕ) → m ≡ n → now ≡ Some i → i < unwrap_or next m → unwrap_or next m ≤ m → n - unwrap_or next n < n - unwrap_or now n
@@ -58,7 +74,7 @@ grow-grow_by-requires t c =
     let s = c.args.self.now in
     let had : Grown s c.args.path.now (map (λ cycle. cycle.items) c.args.found.now.items) (map (λ cycle. cycle.items) c.loop-next.found.items) (Some c.in-Some.i) =
     subst (Grown s c.args.path.now (map (λ cycle. cycle.items) c.args.found.now.items) (map (λ cycle. cycle.items) c.loop-next.found.items)) c.in-Some.is c.loop-next.invariant in
-    let room = grown_room _ _ _ _ _ _ _ _ _ had in
+    let room = grown_room _ _ _ _ _ _ _ _ _ _ _ had in
     let short = c.requires.short in (
       search rules,
       (
@@ -91,9 +107,7 @@ grow-after-next-requires t c =
     let s = c.args.self.now in
     let had : Grown s c.args.path.now (map (λ cycle. cycle.items) c.args.found.now.items) (map (λ cycle. cycle.items) c.loop-next.found.items) (Some c.in-Some.i) =
     subst (Grown s c.args.path.now (map (λ cycle. cycle.items) c.args.found.now.items) (map (λ cycle. cycle.items) c.loop-next.found.items)) c.in-Some.is c.loop-next.invariant in
-    let here = element_at (edges_of_table s.table.now) c.in-Some.i had.holds.0 in
-    let there = slice_get_within s.index.next.items c.in-Some.i _ (c.requires.indexed.goes_on c.in-Some.i here.0 here.1) in
-    omega (arith, there, s.index.next.ok.0)
+    omega (arith, had.holds.0, c.requires.indexed.as_long, s.index.next.ok.0)
 
 pub grow-loop-next-smaller : goal.grow-loop-next-smaller
 grow-loop-next-smaller t c =
@@ -101,7 +115,7 @@ grow-loop-next-smaller t c =
     let had : Grown s c.args.path.now (map (λ cycle. cycle.items) c.args.found.now.items) (map (λ cycle. cycle.items) c.loop-next.found.items) (Some c.in-Some.i) =
     subst (Grown s c.args.path.now (map (λ cycle. cycle.items) c.args.found.now.items) (map (λ cycle. cycle.items) c.loop-next.found.items)) c.in-Some.is c.loop-next.invariant in
     let here = element_at (edges_of_table s.table.now) c.in-Some.i had.holds.0 in
-    let later = goes_on (edges_of_table s.table.now) c.in-Some.i here.0.held c.after-next.result had.holds.0 (c.after-next.ensures (edges_of_table s.table.now) here.0 c.requires.indexed here.1) in
+    let later = goes_on held_lock (edges_of_table s.table.now) c.in-Some.i here.0.held c.after-next.result (c.after-next.ensures (edges_of_table s.table.now) here.0 c.requires.indexed here.1) in
     let long = length-map s.table.now (λ pair. pair.0) in
     closer (length s.table.now) (length (edges_of_table s.table.now)) c.in-Some.i c.loop-next.next c.after-next.result long c.in-Some.is later.0 later.1
 
@@ -112,9 +126,9 @@ grow-loop-next-preserved t c =
     let had : Grown s c.args.path.now (map (λ cycle. cycle.items) c.args.found.now.items) (map (λ cycle. cycle.items) c.loop-next.found.items) (Some c.in-Some.i) =
     subst (Grown s c.args.path.now (map (λ cycle. cycle.items) c.args.found.now.items) (map (λ cycle. cycle.items) c.loop-next.found.items)) c.in-Some.is c.loop-next.invariant in
     let here = element_at (edges_of_table s.table.now) c.in-Some.i had.holds.0 in
-    grow_step (is_before s.order.now) s.mode (edges_of_table s.table.now) (s.len - length c.args.path.now - 1) c.args.path.now s.cap
-    (some_picked s.table.now c.args.path.now c.requires.within c.requires.some) _ _ _ c.in-Some.i _ had c.in_ok-grow_by.ensures
-    (c.after-next.ensures (edges_of_table s.table.now) here.0 c.requires.indexed here.1 ∙ ap (λ lock. holder_from (edges_of_table s.table.now) (c.in-Some.i + 1) lock) (had.holds.1 here.0 here.1))
+    grow_step (is_before s.order.now) s.mode (edges_of_table s.table.now) (s.len - length c.args.path.now - 1) c.args.path.now s.cap held_lock _
+    (other_lock (is_before s.order.now) s.mode (edges_of_table s.table.now) (s.len - length c.args.path.now - 1) c.args.path.now s.cap (some_picked s.table.now c.args.path.now c.requires.within c.requires.some)) _ _ _ c.in-Some.i _ had c.in_ok-grow_by.ensures
+    (subst (λ lock. IsNextWith held_lock (edges_of_table s.table.now) lock (c.in-Some.i + 1) c.after-next.result) (had.holds.1 here.0 here.1) (c.after-next.ensures (edges_of_table s.table.now) here.0 c.requires.indexed here.1))
 
 -- all followers are done
 pub grow-returns : goal.grow-returns
@@ -124,7 +138,7 @@ grow-returns t c =
     subst (Grown s c.args.path.now (map (λ cycle. cycle.items) c.args.found.now.items) (map (λ cycle. cycle.items) c.loop-next.found.items)) c.in_default.is c.loop-next.invariant in
     let left : suc (s.len - length c.args.path.now - 1) ≡ s.len - length c.args.path.now = omega (arith, c.requires.short) in
     subst (λ n. map (λ cycle. cycle.items) c.loop-next.found.items ≡ take s.cap (map (λ cycle. cycle.items) c.args.found.now.items ++ block (is_before s.order.now) s.mode (edges_of_table s.table.now) n c.args.path.now)) left
-    (grow_end (is_before s.order.now) s.mode (edges_of_table s.table.now) (s.len - length c.args.path.now - 1) c.args.path.now s.cap _ _ had (sym c.if-is_closed.ensures))
+    (grow_end (is_before s.order.now) s.mode (edges_of_table s.table.now) (s.len - length c.args.path.now - 1) c.args.path.now s.cap held_lock _ _ _ had (sym c.if-is_closed.ensures))
 
 -- the edge can't follow
 pub grow_by-returns-then-not-can_join : goal.grow_by-returns-then-not-can_join
@@ -156,3 +170,101 @@ grow_by-grow-requires t c =
         ),
       ),
     )
+
+-- the locks that an edge which closes the path holds and wants
+abbrev closing : (s : Searcher) → List ℕ → ℕ × ℕ
+closing s path = (wanted_after (picked (edges_of_table s.table.now) path), held_first (picked (edges_of_table s.table.now) path))
+
+abbrev Closed : (s : Searcher) → List ℕ → List (List ℕ) → List (List ℕ) → Option ℕ → Type 0
+Closed s path old now next = HasGrown (is_before s.order.now) s.mode (edges_of_table s.table.now) (s.len - length path - 1) path s.cap both_locks (closing s path) old now next
+
+-- other edges don't close it
+others : (s : Searcher) (path : List ℕ) → All (λ i. i < length s.table.now) path → 0 < length path → length path + 1 ≡ s.len
+    → OthersAreStray (is_before s.order.now) s.mode (edges_of_table s.table.now) (s.len - length path - 1) path s.cap both_locks (closing s path)
+others s path within some one_left =
+    let none : s.len - length path - 1 ≡ 0 = omega arith in
+    subst (λ n. OthersAreStray (is_before s.order.now) s.mode (edges_of_table s.table.now) n path s.cap both_locks (closing s path)) (sym none)
+    (other_locks (is_before s.order.now) s.mode (edges_of_table s.table.now) path s.cap (some_picked s.table.now path within some))
+
+-- before the first edge that closes the path
+pub close-loop-next-init : goal.close-loop-next-init
+close-loop-next-init t c =
+    let s = c.args.self.now in
+    let path = c.args.path.now in
+    grow_begin (is_before s.order.now) s.mode (edges_of_table s.table.now) (s.len - length path - 1) path s.cap both_locks (closing s path) (others s path c.requires.within c.requires.some c.requires.one_left) _ _
+    (omega (arith, c.requires.room, length-map c.args.found.now.items (λ cycle. cycle.items)))
+    (subst (λ locks. IsNextWith both_locks (edges_of_table s.table.now) locks 0 c.begin-next.result)
+    (λ i. (wanted_by_table s.table.now path c.requires.within c.index-self-last.result c.requires.some i, held_by_table s.table.now path c.requires.within c.index-self-first.result c.requires.some i))
+    (c.begin-next.ensures (edges_of_table s.table.now) c.requires.indexed.closers))
+
+pub close-grow_by-requires : goal.close-grow_by-requires
+close-grow_by-requires t c =
+    let s = c.args.self.now in
+    let had : Closed s c.args.path.now (map (λ cycle. cycle.items) c.args.found.now.items) (map (λ cycle. cycle.items) c.loop-next.found.items) (Some c.in-Some.i) =
+    subst (Closed s c.args.path.now (map (λ cycle. cycle.items) c.args.found.now.items) (map (λ cycle. cycle.items) c.loop-next.found.items)) c.in-Some.is c.loop-next.invariant in
+    let room = grown_room _ _ _ _ _ _ _ _ _ _ _ had in
+    let one_left = c.requires.one_left in (
+      search rules,
+      (
+        c.requires.some,
+        (
+          omega arith,
+          (
+            c.requires.fits,
+            (
+              c.requires.within,
+              (
+                omega (arith, had.holds.0, length-map s.table.now (λ pair. pair.0)),
+                (
+                  c.requires.is_path,
+                  (
+                    c.requires.indexed,
+                    omega (arith, room, length-map c.loop-next.found.items (λ cycle. cycle.items)),
+                  ),
+                ),
+              ),
+            ),
+          ),
+        ),
+      ),
+    )
+
+pub close-after-next-requires : goal.close-after-next-requires
+close-after-next-requires t c =
+    let s = c.args.self.now in
+    let had : Closed s c.args.path.now (map (λ cycle. cycle.items) c.args.found.now.items) (map (λ cycle. cycle.items) c.loop-next.found.items) (Some c.in-Some.i) =
+    subst (Closed s c.args.path.now (map (λ cycle. cycle.items) c.args.found.now.items) (map (λ cycle. cycle.items) c.loop-next.found.items)) c.in-Some.is c.loop-next.invariant in
+    omega (arith, had.holds.0, c.requires.indexed.closers.long, s.index.closers.next.ok.0)
+
+pub close-loop-next-smaller : goal.close-loop-next-smaller
+close-loop-next-smaller t c =
+    let s = c.args.self.now in
+    let had : Closed s c.args.path.now (map (λ cycle. cycle.items) c.args.found.now.items) (map (λ cycle. cycle.items) c.loop-next.found.items) (Some c.in-Some.i) =
+    subst (Closed s c.args.path.now (map (λ cycle. cycle.items) c.args.found.now.items) (map (λ cycle. cycle.items) c.loop-next.found.items)) c.in-Some.is c.loop-next.invariant in
+    let here = element_at (edges_of_table s.table.now) c.in-Some.i had.holds.0 in
+    let later = goes_on both_locks (edges_of_table s.table.now) c.in-Some.i (both_locks here.0) c.after-next.result (c.after-next.ensures (edges_of_table s.table.now) here.0 c.requires.indexed.closers here.1) in
+    let long = length-map s.table.now (λ pair. pair.0) in
+    closer (length s.table.now) (length (edges_of_table s.table.now)) c.in-Some.i c.loop-next.next c.after-next.result long c.in-Some.is later.0 later.1
+
+-- one edge more that closes it
+pub close-loop-next-preserved : goal.close-loop-next-preserved
+close-loop-next-preserved t c =
+    let s = c.args.self.now in
+    let path = c.args.path.now in
+    let had : Closed s path (map (λ cycle. cycle.items) c.args.found.now.items) (map (λ cycle. cycle.items) c.loop-next.found.items) (Some c.in-Some.i) =
+    subst (Closed s path (map (λ cycle. cycle.items) c.args.found.now.items) (map (λ cycle. cycle.items) c.loop-next.found.items)) c.in-Some.is c.loop-next.invariant in
+    let here = element_at (edges_of_table s.table.now) c.in-Some.i had.holds.0 in
+    grow_step (is_before s.order.now) s.mode (edges_of_table s.table.now) (s.len - length path - 1) path s.cap both_locks (closing s path) (others s path c.requires.within c.requires.some c.requires.one_left) _ _ _ c.in-Some.i _ had c.in_ok-grow_by.ensures
+    (subst (λ locks. IsNextWith both_locks (edges_of_table s.table.now) locks (c.in-Some.i + 1) c.after-next.result) (had.holds.1 here.0 here.1) (c.after-next.ensures (edges_of_table s.table.now) here.0 c.requires.indexed.closers here.1))
+
+-- all edges that close it are done
+pub close-returns : goal.close-returns
+close-returns t c =
+    let s = c.args.self.now in
+    let path = c.args.path.now in
+    let had : Closed s path (map (λ cycle. cycle.items) c.args.found.now.items) (map (λ cycle. cycle.items) c.loop-next.found.items) None =
+    subst (Closed s path (map (λ cycle. cycle.items) c.args.found.now.items) (map (λ cycle. cycle.items) c.loop-next.found.items)) c.in_default.is c.loop-next.invariant in
+    let one_left = c.requires.one_left in
+    let left : suc (s.len - length path - 1) ≡ s.len - length path = omega arith in
+    subst (λ n. map (λ cycle. cycle.items) c.loop-next.found.items ≡ take s.cap (map (λ cycle. cycle.items) c.args.found.now.items ++ block (is_before s.order.now) s.mode (edges_of_table s.table.now) n path)) left
+    (grow_end (is_before s.order.now) s.mode (edges_of_table s.table.now) (s.len - length path - 1) path s.cap both_locks (closing s path) _ _ had c.requires.unclosed)

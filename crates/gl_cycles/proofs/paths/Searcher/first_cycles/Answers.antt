@@ -3,20 +3,13 @@ use Rattle.std.proofs.lemmas.List.{length-map}
 use Rattle.gl_segments.specs.Clocks.{is_before}
 use Rattle.gl_cycles.specs.AllCycles.{edges_of_table, all_cycles}
 use Rattle.gl_cycles.specs.Blocks.{blocks_below}
-use Rattle.gl_cycles.proofs.Fronts.{element_at}
-use Rattle.gl_cycles.proofs.Growing.{path_of_one, roots_more, all_from_roots}
+use Rattle.gl_cycles.proofs.Growing.{roots_more, all_from_roots}
 use Rattle.gl_cycles.proofs.paths.Searcher.first_cycles.Goals as goal
-
-pub grow-requires-clause-is_path : goal.grow-requires-clause-is_path
-grow-requires-clause-is_path c =
-    let s = c.args.self.now in
-    let here = element_at (edges_of_table s.table.now) c.loop-root.root (omega (arith, length-map s.table.now (λ pair. pair.0))) in
-    path_of_one (is_before s.order.now) s.mode (edges_of_table s.table.now) c.loop-root.root here.0 here.1
 
 pub loop-root-preserved : goal.loop-root-preserved
 loop-root-preserved c =
     let s = c.args.self.now in
-    roots_more (is_before s.order.now) s.mode (edges_of_table s.table.now) (s.len - 1) s.cap c.loop-root.root _ _ c.loop-root.invariant c.in_ok-grow.ensures
+    roots_more (is_before s.order.now) s.mode (edges_of_table s.table.now) (s.len - 1) s.cap c.loop-root.root _ _ c.loop-root.invariant c.in_ok-grow_from.ensures
 
 pub returns : goal.returns
 returns c =

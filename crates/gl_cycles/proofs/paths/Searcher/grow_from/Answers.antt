@@ -1,0 +1,23 @@
+use Rattle.std.proofs.Common.{[], ◌-◌, Some, ap, ◌∙◌, arith}
+use Rattle.std.proofs.lemmas.List.{length-map}
+use Rattle.std.proofs.lemmas.Option.{slice_get_read}
+use Rattle.gl_segments.specs.Clocks.{is_before}
+use Rattle.gl_cycles.specs.AllCycles.{edges_of_table}
+use Rattle.gl_cycles.proofs.Fronts.{element_at}
+use Rattle.gl_cycles.proofs.Growing.{path_of_one, grow_off}
+use Rattle.gl_cycles.proofs.paths.Searcher.grow_from.Goals as goal
+
+pub grow-requires-clause-is_path : goal.grow-requires-clause-is_path
+grow-requires-clause-is_path c =
+    let s = c.args.self.now in
+    let here = element_at (edges_of_table s.table.now) c.args.root (omega (arith, c.requires.there, length-map s.table.now (λ pair. pair.0))) in
+    path_of_one (is_before s.order.now) s.mode (edges_of_table s.table.now) c.args.root here.0 here.1
+
+-- the edge lies on no loop
+pub returns-then-not-index : goal.returns-then-not-index
+returns-then-not-index c =
+    let s = c.args.self.now in
+    let here = element_at (edges_of_table s.table.now) c.args.root (omega (arith, c.requires.there, length-map s.table.now (λ pair. pair.0))) in
+    grow_off (is_before s.order.now) s.mode (edges_of_table s.table.now) (s.len - 1) [] s.cap _ c.args.root here.0
+    (omega (arith, c.requires.room, length-map c.args.found.now.items (λ cycle. cycle.items))) here.1 (c.requires.kept.left_out c.args.root here.0 here.1
+    (slice_get_read s.kept.items _ c.args.root _ s.kept.ok.0 (omega (arith, c.requires.there, c.requires.kept.long, length-map s.table.now (λ pair. pair.0), s.kept.ok.0)) c.index.ensures ∙ ap Some c.if-not-index.true))
