@@ -1,10 +1,10 @@
 #!/bin/bash
-# Times goodlock and its plain counterpart on the same large traces, and checks that they agree.
+# Times goodlock, a plain and a tuned Rust program on the same large traces, and checks that they agree.
 #
 #     bench/run.sh [PROGRAM [ARGUMENT..]]
 #
 # PROGRAM is goodlock's (crates/goodlock/out/goodlock unless given); ARGUMENTs go to it.
-# BENCH_DIR   folder for the plain program and the traces   (/tmp/goodlock-bench)
+# BENCH_DIR   folder for the two Rust programs and the traces   (/tmp/goodlock-bench)
 # EVENTS      about how many lines a trace has              (1000000)
 # SHAPES      which shapes of bench/make_trace.py           (all)
 # STAGE       full: mode full, length 4; first: mode basic, length 2, forks and joins skipped  (full)
@@ -18,8 +18,8 @@ events=${EVENTS:-1000000}
 shapes=${SHAPES:-few-locks many-locks long-names deep-nesting many-cycles none forks}
 runs=${RUNS:-3}
 case ${STAGE:-full} in
-    full) plain_options="--mode full --len 4 --max 1000" ;;
-    first) plain_options="--mode basic --len 2 --max 1000 --skip-forks" ;;
+    full) options="--mode full --len 4 --max 1000" ;;
+    first) options="--mode basic --len 2 --max 1000 --skip-forks" ;;
     *) echo "run.sh: STAGE is first or full" >&2; exit 2 ;;
 esac
 program=${1:-$top/crates/goodlock/out/goodlock}
@@ -31,24 +31,41 @@ if [ ! -x "$program" ]; then
     exit 2
 fi
 mkdir -p "$folder"
-rustc --edition 2021 -C opt-level=3 -o "$folder/plain" "$here/plain/main.rs" || exit 2
+for peer in plain tuned; do
+    rustc --edition 2021 -C opt-level=3 -o "$folder/$peer" "$here/$peer/main.rs" || exit 2
+done
 
-# best_of OUTPUT COMMAND.. < TRACE: user and system seconds of the best run; leaves OUTPUT, .err and .status.
-best_of() {
-    local output=$1 trace=$2 best="" spent
+# run_once NAME TRACE COMMAND..: user and system seconds; leaves NAME.out, NAME.err and NAME.status.
+run_once() {
+    local name=$folder/$1 trace=$2
     shift 2
     local TIMEFORMAT="%3U %3S"
-    for ((run = 0; run < runs; run++)); do
-        { time "$@" <"$trace" >"$output" 2>"$output.err"; echo $? >"$output.status"; } 2>"$output.time"
-        spent=$(awk '{ printf "%.3f", $1 + $2 }' "$output.time")
-        if [ -z "$best" ] || awk "BEGIN { exit !($spent < $best) }"; then best=$spent; fi
+    { time "$@" <"$trace" >"$name.out" 2>"$name.err"; echo $? >"$name.status"; } 2>"$name.time"
+    awk '{ printf "%.3f", $1 + $2 }' "$name.time"
+}
+
+# lesser BEST SPENT: the lesser of the two; BEST may be empty.
+lesser() {
+    awk -v best="$1" -v spent="$2" 'BEGIN { print (best == "" || spent + 0 < best + 0) ? spent : best }'
+}
+
+# compare SHAPE PEER: fails where the peer's answer differs from goodlock's; both are kept under the shape's name.
+compare() {
+    local part is_equal=0
+    for part in out err status; do
+        if ! cmp -s "$folder/$2.$part" "$folder/goodlock.$part"; then
+            is_equal=1
+            cp "$folder/$2.$part" "$folder/$1.$2.$part"
+            cp "$folder/goodlock.$part" "$folder/$1.goodlock.$part"
+        fi
     done
-    echo "$best"
+    return "$is_equal"
 }
 
 echo "user and system seconds, best of $runs; stage ${STAGE:-full}; about $events lines a trace"
-printf '%-14s %8s %9s %8s %9s %8s %9s %6s  %s\n' \
-    shape MB lines plain MB/s goodlock MB/s ratio answers
+echo "/plain and /tuned: goodlock's time over the peer's"
+printf '%-13s %7s %8s  %8s %5s  %7s %5s  %7s %5s  %6s %6s  %s\n' \
+    shape MB lines goodlock MB/s plain MB/s tuned MB/s /plain /tuned answers
 differ=0
 for shape in $shapes; do
     trace=$folder/$shape-$events.std
@@ -56,28 +73,32 @@ for shape in $shapes; do
         python3 "$here/make_trace.py" --shape "$shape" --events "$events" --seed 1 >"$trace.new" || exit 2
         mv "$trace.new" "$trace"
     fi
-    # shellcheck disable=SC2086  # the options are words
-    plain=$(best_of "$folder/plain.out" "$trace" "$folder/plain" $plain_options)
-    proved=$(best_of "$folder/goodlock.out" "$trace" "$program" "$@")
+    goodlock="" plain="" tuned=""
+    for ((run = 0; run < runs; run++)); do
+        # shellcheck disable=SC2086  # the options are words
+        {
+            goodlock=$(lesser "$goodlock" "$(run_once goodlock "$trace" "$program" "$@")")
+            plain=$(lesser "$plain" "$(run_once plain "$trace" "$folder/plain" $options)")
+            tuned=$(lesser "$tuned" "$(run_once tuned "$trace" "$folder/tuned" $options)")
+        }
+    done
     answers=equal
-    for part in "" .err .status; do
-        if ! cmp -s "$folder/plain.out$part" "$folder/goodlock.out$part"; then
+    for peer in plain tuned; do
+        if ! compare "$shape" "$peer"; then
             answers=DIFFERENT
             differ=1
-            cp "$folder/plain.out$part" "$folder/$shape.plain$part"
-            cp "$folder/goodlock.out$part" "$folder/$shape.goodlock$part"
         fi
     done
-    bytes=$(stat -c %s "$trace")
-    count=$(wc -l <"$trace")
-    awk -v shape="$shape" -v bytes="$bytes" -v count="$count" -v plain="$plain" -v proved="$proved" -v answers="$answers" '
+    awk -v shape="$shape" -v bytes="$(stat -c %s "$trace")" -v count="$(wc -l <"$trace")" -v answers="$answers" \
+        -v goodlock="$goodlock" -v plain="$plain" -v tuned="$tuned" '
         function speed(seconds) { return seconds > 0 ? sprintf("%.0f", bytes / 1e6 / seconds) : "-" }
+        function over(seconds) { return seconds > 0 ? sprintf("%.2f", goodlock / seconds) : "-" }
         BEGIN {
-            printf "%-14s %8.1f %9d %8.3f %9s %8.3f %9s %6s  %s\n", shape, bytes / 1e6, count, plain, speed(plain),
-                proved, speed(proved), (plain > 0 ? sprintf("%.2f", proved / plain) : "-"), answers
+            printf "%-13s %7.1f %8d  %8.3f %5s  %7.3f %5s  %7.3f %5s  %6s %6s  %s\n", shape, bytes / 1e6, count,
+                goodlock, speed(goodlock), plain, speed(plain), tuned, speed(tuned), over(plain), over(tuned), answers
         }'
 done
 if [ "$differ" -ne 0 ]; then
-    echo "run.sh: the answers differ; see SHAPE.plain and SHAPE.goodlock in $folder" >&2
+    echo "run.sh: the answers differ; see SHAPE.PEER.* and SHAPE.goodlock.* in $folder" >&2
     exit 1
 fi

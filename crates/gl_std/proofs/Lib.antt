@@ -1,8 +1,10 @@
 pub mod CutLemmas
 pub mod GrowthLemmas
+pub mod HeardLemmas
 pub mod LinesLemmas
 pub mod KeptLemmas
 pub mod NameLemmas
+pub mod PieceLemmas
 pub mod PlaceLemmas
 pub mod RowLemmas
 pub mod ShapeLemmas

@@ -99,7 +99,7 @@ lines-last b (c ∷ line) h =
 
 -- ---- the lines are those of the text, and no others
 
-no_lf : (line : List ℕ) → ¬ Contains line LF → holds_lf line ≡ false
+pub no_lf : (line : List ℕ) → ¬ Contains line LF → holds_lf line ≡ false
 no_lf line none = by (holds_lf line) refl
   where
     by : (v : Bool) → holds_lf line ≡ v → v ≡ false
@@ -109,7 +109,7 @@ no_lf line none = by (holds_lf line) refl
         absurd (none (at.0, at.2, get_or_default line at.0 LF at.1 at.2 ∙ at.3 ∙ is))
     by false e = refl
 
-lf_free : (line : List ℕ) → holds_lf line ≡ false → ¬ Contains line LF
+pub lf_free : (line : List ℕ) → holds_lf line ≡ false → ¬ Contains line LF
 lf_free line h has = false≢true (sym h ∙ list_any_at (λ b. eqb b LF) line has.0 LF has.1 (eq-eqb (get_or line has.0 LF) LF has.2))
 
 both_false : (a b : Bool) → a ≡ false → b ≡ false → (a || b) ≡ false
@@ -155,7 +155,7 @@ holds_lf-cr : (line : List ℕ) → holds_lf line ≡ false → holds_lf (line +
 holds_lf-cr [] h = refl
 holds_lf-cr (b ∷ line) h = both_false (eqb b LF) (holds_lf (line ++ CR ∷ [])) (or_left (eqb b LF) (holds_lf line) h) (holds_lf-cr line (or_right (eqb b LF) (holds_lf line) h))
 
-lines-last_line : (line : List ℕ) → line ≢ [] → holds_lf line ≡ false → lines line ≡ line ∷ []
+pub lines-last_line : (line : List ℕ) → line ≢ [] → holds_lf line ≡ false → lines line ≡ line ∷ []
 lines-last_line [] some h = absurd (some refl)
 lines-last_line (b ∷ line) some h = lines-last b line h
 

@@ -1,12 +1,13 @@
 -- The place of a name after another name joined the list, and the events of a thread after an event of a thread.
-use Rattle.std.proofs.Common.{◌≡◌, ℕ, ◌<◌, Bool, true, false, ◌&&◌, cond, nat_lt, List, [], ◌∷◌, ◌++◌, length, get_or, position, Option, Some, None, refl, sym, ap, subst, ◌∙◌, ⊎_elim, arith}
-use Rattle.std.specs.Prelude.{slice_set}
+use Rattle.std.proofs.Common.{◌≡◌, ◌≢◌, ℕ, ◌<◌, Bool, true, false, ◌&&◌, cond, nat_lt, List, [], ◌∷◌, ◌++◌, length, get_or, position, AllPairs, Option, Some, None, refl, sym, ap, subst, ◌∙◌, ⊎_elim, arith}
+use Rattle.std.specs.Prelude.{slice_get, slice_set}
 use Rattle.std.specs.Option.{option_map_or}
 use Rattle.std.specs.Str.{bytes_eq}
 use Rattle.std.proofs.lemmas.Bool.{false≢true, cases_lt}
 use Rattle.std.proofs.lemmas.Bool.Decides.{nat_tests}
 use Rattle.std.proofs.lemmas.List.{get_or_append_left, get_or_push, length_push, get_or-set_same, get_or-set_other}
 use Rattle.std.proofs.lemmas.List.Folds.{list_any_at}
+use Rattle.std.proofs.lemmas.Option.{get_or_from_slice_get, slice_get_within}
 use Rattle.std.proofs.lemmas.List.Sums.{position_or_len_is}
 use Rattle.std.proofs.lemmas.List.Quantifiers.{position-Some}
 use Rattle.std.proofs.lemmas.Slice.Eq.{bytes_eq-Decides}
@@ -58,13 +59,29 @@ position-push p xs y = by (position p xs) refl (p y) refl
         position_at p (xs ++ y ∷ []) (length xs) y (omega (arith, length_push xs y)) (λ k h. front k h ∙ all_fail p xs y e k h) (ap p (get_or_push xs y y (length xs) refl) ∙ is)
     by None e false is = position_none p (xs ++ y ∷ []) y (λ k h. ⊎_elim (λ low. front k low ∙ all_fail p xs y e k low) (λ high. ap p (get_or_push xs y y k (omega (arith, length_push xs y))) ∙ is) (cases_lt k (length xs)))
 
--- ---- the events of a thread
+-- ---- names
 
 same_name : (a b : List ℕ) → bytes_eq a b ≡ true → a ≡ b
 same_name a b h = (bytes_eq-Decides a b).0 h
 
 itself : (a : List ℕ) → bytes_eq a a ≡ true
 itself a = (bytes_eq-Decides a a).1 refl
+
+other_name : (a b : List ℕ) → a ≢ b → bytes_eq a b ≡ false
+other_name a b apart = by (bytes_eq a b) refl
+  where
+    by : (r : Bool) → bytes_eq a b ≡ r → r ≡ false
+    by true same = absurd (apart (same_name a b same))
+    by false e = refl
+
+-- the number of a name is where it stands among different names
+pub number_of : (names : List (List ℕ)) (name at : List ℕ) (i : ℕ) → AllPairs (λ a b. a ≢ b) names → slice_get names i ≡ Some at → bytes_eq name at ≡ true → position (bytes_eq name) names ≡ Some i
+number_of names name at i differ stands same =
+    let within = slice_get_within names i at stands in
+    let is : get_or names i at ≡ name = get_or_from_slice_get names i at at stands ∙ sym (same_name name at same) in
+    position_at (bytes_eq name) names i at within (λ k low. other_name name (get_or names k at) (λ equal. differ k i at low within (sym equal ∙ sym is))) (ap (bytes_eq name) is ∙ itself name)
+
+-- ---- the events of a thread
 
 -- the events of the thread with this name
 abbrev pub events_named : List (List ℕ) → List (List Event) → List ℕ → List Event

@@ -7,7 +7,7 @@ use Rattle.std.proofs.lemmas.Bool.Decides.{nat_tests}
 use Rattle.std.proofs.lemmas.List.{get_or_default, take-append-le, take_all, length_push, length-take}
 use Rattle.std.proofs.lemmas.List.Folds.{Any-from_list_any, list_any_at}
 use Rattle.gl_std.specs.Line.{Shape, Says, FieldsSay, cut_at, is_on_itself, is_on_thread, operation_of, operation_name, operand_of, before_close, shape_of, shape_of_call, shape_of_fields}
-use Rattle.gl_std.specs.Line.Shape.{Blank, Bad, Other, Call}
+use Rattle.gl_std.specs.Line.Shape.{Blank, Bad, Call}
 use Rattle.gl_std.specs.Line.Says.{too_long, blank, no_bar, one_bar, fields}
 use Rattle.gl_std.specs.Line.FieldsSay.{no_thread, other_word, no_operand, other_call, call, on_itself, bad_operand}
 use Rattle.gl_std.specs.declared.faults.StdKind.TheVariants.{TooLong, NoBar, NoLocation, NoThread, OnItself}

@@ -1,7 +1,9 @@
 pub mod Faults
+pub mod Heard
 pub mod Laws
 pub mod Line
 pub mod Lines
 pub mod Names
+pub mod Pieces
 pub mod Reading
 pub mod Trace

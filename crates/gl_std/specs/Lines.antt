@@ -1,6 +1,6 @@
 -- The lines of a text.
 use Rattle.std.specs.Prelude.{◌≡◌, ◌≢◌, ℕ, Bool, true, false, ◌&&◌, List, [], ◌∷◌, ◌++◌, Contains, ◌==◌, if◌then◌else◌}
-use Rattle.std.specs.List.{onto_first}
+use Rattle.std.specs.List.{list_any, onto_first}
 
 -- the byte that ends a line
 abbrev pub LF : ℕ
@@ -32,6 +32,11 @@ lines (b ∷ rest) =
 abbrev pub without_cr : List ℕ → List ℕ
 without_cr [] = []
 without_cr (b ∷ rest) = if b == CR && is_empty rest then [] else b ∷ without_cr rest
+
+-- the text up to and with its last LF: the lines that LF has ended
+abbrev pub ended_lines : List ℕ → List ℕ
+ended_lines [] = []
+ended_lines (b ∷ rest) = if list_any (λ x. x == LF) (b ∷ rest) then b ∷ ended_lines rest else []
 
 -- the line ends with CR
 abbrev pub EndsWithCR : List ℕ → Type 0

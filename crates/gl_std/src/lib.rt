@@ -16,8 +16,11 @@
 //! thread doesn't hold. The first line that is at fault decides the text: [`ReadFault::Line`] has its
 //! number and what is wrong with it.
 //!
+//! [`read_source`] reads the text of a [`Source`] as it comes, piece by piece, and doesn't keep it.
+//!
 //! The definitions go from bytes to lines (`specs/Lines`), from a line alone to what it says
-//! (`specs/Line`), and from lines to the trace (`specs/Trace`), one step a line. Above them stand
+//! (`specs/Line`), and from lines to the trace (`specs/Trace`), one step a line; `specs/Heard` says
+//! what was read of a source. Above them stand
 //! the laws (`specs/Laws`): a text has one list of lines, a line says one thing, a text is read
 //! piece by piece, and its trace tells the kept lines and obeys the limits.
 #![tactic(auto)]
@@ -27,12 +30,15 @@ mod laws;
 mod line;
 mod lines;
 mod lists;
+mod name;
 mod names;
+mod pieces;
 mod read;
 mod reader;
 mod row;
 #[cfg(test)]
 mod tests;
+mod text;
 mod trace;
 
 pub use faults::{ReadFault, StdKind};
@@ -45,4 +51,5 @@ pub use line::MAX_LINE;
 pub use lists::Lists;
 pub use names::Names;
 pub use read::read_trace;
+pub use text::{Heard, read_source};
 pub use trace::Trace;

@@ -5,7 +5,7 @@ ghost use Rattle.gl_std.specs.Lines.{lines, without_cr};
 use crate::line::cut;
 
 /// The byte that ends a line.
-const LF: u8 = b'\n';
+pub(crate) const LF: u8 = b'\n';
 /// The byte that is dropped just before the end of a line.
 const CR: u8 = b'\r';
 
@@ -25,7 +25,7 @@ pub(crate) fn next_line(text: &[u8]) -> Option<(&[u8], &[u8])>
 }
 
 /// The line without the CR at its end, if it has one.
-fn without_cr(line: &[u8]) -> &[u8]
+pub(crate) fn without_cr(line: &[u8]) -> &[u8]
     ensures { result.now ≡ without_cr line.now }
 {
     if line.is_empty() {

@@ -1,8 +1,9 @@
 //! Names of threads, locks and locations, by number.
-ghost use Rattle.std.specs.Prelude.{◌≡◌, ◌≢◌, ◌+◌, ◌^◌, ◌<◌, [], ◌∷◌, ◌++◌, Some, None, length, position, slice_get, unwrap_or, AllPairs, OnOk, OnErr};
+ghost use Rattle.std.specs.Prelude.{◌≡◌, ◌≢◌, ◌+◌, ◌^◌, ◌<◌, [], ◌∷◌, ◌++◌, Some, None, length, position, slice_get, unwrap_or, AllPairs, IsTrue, OnOk, OnErr};
 ghost use Rattle.std.specs.Str.{bytes_eq};
 
 use crate::line::Operation;
+use crate::name::{Name, Wanted};
 use gl_event::{LocId, LockId, ThreadId};
 use indexmap::IndexSet;
 use std::alloc::{AllocError, Global};
@@ -11,15 +12,15 @@ use std::marker::Model;
 /// Different names in order of first mention, so that the place of a name is its number.
 #[derive(Drop)]
 struct NameList {
-    names: IndexSet<Vec<u8>>,
+    names: IndexSet<Name>,
 }
 
 impl Model for NameList {
-    ghost use Rattle.std.specs.Prelude.{ℕ, ◌^◌, ◌<◌, List, map, length};
+    ghost use Rattle.std.specs.Prelude.{ℕ, ◌^◌, ◌<◌, List, length};
 
     ghost Value = { List (List ℕ) };
 
-    ghost view = { λ n. map (λ name. name.items) n.names.keys };
+    ghost view = { λ n. n.names.keys };
 
     ghost invariant = { λ n. length n.names.keys < 2 ^ 32 };
 }
@@ -50,17 +51,42 @@ impl NameList {
         requires { number < length self.now }
         ensures { slice_get self.now number ≡ Some result.now }
     {
-        self.names.as_slice()[number as usize].as_slice()
+        self.names.as_slice()[number as usize].as_bytes()
     }
 
     /// The name's number.
     fn find(&self, name: &[u8]) -> Option<u32>
         ensures { result ≡ position (bytes_eq name.now) self.now }
     {
-        match self.names.get_index_of(name) {
+        match self.names.get_index_of(Wanted { bytes: name }) {
             Some(place) => Some(place as u32),
             None => None,
         }
+    }
+
+    /// The name's number. Where it is the guess, that takes one comparison and no hash.
+    fn find_near(&self, name: &[u8], guess: Option<u32>) -> Option<u32>
+        ensures { result ≡ position (bytes_eq name.now) self.now }
+    {
+        match guess {
+            Some(number) => {
+                if self.has_number(name, number) {
+                    return Some(number);
+                }
+                self.find(name)
+            }
+            None => self.find(name),
+        }
+    }
+
+    // Whether the name has this number.
+    fn has_number(&self, name: &[u8], number: u32) -> bool
+        ensures { IsTrue result → position (bytes_eq name.now) self.now ≡ Some number }
+    {
+        if number >= self.len() {
+            return false;
+        }
+        name == self.name(number)
     }
 
     /// Puts a new name at the end.
@@ -70,7 +96,7 @@ impl NameList {
         ensures ok { OnOk result (self.new ≡ self.old ++ name.now ∷ []) }
         ensures err { OnErr result (self.new ≡ self.old) }
     {
-        let name = Vec::from_slice(alloc, name)?;
+        let name = Name::new(alloc, name)?;
         self.names.insert(name)?;
         Ok(())
     }
@@ -229,9 +255,11 @@ impl Names {
         self.locs.find(name).map(LocId::new)
     }
 
-    /// The numbers of the names in a line. One look-up by hash for each.
+    /// The numbers of the names in a line. One look-up by hash for each, but none for the thread
+    /// where it is `latest`.
     pub(crate) fn find(
         &self,
+        latest: Option<ThreadId>,
         operation: Operation,
         thread: &[u8],
         operand: &[u8],
@@ -246,7 +274,10 @@ impl Names {
             self.locks.find(operand)
         };
         Found {
-            thread: self.find_thread(thread),
+            thread: self
+                .threads
+                .find_near(thread, latest.map(ThreadId::number))
+                .map(ThreadId::new),
             operand,
             loc: self.find_loc(location),
         }

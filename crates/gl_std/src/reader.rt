@@ -21,6 +21,8 @@ pub(crate) struct Reader {
     limits: Limits,
     names: Names,
     rows: Vec<Row>,
+    // The thread of the latest event, which is likely to be that of the next one.
+    latest: Option<ThreadId>,
     skipped: u64,
     stray: u64,
     line: u64,
@@ -45,6 +47,7 @@ impl Reader {
             limits,
             names: Names::new(alloc),
             rows: Vec::new(alloc),
+            latest: None,
             skipped: 0,
             stray: 0,
             line: 1,
@@ -119,7 +122,10 @@ impl Reader {
         ensures few_stray { self.new.stray ≤ self.old.stray + 1 }
     {
         let alloc = self.alloc;
-        let found = self.names.find(operation, thread, operand, location);
+        let found = self
+            .names
+            .find(self.latest, operation, thread, operand, location);
+        self.latest = found.thread;
         let limit = self.limit_fault(operation, &found);
         let number = self.names.operand_or_next(operation, &found);
         let loc = self.names.loc_or_next(&found);

@@ -1,4 +1,6 @@
-use crate::{Lists, ReadFault, StdKind, Trace, read_trace};
+ghost use Rattle.std.specs.Prelude.{None};
+
+use crate::{Failed, Lists, ReadFault, Source, StdKind, Trace, read_source, read_trace};
 use gl_event::{Event, Limits, LocId, LockId, ThreadId};
 use std::alloc::Global;
 use std::process::Abort;
@@ -254,5 +256,103 @@ fn limits_reached(rt: HostRuntime) -> Result<(), Fail> {
         2,
         StdKind::TooManyNames,
     );
+    Ok(())
+}
+
+// Gives its text in pieces, and then ends or fails.
+#[derive(Drop)]
+struct Pieces<'a> {
+    rest: &'a [u8],
+    piece: usize,
+    fails: bool,
+    is_failed: bool,
+}
+
+impl Source for Pieces<'_> {
+    ghost remaining = { λ _. None };
+
+    ghost failed = { λ s. s.is_failed };
+
+    fn read(&mut self, buffer: &mut [u8]) -> Result<usize, Failed> {
+        let count = self.piece.min(self.rest.len()).min(buffer.len());
+        if count == 0 && self.fails {
+            self.is_failed = true;
+            return Err(Failed);
+        }
+        buffer[..count].copy_from_slice(&self.rest[..count]);
+        self.rest = &self.rest[count..];
+        Ok(count)
+    }
+}
+
+#[test]
+fn pieces_are_joined(rt: HostRuntime) -> Result<(), Fail> {
+    for piece in [1, 7, 1_000] {
+        let mut input = Pieces {
+            rest: b"T0|acq(a)|1\r\nT0|acq(b)|2\nT1|r(x)|3\n\nT0|rel(b)|4",
+            piece,
+            fails: false,
+            is_failed: false,
+        };
+        let heard = read_source(rt.alloc(), &mut input, 100, &greatest()?)?;
+        assert!(rt; heard.is_whole, "in pieces of {piece}");
+        let trace = heard.trace?;
+        expect_list(
+            &rt,
+            &trace,
+            0,
+            &[acquire(0, 0), acquire(1, 1), release(1, 2)],
+        );
+        assert_eq!(rt; trace.lists.as_slice().len(), 1);
+        assert_eq!(rt; trace.names.find_loc(b"1"), Some(LocId::new(0)));
+        assert_eq!(rt; trace.skipped, 1);
+    }
+    Ok(())
+}
+
+#[test]
+fn only_ended_lines_are_judged(rt: HostRuntime) -> Result<(), Fail> {
+    let text = b"T0|acq(a)|1\nT0";
+    let mut input = Pieces {
+        rest: text,
+        piece: 5,
+        fails: true,
+        is_failed: false,
+    };
+    let heard = read_source(rt.alloc(), &mut input, 100, &greatest()?)?;
+    assert!(rt; !heard.is_whole);
+    expect_list(&rt, &heard.trace?, 0, &[acquire(0, 0)]);
+    input = Pieces {
+        rest: text,
+        piece: 5,
+        fails: false,
+        is_failed: false,
+    };
+    let heard = read_source(rt.alloc(), &mut input, 100, &greatest()?)?;
+    assert!(rt; heard.is_whole);
+    let fault = ReadFault::Line {
+        line: 2,
+        kind: StdKind::NoBar,
+    };
+    assert_eq!(rt; heard.trace.err(), Some(fault));
+    Ok(())
+}
+
+#[test]
+fn reading_goes_on_after_a_fault(rt: HostRuntime) -> Result<(), Fail> {
+    let mut input = Pieces {
+        rest: b"\nT0|acq(a)\n|acq(a)|1\nT0|acq(a)|1\n",
+        piece: 6,
+        fails: false,
+        is_failed: false,
+    };
+    let heard = read_source(rt.alloc(), &mut input, 100, &greatest()?)?;
+    assert!(rt; heard.is_whole);
+    let fault = ReadFault::Line {
+        line: 2,
+        kind: StdKind::NoLocation,
+    };
+    assert_eq!(rt; heard.trace.err(), Some(fault));
+    assert!(rt; input.rest.is_empty());
     Ok(())
 }

@@ -11,8 +11,9 @@ use Rattle.gl_segments.specs.Laws.{DecidesBefore}
 use Rattle.gl_segments.specs.Segments.{Before, IsBelow}
 use Rattle.gl_segments.proofs.LawLemmas.{agree}
 use Rattle.gl_filters.specs.Asked.{Asked}
-use Rattle.goodlock.specs.Answer.{Answer, IsAnswer, IsLeastBeforeItself, AnswersAreUnique, report_of}
-use Rattle.goodlock.specs.Answer.Answer.{Report, Refusal}
+use Rattle.gl_cycles.proofs.Uniqueness.{same_segment}
+use Rattle.goodlock.specs.Answer.{IsLeastBeforeItself, AnswersAreUnique, report_of}
+use Rattle.goodlock.specs.Answer.Answer.{Refusal}
 use Rattle.goodlock.specs.Answer.IsAnswer.{bad_line, no_order, reported}
 use Rattle.goodlock.specs.Lines.{fault_line, inconsistent_line}
 
@@ -27,17 +28,6 @@ said_of (Err Memory) = []
 
 same_trace : (r : Result Trace ReadFault) (s t : Trace) → r ≡ Ok s → r ≡ Ok t → s ≡ t
 same_trace r s t p q = ap (trace_in s) (sym p ∙ q)
-
--- of two segments of which neither is below the other
-same_segment : (a b : Segment) → ¬ IsBelow a b → ¬ IsBelow b a → a ≡ b
-same_segment a b not_below not_above =
-    let thread_low : ¬ (a.thread < b.thread) = (λ l. not_below (inl l)) in
-    let thread_high : ¬ (b.thread < a.thread) = (λ l. not_above (inl l)) in
-    let threads : a.thread ≡ b.thread = omega arith in
-    let index_low : ¬ (a.index < b.index) = (λ l. not_below (inr (threads, l))) in
-    let index_high : ¬ (b.index < a.index) = (λ l. not_above (inr (sym threads, l))) in
-    let indexes : a.index ≡ b.index = omega arith in
-    (λ i. record { thread = threads i; index = indexes i })
 
 same_least : (lists : List (List Event)) (a b : Segment) → IsLeastBeforeItself lists a → IsLeastBeforeItself lists b → a ≡ b
 same_least lists a b of_a of_b = same_segment a b (of_b.least a of_a.loops) (of_a.least b of_b.loops)

@@ -1,5 +1,5 @@
 -- What is answered to a text: the report of its trace, or why there is none.
-use Rattle.std.specs.Prelude.{◌≡◌, ◌↔◌, ℕ, ◌<◌, Bool, IsTrue, List, Ok, Err, length, take, nat_lt}
+use Rattle.std.specs.Prelude.{◌≡◌, ℕ, Bool, List, Ok, Err, length, take, nat_lt}
 use Rattle.gl_event.specs.Bounds.{greatest}
 use Rattle.gl_event.specs.declared.events.Event.{Event}
 use Rattle.gl_event.specs.declared.events.Segment.{Segment}

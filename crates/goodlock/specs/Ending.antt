@@ -2,13 +2,14 @@
 use Rattle.std.specs.Prelude.{◌≡◌, ◌≢◌, ◌⊎◌, ℕ, ◌<◌, ◌≤◌, Bool, true, false, List, Option, Err, IfSome, length, take}
 use Rattle.std.specs.Io.KnownBytes.{Appends, Consumes, Keeps}
 use Rattle.gl_event.specs.Bounds.{greatest}
+use Rattle.gl_std.specs.Lines.{ended_lines}
 use Rattle.gl_std.specs.Trace.{trace_of}
 use Rattle.gl_std.specs.declared.faults.StdKind.{StdKind}
 use Rattle.gl_std.specs.declared.faults.ReadFault.TheVariants.{Line}
 use Rattle.gl_filters.specs.Asked.{Asked}
-use Rattle.goodlock.specs.Answer.{Answer, IsAnswer}
+use Rattle.goodlock.specs.Answer.{IsAnswer}
 use Rattle.goodlock.specs.Answer.Answer.{Report, Refusal}
-use Rattle.goodlock.specs.Lines.{fault_line, ended_lines}
+use Rattle.goodlock.specs.Lines.{fault_line}
 use Rattle.goodlock.specs.declared.ended.Ended.{Ended}
 use Rattle.goodlock.specs.declared.ended.Ended.TheVariants.{Clean, Cycles, Refused, Memory, ReadFailed, WriteFailed}
 

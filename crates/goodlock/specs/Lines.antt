@@ -1,9 +1,7 @@
--- The lines for standard error, and the part of a text whose lines were ended.
-use Rattle.std.specs.Prelude.{ℕ, ◌==◌, ◌||◌, Bool, false, List, [], ◌∷◌, ◌++◌, if◌then◌else◌, codes, decimal}
-use Rattle.std.specs.List.{list_any}
+-- The lines for standard error.
+use Rattle.std.specs.Prelude.{ℕ, List, ◌++◌, codes, decimal}
 use Rattle.gl_event.specs.declared.events.Segment.{Segment}
 use Rattle.gl_std.specs.Faults.{text_of}
-use Rattle.gl_std.specs.Lines.{LF}
 use Rattle.gl_std.specs.Names.{NameLists}
 use Rattle.gl_std.specs.declared.faults.StdKind.{StdKind}
 use Rattle.gl_report.specs.Text.{name_of}
@@ -15,8 +13,3 @@ fault_line line kind = codes "goodlock: line " ++ decimal line ++ codes ": " ++ 
 -- a segment that is before itself: the thread's name, a dot and the index
 abbrev pub inconsistent_line : NameLists → Segment → List ℕ
 inconsistent_line names at = codes "goodlock: inconsistent: " ++ name_of names.threads at.thread ++ codes "." ++ decimal at.index ++ codes " precedes itself\n"
-
--- the text up to and with its last LF: the lines that LF has ended
-abbrev pub ended_lines : List ℕ → List ℕ
-ended_lines [] = []
-ended_lines (b ∷ rest) = if list_any (λ x. x == LF) (b ∷ rest) then b ∷ ended_lines rest else []

@@ -1,9 +1,9 @@
 -- Why a text has no report.
-use Rattle.std.specs.Prelude.{◌≡◌, ℕ, List, Err}
-use Rattle.gl_event.specs.Bounds.{greatest}
+use Rattle.std.specs.Prelude.{◌≡◌, ℕ, List, Result, Err}
 use Rattle.gl_event.specs.declared.events.Segment.{Segment}
-use Rattle.gl_std.specs.Trace.{trace_of}
 use Rattle.gl_std.specs.declared.faults.StdKind.{StdKind}
+use Rattle.gl_std.specs.declared.faults.ReadFault.{ReadFault}
+use Rattle.gl_std.specs.declared.faults.ReadFault.TheVariants.{Line}
 use Rattle.gl_std.specs.declared.faults.ReadFault.TheVariants.{Line}
 use Rattle.gl_std.specs.declared.trace.Trace.{Trace}
 use Rattle.goodlock.specs.Answer.{IsLeastBeforeItself}
@@ -16,11 +16,11 @@ abbrev pub IfRefused : Stop → (List ℕ → Type 0) → Type 0
 IfRefused (Refused line) P = P line.items
 IfRefused Memory P = Unit {0}
 
--- the line says the first fault of the text
-pub record IsFaultOfText (text line : List ℕ) : Type 0 where
+-- the line says the fault that was read in a trace's place
+pub record IsFaultIn (read : Result Trace ReadFault) (line : List ℕ) : Type 0 where
   pub number : ℕ
   pub kind : StdKind
-  pub first : trace_of greatest text ≡ Err (Line number kind)
+  pub first : read ≡ Err (Line number kind)
   pub said : line ≡ fault_line number kind
 
 -- the line says which segment of the trace is before itself

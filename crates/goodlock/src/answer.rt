@@ -6,17 +6,18 @@ ghost use Rattle.gl_segments.specs.Clocks.{is_before, OrdersBy};
 ghost use Rattle.gl_segments.specs.Segments.{IsConsistent};
 ghost use Rattle.goodlock.specs.Answer.{IsAnswer, report_of};
 ghost use Rattle.goodlock.specs.Answer.Answer.{Report as Reports, Refusal};
-ghost use Rattle.goodlock.specs.Stops.{IfRefused, IsFaultOfText, IsLoopOf};
-ghost use Rattle.goodlock.specs.Ending.{IsFaultBefore, HasNoFault};
+ghost use Rattle.goodlock.specs.Stops.{IfRefused, IsFaultIn, IsLoopOf};
+ghost use Rattle.gl_std.specs.declared.faults.StdKind.{StdKind};
+ghost use Rattle.gl_std.specs.declared.faults.ReadFault.TheVariants.{Line};
 
-use crate::lines::{ended_lines, fault_line, inconsistent_line};
+use crate::lines::{fault_line, inconsistent_line};
 use gl_cycles::{Report, search};
 use gl_edges::edges_of;
 use gl_event::{Limits, MAX_EVENTS, MAX_NAMES, MAX_RING, MAX_THREADS, Memory};
 use gl_filters::Query;
 use gl_report::text;
 use gl_segments::{Order, OrderFault};
-use gl_std::{ReadFault, Trace, read_trace};
+use gl_std::{ReadFault, Trace};
 use std::alloc::{AllocError, Global};
 
 /// What is printed of a text.
@@ -47,8 +48,8 @@ impl From<AllocError> for Stop {
     }
 }
 
-// The greatest limits.
-fn greatest_limits() -> Limits
+/// The greatest limits.
+pub(crate) fn greatest_limits() -> Limits
     ensures { result ≡ greatest }
 {
     match Limits::new(MAX_THREADS, MAX_RING, MAX_EVENTS, MAX_NAMES) {
@@ -57,13 +58,12 @@ fn greatest_limits() -> Limits
     }
 }
 
-// The trace of a text, or the line that says its first fault.
-fn trace_or_line(alloc: Global, text: &[u8]) -> Result<Trace, Stop>
-    ensures trace { IfOk result (λ t. trace_of greatest text.now ≡ Ok t) }
-    ensures over { IfOk result (IsTraceOver greatest) }
-    ensures refused { IfErr result (λ stop. IfRefused stop (IsFaultOfText text.now)) }
+// The trace that was read, or the line that says its first fault.
+fn trace_or_line(alloc: Global, read: Result<Trace, ReadFault>) -> Result<Trace, Stop>
+    ensures trace { IfOk result (λ t. read ≡ Ok t) }
+    ensures refused { IfErr result (λ stop. IfRefused stop (IsFaultIn read)) }
 {
-    match read_trace(alloc, text, &greatest_limits()) {
+    match read {
         Ok(trace) => Ok(trace),
         Err(ReadFault::Line { line, kind }) => {
             let line = fault_line(alloc, line, kind)?;
@@ -112,22 +112,27 @@ fn print_report(
     Ok(Printed { text, lists_cycle })
 }
 
-/// What is printed of a text, or why it has no report.
-pub(crate) fn answer(alloc: Global, text: &[u8], query: &Query) -> Result<Printed, Stop>
-    ensures printed { IfOk result (λ p. IsAnswer query.now text.now (Reports p.text.items p.lists_cycle)) }
-    ensures refused { IfErr result (λ stop. IfRefused stop (λ line. IsAnswer query.now text.now (Refusal line))) }
+/// What is printed of the texts that have this trace or first fault, or why they have no report.
+pub(crate) fn answer(
+    alloc: Global,
+    read: Result<Trace, ReadFault>,
+    query: &Query,
+) -> Result<Printed, Stop>
+    requires { IfOk read (IsTraceOver greatest) }
+    ensures printed { IfOk result (λ p. (text : List ℕ) → trace_of greatest text ≡ read → IsAnswer query.now text (Reports p.text.items p.lists_cycle)) }
+    ensures refused { IfErr result (λ stop. IfRefused stop (λ line. (text : List ℕ) → trace_of greatest text ≡ read → IsAnswer query.now text (Refusal line))) }
 {
-    let trace = trace_or_line(alloc, text)?;
+    let trace = trace_or_line(alloc, read)?;
     let order = order_or_line(alloc, &trace)?;
     let report = print_report(alloc, &trace, &order, query)?;
     Ok(report)
 }
 
-/// Looks for a fault in the lines that LF has ended, in a text that wasn't read whole.
-pub(crate) fn judge_front(alloc: Global, text: &[u8]) -> Result<(), Stop>
-    ensures none { OnOk result (HasNoFault text.now) }
-    ensures refused { IfErr result (λ stop. IfRefused stop (IsFaultBefore text.now)) }
+/// Says the fault that was read in a trace's place, if one was.
+pub(crate) fn judge(alloc: Global, read: Result<Trace, ReadFault>) -> Result<(), Stop>
+    ensures none { OnOk result ((number : ℕ) (kind : StdKind) → read ≢ Err (Line number kind)) }
+    ensures refused { IfErr result (λ stop. IfRefused stop (IsFaultIn read)) }
 {
-    let _trace = trace_or_line(alloc, ended_lines(text))?;
+    let _trace = trace_or_line(alloc, read)?;
     Ok(())
 }

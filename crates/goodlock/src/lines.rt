@@ -1,6 +1,6 @@
-//! The lines for standard error, and the part of a text whose lines were ended.
+//! The lines for standard error.
 ghost use Rattle.std.specs.Prelude.{◌≡◌, ◌++◌, decimal, IfOk, OnOk};
-ghost use Rattle.goodlock.specs.Lines.{fault_line, inconsistent_line, ended_lines};
+ghost use Rattle.goodlock.specs.Lines.{fault_line, inconsistent_line};
 ghost use Rattle.gl_report.specs.Text.{name_of};
 
 use gl_event::{Memory, Segment, ThreadId};
@@ -56,15 +56,4 @@ pub(crate) fn inconsistent_line(
     put_number(&mut out, u64::from(index))?;
     out.extend_from_slice(b" precedes itself\n")?;
     Ok(out)
-}
-
-/// The text up to and with its last LF.
-pub(crate) fn ended_lines(text: &[u8]) -> &[u8]
-    ensures { result.now ≡ ended_lines text.now }
-{
-    let mut end = text.len();
-    while end > 0 && text[end - 1] != b'\n' {
-        end -= 1;
-    }
-    &text[..end]
 }

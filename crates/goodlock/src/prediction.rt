@@ -1,19 +1,24 @@
 //! Predicting over a reader and a writer.
-ghost use Rattle.std.specs.Prelude.{◌≡◌, ◌≤◌, ◌^◌, ℕ, Bool, true, false, List, Option};
+ghost use Rattle.std.specs.Prelude.{◌≡◌, ◌≤◌, ◌^◌, ℕ, Bool, true, false, List, Option, IfOk};
+ghost use Rattle.gl_event.specs.Bounds.{greatest};
+ghost use Rattle.gl_std.specs.Lines.{ended_lines};
+ghost use Rattle.gl_std.specs.Trace.{trace_of, IsTraceOver};
 ghost use Rattle.gl_filters.specs.Asked.{Asked};
 ghost use Rattle.goodlock.specs.Ending.{EndsAs, HasPredicted, HasWrittenReport};
 
-use crate::answer::{Printed, Stop, answer, judge_front};
+use crate::answer::{Printed, Stop, answer, greatest_limits, judge};
 use crate::ended::{Ended, Form};
 use gl_filters::Query;
-use gl_io::{Sink, Source, WriteFault, read_whole, write_out};
+use gl_io::{Sink, Source, WriteFault, write_out};
+use gl_std::{ReadFault, Trace, read_source};
 use std::alloc::Global;
 
-// How a prediction ends over a text that wasn't read whole.
-fn end_early(alloc: Global, text: &[u8]) -> Ended
-    ensures { (asked : Asked) (held : Option (List ℕ)) (failed : Bool) → EndsAs asked text.now false held held failed result }
+// How a prediction ends over a text that wasn't read whole, with this trace or first fault of the
+// lines that LF has ended.
+fn end_early(alloc: Global, read: Result<Trace, ReadFault>) -> Ended
+    ensures { (asked : Asked) (text : List ℕ) (held : Option (List ℕ)) (failed : Bool) → trace_of greatest (ended_lines text) ≡ read → EndsAs asked text false held held failed result }
 {
-    match judge_front(alloc, text) {
+    match judge(alloc, read) {
         Ok(()) => Ended::ReadFailed,
         Err(Stop::Refused(line)) => Ended::Refused(line),
         Err(Stop::Memory) => Ended::Memory,
@@ -32,12 +37,18 @@ fn write_report<O: Sink>(output: &mut O, printed: &Printed) -> Ended
     }
 }
 
-// How a prediction ends over a text that was read whole.
-fn end_whole<O: Sink>(alloc: Global, text: &[u8], query: &Query, output: &mut O) -> Ended
-    requires { O.failed output.old ≡ false }
-    ensures { EndsAs query.now text.now true (O.contents output.old) (O.contents output.new) (O.failed output.new) result }
+// How a prediction ends over a text that was read whole, with this trace or first fault.
+fn end_whole<O: Sink>(
+    alloc: Global,
+    read: Result<Trace, ReadFault>,
+    query: &Query,
+    output: &mut O,
+) -> Ended
+    requires over { IfOk read (IsTraceOver greatest) }
+    requires writable { O.failed output.old ≡ false }
+    ensures { (text : List ℕ) → trace_of greatest text ≡ read → EndsAs query.now text true (O.contents output.old) (O.contents output.new) (O.failed output.new) result }
 {
-    match answer(alloc, text, query) {
+    match answer(alloc, read, query) {
         Ok(printed) => write_report(output, &printed),
         Err(Stop::Refused(line)) => Ended::Refused(line),
         Err(Stop::Memory) => Ended::Memory,
@@ -46,8 +57,8 @@ fn end_whole<O: Sink>(alloc: Global, text: &[u8], query: &Query, output: &mut O)
 
 /// Reads a trace, predicts its deadlocks and writes the report.
 ///
-/// The input is read whole, in at most `turns` reads, before anything else; the report is made whole
-/// before its first byte is written. Where the input can't be read to its end, the first fault in
+/// The input is read to its end, in at most `turns` reads, before anything else; its text isn't kept.
+/// The report is made whole before its first byte is written. Where the input can't be read to its end, the first fault in
 /// the lines that were ended before is answered, else [`Ended::ReadFailed`]. Each reader and writer
 /// is used only while it hasn't failed.
 pub fn predict<R: AllocGlobal, I: Source, O: Sink>(
@@ -65,11 +76,11 @@ pub fn predict<R: AllocGlobal, I: Source, O: Sink>(
 {
     let Form::Text = form;
     let alloc = rt.alloc();
-    let Ok(gathered) = read_whole(alloc, input, turns) else {
+    let Ok(heard) = read_source(alloc, input, turns, &greatest_limits()) else {
         return Ended::Memory;
     };
-    if gathered.is_whole {
-        return end_whole(alloc, gathered.text.as_slice(), query, output);
+    if heard.is_whole {
+        return end_whole(alloc, heard.trace, query, output);
     }
-    end_early(alloc, gathered.text.as_slice())
+    end_early(alloc, heard.trace)
 }

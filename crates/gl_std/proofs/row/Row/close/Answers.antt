@@ -1,4 +1,4 @@
-use Rattle.std.proofs.Common.{◌≡◌, ◌+◌, ◌<◌, ◌^◌, length, ap, sym, ◌∙◌, arith}
+use Rattle.std.proofs.Common.{◌≡◌, length, ap, sym, arith}
 use Rattle.std.proofs.lemmas.Grind.{common_steps}
 use Rattle.gl_std.proofs.RowLemmas.{segment_few, segment_closed, closing_allowed, stands_after_closing}
 use Rattle.gl_std.proofs.row.Row.close.Goals as goal
