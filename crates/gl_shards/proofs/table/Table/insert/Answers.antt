@@ -1,0 +1,15 @@
+use Rattle.std.proofs.Common.{◌≡◌, [], ◌∷◌, ◌++◌, sym, subst, ◌∙◌}
+use Rattle.gl_edges.specs.Edges.{once}
+use Rattle.gl_shards.proofs.Filling.{seen_stays, unseen_enters}
+use Rattle.gl_shards.proofs.table.Table.insert.Goals as goal
+
+pub returns-then-has_seen-clause-inserted : goal.returns-then-has_seen-clause-inserted
+returns-then-has_seen-clause-inserted c =
+    subst (λ pairs. pairs ≡ once (pairs ++ (c.args.edge, c.args.sample) ∷ [])) c.self.view_is
+    (seen_stays c.self.inside.edges c.args.edge c.args.sample c.self.invariant (sym c.has_seen.ensures ∙ c.if-has_seen.true))
+
+pub returns-clause-inserted : goal.returns-clause-inserted
+returns-clause-inserted c =
+    subst (λ pairs. c.insert.new.self.entries ≡ once (pairs ++ (c.args.edge, c.args.sample) ∷ [])) c.self.view_is
+    (unseen_enters c.self.inside.edges c.insert.new.self c.args.edge c.args.sample c.self.invariant c.in_ok-insert.ensures.ordered
+    (sym c.has_seen.ensures ∙ c.if-has_seen.false) c.in_ok-insert.ensures.updates.0)

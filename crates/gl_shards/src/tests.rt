@@ -1,0 +1,123 @@
+//! Worked examples, and each call that takes memory on its happy path.
+use crate::shard::{MAX_SHARDS, shard_of};
+use crate::table::{Table, merge};
+use gl_edges::{Edge, Guards, Sample};
+use gl_event::{LocId, LockId, Memory, ThreadId};
+use std::alloc::Global;
+use std::test::Fail;
+
+// The edge of a thread between two locks, with no other lock held.
+fn edge(alloc: Global, thread: u32, held: u32, wanted: u32) -> Result<Edge, Memory> {
+    let locks = vec![in alloc; LockId::new(held)]?;
+    Ok(Edge {
+        thread: ThreadId::new(thread),
+        held: LockId::new(held),
+        wanted: LockId::new(wanted),
+        first: 0,
+        second: 0,
+        guards: Guards::new(locks),
+    })
+}
+
+// A sample at this place.
+fn at(place: u32) -> Sample {
+    Sample {
+        place,
+        held_loc: LocId::new(1),
+        wanted_loc: LocId::new(2),
+    }
+}
+
+// A table with one edge of thread 0.
+fn table_of(alloc: Global, held: u32, wanted: u32, place: u32) -> Result<Table, Memory> {
+    let mut table = Table::new(alloc);
+    table.insert(edge(alloc, 0, held, wanted)?, at(place))?;
+    Ok(table)
+}
+
+// Whether the edges are from these held locks, each with its place.
+fn are_as_wanted(pairs: &[(Edge, Sample)], wants: &[(u32, u32)]) -> bool {
+    if pairs.len() != wants.len() {
+        return false;
+    }
+    for (pair, want) in pairs.iter().zip(wants) {
+        if pair.0.held != LockId::new(want.0) || pair.1.place != want.1 {
+            return false;
+        }
+    }
+    true
+}
+
+// An edge that is inserted three times is there once, with the least of its samples.
+#[test]
+fn least_sample(rt: HostRuntime) -> Result<(), Fail> {
+    let alloc = rt.alloc();
+    let mut table = Table::new(alloc);
+    assert!(rt; table.len() == 0);
+    for place in [5, 2, 9] {
+        table.insert(edge(alloc, 0, 1, 2)?, at(place))?;
+    }
+    let wanted = edge(alloc, 0, 1, 2)?;
+    assert!(rt; table.len() == 1);
+    assert!(rt; table.get(&wanted) == Some(at(2)));
+
+    let copy = table.copy(alloc)?;
+    assert!(rt; copy.len() == 1);
+    assert!(rt; copy.get(&wanted) == Some(at(2)));
+    Ok(())
+}
+
+// Edges that differ are apart, and one that wasn't inserted isn't there.
+#[test]
+fn two_edges(rt: HostRuntime) -> Result<(), Fail> {
+    let alloc = rt.alloc();
+    let mut table = Table::new(alloc);
+    table.insert(edge(alloc, 1, 1, 2)?, at(7))?;
+    table.insert(edge(alloc, 0, 1, 2)?, at(8))?;
+    assert!(rt; table.len() == 2);
+    assert!(rt; table.get(&edge(alloc, 0, 1, 2)?) == Some(at(8)));
+    assert!(rt; table.get(&edge(alloc, 1, 1, 2)?) == Some(at(7)));
+    assert!(rt; table.get(&edge(alloc, 1, 2, 1)?).is_none());
+
+    let copy = table.copy(alloc)?;
+    assert!(rt; copy.len() == 2);
+    assert!(rt; copy.get(&edge(alloc, 0, 1, 2)?) == Some(at(8)));
+    assert!(rt; copy.get(&edge(alloc, 1, 1, 2)?) == Some(at(7)));
+    Ok(())
+}
+
+// The shard is that of the held lock, whatever else the edge has.
+#[test]
+fn shards(rt: HostRuntime) -> Result<(), Fail> {
+    let alloc = rt.alloc();
+    assert!(rt; MAX_SHARDS == 16);
+    assert!(rt; shard_of(&edge(alloc, 3, 0, 7)?, 1) == 0);
+    assert!(rt; shard_of(&edge(alloc, 3, 7, 0)?, 4) == 3);
+    assert!(rt; shard_of(&edge(alloc, 5, 7, 1)?, 4) == 3);
+    assert!(rt; shard_of(&edge(alloc, 0, 32, 1)?, MAX_SHARDS) == 0);
+    assert!(rt; shard_of(&edge(alloc, 0, 31, 1)?, MAX_SHARDS) == 15);
+    Ok(())
+}
+
+// No tables have no edges.
+#[test]
+fn merge_of_none(rt: HostRuntime) -> Result<(), Fail> {
+    let alloc = rt.alloc();
+    let list = merge(alloc, Vec::new(alloc))?;
+    assert!(rt; list.entries().is_empty());
+    Ok(())
+}
+
+// An edge of two tables is there once, with the lesser sample, and the edges ascend.
+#[test]
+fn merge_of_two(rt: HostRuntime) -> Result<(), Fail> {
+    let alloc = rt.alloc();
+    let mut first = table_of(alloc, 5, 6, 3)?;
+    first.insert(edge(alloc, 0, 2, 3)?, at(9))?;
+    let mut second = table_of(alloc, 4, 5, 1)?;
+    second.insert(edge(alloc, 0, 2, 3)?, at(6))?;
+    second.insert(edge(alloc, 0, 5, 6)?, at(8))?;
+    let list = merge(alloc, vec![in alloc; first, second]?)?;
+    assert!(rt; are_as_wanted(list.entries(), &[(2, 6), (4, 1), (5, 3)]));
+    Ok(())
+}
