@@ -1,4 +1,11 @@
+pub mod Dispatching
+pub mod Lists
 pub mod Rows
+pub mod Makings
+pub mod Shippings
 pub mod Sound
 pub mod Schedules
+pub mod Drained
 pub mod Worlds
+pub mod Reporting
+pub mod Enabling

@@ -19,10 +19,13 @@ use Rattle.gl_intake.specs.declared.notes.Refused.{Refused as Reason}
 use Rattle.gl_world.specs.Machine.{Lane, State, rest, start, use_wish, push_note, taken_of, has_closed, has_room, take_judged, take_wish, take_turn, end_turn, Moved, idle, turned, pull_note, again_note, step, run, answer_again, IsPrefixOf, KeepsOrder}
 use Rattle.gl_world.specs.Keeping.{IsLaneOf, IsSound}
 use Rattle.gl_world.specs.declared.steps.Step.{Step}
-use Rattle.gl_world.specs.declared.steps.Step.TheVariants.{Take, End, Pull, Again}
+use Rattle.gl_world.specs.declared.steps.Step.TheVariants.{Take, End, Pull, Again, Ship, Work}
 use Rattle.gl_world.specs.declared.steps.Did.{Did}
 use Rattle.gl_world.specs.declared.steps.Did.TheVariants.{Taken, Ended, Pulled, Refused}
-use Rattle.gl_world.proofs.Sound.{lane_pushed, other_isnt_next, sound_turned, sound_pulled, sound_start, events_of_notes}
+use Rattle.gl_world.specs.Dispatch.{ship_turn, work_turn}
+use Rattle.gl_world.proofs.Rows.{events_cut}
+use Rattle.gl_world.proofs.Shippings.{shipped_turn, worked_turn, ship_makes_none, work_makes_none}
+use Rattle.gl_world.proofs.Sound.{lane_pushed, other_isnt_next, sound_turned, sound_handled, sound_pulled, sound_start, told_events}
 
 module _ (limits : Bounds) (thread : ℕ) (stream : List Note) (lane : Lane) (is : IsLaneOf limits thread stream lane) (known : thread < limits.threads) where
   used_more : IsLaneOf limits thread stream (use_wish lane)
@@ -63,11 +66,6 @@ module _ (limits : Bounds) (thread : ℕ) (stream : List Note) (lane : Lane) (is
   unfolding end_turn
   after_end = end_by (has_closed thread lane) (has_room limits lane) refl
 
--- a list's events are those of its front and those of the rest
-events_cut : (thread n : ℕ) (notes : List Note) → events_of thread (take n notes) ++ events_of thread (drop n notes) ≡ events_of thread notes
-unfolding events_of
-events_cut thread n notes = sym (filter_map-append (event_in thread) (take n notes) (drop n notes)) ∙ ap (filter_map (event_in thread)) (take-append-drop n notes)
-
 module _ (s : State) (sound : IsSound s) where
   known_at : (thread : ℕ) (lane : Lane) → slice_get s.lanes thread ≡ Some lane → thread < s.limits.threads
   known_at thread lane at = let w = slice_get_within s.lanes thread lane at in omega (arith, sound.count)
@@ -103,12 +101,13 @@ module _ (s : State) (sound : IsSound s) where
       on thread (λ lane. pull_note s thread lane (slice_get lane.pushed lane.popped)) (λ lane at. pulled thread lane at (slice_get lane.pushed lane.popped) refl) (slice_get s.lanes thread) refl
   sound_step (Again thread place) =
       on thread (λ lane. again_note s lane place (slice_get lane.pushed place)) (λ lane at. agained lane place (slice_get lane.pushed place)) (slice_get s.lanes thread) refl
+  sound_step Ship = sound_handled s sound (ship_turn s.limits s.dispatch).dispatch (ship_makes_none s.limits s.dispatch) (shipped_turn s.limits s.dispatch sound.shipped)
+  sound_step (Work k) = sound_handled s sound (work_turn s.dispatch k).dispatch (work_makes_none s.dispatch k) (worked_turn s.dispatch sound.shipped k)
 
   -- what is collected of a thread is how what it took begins
   pub collected_front : (thread : ℕ) (lane : Lane) → slice_get s.lanes thread ≡ Some lane → IsPrefixOf (events_of thread s.stream) (taken_of thread lane)
   collected_front thread lane at =
-      let is = sound.lanes thread lane at in
-      let events : events_of thread (take lane.popped lane.pushed) ≡ events_of thread s.stream = rw (← is.told) (events_of_notes thread s.stream) in
+      let events = told_events s.limits thread s.stream lane (sound.lanes thread lane at) in
       (events_of thread (drop lane.popped lane.pushed), ap (λ xs. xs ++ events_of thread (drop lane.popped lane.pushed)) (sym events) ∙ events_cut thread lane.popped lane.pushed)
 
   answered : (note : Note) (r : Option Reason) → r ≢ None → (answer : Accepted) → option_map_or Refused r (Pulled (accepted_as note.place note.body)) ≢ Pulled answer

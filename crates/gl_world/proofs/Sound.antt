@@ -15,48 +15,12 @@ use Rattle.gl_event.proofs.Depths.{slice_get_before, slice_get_last}
 use Rattle.gl_intake.specs.Stream.{event_in, is_end, events_of, has_ended, IsNext, note_refusal}
 use Rattle.gl_intake.proofs.Order.{AreInOrder-nil, AreInOrder-push}
 use Rattle.gl_intake.proofs.Next.{next_of_none}
-use Rattle.gl_world.specs.Machine.{Lane, State, fresh_lane, start, pop_note}
-use Rattle.gl_world.specs.Keeping.{notes_of, IsLaneOf, IsSound}
-
--- ---- lists
-
-same_some : {X : Type 0} (x y : X) → Some x ≡ Some y → x ≡ y
-same_some x y h = cc
-
-pub get_set_same : {X : Type 0} (xs : List X) (i : ℕ) (y : X) → i < length xs → slice_get (set xs i y) i ≡ Some y
-get_set_same [] i y h = absurd (omega arith)
-get_set_same (x ∷ xs) zero y h = refl
-get_set_same (x ∷ xs) (suc i) y h = get_set_same xs i y (omega arith)
-
-pub get_set_other : {X : Type 0} (xs : List X) (i j : ℕ) (y : X) → i ≢ j → slice_get (set xs i y) j ≡ slice_get xs j
-get_set_other [] i j y h = refl
-get_set_other (x ∷ xs) zero zero y h = absurd (h refl)
-get_set_other (x ∷ xs) zero (suc j) y h = refl
-get_set_other (x ∷ xs) (suc i) zero y h = refl
-get_set_other (x ∷ xs) (suc i) (suc j) y h = get_set_other xs i j y (λ e. h (ap suc e))
-
-get_of_take : {X : Type 0} (xs : List X) (n i : ℕ) (x : X) → slice_get (take n xs) i ≡ Some x → slice_get xs i ≡ Some x
-get_of_take [] zero i x h = cc
-get_of_take [] (suc n) i x h = cc
-get_of_take (y ∷ xs) zero i x h = absurd (cc)
-get_of_take (y ∷ xs) (suc n) zero x h = h
-get_of_take (y ∷ xs) (suc n) (suc i) x h = get_of_take xs n i x h
-
-length-take : {X : Type 0} (n : ℕ) (xs : List X) → n ≤ length xs → length (take n xs) ≡ n
-length-take zero xs h = refl
-length-take (suc n) [] h = absurd (omega arith)
-length-take (suc n) (x ∷ xs) h = ap suc (length-take n xs (omega arith))
-
-place_cases : (n k : ℕ) → k < n + 1 → (k < n) ⊎ (k ≡ n)
-place_cases n k h = grind arith
-
-take_suc : {X : Type 0} (xs : List X) (i : ℕ) (x : X) → slice_get xs i ≡ Some x → take (suc i) xs ≡ take i xs ++ x ∷ []
-take_suc [] i x h = cc
-take_suc (y ∷ xs) zero x h = let e = same_some y x h in rw e
-take_suc (y ∷ xs) (suc i) x h = ap (λ zs. y ∷ zs) (take_suc xs i x h)
-
-pub take_more : {X : Type 0} (xs : List X) (i : ℕ) (x : X) → slice_get xs i ≡ Some x → take (i + 1) xs ≡ take i xs ++ x ∷ []
-take_more xs i x h = rw add-one (take_suc xs i x h)
+use Rattle.gl_world.specs.Machine.{Lane, State, fresh_lane, start, pop_note, edges_due, add_edges, taken_of}
+use Rattle.gl_world.specs.Dispatch.{Dispatch}
+use Rattle.gl_world.specs.Keeping.{notes_of, IsLaneOf, IsFrontOf, IsSound, AreMade, AreShipped}
+use Rattle.gl_world.proofs.Lists.{same_some, get_set_same, get_set_other, get_of_take, length-take, place_cases, take_more}
+use Rattle.gl_world.proofs.Makings.{made_pulled, made_nothing}
+use Rattle.gl_world.proofs.Shippings.{shipped_added, shipped_nothing}
 
 -- ---- the notes of one thread
 
@@ -171,6 +135,14 @@ front_is_next limits thread stream lane is place note at front =
       fits = rw events at next.fits;
     }
 
+-- what was popped is what was collected
+pub told_events : (limits : Bounds) (thread : ℕ) (stream : List Note) (lane : Lane) → IsLaneOf limits thread stream lane → events_of thread (take lane.popped lane.pushed) ≡ events_of thread stream
+told_events limits thread stream lane is = ap (events_of thread) (sym is.told) ∙ events_of_notes thread stream
+
+-- the next note to be popped is its thread's next one after those popped before
+pub front_of : (limits : Bounds) (thread : ℕ) (stream : List Note) (lane : Lane) → IsLaneOf limits thread stream lane → (note : Note) → slice_get lane.pushed lane.popped ≡ Some note → IsFrontOf limits thread lane note
+front_of limits thread stream lane is note at = record { at = at; own = is.own lane.popped note at; next = is.in_order.each lane.popped note at }
+
 -- a note that isn't the next to be popped isn't next in the stream
 pub other_isnt_next : (limits : Bounds) (thread : ℕ) (stream : List Note) (lane : Lane) → IsLaneOf limits thread stream lane → (place : ℕ) (note : Note) → slice_get lane.pushed place ≡ Some note
     → place ≢ lane.popped → note_refusal limits stream note ≢ None
@@ -224,14 +196,27 @@ sound_turned s sound thread lane is = record {
         | inr apart ↦ sound.lanes t other (sym (get_set_other s.lanes thread t lane apart) ∙ at)
       ];
   in_order = sound.in_order;
+  made = sound.made;
+  shipped = sound.shipped;
+}
+
+-- a step of the dispatch that makes no edge
+pub sound_handled : (s : State) → IsSound s → (d : Dispatch) → d.made ≡ s.dispatch.made → AreShipped d → IsSound (record s { dispatch = d })
+sound_handled s sound d same are = record {
+  count = sound.count;
+  lanes = sound.lanes;
+  in_order = sound.in_order;
+  made = subst (AreMade s.limits.threads s.stream) (sym same) sound.made;
+  shipped = are;
 }
 
 -- the next note of a lane popped and added to the stream
 pub sound_pulled : (s : State) → IsSound s → (thread : ℕ) (lane : Lane) → slice_get s.lanes thread ≡ Some lane → (note : Note) → slice_get lane.pushed lane.popped ≡ Some note
-    → IsSound (record s { lanes = set s.lanes thread (pop_note lane); stream = s.stream ++ note ∷ [] })
+    → IsSound (record s { lanes = set s.lanes thread (pop_note lane); stream = s.stream ++ note ∷ []; dispatch = add_edges s.dispatch (edges_due thread (taken_of thread lane) note.place note.body) })
 sound_pulled s sound thread lane here note front =
     let is : IsLaneOf s.limits thread s.stream lane = sound.lanes thread lane here in
     let own : note.thread ≡ thread = is.own lane.popped note front in
+    let known : thread < s.limits.threads = (let w = slice_get_within s.lanes thread lane here in omega (arith, sound.count)) in
     record {
       count = length-set s.lanes thread (pop_note lane) ∙ sound.count;
       lanes = λ t other at.
@@ -245,6 +230,8 @@ sound_pulled s sound thread lane here note front =
                 lane_other s.limits t s.stream other (sound.lanes t other (sym (get_set_other s.lanes thread t (pop_note lane) apart) ∙ at)) note (λ e. apart (sym own ∙ e))
           ];
       in_order = AreInOrder-push s.limits s.stream note sound.in_order (front_is_next s.limits thread s.stream lane is lane.popped note front refl);
+      made = made_pulled s.limits thread s.limits.threads s.stream lane note s.dispatch.made known (told_events s.limits thread s.stream lane is) (front_of s.limits thread s.stream lane is note front) sound.made;
+      shipped = shipped_added s.dispatch (edges_due thread (taken_of thread lane) note.place note.body) sound.shipped;
     }
 
 -- a new world's lanes
@@ -262,4 +249,6 @@ sound_start limits shards wishes count = record {
   count = length-map wishes fresh_lane ∙ count;
   lanes = λ thread lane at. (let is = fresh_at wishes thread lane at in rw is.1 (fresh_is_lane limits thread is.0));
   in_order = AreInOrder-nil limits;
+  made = made_nothing limits.threads;
+  shipped = shipped_nothing shards;
 }

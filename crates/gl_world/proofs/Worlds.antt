@@ -1,38 +1,33 @@
 -- A world's rows and its state, step by step.
 use Rattle.std.proofs.Common.{◌≡◌, ◌≢◌, ℕ, Bool, true, false, cond, eqb, zero, suc, ◌+◌, ◌<◌, ◌≤◌, List, [], ◌∷◌, ◌++◌, length, map, set, get_or, Option, Some, None, refl, sym, ap, ◌∙◌, arith, subst, take, Vec, Global, ◌⊎◌, inl, inr}
-use Rattle.std.specs.Prelude.{slice_get, Result, Ok, Err, IfOk, OnOk}
+use Rattle.std.specs.Prelude.{slice_get, Result, Ok, Err, IfOk, OnOk, OnErr}
 use Rattle.std.specs.Option.{option_map, option_map_or}
 use Rattle.std.proofs.lemmas.Bool.{cases_eq, eq-eqb, ne_eqb}
-use Rattle.std.proofs.lemmas.List.{take_all, length-map, map-set}
+use Rattle.std.proofs.lemmas.List.{take_all, take-append-le, length-map, map-set}
 use Rattle.std.proofs.lemmas.Option.{slice_get-map, slice_get_past, slice_get_within, get_or_from_slice_get}
-use Rattle.gl_event.specs.Bounds.{Bounds}
+use Rattle.gl_event.specs.Bounds.{Bounds, AreWithinRange}
 use Rattle.gl_event.specs.declared.events.Event.{Event}
 use Rattle.gl_event.specs.declared.notes.Note.{Note}
 use Rattle.gl_intake.specs.Stream.{note_refusal, accepted_as}
 use Rattle.gl_intake.specs.declared.notes.Refused.{Refused as Reason}
 use Rattle.gl_intake.specs.declared.notes.Refused.TheVariants.{Memory}
 use Rattle.gl_intake.proofs.Next.{none_of_next}
-use Rattle.gl_world.specs.Machine.{Lane, State, Turn, Moved, fresh_lane, take_turn, end_turn, pop_note, turned, idle, pull_note, again_note, answer_again, step, run}
-use Rattle.gl_world.specs.Keeping.{Keeper, AreKeepers, IsSound, IsWorld, lanes_of}
+use Rattle.gl_edges.specs.declared.edge.Edge.{Edge}
+use Rattle.gl_edges.specs.declared.edge.Sample.{Sample}
+use Rattle.gl_world.specs.Dispatch.{Dispatch, Shard, Handled, fresh_dispatch, ship_turn, work_turn}
+use Rattle.gl_world.specs.Machine.{Lane, State, Turn, Moved, fresh_lane, take_turn, end_turn, pop_note, turned, handled, idle, pull_note, again_note, answer_again, edges_due, add_edges, taken_of, step, run}
+use Rattle.gl_world.specs.Keeping.{Keeper, AreKeepers, IsLaneOf, IsFrontOf, IsSound, IsWorld, lanes_of}
 use Rattle.gl_world.specs.declared.steps.Step.{Step}
-use Rattle.gl_world.specs.declared.steps.Step.TheVariants.{Take, End, Pull, Again}
+use Rattle.gl_world.specs.declared.steps.Step.TheVariants.{Take, End, Pull, Again, Ship, Work}
 use Rattle.gl_world.specs.declared.steps.Did.{Did}
 use Rattle.gl_world.specs.declared.steps.Did.TheVariants.{Pulled, Refused}
-use Rattle.gl_world.proofs.Sound.{take_more, sound_start, get_set_same, get_set_other, front_is_next, other_isnt_next}
+use Rattle.gl_world.proofs.Lists.{same_some, take_more, get_set_same, get_set_other, found_within, get_at}
+use Rattle.gl_world.proofs.Shippings.{ship_keeps_shards, work_keeps_shards}
+use Rattle.gl_world.proofs.Sound.{sound_start, front_is_next, other_isnt_next, front_of}
 use Rattle.gl_world.proofs.Schedules.{sound_step, run_push}
 
-abbrev pub state_of : Bounds → ℕ → List Keeper → List Note → State
-state_of limits shards keepers stream = record { limits = limits; shards = shards; lanes = lanes_of keepers; stream = stream }
-
-pub found_within : {X : Type 0} (xs : List X) (i : ℕ) → i < length xs → (x : X) × (slice_get xs i ≡ Some x)
-found_within [] i h = absurd (omega arith)
-found_within (x ∷ xs) zero h = (x, refl)
-found_within (x ∷ xs) (suc i) h = found_within xs i (omega arith)
-
-pub get_at : {X : Type 0} (xs : List X) (i : ℕ) (x : X) → i < length xs → x ≡ get_or xs i x → slice_get xs i ≡ Some x
-get_at [] i x h is = absurd (omega arith)
-get_at (y ∷ xs) zero x h is = ap Some (sym is)
-get_at (y ∷ xs) (suc i) x h is = get_at xs i x (omega arith) is
+abbrev pub state_of : Bounds → Dispatch → List Keeper → List Note → State
+state_of limits dispatch keepers stream = record { limits = limits; lanes = lanes_of keepers; stream = stream; dispatch = dispatch }
 
 -- ---- one step of a state, case by case
 
@@ -117,14 +112,9 @@ run_next s now new steps i x did is at moved =
 pub run_all : (s : State) (steps : List Step) (i : ℕ) → length steps ≤ i → run s (take i steps) ≡ run s steps
 run_all s steps i all = ap (run s) (take_all i steps all)
 
-pub get_in : {X : Type 0} (xs : List X) (i : ℕ) (d : X) → i < length xs → slice_get xs i ≡ Some (get_or xs i d)
-get_in [] i d h = absurd (omega arith)
-get_in (x ∷ xs) zero d h = refl
-get_in (x ∷ xs) (suc i) d h = get_in xs i d (omega arith)
-
 -- ---- one row changed
 
-module _ (limits : Bounds) (shards : ℕ) (keepers : List Keeper) (stream : List Note) (collecting : Bounds) (world : IsWorld limits shards keepers stream collecting)
+module _ (limits : Bounds) (dispatch : Dispatch) (keepers : List Keeper) (stream : List Note) (collecting : Bounds) (world : IsWorld limits dispatch keepers stream collecting)
     (i : ℕ) (was : Keeper) (within : i < length keepers) (here : was ≡ get_or keepers i was) where
   row_at : slice_get keepers i ≡ Some was
   row_at = get_at keepers i was within here
@@ -133,7 +123,7 @@ module _ (limits : Bounds) (shards : ℕ) (keepers : List Keeper) (stream : List
   lane_at = slice_get-map (λ k. k.lane) keepers i ∙ ap (option_map (λ (k : Keeper). k.lane)) row_at
 
   -- the state has no other lane of this thread
-  pub lane_is : (s : State) → state_of limits shards keepers stream ≡ s → (lane : Lane) → slice_get s.lanes i ≡ Some lane → lane ≡ was.lane
+  pub lane_is : (s : State) → state_of limits dispatch keepers stream ≡ s → (lane : Lane) → slice_get s.lanes i ≡ Some lane → lane ≡ was.lane
   lane_is s e lane found =
       let here : slice_get s.lanes i ≡ Some was.lane = subst (λ (s : State). slice_get s.lanes i ≡ Some was.lane) e lane_at in
       let same : Some lane ≡ Some was.lane = sym found ∙ here in
@@ -165,50 +155,119 @@ module _ (limits : Bounds) (shards : ℕ) (keepers : List Keeper) (stream : List
   }
 
   moved_as : (turn : Turn) (now : Keeper) (did : Did) → now.lane ≡ turn.lane → did ≡ turn.did
-      → (let m : Moved = record { after = state_of limits shards (set keepers i now) stream; did = did } in turned (state_of limits shards keepers stream) i turn ≡ m)
+      → (let m : Moved = record { after = state_of limits dispatch (set keepers i now) stream; did = did } in turned (state_of limits dispatch keepers stream) i turn ≡ m)
   moved_as turn now did lane_is did_is = rw (map-set (λ (k : Keeper). k.lane) keepers i now, lane_is, did_is)
 
   pub take_moved : (now : Keeper) (did : Did) → now ≡ record was { lane = (take_turn was.limits was.thread was.lane).lane } → did ≡ (take_turn was.limits was.thread was.lane).did
-      → (let m : Moved = record { after = state_of limits shards (set keepers i now) stream; did = did } in step (state_of limits shards keepers stream) (Take i) ≡ m)
+      → (let m : Moved = record { after = state_of limits dispatch (set keepers i now) stream; did = did } in step (state_of limits dispatch keepers stream) (Take i) ≡ m)
   take_moved now did is says =
       let same : take_turn was.limits was.thread was.lane ≡ take_turn limits i was.lane = rw (own, own_limits) in
-      take_known (state_of limits shards keepers stream) i was.lane lane_at
+      take_known (state_of limits dispatch keepers stream) i was.lane lane_at
       ∙ moved_as (take_turn limits i was.lane) now did (ap (λ (k : Keeper). k.lane) is ∙ ap (λ (t : Turn). t.lane) same) (says ∙ ap (λ (t : Turn). t.did) same)
 
   pub end_moved : (now : Keeper) (did : Did) → now ≡ record was { lane = (end_turn was.limits was.thread was.lane).lane } → did ≡ (end_turn was.limits was.thread was.lane).did
-      → (let m : Moved = record { after = state_of limits shards (set keepers i now) stream; did = did } in step (state_of limits shards keepers stream) (End i) ≡ m)
+      → (let m : Moved = record { after = state_of limits dispatch (set keepers i now) stream; did = did } in step (state_of limits dispatch keepers stream) (End i) ≡ m)
   end_moved now did is says =
       let same : end_turn was.limits was.thread was.lane ≡ end_turn limits i was.lane = rw (own, own_limits) in
-      end_known (state_of limits shards keepers stream) i was.lane lane_at
+      end_known (state_of limits dispatch keepers stream) i was.lane lane_at
       ∙ moved_as (end_turn limits i was.lane) now did (ap (λ (k : Keeper). k.lane) is ∙ ap (λ (t : Turn). t.lane) same) (says ∙ ap (λ (t : Turn). t.did) same)
 
+  -- the row's lane in the state
+  sound_lane : IsLaneOf limits i stream was.lane
+  sound_lane = world.sound.lanes i was.lane lane_at
+
+  -- the next note of this row
+  pub front_here : (note : Note) → slice_get was.lane.pushed was.lane.popped ≡ Some note → IsFrontOf was.limits was.thread was.lane note
+  front_here note at = rw (own, own_limits) (front_of limits i stream was.lane sound_lane note at)
+
+  -- and the edges that it makes
+  due_here : Note → List (Edge × Sample)
+  due_here note = edges_due was.thread (taken_of was.thread was.lane) note.place note.body
+
   pub pull_moved : (note : Note) → slice_get was.lane.pushed was.lane.popped ≡ Some note → (now : Keeper) → now ≡ record was { lane = pop_note was.lane }
-      → (let m : Moved = record { after = state_of limits shards (set keepers i now) (stream ++ note ∷ []); did = Pulled (accepted_as note.place note.body) } in
-      step (state_of limits shards keepers stream) (Pull i) ≡ m)
-  pull_moved note front now is = pull_known (state_of limits shards keepers stream) i was.lane lane_at (Some note) front ∙ rw (map-set (λ (k : Keeper). k.lane) keepers i now, is)
+      → (due : List (Edge × Sample)) → due ≡ edges_due was.thread (taken_of was.thread was.lane) note.place note.body
+      → (let m : Moved = record { after = state_of limits (add_edges dispatch due) (set keepers i now) (stream ++ note ∷ []); did = Pulled (accepted_as note.place note.body) } in
+      step (state_of limits dispatch keepers stream) (Pull i) ≡ m)
+  pull_moved note front now is due due_is =
+      let made : due ≡ edges_due i (taken_of i was.lane) note.place note.body = due_is ∙ ap (λ t. edges_due t (taken_of t was.lane) note.place note.body) own in
+      pull_known (state_of limits dispatch keepers stream) i was.lane lane_at (Some note) front ∙ rw (map-set (λ (k : Keeper). k.lane) keepers i now, is, made)
 
   -- the world after a step that changed this row
-  world_after : (x : Step) (now : Keeper) (after : List Note) (did : Did)
-      → (let m : Moved = record { after = state_of limits shards (set keepers i now) after; did = did } in step (state_of limits shards keepers stream) x ≡ m)
-      → now.thread ≡ was.thread → now.limits ≡ was.limits → IsWorld limits shards (set keepers i now) after collecting
-  world_after x now after did is thread_is limits_is = record {
-    sound = subst (λ (m : Moved). IsSound m.after) is (sound_step (state_of limits shards keepers stream) world.sound x);
+  world_after : (x : Step) (now : Keeper) (next : Dispatch) (after : List Note) (did : Did)
+      → (let m : Moved = record { after = state_of limits next (set keepers i now) after; did = did } in step (state_of limits dispatch keepers stream) x ≡ m)
+      → now.thread ≡ was.thread → now.limits ≡ was.limits → IsWorld limits next (set keepers i now) after collecting
+  world_after x now next after did is thread_is limits_is = record {
+    sound = subst (λ (m : Moved). IsSound m.after) is (sound_step (state_of limits dispatch keepers stream) world.sound x);
     keeping = keeping_set now thread_is limits_is;
     same_limits = world.same_limits;
+    range = world.range;
   }
 
   pub take_world : (now : Keeper) (did : Did) → now ≡ record was { lane = (take_turn was.limits was.thread was.lane).lane } → did ≡ (take_turn was.limits was.thread was.lane).did
-      → IsWorld limits shards (set keepers i now) stream collecting
-  take_world now did is says = world_after (Take i) now stream did (take_moved now did is says) (ap (λ (k : Keeper). k.thread) is) (ap (λ (k : Keeper). k.limits) is)
+      → IsWorld limits dispatch (set keepers i now) stream collecting
+  take_world now did is says =
+      world_after (Take i) now dispatch stream did (take_moved now did is says) (ap (λ (k : Keeper). k.thread) is) (ap (λ (k : Keeper). k.limits) is)
 
   pub end_world : (now : Keeper) (did : Did) → now ≡ record was { lane = (end_turn was.limits was.thread was.lane).lane } → did ≡ (end_turn was.limits was.thread was.lane).did
-      → IsWorld limits shards (set keepers i now) stream collecting
-  end_world now did is says = world_after (End i) now stream did (end_moved now did is says) (ap (λ (k : Keeper). k.thread) is) (ap (λ (k : Keeper). k.limits) is)
+      → IsWorld limits dispatch (set keepers i now) stream collecting
+  end_world now did is says =
+      world_after (End i) now dispatch stream did (end_moved now did is says) (ap (λ (k : Keeper). k.thread) is) (ap (λ (k : Keeper). k.limits) is)
 
   pub pull_world : (note : Note) → slice_get was.lane.pushed was.lane.popped ≡ Some note → (now : Keeper) → now ≡ record was { lane = pop_note was.lane }
-      → IsWorld limits shards (set keepers i now) (stream ++ note ∷ []) collecting
-  pull_world note front now is =
-      world_after (Pull i) now (stream ++ note ∷ []) (Pulled (accepted_as note.place note.body)) (pull_moved note front now is) (ap (λ (k : Keeper). k.thread) is) (ap (λ (k : Keeper). k.limits) is)
+      → (due : List (Edge × Sample)) → due ≡ edges_due was.thread (taken_of was.thread was.lane) note.place note.body
+      → IsWorld limits (add_edges dispatch due) (set keepers i now) (stream ++ note ∷ []) collecting
+  pull_world note front now is due due_is =
+      world_after (Pull i) now (add_edges dispatch due) (stream ++ note ∷ []) (Pulled (accepted_as note.place note.body)) (pull_moved note front now is due due_is)
+      (ap (λ (k : Keeper). k.thread) is) (ap (λ (k : Keeper). k.limits) is)
+
+-- two readings of one row are the same
+pub same_row : (keepers : List Keeper) (i : ℕ) (a b : Keeper) → i < length keepers → a ≡ get_or keepers i a → b ≡ get_or keepers i b → a ≡ b
+same_row keepers i a b within at_a at_b = same_some a b (sym (get_at keepers i a within at_a) ∙ get_at keepers i b within at_b)
+
+-- edges that were added and taken back
+pub taken_back : (d added now : Dispatch) (due : List (Edge × Sample)) (count : ℕ) → added ≡ add_edges d due → count ≡ length d.made → now ≡ record added { made = take count added.made } → now ≡ d
+taken_back d added now due count is counted back =
+    let front : take count (d.made ++ due) ≡ d.made = ap (λ n. take n (d.made ++ due)) counted ∙ take-append-le (length d.made) d.made due (omega arith) ∙ take_all (length d.made) d.made (omega arith) in
+    let whole : (let e : Dispatch = record { made = take count (d.made ++ due); sent = d.sent; shards = d.shards } in e ≡ d) = (λ i. record { made = front i; sent = d.sent; shards = d.shards }) in
+    back ∙ ap (λ (e : Dispatch). (let r : Dispatch = record { made = take count e.made; sent = e.sent; shards = e.shards } in r)) is ∙ whole
+
+-- ---- the dispatch changed
+
+module _ (limits : Bounds) (dispatch : Dispatch) (keepers : List Keeper) (stream : List Note) (collecting : Bounds) (world : IsWorld limits dispatch keepers stream collecting) where
+  dispatched_world : (x : Step) (next : Dispatch) (did : Did)
+      → (let m : Moved = record { after = state_of limits next keepers stream; did = did } in step (state_of limits dispatch keepers stream) x ≡ m) → IsWorld limits next keepers stream collecting
+  dispatched_world x next did is = record {
+    sound = subst (λ (m : Moved). IsSound m.after) is (sound_step (state_of limits dispatch keepers stream) world.sound x);
+    keeping = world.keeping;
+    same_limits = world.same_limits;
+    range = world.range;
+  }
+
+  -- what a call of the dispatch answers, and what it leaves, makes of the world
+  module _ {E : Type 0} (x : Step) (turn : Handled) (steps : step (state_of limits dispatch keepers stream) x ≡ handled (state_of limits dispatch keepers stream) turn) (next : Dispatch) (result : Result Did E) where
+    pub moved_if : OnOk result (next ≡ turn.dispatch) → IfOk result (λ did. did ≡ turn.did)
+        → IfOk result (λ did. (let m : Moved = record { after = state_of limits next keepers stream; did = did } in step (state_of limits dispatch keepers stream) x ≡ m))
+    moved_if = by_result result
+      where
+        by_result : (r : Result Did E) → OnOk r (next ≡ turn.dispatch) → IfOk r (λ did. did ≡ turn.did)
+            → IfOk r (λ did. (let m : Moved = record { after = state_of limits next keepers stream; did = did } in step (state_of limits dispatch keepers stream) x ≡ m))
+        by_result (Ok did) is says = steps ∙ rw (is, says)
+        by_result (Err e) is says = tt
+
+    pub world_if : OnOk result (next ≡ turn.dispatch) → IfOk result (λ did. did ≡ turn.did) → OnErr result (next ≡ dispatch) → IsWorld limits next keepers stream collecting
+    world_if = by_result result
+      where
+        by_result : (r : Result Did E) → OnOk r (next ≡ turn.dispatch) → IfOk r (λ did. did ≡ turn.did) → OnErr r (next ≡ dispatch) → IsWorld limits next keepers stream collecting
+        by_result (Ok did) is says still = dispatched_world x next did (steps ∙ rw (is, says))
+        by_result (Err e) is says still = subst (λ d. IsWorld limits d keepers stream collecting) (sym still) world
+
+pub ship_is : (s : State) → step s Ship ≡ handled s (ship_turn s.limits s.dispatch)
+unfolding step
+ship_is s = refl
+
+pub work_is_step : (s : State) (k : ℕ) → step s (Work k) ≡ handled s (work_turn s.dispatch k)
+unfolding step
+work_is_step s k = refl
 
 -- ---- fresh rows
 
@@ -242,14 +301,15 @@ fresh_lists (v ∷ lists) = ap (λ ls. fresh_lane v.items ∷ ls) (fresh_lists l
 
 -- a new world
 pub world_new : (limits : Bounds) (shards : ℕ) (keepers : List Keeper) (lists : List (Vec Event Global)) → length lists ≡ limits.threads → AreKeepers limits keepers
-    → lanes_of keepers ≡ map (λ v. fresh_lane v.items) lists → IsWorld limits shards keepers [] limits
-world_new limits shards keepers lists count keeping lanes_are =
+    → lanes_of keepers ≡ map (λ v. fresh_lane v.items) lists → AreWithinRange limits → IsWorld limits (fresh_dispatch shards) keepers [] limits
+world_new limits shards keepers lists count keeping lanes_are range =
     let same : map fresh_lane (map (λ (v : Vec Event Global). v.items) lists) ≡ lanes_of keepers = fresh_lists lists ∙ sym lanes_are in
     record {
-      sound = subst (λ (ls : List Lane). IsSound (let s : State = record { limits = limits; shards = shards; lanes = ls; stream = [] } in s)) same
+      sound = subst (λ (ls : List Lane). IsSound (let s : State = record { limits = limits; lanes = ls; stream = []; dispatch = fresh_dispatch shards } in s)) same
           (sound_start limits shards (map (λ (v : Vec Event Global). v.items) lists) (length-map lists (λ (v : Vec Event Global). v.items) ∙ count));
       keeping = keeping;
       same_limits = refl;
+      range = range;
     }
 
 -- ---- the limits stay
@@ -276,6 +336,8 @@ step_limits s (Take thread) = on_lane_limits s (λ lane. turned s thread (take_t
 step_limits s (End thread) = on_lane_limits s (λ lane. turned s thread (end_turn s.limits thread lane)) (slice_get s.lanes thread) (λ lane. refl)
 step_limits s (Pull thread) = on_lane_limits s (λ lane. pull_note s thread lane (slice_get lane.pushed lane.popped)) (slice_get s.lanes thread) (λ lane. pull_limits s thread lane (slice_get lane.pushed lane.popped))
 step_limits s (Again thread place) = on_lane_limits s (λ lane. again_note s lane place (slice_get lane.pushed place)) (slice_get s.lanes thread) (λ lane. again_limits s lane place (slice_get lane.pushed place))
+step_limits s Ship = refl
+step_limits s (Work k) = refl
 
 -- a step that did what the machine does keeps the limits
 pub moved_limits : (s t : State) (x : Step) (did : Did) → step s x ≡ record { after = t; did = did } → t.limits ≡ s.limits
@@ -288,3 +350,39 @@ run_limits s (x ∷ xs) = run_limits (step s x).after xs ∙ step_limits s x
 pub limits_if_moved : {E : Type 0} (result : Result Did E) (s t : State) (x : Step) → IfOk result (λ did. step s x ≡ record { after = t; did = did }) → OnOk result (t.limits ≡ s.limits)
 limits_if_moved (Ok did) s t x moved = moved_limits s t x did moved
 limits_if_moved (Err e) s t x moved = tt
+
+-- ---- the number of shards stays
+
+on_lane_count : (s : State) (move : Lane → Moved) (found : Option Lane) → ((lane : Lane) → length (move lane).after.dispatch.shards ≡ length s.dispatch.shards)
+    → length (option_map_or move found (idle s)).after.dispatch.shards ≡ length s.dispatch.shards
+on_lane_count s move None each = refl
+on_lane_count s move (Some lane) each = each lane
+
+pull_count : (s : State) (thread : ℕ) (lane : Lane) (note : Option Note) → length (pull_note s thread lane note).after.dispatch.shards ≡ length s.dispatch.shards
+pull_count s thread lane None = refl
+pull_count s thread lane (Some note) = refl
+
+either_count : (s : State) (test : Bool) (answer : Did) → length (cond test (idle s) (record { after = s; did = answer })).after.dispatch.shards ≡ length s.dispatch.shards
+either_count s true answer = refl
+either_count s false answer = refl
+
+again_count : (s : State) (lane : Lane) (place : ℕ) (note : Option Note) → length (again_note s lane place note).after.dispatch.shards ≡ length s.dispatch.shards
+again_count s lane place None = refl
+again_count s lane place (Some note) = either_count s (eqb place lane.popped) (answer_again s note)
+
+step_count : (s : State) (x : Step) → length (step s x).after.dispatch.shards ≡ length s.dispatch.shards
+unfolding step
+step_count s (Take thread) = on_lane_count s (λ lane. turned s thread (take_turn s.limits thread lane)) (slice_get s.lanes thread) (λ lane. refl)
+step_count s (End thread) = on_lane_count s (λ lane. turned s thread (end_turn s.limits thread lane)) (slice_get s.lanes thread) (λ lane. refl)
+step_count s (Pull thread) = on_lane_count s (λ lane. pull_note s thread lane (slice_get lane.pushed lane.popped)) (slice_get s.lanes thread) (λ lane. pull_count s thread lane (slice_get lane.pushed lane.popped))
+step_count s (Again thread place) = on_lane_count s (λ lane. again_note s lane place (slice_get lane.pushed place)) (slice_get s.lanes thread) (λ lane. again_count s lane place (slice_get lane.pushed place))
+step_count s Ship = ship_keeps_shards s.limits s.dispatch
+step_count s (Work k) = work_keeps_shards s.dispatch k
+
+pub run_count : (s : State) (steps : List Step) → length (run s steps).dispatch.shards ≡ length s.dispatch.shards
+run_count s [] = refl
+run_count s (x ∷ xs) = run_count (step s x).after xs ∙ step_count s x
+
+pub count_if_moved : {E : Type 0} (result : Result Did E) (s t : State) (x : Step) → IfOk result (λ did. step s x ≡ record { after = t; did = did }) → OnOk result (length t.dispatch.shards ≡ length s.dispatch.shards)
+count_if_moved (Ok did) s t x moved = sym (ap (λ (m : Moved). length m.after.dispatch.shards) moved) ∙ step_count s x
+count_if_moved (Err e) s t x moved = tt

@@ -1,16 +1,23 @@
--- The machine that recorders, their lanes and the collector make together: its steps, one at a time, in any order.
-use Rattle.std.specs.Prelude.{◌≡◌, ◌≢◌, ◌==◌, ℕ, ◌+◌, ◌-◌, Bool, false, List, [], ◌∷◌, ◌++◌, length, map, take, Option, Some, None, slice_get, slice_set, nat_lt, if◌then◌else◌}
+-- The machine that recorders, their lanes, the collector and the shards' workers make together: its steps, one at a time, in any order.
+use Rattle.std.specs.Prelude.{◌≡◌, ◌≢◌, ◌==◌, ℕ, ◌<◌, ◌+◌, ◌-◌, Bool, false, IsTrue, List, [], ◌∷◌, ◌++◌, length, map, take, Option, Some, None, slice_get, slice_set, nat_lt, if◌then◌else◌}
+use Rattle.std.specs.List.{enumerate_from}
 use Rattle.std.specs.Option.{option_map_or}
 use Rattle.gl_event.specs.Bounds.{Bounds}
 use Rattle.gl_event.specs.Lawful.{refusal}
 use Rattle.gl_event.specs.declared.events.Event.{Event}
 use Rattle.gl_event.specs.declared.events.Refusal.{Refusal}
 use Rattle.gl_event.specs.declared.notes.Note.{Note}
+use Rattle.gl_event.specs.declared.notes.Body.{Body}
+use Rattle.gl_event.specs.declared.notes.Body.TheVariants.{Happened, Ended as EndMark}
+use Rattle.gl_edges.specs.Edges.{edges_at}
+use Rattle.gl_edges.specs.declared.edge.Edge.{Edge}
+use Rattle.gl_edges.specs.declared.edge.Sample.{Sample}
 use Rattle.gl_recorder.specs.Taking.{event_note, end_note}
 use Rattle.gl_intake.specs.Stream.{events_of, has_ended, note_refusal, accepted_as, AreInOrder}
 use Rattle.gl_intake.specs.declared.notes.Accepted.{Accepted}
+use Rattle.gl_world.specs.Dispatch.{Dispatch, Handled, IsDone, fresh_dispatch, ship_turn, work_turn}
 use Rattle.gl_world.specs.declared.steps.Step.{Step}
-use Rattle.gl_world.specs.declared.steps.Step.TheVariants.{Take, End, Pull, Again}
+use Rattle.gl_world.specs.declared.steps.Step.TheVariants.{Take, End, Pull, Again, Ship, Work}
 use Rattle.gl_world.specs.declared.steps.Did.{Did}
 use Rattle.gl_world.specs.declared.steps.Did.TheVariants.{Nothing, Taken, Passed, Ended, Pulled, Refused}
 
@@ -21,12 +28,12 @@ pub record Lane : Type 0 where
   pub pushed : List Note
   pub popped : ℕ
 
--- the limits, the number of shards, each thread's lane in the order of thread numbers, and the notes collected so far
+-- the limits, each thread's lane in the order of thread numbers, the notes collected so far, and what became of the edges that they made
 pub record State : Type 0 where
   pub limits : Bounds
-  pub shards : ℕ
   pub lanes : List Lane
   pub stream : List Note
+  pub dispatch : Dispatch
 
 -- a lane before its thread's first step
 abbrev pub fresh_lane : List Event → Lane
@@ -34,7 +41,7 @@ fresh_lane wishes = record { wishes = wishes; used = 0; pushed = []; popped = 0 
 
 -- the state before the first step
 abbrev pub start : Bounds → ℕ → List (List Event) → State
-start limits shards wishes = record { limits = limits; shards = shards; lanes = map fresh_lane wishes; stream = [] }
+start limits shards wishes = record { limits = limits; lanes = map fresh_lane wishes; stream = []; dispatch = fresh_dispatch shards }
 
 -- the events that the thread took: those of its pushed notes
 abbrev pub taken_of : ℕ → Lane → List Event
@@ -105,11 +112,24 @@ idle s = record { after = s; did = Nothing }
 abbrev pub turned : State → ℕ → Turn → Moved
 turned s thread turn = record { after = record s { lanes = slice_set s.lanes thread turn.lane }; did = turn.did }
 
--- the collector pulls the note off the lane, if there is one, and adds it to the stream
+-- the edges that a body makes which stands at this place of what the thread took: those of its event, ascending
+abbrev pub edges_due : ℕ → List Event → ℕ → Body → List (Edge × Sample)
+edges_due thread taken place (Happened e) = edges_at thread taken place
+edges_due thread taken place (EndMark count) = []
+
+-- the dispatch with these edges made beside those before
+abbrev pub add_edges : Dispatch → List (Edge × Sample) → Dispatch
+add_edges d edges = record d { made = d.made ++ edges }
+
+-- the collector pulls the note off the lane, if there is one, and adds it to the stream, and its edges to those made
 abbrev pub pull_note : State → ℕ → Lane → Option Note → Moved
 pull_note s thread lane None = idle s
 pull_note s thread lane (Some note) = record {
-  after = record s { lanes = slice_set s.lanes thread (pop_note lane); stream = s.stream ++ note ∷ [] };
+  after = record s {
+    lanes = slice_set s.lanes thread (pop_note lane);
+    stream = s.stream ++ note ∷ [];
+    dispatch = add_edges s.dispatch (edges_due thread (taken_of thread lane) note.place note.body);
+  };
   did = Pulled (accepted_as note.place note.body);
 }
 
@@ -126,12 +146,18 @@ again_note s lane place (Some note) = if place == lane.popped then idle s else r
 abbrev pub on_lane : State → ℕ → (Lane → Moved) → Moved
 on_lane s thread move = option_map_or move (slice_get s.lanes thread) (idle s)
 
+-- a step of the dispatch alone
+abbrev pub handled : State → Handled → Moved
+handled s turn = record { after = record s { dispatch = turn.dispatch }; did = turn.did }
+
 -- one step
 unfoldable pub step : State → Step → Moved
 step s (Take thread) = on_lane s thread (λ lane. turned s thread (take_turn s.limits thread lane))
 step s (End thread) = on_lane s thread (λ lane. turned s thread (end_turn s.limits thread lane))
 step s (Pull thread) = on_lane s thread (λ lane. pull_note s thread lane (slice_get lane.pushed lane.popped))
 step s (Again thread place) = on_lane s thread (λ lane. again_note s lane place (slice_get lane.pushed place))
+step s Ship = handled s (ship_turn s.limits s.dispatch)
+step s (Work k) = handled s (work_turn s.dispatch k)
 
 -- the state after these steps
 abbrev pub run : State → List Step → State
@@ -153,3 +179,12 @@ pub record KeepsOrder (s : State) : Type 0 where
 -- every list of steps from a new world keeps each thread's order
 abbrev pub EveryScheduleKeepsOrder : Type 0
 EveryScheduleKeepsOrder = (limits : Bounds) (shards : ℕ) (wishes : List (List Event)) → length wishes ≡ limits.threads → (steps : List Step) → KeepsOrder (run (start limits shards wishes) steps)
+
+-- the lists of what the threads took, in the order of their numbers
+abbrev pub taken_lists : List Lane → List (List Event)
+taken_lists lanes = map (λ numbered. taken_of numbered.0 numbered.1) (enumerate_from 0 lanes)
+
+-- every thread's end mark was collected, every edge made is shipped, and every edge shipped is worked
+pub record IsDrained (s : State) : Type 0 where
+  pub all_ended : (thread : ℕ) → thread < s.limits.threads → IsTrue (has_ended thread s.stream)
+  pub done : IsDone s.dispatch

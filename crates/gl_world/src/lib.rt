@@ -1,25 +1,41 @@
-//! Recorders, lanes and a collector as one machine.
+//! The core: recorders, lanes, a collector and shards as one machine, and its report.
 //!
-//! A [`World`] has a recorder with a lane for each thread, and one collector. Its steps may come in
-//! any order, as a scheduler of threads might choose: whatever the order, what is collected of a
-//! thread is how the list of events that the thread took begins.
+//! A [`World`] has a recorder with a lane for each thread, one collector, and shards, each with a
+//! feed, a worker and a table of edges. Its steps may come in any order, as a scheduler of threads
+//! might choose. Whatever the order, what is collected of a thread is how the list of events that
+//! the thread took begins; and once the world is drained, its report is the Goodlock report of what
+//! the threads took: timing doesn't show, nor the number of shards.
 //!
 //! ```text
-//! let mut world = World::new(alloc, &limits, 1, wishes)?;
-//! world.step(Step::Take(thread))?;
-//! world.step(Step::Pull(thread))?;
-//! let collected = world.log(thread);
+//! let mut world = World::new(alloc, &limits, 2, wishes)?;
+//! world.step(Step::Take(thread))?;      // the thread's recorder pushes its next event
+//! world.step(Step::Pull(thread))?;      // the collector pulls it, and makes its edges
+//! world.step(Step::Ship)?;              // the oldest edge goes to its shard
+//! world.step(Step::Work(0))?;           // shard 0 puts its next edge into its table
+//! if world.drained() {
+//!     let report = world.report(&query)?;
+//! }
 //! ```
+//!
+//! The steps are defined in `specs/Machine.antt` and `specs/Dispatch.antt`, and what a drained
+//! machine reports in `specs/Headline.antt`. [`every_schedule_keeps_order`] and
+//! [`every_drained_schedule_reports_what_was_taken`] say it for all lists of steps.
 #![tactic(auto)]
 
+mod dispatcher;
+mod feed;
 mod laws;
 mod row;
 mod steps;
 mod world;
 
-pub use laws::every_schedule_keeps_order;
+pub use gl_shards::MAX_SHARDS;
+pub use laws::{
+    every_drained_schedule_reports_what_was_taken, every_schedule_keeps_order,
+    steps_do_something_where_enabled,
+};
 pub use steps::{Did, Step};
-pub use world::{MAX_SHARDS, World};
+pub use world::World;
 
 #[cfg(test)]
 mod tests;

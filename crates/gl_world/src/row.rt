@@ -1,16 +1,22 @@
 //! What a world keeps of one thread.
-ghost use Rattle.std.specs.Prelude.{◌≡◌, ◌<◌, ◌≤◌, List, [], ◌∷◌, ◌++◌, length, Some, None, true, false, IsTrue, ◌↔◌, OnOk, OnErr, IfOk, is_ok, slice_get, if◌then◌else◌};
+ghost use Rattle.std.specs.Prelude.{◌≡◌, ◌<◌, ◌≤◌, ℕ, List, [], ◌∷◌, ◌++◌, length, Some, None, true, false, IsTrue, ◌↔◌, OnOk, OnErr, IfOk, is_ok, slice_get, if◌then◌else◌};
+ghost use Rattle.gl_event.specs.Bounds.{AreWithinRange};
 ghost use Rattle.gl_event.specs.Lawful.{refusal};
 ghost use Rattle.gl_recorder.specs.Taking.{event_note, end_note};
-ghost use Rattle.gl_world.specs.Machine.{Lane, fresh_lane, taken_of, has_closed, has_room, use_wish, push_note, pop_note, take_turn, take_judged, end_turn};
+ghost use Rattle.gl_world.specs.Machine.{Lane, fresh_lane, taken_of, has_closed, has_room, use_wish, push_note, pop_note, take_turn, take_judged, end_turn, edges_due};
+ghost use Rattle.gl_event.specs.declared.events.Event.{Event};
+ghost use Rattle.gl_edges.specs.Tracking.{Tracks as Follows};
+ghost use Rattle.gl_world.specs.Keeping.{IsFrontOf, MayTake, with_body};
 
 use crate::steps::Did;
-use gl_event::{Event, Limits, Note, ThreadId};
+use gl_edges::{Edge, Sample, Tracker};
+use gl_event::{Body, Event, Limits, Memory, Note, ThreadId};
 use gl_recorder::Taker;
 use std::alloc::{AllocError, Global};
 use std::marker::Model;
 
-/// A thread's wishes, its recorder, and its lane.
+/// A thread's wishes, its recorder, its lane, and what the collector knows of it: which locks it
+/// holds after the events that were pulled.
 ///
 /// Contracts see the thread, the limits and the lane.
 #[derive(Drop, Debug)]
@@ -24,6 +30,7 @@ pub struct Row {
     has_closed: bool,
     pushed: Vec<Note>,
     popped: usize,
+    tracker: Tracker,
 }
 
 impl Model for Row {
@@ -33,7 +40,7 @@ impl Model for Row {
 
     ghost view = { λ r. record { thread = r.thread; limits = r.limits; lane = record { wishes = r.wishes.items; used = r.used; pushed = r.pushed.items; popped = r.popped } } };
 
-    ghost invariant = { λ r. IsKept r.limits r.thread r.pushed.items r.popped r.taken.items r.has_closed r.taker };
+    ghost invariant = { λ r. IsKept r.limits r.thread r.pushed.items r.popped r.taken.items r.has_closed r.taker r.tracker };
 }
 
 // Appends x to xs.
@@ -63,10 +70,22 @@ fn append_both<X: Copy, Y: Copy>(
     }
 }
 
+// Takes the event of the body, if it has one.
+fn follow(tracker: &mut Tracker, body: &Body)
+    requires { MayTake tracker.old body.now }
+    ensures { (thread : ℕ) (es : List Event) → Follows thread es tracker.old → Follows thread (with_body es body.now) tracker.new }
+{
+    match *body {
+        Body::Happened(event) => tracker.advance(event),
+        Body::Ended { .. } => {}
+    }
+}
+
 impl Row {
     /// The row of a thread with these wishes, before its first step.
     pub fn new(alloc: Global, thread: ThreadId, limits: &Limits, wishes: Vec<Event>) -> Row
-        requires { thread < limits.now.threads }
+        requires known { thread < limits.now.threads }
+        requires range { AreWithinRange limits.now }
         ensures { result ≡ record { thread = thread; limits = limits.now; lane = fresh_lane wishes.items } }
     {
         Row {
@@ -79,6 +98,7 @@ impl Row {
             has_closed: false,
             pushed: Vec::new(alloc),
             popped: 0,
+            tracker: Tracker::new(thread),
         }
     }
 
@@ -113,11 +133,23 @@ impl Row {
         self.popped
     }
 
-    /// Pops the next note.
-    pub fn pop(&mut self)
-        requires { self.old.lane.popped < length self.old.lane.pushed }
+    /// The edges that the next note makes, which is this one, ascending.
+    pub fn due(&self, alloc: Global, note: &Note) -> Result<Vec<(Edge, Sample)>, Memory>
+        requires { IsFrontOf self.now.limits self.now.thread self.now.lane note.now }
+        ensures { IfOk result (λ edges. edges.items ≡ edges_due self.now.thread (taken_of self.now.thread self.now.lane) note.now.place note.now.body) }
+    {
+        match note.body {
+            Body::Happened(event) => self.tracker.next_edges(alloc, &event),
+            Body::Ended { .. } => Ok(Vec::new(alloc)),
+        }
+    }
+
+    /// Pops the next note, which is this one.
+    pub fn pop(&mut self, note: &Note)
+        requires { IsFrontOf self.old.limits self.old.thread self.old.lane note.now }
         ensures { self.new ≡ record self.old { lane = pop_note self.old.lane } }
     {
+        follow(&mut self.tracker, &note.body);
         self.popped += 1;
     }
 

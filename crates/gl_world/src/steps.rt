@@ -2,18 +2,23 @@
 use gl_event::{Refusal, ThreadId};
 use gl_intake::{Accepted, Refused};
 
-/// One step of a recorder or of the collector.
+/// One step of a recorder, of the collector, or of a shard's worker.
 #[derive(Clone, Copy, Debug, PartialEq, Eq, Hash)]
 pub enum Step {
     /// The thread takes its next wish: its recorder pushes the event's note into the thread's lane.
     Take(ThreadId),
     /// The thread ends: its recorder pushes the end mark into the thread's lane.
     End(ThreadId),
-    /// The collector pulls the next note off the thread's lane.
+    /// The collector pulls the next note off the thread's lane, and makes the edges of its event.
     Pull(ThreadId),
     /// A note of the thread that isn't next in its lane is offered to the collector. Notes count
     /// from 0.
     Again(ThreadId, u32),
+    /// The collector ships the oldest edge that it hasn't shipped to the shard of that edge.
+    Ship,
+    /// The worker of the shard puts the next edge that was shipped to it into its table. Shards count
+    /// from 0.
+    Work(u32),
 }
 
 /// What a step did.
@@ -31,4 +36,8 @@ pub enum Did {
     Pulled(Accepted),
     /// The note was refused.
     Refused(Refused),
+    /// The edge was shipped to the shard of this number.
+    Shipped(u32),
+    /// The edge was put into the shard's table.
+    Worked,
 }

@@ -2,7 +2,10 @@
 ghost use Rattle.std.specs.Prelude.{◌≡◌, length, IfOk};
 
 use crate::{Did, Step, World};
-use gl_event::{Body, Event, Limits, LocId, LockId, Note, Refusal, ThreadId};
+use gl_cycles::{Report, ReportFault};
+use gl_edges::{Edge, Sample};
+use gl_event::{Body, Event, Limits, LocId, LockId, Note, Refusal, Segment, ThreadId};
+use gl_filters::{Mode, Query};
 use gl_intake::{Accepted, Refused};
 use std::alloc::{AllocError, Global};
 use std::test::Fail;
@@ -17,6 +20,13 @@ fn acquire(lock: u32, loc: u32) -> Event {
 fn release(lock: u32, loc: u32) -> Event {
     Event::Release {
         lock: LockId::new(lock),
+        loc: LocId::new(loc),
+    }
+}
+
+fn join(thread: u32, loc: u32) -> Event {
+    Event::Join {
+        thread: ThreadId::new(thread),
         loc: LocId::new(loc),
     }
 }
@@ -61,6 +71,29 @@ fn ended(thread: u32, count: u32) -> Note {
     }
 }
 
+// The wishes of one thread.
+fn one_list(alloc: Global, list: Vec<Event>) -> Result<Vec<Vec<Event>>, AllocError>
+    ensures { IfOk result (λ wishes. length wishes.items ≡ 1) }
+{
+    let mut wishes = Vec::new(alloc);
+    wishes.push(list)?;
+    Ok(wishes)
+}
+
+// The wishes of two threads.
+fn two_lists(
+    alloc: Global,
+    first: Vec<Event>,
+    second: Vec<Event>,
+) -> Result<Vec<Vec<Event>>, AllocError>
+    ensures { IfOk result (λ wishes. length wishes.items ≡ 2) }
+{
+    let mut wishes = Vec::new(alloc);
+    wishes.push(first)?;
+    wishes.push(second)?;
+    Ok(wishes)
+}
+
 // Two threads that take the locks a and b, of numbers 0 and 1, in opposite orders. The second
 // releases none.
 fn opposite_order(alloc: Global) -> Result<Vec<Vec<Event>>, AllocError>
@@ -68,19 +101,67 @@ fn opposite_order(alloc: Global) -> Result<Vec<Vec<Event>>, AllocError>
 {
     let first = vec![in alloc; acquire(0, 0), acquire(1, 1), release(1, 2), release(0, 3)]?;
     let second = vec![in alloc; acquire(1, 4), acquire(0, 5)]?;
-    let mut wishes = Vec::new(alloc);
-    wishes.push(first)?;
-    wishes.push(second)?;
-    Ok(wishes)
+    two_lists(alloc, first, second)
 }
 
-#[test]
-fn two_schedules(rt: HostRuntime) -> Result<(), Fail> {
-    let alloc = rt.alloc();
-    let limits = Limits::new(2, 1, 100, 100)?;
-    let wishes = opposite_order(alloc)?;
-    let mut world = World::new(alloc, &limits, 3, wishes)?;
-    let steps = [
+// Makes the steps in turn. Whether each did what stands beside it.
+fn does(world: &mut World, steps: &[(Step, Did)]) -> bool {
+    for (step, did) in steps {
+        if world.step(*step) != Ok(*did) {
+            return false;
+        }
+    }
+    true
+}
+
+// The edges and the cycle of two threads that take two locks in opposite orders.
+fn is_opposite_order(report: &Report) -> bool {
+    let entries = report.edges.entries();
+    let cycles = report.found.cycles.as_slice();
+    if entries.len() != 2 || cycles.len() != 1 || report.found.more {
+        return false;
+    }
+    is_edge(&entries[0], (0, 0, 1), (1, 0, 1))
+        && is_edge(&entries[1], (1, 1, 0), (1, 4, 5))
+        && cycles[0].as_slice() == [0, 1].as_slice()
+}
+
+// Whether the pair is an edge of this thread, held and wanted lock, in the thread's first segment and
+// with no other guard, whose sample is of this place and these two locations.
+fn is_edge(pair: &(Edge, Sample), edge: (u32, u32, u32), sample: (u32, u32, u32)) -> bool {
+    let guards = pair.0.guards.as_slice();
+    pair.0.thread.number() == edge.0
+        && pair.0.held.number() == edge.1
+        && pair.0.wanted.number() == edge.2
+        && pair.0.first == 0
+        && pair.0.second == 0
+        && guards.len() == 1
+        && guards[0].number() == edge.1
+        && pair.1.place == sample.0
+        && pair.1.held_loc.number() == sample.1
+        && pair.1.wanted_loc.number() == sample.2
+}
+
+fn is_segment(segment: &Segment, thread: u32, index: u32) -> bool {
+    segment.thread.number() == thread && segment.index == index
+}
+
+// Whether the answer is that the second segments of threads 0 and 1 wait for each other.
+fn is_loop_of_joins(answer: &Result<Report, ReportFault>) -> bool {
+    match answer {
+        Err(ReportFault::Inconsistent { at, ring }) => {
+            is_segment(at, 0, 1)
+                && ring.len() == 2
+                && is_segment(&ring[0], 0, 1)
+                && is_segment(&ring[1], 1, 1)
+        }
+        _ => false,
+    }
+}
+
+// Recorders and collector take turns, in rings of one and with three shards.
+fn turn_by_turn() -> [(Step, Did); 36] {
+    [
         (take(1), Did::Taken(0)),
         (pull(1), pulled(0)),
         (again(1, 0), misplaced(1, 0)),
@@ -110,11 +191,19 @@ fn two_schedules(rt: HostRuntime) -> Result<(), Fail> {
         (pull(1), Did::Pulled(Accepted::Ended { count: 2 })),
         (end(0), Did::Ended),
         (pull(0), Did::Pulled(Accepted::Ended { count: 4 })),
-    ];
-    for (step, did) in steps {
-        assert_eq!(rt; world.step(step), Ok(did));
-    }
-    let stream = [
+        (Step::Ship, Did::Shipped(1)),
+        (Step::Work(1), Did::Worked),
+        (Step::Ship, Did::Shipped(0)),
+        (Step::Work(2), Did::Nothing),
+        (Step::Work(3), Did::Nothing),
+        (Step::Ship, Did::Nothing),
+        (Step::Work(0), Did::Worked),
+    ]
+}
+
+// What is collected then.
+fn collected_in_turn() -> [Note; 8] {
+    [
         happened(1, 0, acquire(1, 4)),
         happened(0, 0, acquire(0, 0)),
         happened(1, 1, acquire(0, 5)),
@@ -123,8 +212,144 @@ fn two_schedules(rt: HostRuntime) -> Result<(), Fail> {
         happened(0, 3, release(0, 3)),
         ended(1, 2),
         ended(0, 4),
+    ]
+}
+
+// Each makes all its steps at once, in wide rings and with one shard. The last edge isn't worked.
+fn one_after_the_other() -> [Step; 19] {
+    [
+        take(0),
+        take(0),
+        take(0),
+        take(0),
+        end(0),
+        take(1),
+        take(1),
+        end(1),
+        pull(0),
+        pull(0),
+        pull(0),
+        pull(0),
+        pull(0),
+        pull(1),
+        pull(1),
+        pull(1),
+        Step::Ship,
+        Step::Ship,
+        Step::Work(0),
+    ]
+}
+
+// Two drained worlds in which the threads took the same, by different steps, rings and shards.
+#[test]
+fn two_schedules(rt: HostRuntime) -> Result<(), Fail> {
+    let alloc = rt.alloc();
+    let limits = Limits::new(2, 1, 100, 100)?;
+    let mut first = World::new(alloc, &limits, 3, opposite_order(alloc)?)?;
+    assert!(rt; does(&mut first, &turn_by_turn()));
+    assert_eq!(rt; first.stream(), collected_in_turn().as_slice());
+    assert!(rt; first.drained());
+
+    let limits = Limits::new(2, 8, 100, 100)?;
+    let mut second = World::new(alloc, &limits, 1, opposite_order(alloc)?)?;
+    assert_eq!(rt; second.run(&one_after_the_other()), Ok(()));
+    assert!(rt; !second.drained());
+    assert_eq!(rt; second.step(Step::Work(0)), Ok(Did::Worked));
+    assert!(rt; second.drained());
+
+    let query = Query::new(Mode::Full, 4, 1_000)?;
+    assert!(rt; is_opposite_order(&first.report(&query)?));
+    assert!(rt; is_opposite_order(&second.report(&query)?));
+    Ok(())
+}
+
+// Each edge goes to the shard of its held lock, and a full feed waits for its worker.
+#[test]
+fn two_shards(rt: HostRuntime) -> Result<(), Fail> {
+    let alloc = rt.alloc();
+    let list = vec![in alloc;
+        acquire(0, 1),
+        acquire(0, 2),
+        acquire(1, 3),
+        release(0, 4),
+        acquire(2, 5),
+    ]?;
+    let mut world = World::new(
+        alloc,
+        &Limits::new(1, 1, 100, 100)?,
+        2,
+        one_list(alloc, list)?,
+    )?;
+    for place in 0..5 {
+        let steps = [(take(0), Did::Taken(place)), (pull(0), pulled(place))];
+        assert!(rt; does(&mut world, &steps));
+    }
+    let steps = [
+        (Step::Ship, Did::Shipped(0)),
+        (Step::Ship, Did::Nothing),
+        (Step::Work(0), Did::Worked),
+        (Step::Ship, Did::Shipped(0)),
+        (Step::Ship, Did::Shipped(1)),
+        (Step::Ship, Did::Nothing),
     ];
-    assert_eq!(rt; world.stream(), stream.as_slice());
+    assert!(rt; does(&mut world, &steps));
+    Ok(())
+}
+
+// What the tables have, once their workers put it in.
+#[test]
+fn tables_of_shards(rt: HostRuntime) -> Result<(), Fail> {
+    let alloc = rt.alloc();
+    let list = vec![in alloc; acquire(0, 1), acquire(1, 2), acquire(2, 3)]?;
+    let mut world = World::new(
+        alloc,
+        &Limits::new(1, 8, 100, 100)?,
+        2,
+        one_list(alloc, list)?,
+    )?;
+    let steps = [
+        take(0),
+        take(0),
+        take(0),
+        pull(0),
+        pull(0),
+        pull(0),
+        Step::Ship,
+        Step::Ship,
+        Step::Ship,
+        Step::Work(0),
+    ];
+    assert_eq!(rt; world.run(steps.as_slice()), Ok(()));
+    assert!(rt; world.table(0).len() == 1);
+    assert!(rt; world.table(1).len() == 0);
+    assert_eq!(rt;
+        world.run([Step::Work(1), Step::Work(0)].as_slice()),
+        Ok(())
+    );
+    assert!(rt; world.table(0).len() == 2);
+    assert!(rt; world.table(1).len() == 1);
+    assert!(rt; !world.drained());
+    assert_eq!(rt; world.run([end(0), pull(0)].as_slice()), Ok(()));
+    assert!(rt; world.drained());
+    Ok(())
+}
+
+// Two threads that wait for each other's end have no report, drained or not.
+#[test]
+fn join_loop(rt: HostRuntime) -> Result<(), Fail> {
+    let alloc = rt.alloc();
+    let first = vec![in alloc; join(1, 1)]?;
+    let second = vec![in alloc; join(0, 2)]?;
+    let wishes = two_lists(alloc, first, second)?;
+    let mut world = World::new(alloc, &Limits::new(2, 8, 100, 100)?, 1, wishes)?;
+    let steps = [take(0), take(1), end(0), end(1), pull(0), pull(0)];
+    assert_eq!(rt; world.run(steps.as_slice()), Ok(()));
+    let query = Query::new(Mode::Full, 4, 1_000)?;
+    assert!(rt; world.report(&query).is_ok());
+    assert_eq!(rt; world.run([pull(1), pull(1)].as_slice()), Ok(()));
+    assert!(rt; world.drained());
+    let answer = world.report(&query);
+    assert!(rt; is_loop_of_joins(&answer));
     Ok(())
 }
 
@@ -148,20 +373,11 @@ fn again_in_a_wide_ring(rt: HostRuntime) -> Result<(), Fail> {
     Ok(())
 }
 
-// One wish, which is a release of a lock that isn't held.
-fn one_release(alloc: Global) -> Result<Vec<Vec<Event>>, AllocError>
-    ensures { IfOk result (λ wishes. length wishes.items ≡ 1) }
-{
-    let list = vec![in alloc; release(5, 0)]?;
-    let mut wishes = Vec::new(alloc);
-    wishes.push(list)?;
-    Ok(wishes)
-}
-
+// A release of a lock that isn't held.
 #[test]
 fn passed_and_again(rt: HostRuntime) -> Result<(), Fail> {
     let alloc = rt.alloc();
-    let wishes = one_release(alloc)?;
+    let wishes = one_list(alloc, vec![in alloc; release(5, 0)]?)?;
     let mut world = World::new(alloc, &Limits::new(1, 1, 100, 100)?, 1, wishes)?;
     let steps = [
         (take(0), Did::Passed(Refusal::NotHeld)),
@@ -170,8 +386,6 @@ fn passed_and_again(rt: HostRuntime) -> Result<(), Fail> {
         (pull(0), Did::Pulled(Accepted::Ended { count: 0 })),
         (again(0, 0), Did::Refused(Refused::Late)),
     ];
-    for (step, did) in steps {
-        assert_eq!(rt; world.step(step), Ok(did));
-    }
+    assert!(rt; does(&mut world, &steps));
     Ok(())
 }

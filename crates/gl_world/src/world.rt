@@ -1,29 +1,36 @@
 //! Recorders, their lanes and a collector, step by step.
-ghost use Rattle.std.specs.Prelude.{◌≡◌, ◌≢◌, ◌<◌, ◌≤◌, ℕ, List, length, map, take, Some, None, OnOk, OnErr, IfOk, IfErr, slice_get};
+ghost use Rattle.std.specs.Prelude.{◌≡◌, ◌≢◌, ◌↔◌, ◌<◌, ◌≤◌, ℕ, List, length, map, take, Some, None, IsTrue, IsErr, OnOk, OnErr, IfOk, IfErr, slice_get};
+ghost use Rattle.gl_event.specs.Bounds.{AreWithinRange};
+ghost use Rattle.gl_cycles.specs.Reports.{IsGoodlockReport, IsReportFault};
 ghost use Rattle.gl_intake.specs.Stream.{events_of, AreInOrder};
-ghost use Rattle.gl_world.specs.Machine.{State, Lane, start, step, run, taken_of, fresh_lane, IsPrefixOf};
+ghost use Rattle.gl_intake.specs.declared.notes.Refused.TheVariants.{Memory as OutOfMemory};
+ghost use Rattle.gl_world.specs.Dispatch.{Shard, table_of};
+ghost use Rattle.gl_world.specs.Headline.{collected_lists, IsReportOf};
+ghost use Rattle.gl_world.specs.Machine.{State, Lane, start, step, run, taken_of, taken_lists, fresh_lane, IsPrefixOf, IsDrained};
 ghost use Rattle.gl_world.specs.Keeping.{AreKeepers, lanes_of};
-ghost use Rattle.gl_world.specs.declared.steps.Step.TheVariants.{Take, End, Pull, Again};
+ghost use Rattle.gl_world.specs.declared.steps.Step.TheVariants.{Take, End, Pull, Again, Ship, Work};
 
+use crate::dispatcher::Dispatcher;
 use crate::row::Row;
 use crate::steps::{Did, Step};
+use gl_cycles::{Report, ReportFault, report_over};
 use gl_event::{Event, Limits, Memory, Note, ThreadId};
+use gl_filters::Query;
 use gl_intake::{Intake, Refused};
+use gl_shards::{MAX_SHARDS, Table, merge};
 use std::alloc::{AllocError, Global};
 use std::marker::Model;
 
-/// The most shards.
-pub const MAX_SHARDS: u32 = 16;
-
-/// A recorder with a lane for each thread, and a collector.
+/// A recorder with a lane for each thread, a collector, and shards with a feed and a worker each.
 ///
 /// Contracts see the machine's state.
 #[derive(Drop, Debug)]
 pub struct World {
+    alloc: Global,
     limits: Limits,
-    shards: u32,
     rows: Vec<Row>,
     intake: Intake,
+    dispatcher: Dispatcher,
 }
 
 impl Model for World {
@@ -32,9 +39,9 @@ impl Model for World {
 
     ghost Value = { State };
 
-    ghost view = { λ w. record { limits = w.limits; shards = w.shards; lanes = lanes_of w.rows.items; stream = w.intake.stream } };
+    ghost view = { λ w. record { limits = w.limits; lanes = lanes_of w.rows.items; stream = w.intake.stream; dispatch = w.dispatcher } };
 
-    ghost invariant = { λ w. IsWorld w.limits w.shards w.rows.items w.intake.stream w.intake.limits };
+    ghost invariant = { λ w. IsWorld w.limits w.dispatcher w.rows.items w.intake.stream w.intake.limits };
 }
 
 // A row for each thread, with its wishes.
@@ -46,8 +53,10 @@ fn fresh_rows(
     requires { length wishes.items ≡ limits.now.threads }
     ensures lanes { IfOk result (λ rows. lanes_of rows.items ≡ map (λ w. fresh_lane w.items) wishes.items) }
     ensures keepers { IfOk result (λ rows. AreKeepers limits.now rows.items) }
+    ensures range { AreWithinRange limits.now }
 {
     let mut rows = Vec::new(alloc);
+    rows.reserve(limits.threads() as usize)?;
     let mut thread = 0;
     for list in wishes {
         rows.push(Row::new(alloc, ThreadId::new(thread), limits, list))?;
@@ -56,11 +65,22 @@ fn fresh_rows(
     Ok(rows)
 }
 
+// The answer to a note that was refused for want of memory.
+fn only_memory(why: Refused) -> Result<Did, Memory>
+    requires { why ≡ OutOfMemory }
+    ensures { IsErr result }
+{
+    match why {
+        Refused::Memory => Err(AllocError),
+        _ => unreachable!(),
+    }
+}
+
 impl World {
     /// A new world under these limits, with this many shards, and with the events that each thread
-    /// is to take, in the order of thread numbers. Each lane has the capacity of a ring.
+    /// is to take, in the order of thread numbers. Each lane and each feed has the capacity of a ring.
     ///
-    /// It takes memory for a row of each thread.
+    /// It takes memory for a row of each thread and a feed of each shard.
     pub fn new(
         alloc: Global,
         limits: &Limits,
@@ -74,22 +94,26 @@ impl World {
     {
         let intake = Intake::new(alloc, limits)?;
         let rows = fresh_rows(alloc, limits, wishes)?;
+        let dispatcher = Dispatcher::new(alloc, shards)?;
         Ok(World {
+            alloc,
             limits: *limits,
-            shards,
             rows,
             intake,
+            dispatcher,
         })
     }
 
     /// Makes one step, and answers what it did; `Memory` only where a list had to grow for a step
     /// that is enabled, and could not. Nothing changes then.
     ///
-    /// A step looks through the at most 64 locks that the thread holds, and appends to at most two
-    /// lists.
+    /// A step looks through the at most 64 locks that the thread holds, and appends to lists. The pull
+    /// of an acquire takes a step for each pair of held locks, and a worker's step a look-up among the
+    /// edges of its shard.
     pub fn step(&mut self, next: Step) -> Result<Did, Memory>
         ensures moved { IfOk result (λ did. step self.old next ≡ record { after = self.new; did = did }) }
         ensures limits { OnOk result (self.new.limits ≡ self.old.limits) }
+        ensures shards { OnOk result (length self.new.dispatch.shards ≡ length self.old.dispatch.shards) }
         ensures unchanged { OnErr result (self.new ≡ self.old) }
     {
         match next {
@@ -97,6 +121,8 @@ impl World {
             Step::End(thread) => self.end(thread),
             Step::Pull(thread) => self.pull(thread),
             Step::Again(thread, place) => self.again(thread, place),
+            Step::Ship => self.ship(),
+            Step::Work(shard) => self.work(shard),
         }
     }
 
@@ -105,6 +131,7 @@ impl World {
     pub fn run(&mut self, steps: &[Step]) -> Result<(), (usize, Memory)>
         ensures done { OnOk result (self.new ≡ run self.old steps.now) }
         ensures limits { self.new.limits ≡ self.old.limits }
+        ensures shards { length self.new.dispatch.shards ≡ length self.old.dispatch.shards }
         ensures within { IfErr result (λ stop. stop.0 < length steps.now) }
         ensures stopped { IfErr result (λ stop. self.new ≡ run self.old (take stop.0 steps.now)) }
     {
@@ -125,11 +152,13 @@ impl World {
         self.rows[thread.number() as usize].taken()
     }
 
-    /// The events of the thread that were collected: how those that it took begin.
+    /// The events of the thread that were collected: how those that it took begin, and once the world
+    /// is drained all of them.
     pub fn log(&self, thread: ThreadId) -> &[Event]
         requires { thread < self.now.limits.threads }
         ensures value { result.now ≡ events_of thread self.now.stream }
         ensures front { (lane : Lane) → slice_get self.now.lanes thread ≡ Some lane → IsPrefixOf result.now (taken_of thread lane) }
+        ensures whole { IsDrained self.now → (lane : Lane) → slice_get self.now.lanes thread ≡ Some lane → result.now ≡ taken_of thread lane }
     {
         self.intake.log(thread)
     }
@@ -141,6 +170,42 @@ impl World {
         ensures in_order { AreInOrder self.now.limits self.now.stream }
     {
         self.intake.stream()
+    }
+
+    /// The table of a shard: the edges that its worker has put in, each once, ascending, with its least
+    /// sample.
+    pub fn table(&self, shard: u32) -> &Table
+        requires { shard < length self.now.dispatch.shards }
+        ensures { (s : Shard) → slice_get self.now.dispatch.shards shard ≡ Some s → result.now ≡ table_of s }
+    {
+        self.dispatcher.table(shard)
+    }
+
+    /// Whether every thread's end mark was collected, every edge made is shipped, and every edge shipped
+    /// is worked.
+    pub fn drained(&self) -> bool
+        ensures { IsTrue result ↔ IsDrained self.now }
+    {
+        if !self.intake.all_ended() {
+            return false;
+        }
+        self.dispatcher.is_done()
+    }
+
+    /// The report over the edges that were worked, by the order of what was collected. Once the world is
+    /// drained it is the Goodlock report of what the threads took, whatever the steps and however many
+    /// shards there are; before that it may list a cycle that the drained world's report doesn't.
+    ///
+    /// Err where a segment of what was collected is before itself, and where memory was refused.
+    pub fn report(&self, query: &Query) -> Result<Report, ReportFault>
+        ensures report { IfOk result (λ report. IsReportOf query.now self.now report) }
+        ensures fault { IfErr result (λ fault. IsReportFault (collected_lists self.now) fault) }
+        ensures drained { IsDrained self.now → IfOk result (λ report. IsGoodlockReport query.now (taken_lists self.now.lanes) report) }
+        ensures drained_fault { IsDrained self.now → IfErr result (λ fault. IsReportFault (taken_lists self.now.lanes) fault) }
+    {
+        let tables = self.dispatcher.tables()?;
+        let edges = merge(self.alloc, tables)?;
+        report_over(self.alloc, edges, self.intake.logs(), query)
     }
 
     fn take(&mut self, thread: ThreadId) -> Result<Did, Memory>
@@ -188,16 +253,19 @@ impl World {
         ensures moved { IfOk result (λ did. step self.old (Pull thread) ≡ record { after = self.new; did = did }) }
         ensures unchanged { OnErr result (self.new ≡ self.old) }
     {
+        let index = thread.number() as usize;
+        let edges = self.rows[index].due(self.alloc, note)?;
+        let made = self.dispatcher.count();
+        self.dispatcher.add(edges)?;
         match self.intake.offer(*note) {
             Ok(accepted) => {
-                self.rows[thread.number() as usize].pop();
+                self.rows[index].pop(note);
                 Ok(Did::Pulled(accepted))
             }
-            Err(why) => match why {
-                Refused::Memory => Err(AllocError),
-                // the next note of a lane is its thread's next one in the stream
-                _ => unreachable!(),
-            },
+            Err(why) => {
+                self.dispatcher.take_back(made);
+                only_memory(why)
+            }
         }
     }
 
@@ -231,5 +299,19 @@ impl World {
             // only the next note of a lane is its thread's next one in the stream
             Ok(_) => unreachable!(),
         }
+    }
+
+    fn ship(&mut self) -> Result<Did, Memory>
+        ensures moved { IfOk result (λ did. step self.old Ship ≡ record { after = self.new; did = did }) }
+        ensures unchanged { OnErr result (self.new ≡ self.old) }
+    {
+        self.dispatcher.ship(&self.limits)
+    }
+
+    fn work(&mut self, shard: u32) -> Result<Did, Memory>
+        ensures moved { IfOk result (λ did. step self.old (Work shard) ≡ record { after = self.new; did = did }) }
+        ensures unchanged { OnErr result (self.new ≡ self.old) }
+    {
+        self.dispatcher.work(shard)
     }
 }

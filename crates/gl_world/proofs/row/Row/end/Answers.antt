@@ -25,7 +25,7 @@ returns-then-not-has_room-clause-answer c =
     rw (end_full c.args.self.now.limits c.args.self.now.thread c.args.self.now.lane running (sym c.has_room.ensures ∙ c.if-not-has_room.true))
 
 pub invariant_of-self-2 : goal.invariant_of-self-2
-invariant_of-self-2 c = rw (c.in_ok-append.ensures, c.end.ensures.mark _ _ _ c.self.invariant.tracks) (kept_end _ _ _ _ _ _ _ c.self.invariant _)
+invariant_of-self-2 c = rw (c.in_ok-append.ensures, c.end.ensures.mark _ _ _ c.self.invariant.tracks) (kept_end _ _ _ _ _ _ _ _ c.self.invariant _)
 
 pub returns-clause-moved : goal.returns-clause-moved
 returns-clause-moved c =

@@ -15,15 +15,15 @@ pub returns-then-place-popped-clause-moved : goal.returns-then-place-popped-clau
 returns-then-place-popped-clause-moved c =
     let here = rw c.number-index.ensures at c.index.ensures in
     let within : c.args.thread < length c.self.inside.rows.items = omega (arith, c.if-index-len.false, c.len.ensures, c.number-index.ensures) in
-    let at_lane = lane_at c.self.inside.limits c.self.inside.shards c.self.inside.rows.items c.self.inside.intake.stream c.self.inside.intake.limits c.self.invariant c.args.thread c.index.result.now within here in
+    let at_lane = lane_at c.self.inside.limits c.self.inside.dispatcher c.self.inside.rows.items c.self.inside.intake.stream c.self.inside.intake.limits c.self.invariant c.args.thread c.index.result.now within here in
     rw (← c.self.view_is)
-    (again_same (state_of c.self.inside.limits c.self.inside.shards c.self.inside.rows.items c.self.inside.intake.stream) c.args.thread c.index.result.now.lane at_lane c.args.place (omega (arith, c.if-place-popped.true, c.popped.ensures)))
+    (again_same (state_of c.self.inside.limits c.self.inside.dispatcher c.self.inside.rows.items c.self.inside.intake.stream) c.args.thread c.index.result.now.lane at_lane c.args.place (omega (arith, c.if-place-popped.true, c.popped.ensures)))
 
 pub refuse-requires-clause-other : goal.refuse-requires-clause-other
 refuse-requires-clause-other c = λ lane found same.
     let here = rw c.number-index.ensures at c.index.ensures in
     let within : c.args.thread < length c.self.inside.rows.items = omega (arith, c.if-index-len.false, c.len.ensures, c.number-index.ensures) in
-    let is = lane_is c.self.inside.limits c.self.inside.shards c.self.inside.rows.items c.self.inside.intake.stream c.self.inside.intake.limits c.self.invariant c.args.thread c.index.result.now within here
+    let is = lane_is c.self.inside.limits c.self.inside.dispatcher c.self.inside.rows.items c.self.inside.intake.stream c.self.inside.intake.limits c.self.invariant c.args.thread c.index.result.now within here
     c.args.self.now c.self.view_is lane found in
     c.if-place-popped.false (same ∙ ap (λ (l : Lane). l.popped) is ∙ sym c.popped.ensures)
 
@@ -31,7 +31,7 @@ pub refuse-requires-clause-there : goal.refuse-requires-clause-there
 refuse-requires-clause-there c = λ lane found.
     let here = rw c.number-index.ensures at c.index-2.ensures in
     let within : c.args.thread < length c.self.inside.rows.items = omega (arith, c.if-index-len.false, c.len.ensures, c.number-index.ensures) in
-    let is = lane_is c.self.inside.limits c.self.inside.shards c.self.inside.rows.items c.self.inside.intake.stream c.self.inside.intake.limits c.self.invariant c.args.thread c.index-2.result.now within here
+    let is = lane_is c.self.inside.limits c.self.inside.dispatcher c.self.inside.rows.items c.self.inside.intake.stream c.self.inside.intake.limits c.self.invariant c.args.thread c.index-2.result.now within here
     c.args.self.now c.self.view_is lane found in
     rw is (sym c.in-Some.ensures)
 
@@ -39,6 +39,6 @@ pub returns-in-None-clause-moved : goal.returns-in-None-clause-moved
 returns-in-None-clause-moved c =
     let here = rw c.number-index.ensures at c.index-2.ensures in
     let within : c.args.thread < length c.self.inside.rows.items = omega (arith, c.if-index-len.false, c.len.ensures, c.number-index.ensures) in
-    let at_lane = lane_at c.self.inside.limits c.self.inside.shards c.self.inside.rows.items c.self.inside.intake.stream c.self.inside.intake.limits c.self.invariant c.args.thread c.index-2.result.now within here in
+    let at_lane = lane_at c.self.inside.limits c.self.inside.dispatcher c.self.inside.rows.items c.self.inside.intake.stream c.self.inside.intake.limits c.self.invariant c.args.thread c.index-2.result.now within here in
     rw (← c.self.view_is)
-    (again_known (state_of c.self.inside.limits c.self.inside.shards c.self.inside.rows.items c.self.inside.intake.stream) c.args.thread c.index-2.result.now.lane at_lane c.args.place None (sym c.in-None.ensures))
+    (again_known (state_of c.self.inside.limits c.self.inside.dispatcher c.self.inside.rows.items c.self.inside.intake.stream) c.args.thread c.index-2.result.now.lane at_lane c.args.place None (sym c.in-None.ensures))

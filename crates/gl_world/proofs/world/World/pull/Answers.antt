@@ -15,7 +15,7 @@ pub collect-requires-clause-front : goal.collect-requires-clause-front
 collect-requires-clause-front c = λ lane found.
     let here = rw c.number-index.ensures at c.index.ensures in
     let within : c.args.thread < length c.self.inside.rows.items = omega (arith, c.if-index-len.false, c.len.ensures, c.number-index.ensures) in
-    let is = lane_is c.self.inside.limits c.self.inside.shards c.self.inside.rows.items c.self.inside.intake.stream c.self.inside.intake.limits c.self.invariant c.args.thread c.index.result.now within here
+    let is = lane_is c.self.inside.limits c.self.inside.dispatcher c.self.inside.rows.items c.self.inside.intake.stream c.self.inside.intake.limits c.self.invariant c.args.thread c.index.result.now within here
     c.args.self.now c.self.view_is lane found in
     rw is (sym c.in-Some.ensures)
 
@@ -23,6 +23,6 @@ pub returns-in-None-clause-moved : goal.returns-in-None-clause-moved
 returns-in-None-clause-moved c =
     let here = rw c.number-index.ensures at c.index.ensures in
     let within : c.args.thread < length c.self.inside.rows.items = omega (arith, c.if-index-len.false, c.len.ensures, c.number-index.ensures) in
-    let at_lane = lane_at c.self.inside.limits c.self.inside.shards c.self.inside.rows.items c.self.inside.intake.stream c.self.inside.intake.limits c.self.invariant c.args.thread c.index.result.now within here in
+    let at_lane = lane_at c.self.inside.limits c.self.inside.dispatcher c.self.inside.rows.items c.self.inside.intake.stream c.self.inside.intake.limits c.self.invariant c.args.thread c.index.result.now within here in
     rw (← c.self.view_is)
-    (pull_known (state_of c.self.inside.limits c.self.inside.shards c.self.inside.rows.items c.self.inside.intake.stream) c.args.thread c.index.result.now.lane at_lane None (sym c.in-None.ensures))
+    (pull_known (state_of c.self.inside.limits c.self.inside.dispatcher c.self.inside.rows.items c.self.inside.intake.stream) c.args.thread c.index.result.now.lane at_lane None (sym c.in-None.ensures))

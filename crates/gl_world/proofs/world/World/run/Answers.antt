@@ -1,6 +1,7 @@
-use Rattle.std.proofs.Common.{ap, ◌∙◌, take}
+use Rattle.std.proofs.Common.{ap, ◌∙◌, take, length}
 use Rattle.gl_world.specs.Machine.{State}
-use Rattle.gl_world.proofs.Worlds.{get_at, run_next, run_limits}
+use Rattle.gl_world.proofs.Lists.{get_at}
+use Rattle.gl_world.proofs.Worlds.{run_next, run_limits, run_count}
 use Rattle.gl_world.proofs.world.World.run.Goals as goal
 
 pub loop-place-preserved : goal.loop-place-preserved
@@ -14,3 +15,10 @@ returns-in-Err-clause-limits c =
 
 pub returns-clause-limits : goal.returns-clause-limits
 returns-clause-limits c = ap (λ (s : State). s.limits) c.loop-place.invariant ∙ run_limits c.args.self.now (take c.loop-place.place c.args.steps.now)
+
+pub returns-in-Err-clause-shards : goal.returns-in-Err-clause-shards
+returns-in-Err-clause-shards c =
+    ap (λ (s : State). length s.dispatch.shards) c.in-Err.ensures.unchanged ∙ ap (λ (s : State). length s.dispatch.shards) c.loop-place.invariant ∙ run_count c.args.self.now (take c.loop-place.place c.args.steps.now)
+
+pub returns-clause-shards : goal.returns-clause-shards
+returns-clause-shards c = ap (λ (s : State). length s.dispatch.shards) c.loop-place.invariant ∙ run_count c.args.self.now (take c.loop-place.place c.args.steps.now)

@@ -16,7 +16,7 @@ invariant_of-self-2 c =
     let here = rw c.number-index.ensures at c.index_mut.ensures.value in
     let within : c.args.thread < length c.self.inside.rows.items = omega (arith, c.if-index-len.false, c.len.ensures, c.number-index.ensures) in
     rw c.number-index.ensures
-    (take_world c.self.inside.limits c.self.inside.shards c.self.inside.rows.items c.self.inside.intake.stream c.self.inside.intake.limits c.self.invariant c.args.thread c.index_mut.result.now within here
+    (take_world c.self.inside.limits c.self.inside.dispatcher c.self.inside.rows.items c.self.inside.intake.stream c.self.inside.intake.limits c.self.invariant c.args.thread c.index_mut.result.now within here
     c.take.new.self c.in_ok-did.did c.in_ok-did.ensures.moved c.in_ok-did.ensures.answer)
 
 pub returns-clause-moved : goal.returns-clause-moved
@@ -24,5 +24,5 @@ returns-clause-moved c =
     let here = rw c.number-index.ensures at c.index_mut.ensures.value in
     let within : c.args.thread < length c.self.inside.rows.items = omega (arith, c.if-index-len.false, c.len.ensures, c.number-index.ensures) in
     rw (← c.self.view_is, c.number-index.ensures)
-    (take_moved c.self.inside.limits c.self.inside.shards c.self.inside.rows.items c.self.inside.intake.stream c.self.inside.intake.limits c.self.invariant c.args.thread c.index_mut.result.now within here
+    (take_moved c.self.inside.limits c.self.inside.dispatcher c.self.inside.rows.items c.self.inside.intake.stream c.self.inside.intake.limits c.self.invariant c.args.thread c.index_mut.result.now within here
     c.take.new.self c.in_ok-did.did c.in_ok-did.ensures.moved c.in_ok-did.ensures.answer)

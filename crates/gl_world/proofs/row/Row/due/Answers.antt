@@ -1,0 +1,13 @@
+use Rattle.std.proofs.Common.{◌≡◌, sym, subst, ap, ◌∙◌, Ok, Err}
+use Rattle.std.specs.Prelude.{IfOk}
+use Rattle.gl_event.specs.declared.notes.Note.{Note}
+use Rattle.gl_world.specs.Machine.{edges_due, taken_of}
+use Rattle.gl_world.specs.Keeping.{Keeper, IsFrontOf}
+use Rattle.gl_world.proofs.Rows.{due_if}
+use Rattle.gl_world.proofs.row.Row.due.Goals as goal
+
+pub returns-in-Happened : goal.returns-in-Happened
+returns-in-Happened c =
+    let front = subst (λ (k : Keeper). IsFrontOf k.limits k.thread k.lane c.args.note.now) (sym c.self.view_is) c.requires in
+    subst (λ (k : Keeper). IfOk c.next_edges.result (λ edges. edges.items ≡ edges_due k.thread (taken_of k.thread k.lane) c.args.note.now.place c.args.note.now.body)) c.self.view_is
+    (due_if _ _ _ _ front c.in-Happened.event c.in-Happened.is c.next_edges.result (c.next_edges.ensures _ _ c.self.invariant.follows))

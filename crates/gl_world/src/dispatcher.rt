@@ -1,0 +1,178 @@
+//! What a world keeps of the edges that were made, and of the shards.
+ghost use Rattle.std.specs.Prelude.{◌≡◌, ◌↔◌, ◌<◌, ◌≤◌, ◌++◌, ℕ, Some, IsTrue, length, map, take, replicate, slice_get, IfOk, OnOk, OnErr};
+ghost use Rattle.gl_world.specs.Dispatch.{Shard, fresh_dispatch, fresh_shard, table_of, ship_turn, work_turn, IsDone};
+ghost use Rattle.gl_world.specs.Machine.{add_edges};
+
+use crate::feed::Feed;
+use crate::steps::Did;
+use gl_edges::{Edge, Sample};
+use gl_event::{Limits, Memory};
+use gl_shards::{MAX_SHARDS, Table, shard_of};
+use std::alloc::Global;
+use std::marker::Model;
+
+/// The edges made so far, how many of them were shipped, and a feed for each shard.
+///
+/// Contracts see the dispatch.
+#[derive(Drop, Debug)]
+pub struct Dispatcher {
+    alloc: Global,
+    made: Vec<(Edge, Sample)>,
+    sent: usize,
+    feeds: Vec<Feed>,
+}
+
+impl Model for Dispatcher {
+    ghost use Rattle.gl_world.specs.Dispatch.{Dispatch};
+    ghost use Rattle.gl_world.specs.Keeping.{AreShards};
+
+    ghost Value = { Dispatch };
+
+    ghost view = { λ d. record { made = d.made.items; sent = d.sent; shards = d.feeds.items } };
+
+    ghost invariant = { λ d. AreShards d.feeds.items };
+}
+
+// A feed for each shard.
+fn fresh_feeds(alloc: Global, shards: u32) -> Result<Vec<Feed>, Memory>
+    ensures { IfOk result (λ feeds. feeds.items ≡ replicate shards fresh_shard) }
+{
+    let mut feeds = Vec::new(alloc);
+    for _shard in 0..shards {
+        feeds.push(Feed::new(alloc))?;
+    }
+    Ok(feeds)
+}
+
+// Whether every edge that was shipped is worked, in all feeds.
+fn are_worked(feeds: &[Feed]) -> bool
+    ensures { IsTrue result ↔ ((k : ℕ) (shard : Shard) → slice_get feeds.now k ≡ Some shard → shard.worked ≡ length shard.shipped) }
+{
+    for feed in feeds {
+        if !feed.is_worked() {
+            return false;
+        }
+    }
+    true
+}
+
+// Copies of the feeds' tables.
+fn copied_tables(alloc: Global, feeds: &[Feed]) -> Result<Vec<Table>, Memory>
+    ensures { IfOk result (λ tables. tables.items ≡ map table_of feeds.now) }
+{
+    let mut tables = Vec::new(alloc);
+    for feed in feeds {
+        let table = feed.table().copy(alloc)?;
+        tables.push(table)?;
+    }
+    Ok(tables)
+}
+
+impl Dispatcher {
+    /// No edges, and this many shards.
+    pub fn new(alloc: Global, shards: u32) -> Result<Dispatcher, Memory>
+        requires some { 1 ≤ shards }
+        requires fit { shards ≤ MAX_SHARDS }
+        ensures { IfOk result (λ d. d ≡ fresh_dispatch shards) }
+    {
+        let feeds = fresh_feeds(alloc, shards)?;
+        Ok(Dispatcher {
+            alloc,
+            made: Vec::new(alloc),
+            sent: 0,
+            feeds,
+        })
+    }
+
+    /// How many edges were made.
+    pub fn count(&self) -> usize
+        ensures { result ≡ length self.now.made }
+    {
+        self.made.len()
+    }
+
+    /// Adds edges to those made.
+    pub fn add(&mut self, edges: Vec<(Edge, Sample)>) -> Result<(), Memory>
+        ensures added { OnOk result (self.new ≡ add_edges self.old edges.items) }
+        ensures unchanged { OnErr result (self.new ≡ self.old) }
+    {
+        let mut edges = edges;
+        self.made.append(&mut edges)?;
+        Ok(())
+    }
+
+    /// Takes the edges from this place on back.
+    pub fn take_back(&mut self, count: usize)
+        ensures { self.new ≡ record self.old { made = take count self.old.made } }
+    {
+        self.made.truncate(count);
+    }
+
+    /// Ships the oldest edge that isn't shipped, where that is enabled.
+    pub fn ship(&mut self, limits: &Limits) -> Result<Did, Memory>
+        ensures moved { OnOk result (self.new ≡ (ship_turn limits.now self.old).dispatch) }
+        ensures answer { IfOk result (λ did. did ≡ (ship_turn limits.now self.old).did) }
+        ensures unchanged { OnErr result (self.new ≡ self.old) }
+    {
+        if self.sent >= self.made.len() {
+            return Ok(Did::Nothing);
+        }
+        let pair = &self.made[self.sent];
+        let shard = shard_of(&pair.0, self.feeds.len() as u32);
+        let feed = &mut self.feeds[shard as usize];
+        if !feed.has_place(limits) {
+            return Ok(Did::Nothing);
+        }
+        feed.ship(self.alloc, pair)?;
+        self.sent += 1;
+        Ok(Did::Shipped(shard))
+    }
+
+    /// Works the next edge of the shard, where that is enabled.
+    pub fn work(&mut self, shard: u32) -> Result<Did, Memory>
+        ensures moved { OnOk result (self.new ≡ (work_turn self.old shard).dispatch) }
+        ensures answer { IfOk result (λ did. did ≡ (work_turn self.old shard).did) }
+        ensures unchanged { OnErr result (self.new ≡ self.old) }
+    {
+        let index = shard as usize;
+        if index >= self.feeds.len() {
+            return Ok(Did::Nothing);
+        }
+        if self.feeds[index].work(self.alloc)? {
+            return Ok(Did::Worked);
+        }
+        Ok(Did::Nothing)
+    }
+
+    /// Whether every edge made is shipped, and every edge shipped is worked.
+    pub fn is_done(&self) -> bool
+        ensures { IsTrue result ↔ IsDone self.now }
+    {
+        if self.sent != self.made.len() {
+            return false;
+        }
+        are_worked(self.feeds.as_slice())
+    }
+
+    /// How many shards there are.
+    pub fn shards(&self) -> usize
+        ensures { result ≡ length self.now.shards }
+    {
+        self.feeds.len()
+    }
+
+    /// The table of a shard.
+    pub fn table(&self, shard: u32) -> &Table
+        requires { shard < length self.now.shards }
+        ensures { (s : Shard) → slice_get self.now.shards shard ≡ Some s → result.now ≡ table_of s }
+    {
+        self.feeds[shard as usize].table()
+    }
+
+    /// Copies of all tables, in the order of shards.
+    pub fn tables(&self) -> Result<Vec<Table>, Memory>
+        ensures { IfOk result (λ tables. tables.items ≡ map table_of self.now.shards) }
+    {
+        copied_tables(self.alloc, self.feeds.as_slice())
+    }
+}
