@@ -146,27 +146,32 @@ fn bad_lines(rt: HostRuntime) -> Result<(), Fail> {
 }
 
 #[test]
-fn joined_before(rt: HostRuntime) -> Result<(), Fail> {
-    let mut text = Vec::from_slice(rt.alloc(), b"M|fork(T0)|1\nM|join(T0)|2\nM|fork(T1)|3\n")?;
-    let front = read_trace(rt.alloc(), &text, &greatest()?)?;
-    assert_eq!(rt; front.names.find_thread(b"M"), Some(ThreadId::new(0)));
-    assert_eq!(rt; front.names.find_thread(b"T0"), Some(ThreadId::new(1)));
-    assert_eq!(rt; front.names.find_thread(b"T1"), Some(ThreadId::new(2)));
+fn forks_and_joins(rt: HostRuntime) -> Result<(), Fail> {
+    let text = b"M|fork(T0)|1\nM|join(T0)|2\nM|fork(T1)|3\n";
+    let trace = read_trace(rt.alloc(), text, &greatest()?)?;
+    assert_eq!(rt; trace.names.find_thread(b"M"), Some(ThreadId::new(0)));
+    assert_eq!(rt; trace.names.find_thread(b"T0"), Some(ThreadId::new(1)));
+    assert_eq!(rt; trace.names.find_thread(b"T1"), Some(ThreadId::new(2)));
     assert_eq!(rt;
         (
-            front.names.threads(),
-            front.names.locks(),
-            front.names.locs()
+            trace.names.threads(),
+            trace.names.locks(),
+            trace.names.locs()
         ),
         (3, 0, 3)
     );
-    assert_eq!(rt; front.lists.as_slice().len(), 3);
-    expect_list(&rt, &front, 0, &[fork(1, 0), join(1, 1), fork(2, 2)]);
-    expect_list(&rt, &front, 1, &[]);
-    expect_list(&rt, &front, 2, &[]);
-    text.extend_from_slice(
-        b"T0|acq(a)|1\nT0|acq(b)|2\nT0|rel(b)|3\nT0|rel(a)|4\nT1|acq(b)|5\nT1|acq(a)|6\n",
-    )?;
+    assert_eq!(rt; trace.lists.as_slice().len(), 3);
+    expect_list(&rt, &trace, 0, &[fork(1, 0), join(1, 1), fork(2, 2)]);
+    expect_list(&rt, &trace, 1, &[]);
+    expect_list(&rt, &trace, 2, &[]);
+    Ok(())
+}
+
+#[test]
+fn joined_before(rt: HostRuntime) -> Result<(), Fail> {
+    let mut text = Vec::from_slice(rt.alloc(), b"M|fork(T0)|1\nM|join(T0)|2\nM|fork(T1)|3\n")?;
+    text.extend_from_slice(b"T0|acq(a)|1\nT0|acq(b)|2\nT0|rel(b)|3\nT0|rel(a)|4\n")?;
+    text.extend_from_slice(b"T1|acq(b)|5\nT1|acq(a)|6\n")?;
     let trace = read_trace(rt.alloc(), &text, &greatest()?)?;
     assert_eq!(rt; trace.lists.as_slice().len(), 3);
     expect_list(&rt, &trace, 0, &[fork(1, 0), join(1, 1), fork(2, 2)]);
