@@ -1,4 +1,4 @@
-//! Recorders, their lanes and a collector, step by step.
+//! Recorders, their lanes, a collector and shards, step by step.
 ghost use Rattle.std.specs.Prelude.{◌≡◌, ◌≢◌, ◌↔◌, ◌<◌, ◌≤◌, ℕ, List, length, map, take, Some, None, IsTrue, IsErr, OnOk, OnErr, IfOk, IfErr, slice_get};
 ghost use Rattle.gl_event.specs.Bounds.{AreWithinRange};
 ghost use Rattle.gl_cycles.specs.Reports.{IsGoodlockReport, IsReportFault};
