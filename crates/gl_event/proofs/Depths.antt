@@ -3,7 +3,7 @@ use Rattle.std.proofs.Common.{◌≡◌, ℕ, zero, suc, ◌+◌, ◌-◌, ◌<�
 use Rattle.std.specs.Prelude.{slice_get}
 use Rattle.std.proofs.lemmas.List.{take-append-le, take_all, length_push}
 use Rattle.std.proofs.lemmas.List.Sums.{sum_by_push}
-use Rattle.gl_event.specs.Events.{acquires, releases, closes, depth, segment, opens, opened, greatest_below, entry_of}
+use Rattle.gl_event.specs.Events.{acquires, releases, closes, depth, segment, opens, opened, greatest_below, held_mode, entry_of}
 use Rattle.gl_event.specs.declared.events.Event.{Event}
 
 -- how much one event adds to a count
@@ -77,7 +77,7 @@ not_opened false d h = refl
 
 -- an event that doesn't open a held lock changes nothing of its entry but the depth
 pub entry_of_push : (es : List Event) (e : Event) (k : ℕ) → 0 < depth es k → entry_of (es ++ e ∷ []) k ≡ record (entry_of es k) { depth = depth (es ++ e ∷ []) k }
-unfolding entry_of
+unfolding entry_of held_mode
 entry_of_push es e k held =
     let some = nonempty_where_held es k held in
     let within : opened es k < length es = opened_within es k some in

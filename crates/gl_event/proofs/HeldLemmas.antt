@@ -7,14 +7,14 @@ use Rattle.std.proofs.lemmas.List.{length-set, get_or-set_same, get_or-set_other
 use Rattle.std.proofs.lemmas.List.Edits.{length-remove, get_or-remove_below, get_or-remove_above}
 use Rattle.std.proofs.lemmas.List.Elements.{Contains-push, Contains-append_left, All-push, All-contains, All-nil}
 use Rattle.std.proofs.lemmas.List.Quantifiers.{all_pairs_push, all_pairs_remove}
-use Rattle.gl_event.specs.Events.{depth, segment, held, opened, entry_of}
+use Rattle.gl_event.specs.Events.{depth, segment, location, held, held_mode, opened, entry_of}
 use Rattle.gl_event.specs.Lawful.{HasLawfulLocks, lock_refusal}
-use Rattle.gl_event.specs.Standing.{StandsFor}
+use Rattle.gl_event.specs.Standing.{StandsFor, IsAcquireOf}
 use Rattle.gl_event.specs.declared.events.Event.{Event}
-use Rattle.gl_event.specs.declared.events.Event.TheVariants.{Acquire}
+use Rattle.gl_event.specs.declared.events.LockMode.{LockMode}
 use Rattle.gl_event.specs.declared.held.HeldEntry.{HeldEntry}
 use Rattle.gl_event.proofs.Depths.{entry_of_push, opened_push, opened_within, nonempty_where_held, slice_get_last}
-use Rattle.gl_event.proofs.Lawfulness.{HasLawfulLocks-nil, HasLawfulLocks-push, depth_after}
+use Rattle.gl_event.proofs.Lawfulness.{HasLawfulLocks-nil, HasLawfulLocks-push, depth_after, acquires-of, releases-of}
 
 -- nothing is held before the first event
 pub nothing_held : (lock : ℕ) → depth [] lock ≡ 0
@@ -34,6 +34,11 @@ StandsFor-nil = record {
 pub entry_of-lock : (es : List Event) (lock : ℕ) → (entry_of es lock).lock ≡ lock
 unfolding entry_of
 entry_of-lock es lock = refl
+
+-- a lock is held in the mode of its entry
+pub entry_of-mode : (es : List Event) (lock : ℕ) → (entry_of es lock).mode ≡ held_mode es lock
+unfolding entry_of
+entry_of-mode es lock = refl
 
 pub entry_of-depth : (es : List Event) (lock : ℕ) → (entry_of es lock).depth ≡ depth es lock
 unfolding entry_of
@@ -55,6 +60,9 @@ module _ (es : List Event) (entries : List HeldEntry) (stands : StandsFor es ent
   -- the depth of a lock that has an entry is that of the entry
   pub depth_at : (i : ℕ) (h : HeldEntry) → slice_get entries i ≡ Some h → h.depth ≡ depth es h.lock
   depth_at i h at = ap (λ x. x.depth) (entry_at i h at) ∙ entry_of-depth es h.lock
+
+  pub mode_at : (i : ℕ) (h : HeldEntry) → slice_get entries i ≡ Some h → h.mode ≡ held_mode es h.lock
+  mode_at i h at = ap (λ x. x.mode) (entry_at i h at) ∙ entry_of-mode es h.lock
 
   -- a lock with no entry isn't held
   pub absent_depth : (lock : ℕ) → All (λ h. h.lock ≢ lock) entries → depth es lock ≡ 0
@@ -225,51 +233,53 @@ entry_of-place es lock = refl
 place_within : (es : List Event) (lock : ℕ) → 0 < depth es lock → opened es lock < length es
 place_within es lock positive = opened_within es lock (nonempty_where_held es lock positive)
 
-depth_new : (es : List Event) (lock loc : ℕ) → HasLawfulLocks es → depth es lock ≡ 0 → depth (es ++ Acquire lock loc ∷ []) lock ≡ 1
-depth_new es lock loc lawful fresh = rw (depth_after es (Acquire lock loc) lock lawful, eq-eqb lock lock refl, fresh)
+-- ---- an event that acquires a lock which isn't held
 
-depth_other : (es : List Event) (lock loc k : ℕ) → HasLawfulLocks es → lock ≢ k → depth (es ++ Acquire lock loc ∷ []) k ≡ depth es k
-depth_other es lock loc k lawful other = rw (depth_after es (Acquire lock loc) k lawful, ne_eqb lock k other) (omega arith)
+module _ (es : List Event) (lock : ℕ) (mode : LockMode) (e : Event) (is : IsAcquireOf lock mode e) (lawful : HasLawfulLocks es) (fresh : depth es lock ≡ 0) where
+  depth_new : depth (es ++ e ∷ []) lock ≡ 1
+  depth_new = rw (depth_after es e lock lawful, acquires-of lock mode e is lock, releases-of lock mode e is.same_lock lock, eq-eqb lock lock refl, fresh)
 
--- a lock that is held isn't the one that wasn't
-depth_elsewhere : (es : List Event) (lock loc k : ℕ) → HasLawfulLocks es → depth es lock ≡ 0 → 0 < depth es k → depth (es ++ Acquire lock loc ∷ []) k ≡ depth es k
-depth_elsewhere es lock loc k lawful fresh positive = depth_other es lock loc k lawful (λ same. absurd (omega (arith, ap (depth es) same)))
+  depth_other : (k : ℕ) → lock ≢ k → depth (es ++ e ∷ []) k ≡ depth es k
+  depth_other k other = rw (depth_after es e k lawful, acquires-of lock mode e is k, releases-of lock mode e is.same_lock k, ne_eqb lock k other) (omega arith)
 
--- the entry of a lock that the last event opened
-entry_of_new : (es : List Event) (lock loc : ℕ) → HasLawfulLocks es → depth es lock ≡ 0
-    → entry_of (es ++ Acquire lock loc ∷ []) lock ≡ record { lock = lock; depth = 1; place = length es; loc = loc; seg = segment es }
-unfolding entry_of
-entry_of_new es lock loc lawful fresh =
-    let here : opened (es ++ Acquire lock loc ∷ []) lock ≡ length es = rw (opened_push es (Acquire lock loc) lock, eq-eqb lock lock refl, fresh) in
-    let front : take (length es) (es ++ Acquire lock loc ∷ []) ≡ es = take-append-le (length es) es (Acquire lock loc ∷ []) (omega arith) ∙ take_all (length es) es (omega arith) in
-    rw (depth_new es lock loc lawful fresh, here, slice_get_last es (Acquire lock loc), front)
+  -- a lock that is held isn't the one that wasn't
+  depth_elsewhere : (k : ℕ) → 0 < depth es k → depth (es ++ e ∷ []) k ≡ depth es k
+  depth_elsewhere k positive = depth_other k (λ same. absurd (omega (arith, ap (depth es) same)))
 
--- the lock that is acquired where it isn't held stands at the end
-pub stands_push : (es : List Event) (entries : List HeldEntry) → StandsFor es entries → (lock loc : ℕ) → lock_refusal es (Acquire lock loc) ≡ None → depth es lock ≡ 0
-    → StandsFor (es ++ Acquire lock loc ∷ []) (entries ++ record { lock = lock; depth = 1; place = length es; loc = loc; seg = segment es } ∷ [])
-stands_push es entries stands lock loc allowed fresh =
-    let new : HeldEntry = record { lock = lock; depth = 1; place = length es; loc = loc; seg = segment es } in
-    let own = entry_of_new es lock loc stands.lawful fresh in
-    let now = depth_new es lock loc stands.lawful fresh in
-    record {
-      lawful = HasLawfulLocks-push es (Acquire lock loc) stands.lawful allowed;
-      each = All-push (λ h. h ≡ entry_of (es ++ Acquire lock loc ∷ []) h.lock) entries new (λ k d within.
-          let positive = stands.positive k d within in
-          stands.each k d within ∙ sym (entry_of_same es (Acquire lock loc) _ positive (depth_elsewhere es lock loc _ stands.lawful fresh positive)))
-          (sym own);
-      positive = All-push (λ h. 0 < depth (es ++ Acquire lock loc ∷ []) h.lock) entries new (λ k d within.
-          let positive = stands.positive k d within in
-          rw (depth_elsewhere es lock loc _ stands.lawful fresh positive) positive)
-          (rw now (omega arith));
-      whole = λ k some.
-          elim (cases_eq lock k) [
-            | inl same ↦ rw (← same, own) (Contains-push entries new)
-            | inr other ↦
-                let is : depth (es ++ Acquire lock loc ∷ []) k ≡ depth es k = depth_other es lock loc k stands.lawful other in
-                let before : 0 < depth es k = rw is at some in
-                rw (entry_of_same es (Acquire lock loc) k before is) (Contains-append_left entries (new ∷ []) _ (stands.whole k before))
-          ];
-      in_order = all_pairs_push (λ a b. a.place < b.place) entries new stands.in_order (λ k d within.
-          let p = place_within es _ (stands.positive k d within) in
-          rw (stands.each k d within, entry_of-place es _) p);
-    }
+  -- the entry of the lock that the last event opened
+  entry_of_new : entry_of (es ++ e ∷ []) lock ≡ record { lock = lock; mode = mode; depth = 1; place = length es; loc = location e; seg = segment es }
+  unfolding entry_of held_mode
+  entry_of_new =
+      let here : opened (es ++ e ∷ []) lock ≡ length es = rw (opened_push es e lock, acquires-of lock mode e is lock, eq-eqb lock lock refl, fresh) in
+      let front : take (length es) (es ++ e ∷ []) ≡ es = take-append-le (length es) es (e ∷ []) (omega arith) ∙ take_all (length es) es (omega arith) in
+      rw (depth_new, here, slice_get_last es e, front, is.same_mode)
+
+  -- the lock stands at the end
+  pub stands_push : (entries : List HeldEntry) → StandsFor es entries → lock_refusal es e ≡ None
+      → StandsFor (es ++ e ∷ []) (entries ++ record { lock = lock; mode = mode; depth = 1; place = length es; loc = location e; seg = segment es } ∷ [])
+  stands_push entries stands allowed =
+      let new : HeldEntry = record { lock = lock; mode = mode; depth = 1; place = length es; loc = location e; seg = segment es } in
+      let own = entry_of_new in
+      let now = depth_new in
+      record {
+        lawful = HasLawfulLocks-push es e stands.lawful allowed;
+        each = All-push (λ h. h ≡ entry_of (es ++ e ∷ []) h.lock) entries new (λ k d within.
+            let positive = stands.positive k d within in
+            stands.each k d within ∙ sym (entry_of_same es e _ positive (depth_elsewhere _ positive)))
+            (sym own);
+        positive = All-push (λ h. 0 < depth (es ++ e ∷ []) h.lock) entries new (λ k d within.
+            let positive = stands.positive k d within in
+            rw (depth_elsewhere _ positive) positive)
+            (rw now (omega arith));
+        whole = λ k some.
+            elim (cases_eq lock k) [
+              | inl same ↦ rw (← same, own) (Contains-push entries new)
+              | inr other ↦
+                  let is_same : depth (es ++ e ∷ []) k ≡ depth es k = depth_other k other in
+                  let before : 0 < depth es k = rw is_same at some in
+                  rw (entry_of_same es e k before is_same) (Contains-append_left entries (new ∷ []) _ (stands.whole k before))
+            ];
+        in_order = all_pairs_push (λ a b. a.place < b.place) entries new stands.in_order (λ k d within.
+            let p = place_within es _ (stands.positive k d within) in
+            rw (stands.each k d within, entry_of-place es _) p);
+      }

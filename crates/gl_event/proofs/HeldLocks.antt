@@ -14,19 +14,21 @@ use Rattle.std.proofs.lemmas.List.Folds.{list_any_at, list_any_none}
 use Rattle.gl_event.specs.Events.{acquires, acquired_lock, ascending, depth, held, entry_of}
 use Rattle.gl_event.specs.Standing.{StandsFor}
 use Rattle.gl_event.specs.declared.events.Event.{Event}
-use Rattle.gl_event.specs.declared.events.Event.TheVariants.{Acquire, Release, Fork, Join}
+use Rattle.gl_event.specs.declared.events.Event.TheVariants.{Acquire, Release, TryAcquire, Fork, Join}
+use Rattle.gl_event.specs.declared.events.LockMode.TheVariants.{Exclusive}
 use Rattle.gl_event.specs.declared.held.HeldEntry.{HeldEntry}
 use Rattle.gl_event.proofs.HeldLemmas.{entry_of-lock, one_place}
+
+one_more : (b c : Bool) (n : ℕ) → c ≡ ltb 0 n → (b || c) ≡ ltb 0 (cond b 1 0 + n)
+one_more true c n same = sym (lt-ltb 0 (1 + n) (omega arith))
+one_more false c n same = same ∙ ap (ltb 0) (omega arith)
 
 -- a lock is among those that the events acquire where it was acquired at least once
 acquired_any : (es : List Event) (lock : ℕ) → list_any (λ l. eqb l lock) (filter_map acquired_lock es) ≡ ltb 0 (count_by (acquires lock) es)
 acquired_any [] lock = refl
-acquired_any (Acquire l loc ∷ es) lock = rw sum_by-cons (one_more (eqb l lock) _ _ (acquired_any es lock))
-  where
-    one_more : (b c : Bool) (n : ℕ) → c ≡ ltb 0 n → (b || c) ≡ ltb 0 (cond b 1 0 + n)
-    one_more true c n same = sym (lt-ltb 0 (1 + n) (omega arith))
-    one_more false c n same = same ∙ ap (ltb 0) (omega arith)
-acquired_any (Release l loc ∷ es) lock = rw sum_by-cons (acquired_any es lock ∙ ap (ltb 0) (omega arith))
+acquired_any (Acquire l mode loc ∷ es) lock = rw sum_by-cons (one_more (eqb l lock) _ _ (acquired_any es lock))
+acquired_any (TryAcquire l mode loc ∷ es) lock = rw sum_by-cons (one_more (eqb l lock) _ _ (acquired_any es lock))
+acquired_any (Release l mode loc ∷ es) lock = rw sum_by-cons (acquired_any es lock ∙ ap (ltb 0) (omega arith))
 acquired_any (Fork t loc ∷ es) lock = rw sum_by-cons (acquired_any es lock ∙ ap (ltb 0) (omega arith))
 acquired_any (Join t loc ∷ es) lock = rw sum_by-cons (acquired_any es lock ∙ ap (ltb 0) (omega arith))
 
@@ -72,7 +74,7 @@ locks_any es entries stands lock =
     ]
   where
     default_entry : HeldEntry
-    default_entry = record { lock = 0; depth = 0; place = 0; loc = 0; seg = 0 }
+    default_entry = record { lock = 0; mode = Exclusive; depth = 0; place = 0; loc = 0; seg = 0 }
 
 -- numbers as the keys of a map with nothing at each
 abbrev marked : List ℕ → List (ℕ × Unit {0})
@@ -122,7 +124,7 @@ length-ascending ns distinct = length-map (fin.entries (set_of ns)) (λ e. e.0) 
 -- the locks of the entries are all different
 distinct_locks : (es : List Event) (entries : List HeldEntry) → StandsFor es entries → AllPairs (λ a b. a ≢ b) (map (λ h. h.lock) entries)
 distinct_locks es entries stands i j d before within same =
-    let h : HeldEntry = record { lock = 0; depth = 0; place = 0; loc = 0; seg = 0 } in
+    let h : HeldEntry = record { lock = 0; mode = Exclusive; depth = 0; place = 0; loc = 0; seg = 0 } in
     let long = length-map entries (λ h. h.lock) in
     let at_i = get_or-map (λ h. h.lock) entries i h d (omega arith) in
     let at_j = get_or-map (λ h. h.lock) entries j h d (omega arith) in

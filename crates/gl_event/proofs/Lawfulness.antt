@@ -3,11 +3,13 @@ use Rattle.std.proofs.Common.{◌≡◌, ℕ, zero, suc, ◌+◌, ◌-◌, ◌<�
 use Rattle.std.specs.Prelude.{slice_get}
 use Rattle.std.proofs.lemmas.Bool.{eqb-true}
 use Rattle.std.proofs.lemmas.List.{take-append-le, take_all, append-nil, append_assoc, length_push}
-use Rattle.gl_event.specs.Events.{acquires, releases, depth}
-use Rattle.gl_event.specs.Lawful.{lock_refusal, refusal, IsLawful, HasLawfulLocks}
+use Rattle.gl_event.specs.Events.{acquired_lock, acquires, releases, closes, depth}
+use Rattle.gl_event.specs.Lawful.{lock_refusal, acquire_refusal, refusal, IsLawful, HasLawfulLocks}
+use Rattle.gl_event.specs.Standing.{IsAcquireOf}
 use Rattle.gl_event.specs.Bounds.{Bounds}
 use Rattle.gl_event.specs.declared.events.Event.{Event}
-use Rattle.gl_event.specs.declared.events.Event.TheVariants.{Acquire, Release, Fork, Join}
+use Rattle.gl_event.specs.declared.events.Event.TheVariants.{Acquire, Release, TryAcquire, Fork, Join}
+use Rattle.gl_event.specs.declared.events.LockMode.{LockMode}
 use Rattle.gl_event.proofs.Depths.{count_by_push, depth_push, slice_get_before, slice_get_last}
 
 -- a place within a list that grew by one lies in the old list, or is the last
@@ -84,10 +86,41 @@ locks_allow limits thread es e h = grind arith
 pub HasLawfulLocks-from_lawful : (limits : Bounds) (thread : ℕ) (es : List Event) → IsLawful limits thread es → HasLawfulLocks es
 HasLawfulLocks-from_lawful limits thread es all = record { each = λ place e at. locks_allow limits thread (take place es) e (all.each place e at) }
 
+-- ---- events that acquire, of either kind
+
+module _ (lock : ℕ) (mode : LockMode) where
+  pub acquires-of : (e : Event) → IsAcquireOf lock mode e → (k : ℕ) → acquires k e ≡ eqb lock k
+  acquires-of e is k = rw is.same_lock refl
+
+  -- what acquires releases nothing
+  pub releases-of : (e : Event) → acquired_lock e ≡ Some lock → (k : ℕ) → releases k e ≡ false
+  releases-of (Acquire l m loc) is k = refl
+  releases-of (Release l m loc) is k = absurd (cc)
+  releases-of (TryAcquire l m loc) is k = refl
+  releases-of (Fork t loc) is k = refl
+  releases-of (Join t loc) is k = refl
+
+  -- what acquires closes no segment
+  pub closes-of : (e : Event) → acquired_lock e ≡ Some lock → closes e ≡ false
+  closes-of (Acquire l m loc) is = refl
+  closes-of (Release l m loc) is = refl
+  closes-of (TryAcquire l m loc) is = refl
+  closes-of (Fork t loc) is = absurd (cc)
+  closes-of (Join t loc) is = absurd (cc)
+
+  -- both kinds are refused alike
+  pub lock_refusal-of : (es : List Event) (e : Event) → IsAcquireOf lock mode e → lock_refusal es e ≡ acquire_refusal es lock mode
+  unfolding lock_refusal
+  lock_refusal-of es (Acquire l m loc) is = let s = is.same_lock in let t = is.same_mode in cc
+  lock_refusal-of es (Release l m loc) is = let s = is.same_lock in absurd (cc)
+  lock_refusal-of es (TryAcquire l m loc) is = let s = is.same_lock in let t = is.same_mode in cc
+  lock_refusal-of es (Fork t loc) is = let s = is.same_lock in absurd (cc)
+  lock_refusal-of es (Join t loc) is = let s = is.same_lock in absurd (cc)
+
 -- a lawful release is of a lock of positive depth
-release_of_held : (es : List Event) (lock loc : ℕ) → lock_refusal es (Release lock loc) ≡ None → 0 < depth es lock
+release_of_held : (es : List Event) (lock : ℕ) (mode : LockMode) (loc : ℕ) → lock_refusal es (Release lock mode loc) ≡ None → 0 < depth es lock
 unfolding lock_refusal
-release_of_held es lock loc h = grind arith
+release_of_held es lock mode loc h = grind arith
 
 release_step : (b : Bool) (a r : ℕ) → r ≤ a → (b ≡ true → 0 < a - r) → r + cond b 1 0 ≤ a + 0
 release_step true a r within more = let m = more refl in omega arith
@@ -100,9 +133,10 @@ depth_there es l lock held same = let e : l ≡ lock = eqb-true l lock same in r
 -- one more lawful event doesn't make the releases of a lock more than its acquires
 releases_push : (es : List Event) (e : Event) (lock : ℕ) → count_by (releases lock) es ≤ count_by (acquires lock) es → lock_refusal es e ≡ None → count_by (releases lock) (es ++ e ∷ []) ≤ count_by (acquires lock) (es ++ e ∷ [])
 unfolding depth
-releases_push es (Acquire l loc) lock before allowed = rw (count_by_push (releases lock) es, count_by_push (acquires lock) es) (omega arith)
-releases_push es (Release l loc) lock before allowed =
-    let held = release_of_held es l loc allowed in
+releases_push es (Acquire l mode loc) lock before allowed = rw (count_by_push (releases lock) es, count_by_push (acquires lock) es) (omega arith)
+releases_push es (TryAcquire l mode loc) lock before allowed = rw (count_by_push (releases lock) es, count_by_push (acquires lock) es) (omega arith)
+releases_push es (Release l mode loc) lock before allowed =
+    let held = release_of_held es l mode loc allowed in
     rw (count_by_push (releases lock) es, count_by_push (acquires lock) es)
     (release_step (eqb l lock) _ _ before (λ same. depth_there es l lock held same))
 releases_push es (Fork t loc) lock before allowed = rw (count_by_push (releases lock) es, count_by_push (acquires lock) es) (omega arith)

@@ -1,5 +1,5 @@
--- A thread's list of events, as a whole: how deep each lock is held, which locks are held and where
--- each of them was opened, and how many segments the events closed.
+-- A thread's list of events, as a whole: how deep each lock is held, which locks are held, in which
+-- mode and where each of them was opened, and how many segments the events closed.
 -- The state after the first p events of a list is the state of the list `take p es`.
 use Rattle.std.specs.Prelude.{ℕ, zero, suc, ◌-◌, Bool, true, false, ◌&&◌, List, Option, Some, None, length, map, take, filter, count_by, slice_get, ◌==◌, nat_lt, if◌then◌else◌}
 use Rattle.std.specs.List.{filter_map}
@@ -7,48 +7,68 @@ use Rattle.std.specs.Option.{option_map_or}
 use Rattle.std.specs.Ordering.{nat_cmp}
 use Rattle.std.specs.FinMap.{from_entries, keys}
 use Rattle.gl_event.specs.declared.events.Event.{Event}
-use Rattle.gl_event.specs.declared.events.Event.TheVariants.{Acquire, Release, Fork, Join}
+use Rattle.gl_event.specs.declared.events.Event.TheVariants.{Acquire, Release, TryAcquire, Fork, Join}
+use Rattle.gl_event.specs.declared.events.LockMode.{LockMode}
+use Rattle.gl_event.specs.declared.events.LockMode.TheVariants.{Exclusive}
 use Rattle.gl_event.specs.declared.held.HeldEntry.{HeldEntry}
+
+-- the lock that the event acquires, whether or not it could have waited for it
+abbrev pub acquired_lock : Event → Option ℕ
+acquired_lock (Acquire l mode loc) = Some l
+acquired_lock (Release l mode loc) = None
+acquired_lock (TryAcquire l mode loc) = Some l
+acquired_lock (Fork t loc) = None
+acquired_lock (Join t loc) = None
+
+-- the lock that the event wants: the one that it waits for as long as another thread keeps it
+abbrev pub wanted_lock : Event → Option ℕ
+wanted_lock (Acquire l mode loc) = Some l
+wanted_lock (Release l mode loc) = None
+wanted_lock (TryAcquire l mode loc) = None
+wanted_lock (Fork t loc) = None
+wanted_lock (Join t loc) = None
+
+-- the mode in which the event acquires or releases
+abbrev pub lock_mode : Event → LockMode
+lock_mode (Acquire l mode loc) = mode
+lock_mode (Release l mode loc) = mode
+lock_mode (TryAcquire l mode loc) = mode
+lock_mode (Fork t loc) = Exclusive
+lock_mode (Join t loc) = Exclusive
 
 -- the event acquires this lock
 abbrev pub acquires : ℕ → Event → Bool
-acquires lock (Acquire l loc) = l == lock
-acquires lock (Release l loc) = false
-acquires lock (Fork t loc) = false
-acquires lock (Join t loc) = false
+acquires lock e = option_map_or (λ l. l == lock) (acquired_lock e) false
 
 -- the event releases this lock
 abbrev pub releases : ℕ → Event → Bool
-releases lock (Acquire l loc) = false
-releases lock (Release l loc) = l == lock
+releases lock (Acquire l mode loc) = false
+releases lock (Release l mode loc) = l == lock
+releases lock (TryAcquire l mode loc) = false
 releases lock (Fork t loc) = false
 releases lock (Join t loc) = false
 
 -- the event closes a segment: it is a fork or a join
 abbrev pub closes : Event → Bool
-closes (Acquire l loc) = false
-closes (Release l loc) = false
+closes (Acquire l mode loc) = false
+closes (Release l mode loc) = false
+closes (TryAcquire l mode loc) = false
 closes (Fork t loc) = true
 closes (Join t loc) = true
 
--- the lock that the event acquires
-abbrev pub acquired_lock : Event → Option ℕ
-acquired_lock (Acquire l loc) = Some l
-acquired_lock (Release l loc) = None
-acquired_lock (Fork t loc) = None
-acquired_lock (Join t loc) = None
-
 -- where in the source the event stands
 abbrev pub location : Event → ℕ
-location (Acquire l loc) = loc
-location (Release l loc) = loc
+location (Acquire l mode loc) = loc
+location (Release l mode loc) = loc
+location (TryAcquire l mode loc) = loc
 location (Fork t loc) = loc
 location (Join t loc) = loc
 
 -- the thread that the event forks or joins
 abbrev pub partner : Event → Option ℕ
-partner (Acquire l loc) = None
-partner (Release l loc) = None
+partner (Acquire l mode loc) = None
+partner (Release l mode loc) = None
+partner (TryAcquire l mode loc) = None
 partner (Fork t loc) = Some t
 partner (Join t loc) = Some t
 
@@ -81,11 +101,16 @@ greatest_below passes (suc n) = if passes n then n else greatest_below passes n
 unfoldable pub opened : List Event → ℕ → ℕ
 opened es lock = greatest_below (opens es lock) (length es)
 
--- what is known of a held lock: its depth, and the place, the location and the segment of the acquire that opened it
+-- the mode in which a lock is held: that of the acquire that opened it
+unfoldable pub held_mode : List Event → ℕ → LockMode
+held_mode es lock = option_map_or lock_mode (slice_get es (opened es lock)) Exclusive
+
+-- what is known of a held lock: its depth, and the mode, the place, the location and the segment of the acquire that opened it
 unfoldable pub entry_of : List Event → ℕ → HeldEntry
 entry_of es lock =
     record {
       lock = lock;
+      mode = held_mode es lock;
       depth = depth es lock;
       place = opened es lock;
       loc = option_map_or location (slice_get es (opened es lock)) 0;

@@ -1,17 +1,67 @@
 //! The events of a thread, and the segments that forks and joins cut its run into.
+ghost use Rattle.std.specs.Prelude.{◌≡◌};
+
 use crate::ids::{LocId, LockId, ThreadId};
+
+/// How a lock is held: by one thread alone, or by readers together. The two are ordered as they
+/// stand here.
+#[derive(Clone, Copy, Debug, PartialEq, Eq, PartialOrd, Ord, Hash, Default)]
+pub enum LockMode {
+    /// No other thread holds the lock meanwhile.
+    #[default]
+    Exclusive,
+    /// Other threads may hold the lock meanwhile, all of them in this mode.
+    Shared,
+}
+
+impl LockMode {
+    ghost use Rattle.gl_event.specs.Lawful.{is_upgrade};
+
+    /// Whether an acquire in this mode would make a lock that is held in the other one exclusive.
+    /// Such a thread waits for all readers to go, itself among them.
+    pub fn upgrades(self, held: LockMode) -> bool
+        ensures { result ≡ is_upgrade held self }
+    {
+        match held {
+            LockMode::Exclusive => false,
+            LockMode::Shared => self == LockMode::Exclusive,
+        }
+    }
+}
 
 /// One event of a thread, with its location in the source.
 #[derive(Clone, Copy, Debug, PartialEq, Eq, PartialOrd, Ord, Hash)]
 pub enum Event {
-    /// The thread acquires the lock. A lock that the thread holds already is acquired once more.
-    Acquire { lock: LockId, loc: LocId },
-    /// The thread releases the lock once.
-    Release { lock: LockId, loc: LocId },
+    /// The thread acquires the lock, and waits for it where it has to. A lock that the thread holds
+    /// already is acquired once more, and stays held in the mode of its outermost acquire.
+    Acquire {
+        lock: LockId,
+        mode: LockMode,
+        loc: LocId,
+    },
+    /// The thread releases the lock once, in whichever mode it holds it.
+    Release {
+        lock: LockId,
+        mode: LockMode,
+        loc: LocId,
+    },
+    /// The thread acquires the lock by an attempt that could not have waited for ever, as
+    /// `trylock`. It holds the lock like any other, but can't be in a deadlock there.
+    TryAcquire {
+        lock: LockId,
+        mode: LockMode,
+        loc: LocId,
+    },
     /// The thread starts another thread.
-    Fork { thread: ThreadId, loc: LocId },
+    Fork {
+        thread: ThreadId,
+        loc: LocId,
+    },
     /// The thread has waited for another thread to end.
-    Join { thread: ThreadId, loc: LocId },
+    Join {
+        thread: ThreadId,
+        loc: LocId,
+    },
 }
 
 /// A part of a thread's run between two of its forks and joins. Segments of a thread count from 0;
@@ -37,4 +87,6 @@ pub enum Refusal {
     HeldFull,
     /// An acquire of a lock that the thread has acquired 1,000,000 times without a release.
     DepthFull,
+    /// An exclusive acquire of a lock that the thread holds in shared mode.
+    Upgrade,
 }

@@ -1,6 +1,7 @@
 //! The locks that one thread holds.
 ghost use Rattle.std.specs.Prelude.{◌≡◌, ◌≢◌, ◌<◌, ◌↔◌, List, [], length, slice_get, slice_set, Some, IsTrue, IfSome, IfNone, OnErr};
 
+use crate::events::LockMode;
 use crate::ids::{LocId, LockId};
 use arrayvec::ArrayVec;
 use std::marker::Model;
@@ -10,11 +11,12 @@ pub const MAX_HELD: usize = 64;
 /// How often a thread may acquire a lock that it holds.
 pub const MAX_DEPTH: u32 = 1_000_000;
 
-/// A lock that a thread holds: how often it has acquired it without a release, and the place, the
-/// location and the segment of the outermost of these acquires.
+/// A lock that a thread holds: how often it has acquired it without a release, and the mode, the
+/// place, the location and the segment of the outermost of these acquires.
 #[derive(Clone, Copy, Debug, PartialEq, Eq, PartialOrd, Ord, Hash, Default)]
 pub struct HeldEntry {
     pub lock: LockId,
+    pub mode: LockMode,
     pub depth: u32,
     pub place: u32,
     pub loc: LocId,
@@ -28,6 +30,8 @@ pub enum HeldFault {
     HeldFull,
     /// The thread has acquired the lock 1,000,000 times already.
     DepthFull,
+    /// The thread holds the lock in shared mode, and asks for it exclusively.
+    Upgrade,
 }
 
 /// The lock could not be released, since the thread doesn't hold it.
@@ -79,25 +83,30 @@ impl Held {
         self.find(lock).is_some()
     }
 
-    /// Acquires the lock once. `place` is how many events the thread had before, `seg` how many of
-    /// these were forks and joins; they count where the lock wasn't held. The answer is `true`
-    /// where the lock wasn't held.
+    /// Acquires the lock once, whether or not the thread could have waited for it. `place` is how
+    /// many events the thread had before, `seg` how many of these were forks and joins, `loc` where
+    /// the acquire stands; these three count where the lock wasn't held. The answer is `true` where
+    /// the lock wasn't held.
     ///
     /// A refused acquire changes nothing.
     pub fn acquire(
         &mut self,
         lock: LockId,
+        mode: LockMode,
         loc: LocId,
         place: u32,
         seg: u32,
     ) -> Result<bool, HeldFault>
-        ensures answers { (es : List Event) → StandsFor es self.old → AnswersAcquire es lock loc place seg self.new result }
+        ensures answers { (es : List Event) → StandsFor es self.old → AnswersAcquire es lock mode loc place seg self.new result }
         ensures unchanged { OnErr result (self.new ≡ self.old) }
     {
         match self.find(lock) {
             Some((i, entry)) => {
                 if entry.depth >= MAX_DEPTH {
                     return Err(HeldFault::DepthFull);
+                }
+                if mode.upgrades(entry.mode) {
+                    return Err(HeldFault::Upgrade);
                 }
                 let depth = entry.depth + 1;
                 self.put(i, HeldEntry { depth, ..entry });
@@ -109,6 +118,7 @@ impl Held {
                 }
                 self.entries.push(HeldEntry {
                     lock,
+                    mode,
                     depth: 1,
                     place,
                     loc,

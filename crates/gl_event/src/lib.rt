@@ -1,8 +1,9 @@
 //! What a recorder sees: threads that acquire and release locks, and fork and join each other.
 //!
 //! An [`Event`] is one such step of one thread, with the place in the source where it stands. The
-//! crate defines, for whole lists of a thread's events, which locks the thread holds, where each of
-//! them was opened, in which segment an event lies, and which event may come next. [`Held`] keeps
+//! crate defines, for whole lists of a thread's events, which locks the thread holds and in which
+//! mode, where each of them was opened, in which segment an event lies, and which event may come
+//! next. [`Held`] keeps
 //! the held locks of one thread while its events come one by one.
 #![tactic(auto)]
 
@@ -12,7 +13,7 @@ mod ids;
 mod limits;
 mod notes;
 
-pub use events::{Event, Refusal, Segment};
+pub use events::{Event, LockMode, Refusal, Segment};
 pub use held::{Held, HeldEntry, HeldFault, MAX_DEPTH, MAX_HELD, NotHeld};
 pub use ids::{LocId, LockId, ThreadId};
 pub use limits::{BadLimits, Limits, MAX_EVENTS, MAX_NAMES, MAX_RING, MAX_THREADS};

@@ -1,7 +1,7 @@
 //! Limits and held locks at their bounds.
 ghost use Rattle.std.specs.Prelude.{◌≡◌, Ok, IfOk};
 
-use crate::{BadLimits, Held, HeldFault, Limits, LocId, LockId, MAX_DEPTH, NotHeld};
+use crate::{BadLimits, Held, HeldFault, Limits, LocId, LockId, LockMode, MAX_DEPTH, NotHeld};
 use std::test::Fail;
 
 #[test]
@@ -34,10 +34,13 @@ fn limits_reached(rt: HostRuntime) {
     let loc = LocId::new(0);
     let mut held = Held::new();
     for place in 0..MAX_DEPTH {
-        assert_eq!(rt; held.acquire(lock, loc, place, 0), Ok(place == 0));
+        assert_eq!(rt;
+            held.acquire(lock, LockMode::Exclusive, loc, place, 0),
+            Ok(place == 0)
+        );
     }
     assert_eq!(rt;
-        held.acquire(lock, loc, MAX_DEPTH, 0),
+        held.acquire(lock, LockMode::Exclusive, loc, MAX_DEPTH, 0),
         Err(HeldFault::DepthFull)
     );
     assert!(rt; held.holds(lock));
@@ -48,16 +51,43 @@ fn sixty_four_locks(rt: HostRuntime) {
     let loc = LocId::new(0);
     let mut held = Held::new();
     for number in 0..64 {
-        assert_eq!(rt; held.acquire(LockId::new(number), loc, number, 0), Ok(true));
+        assert_eq!(rt;
+            held.acquire(LockId::new(number), LockMode::Shared, loc, number, 0),
+            Ok(true)
+        );
     }
     assert_eq!(rt;
-        held.acquire(LockId::new(64), loc, 64, 0),
+        held.acquire(LockId::new(64), LockMode::Shared, loc, 64, 0),
         Err(HeldFault::HeldFull)
     );
-    assert_eq!(rt; held.acquire(LockId::new(63), loc, 64, 0), Ok(false));
+    assert_eq!(rt;
+        held.acquire(LockId::new(63), LockMode::Shared, loc, 64, 0),
+        Ok(false)
+    );
     assert_eq!(rt; held.release(LockId::new(64)), Err(NotHeld));
     assert_eq!(rt; held.release(LockId::new(0)), Ok(true));
     assert_eq!(rt; held.release(LockId::new(63)), Ok(false));
     assert_eq!(rt; held.entries().len(), 63);
     assert!(rt; !held.holds(LockId::new(0)));
+}
+
+#[test]
+fn upgrade_refused(rt: HostRuntime) {
+    let lock = LockId::new(0);
+    let loc = LocId::new(0);
+    let mut held = Held::new();
+    assert_eq!(rt; held.acquire(lock, LockMode::Shared, loc, 0, 0), Ok(true));
+    assert_eq!(rt; held.acquire(lock, LockMode::Shared, loc, 1, 0), Ok(false));
+    assert_eq!(rt;
+        held.acquire(lock, LockMode::Exclusive, loc, 2, 0),
+        Err(HeldFault::Upgrade)
+    );
+    assert_eq!(rt; held.release(lock), Ok(false));
+    assert_eq!(rt; held.release(lock), Ok(true));
+    assert_eq!(rt;
+        held.acquire(lock, LockMode::Exclusive, loc, 2, 0),
+        Ok(true)
+    );
+    assert_eq!(rt; held.acquire(lock, LockMode::Shared, loc, 3, 0), Ok(false));
+    assert_eq!(rt; held.entries()[0].mode, LockMode::Exclusive);
 }
