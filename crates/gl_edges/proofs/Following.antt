@@ -1,20 +1,21 @@
 -- A tracker follows its thread from event to event.
-use Rattle.std.proofs.Common.{◌≡◌, ℕ, ◌+◌, ◌<◌, ◌≤◌, ◌^◌, Bool, List, [], ◌∷◌, ◌++◌, length, None, Result, Ok, Err, refl, sym, subst, arith}
+use Rattle.std.proofs.Common.{◌≡◌, ℕ, ◌+◌, ◌<◌, ◌≤◌, ◌^◌, ◌⊎◌, inl, inr, Bool, false, cond, List, [], ◌∷◌, ◌++◌, length, None, Result, Ok, Err, refl, sym, ap, subst, ◌∙◌, arith}
 use Rattle.std.specs.Prelude.{IsOk, OnOk}
 use Rattle.std.proofs.lemmas.List.{length_push}
 use Rattle.std.proofs.lemmas.List.Sums.{count_by-le-length}
 use Rattle.gl_event.specs.Bounds.{greatest}
-use Rattle.gl_event.specs.Events.{closes, segment, depth}
+use Rattle.gl_event.specs.Events.{acquired_lock, lock_mode, location, closes, segment, depth}
 use Rattle.gl_event.specs.Lawful.{refusal, lock_refusal}
-use Rattle.gl_event.specs.Standing.{StandsFor, AnswersAcquire, AnswersRelease}
+use Rattle.gl_event.specs.Standing.{StandsFor, IsAcquireOf, AnswersAcquire, AnswersRelease}
 use Rattle.gl_event.specs.declared.events.Event.{Event}
-use Rattle.gl_event.specs.declared.events.Event.TheVariants.{Acquire, Release, Fork, Join}
+use Rattle.gl_event.specs.declared.events.Event.TheVariants.{Acquire, Release, TryAcquire, Fork, Join}
+use Rattle.gl_event.specs.declared.events.LockMode.{LockMode}
 use Rattle.gl_event.specs.declared.held.HeldEntry.{HeldEntry}
 use Rattle.gl_event.specs.declared.held.HeldFault.{HeldFault}
 use Rattle.gl_event.specs.declared.held.NotHeld.{NotHeld}
 use Rattle.gl_event.proofs.Depths.{segment_push}
 use Rattle.gl_event.proofs.HeldAnswers.{stands_after_fork, stands_after_join}
-use Rattle.gl_event.proofs.Lawfulness.{locks_allow}
+use Rattle.gl_event.proofs.Lawfulness.{locks_allow, closes-of, lock_refusal-of}
 use Rattle.gl_edges.specs.Tracking.{Tracks, MayFollow}
 use Rattle.gl_edges.specs.declared.tracker.Tracker.{Tracker}
 
@@ -53,31 +54,35 @@ segment_fits tracker event next =
     let s = segment_within next.es in
     omega (arith, next.tracked.in_segment)
 
+-- an event that closes no segment keeps the number
+kept : (old new : ℕ) (closed : Bool) → closed ≡ false → new ≡ old + cond closed 1 0 → old ≡ new
+kept old new closed none is = let e = ap (λ b. old + cond b 1 0) none in omega arith
+
 module _ (thread : ℕ) (es : List Event) (tracker : Tracker) (tracked : Tracks thread es tracker) where
   -- the place after one more event
   one_further : (e : Event) → tracker.place + 1 ≡ length (es ++ e ∷ [])
   one_further e = omega (arith, tracked.at_place, length_push es e)
 
-  -- after an acquire
-  pub tracks_acquire : (lock loc : ℕ) (new : List HeldEntry) (answer : Result Bool HeldFault) → IsOk answer
-      → AnswersAcquire es lock loc tracker.place tracker.segment new answer
-      → Tracks thread (es ++ Acquire lock loc ∷ []) (record tracker { held = new; place = tracker.place + 1 })
-  tracks_acquire lock loc new answer ok says = record {
+  -- after an acquire, whether or not it could have waited
+  pub tracks_acquire : (lock : ℕ) (mode : LockMode) (e : Event) → IsAcquireOf lock mode e → (new : List HeldEntry) (answer : Result Bool HeldFault) → IsOk answer
+      → AnswersAcquire es lock mode (location e) tracker.place tracker.segment new answer
+      → Tracks thread (es ++ e ∷ []) (record tracker { held = new; place = tracker.place + 1 })
+  tracks_acquire lock mode e is new answer ok says = record {
     of_thread = tracked.of_thread;
-    stands = from_ok answer _ ok says.stands tracked.at_place tracked.in_segment;
-    at_place = one_further (Acquire lock loc);
-    in_segment = let s = segment_push es (Acquire lock loc) in omega (arith, tracked.in_segment);
+    stands = from_ok answer _ ok says.stands e is (λ _. record { here = tracked.at_place; within = tracked.in_segment; stands_at = refl });
+    at_place = one_further e;
+    in_segment = let s = segment_push es e in let c = closes-of lock mode e is.same_lock in tracked.in_segment ∙ kept _ _ _ c s;
   }
 
   -- after a release
-  pub tracks_release : (lock loc : ℕ) (new : List HeldEntry) (answer : Result Bool NotHeld) → IsOk answer
+  pub tracks_release : (lock : ℕ) (mode : LockMode) (loc : ℕ) (new : List HeldEntry) (answer : Result Bool NotHeld) → IsOk answer
       → AnswersRelease es lock new answer
-      → Tracks thread (es ++ Release lock loc ∷ []) (record tracker { held = new; place = tracker.place + 1 })
-  tracks_release lock loc new answer ok says = record {
+      → Tracks thread (es ++ Release lock mode loc ∷ []) (record tracker { held = new; place = tracker.place + 1 })
+  tracks_release lock mode loc new answer ok says = record {
     of_thread = tracked.of_thread;
-    stands = from_ok answer _ ok says.stands loc;
-    at_place = one_further (Release lock loc);
-    in_segment = let s = segment_push es (Release lock loc) in omega (arith, tracked.in_segment);
+    stands = from_ok answer _ ok says.stands mode loc;
+    at_place = one_further (Release lock mode loc);
+    in_segment = let s = segment_push es (Release lock mode loc) in omega (arith, tracked.in_segment);
   }
 
   -- after a fork
@@ -99,18 +104,23 @@ module _ (thread : ℕ) (es : List Event) (tracker : Tracker) (tracked : Tracks 
   }
 
 -- a lock that may be released is held
-held_there : (es : List Event) (lock loc : ℕ) → lock_refusal es (Release lock loc) ≡ None → 0 < depth es lock
+held_there : (es : List Event) (lock : ℕ) (mode : LockMode) (loc : ℕ) → lock_refusal es (Release lock mode loc) ≡ None → 0 < depth es lock
 unfolding lock_refusal
-held_there es lock loc allowed = grind arith
+held_there es lock mode loc allowed = grind arith
 
 -- what was allowed is accepted
-pub acquire_accepted : (tracker : Tracker) (e : Event) (lock loc : ℕ) → e ≡ Acquire lock loc → (next : MayFollow tracker e) (new : List HeldEntry) (answer : Result Bool HeldFault)
-    → AnswersAcquire next.es lock loc tracker.place tracker.segment new answer → IsOk answer
-acquire_accepted tracker e lock loc is next new answer says =
-    says.accepted.1 (locks_allow greatest tracker.thread next.es (Acquire lock loc) (subst (λ x. refusal greatest tracker.thread next.es x ≡ None) is next.allowed))
+pub acquire_accepted : (tracker : Tracker) (e : Event) (lock : ℕ) (mode : LockMode) (loc : ℕ) → IsAcquireOf lock mode e → (next : MayFollow tracker e) (new : List HeldEntry) (answer : Result Bool HeldFault)
+    → AnswersAcquire next.es lock mode loc tracker.place tracker.segment new answer → IsOk answer
+acquire_accepted tracker e lock mode loc is next new answer says =
+    says.accepted.1 (sym (lock_refusal-of lock mode next.es e is) ∙ locks_allow greatest tracker.thread next.es e next.allowed)
 
 -- the same of a release
-pub release_accepted : (tracker : Tracker) (e : Event) (lock loc : ℕ) → e ≡ Release lock loc → (next : MayFollow tracker e) (new : List HeldEntry) (answer : Result Bool NotHeld)
+pub release_accepted : (tracker : Tracker) (e : Event) (lock : ℕ) (mode : LockMode) (loc : ℕ) → e ≡ Release lock mode loc → (next : MayFollow tracker e) (new : List HeldEntry) (answer : Result Bool NotHeld)
     → AnswersRelease next.es lock new answer → IsOk answer
-release_accepted tracker e lock loc is next new answer says =
-    says.accepted.1 (held_there next.es lock loc (locks_allow greatest tracker.thread next.es (Release lock loc) (subst (λ x. refusal greatest tracker.thread next.es x ≡ None) is next.allowed)))
+release_accepted tracker e lock mode loc is next new answer says =
+    says.accepted.1 (held_there next.es lock mode loc (locks_allow greatest tracker.thread next.es (Release lock mode loc) (subst (λ x. refusal greatest tracker.thread next.es x ≡ None) is next.allowed)))
+
+-- an acquire of either kind, as it is matched
+pub of_either : (e : Event) (lock : ℕ) (mode : LockMode) (loc : ℕ) → (e ≡ Acquire lock mode loc) ⊎ (e ≡ TryAcquire lock mode loc) → IsAcquireOf lock mode e × (location e ≡ loc)
+of_either e lock mode loc (inl is) = (record { same_lock = ap acquired_lock is; same_mode = ap lock_mode is }, ap location is)
+of_either e lock mode loc (inr is) = (record { same_lock = ap acquired_lock is; same_mode = ap lock_mode is }, ap location is)

@@ -12,11 +12,13 @@ use Rattle.std.proofs.lemmas.Option.{slice_get_read, slice_get-map}
 use Rattle.std.proofs.lemmas.List.Elements.{Contains-append_left, Contains-append_right, Contains-append_cases, All-contains}
 use Rattle.gl_event.specs.Bounds.{greatest}
 use Rattle.gl_event.specs.Lawful.{IsLawful, refusal}
-use Rattle.gl_event.specs.Events.{ascending, depth, held, entry_of}
+use Rattle.gl_event.specs.Events.{depth, held, entry_of}
 use Rattle.gl_event.specs.declared.events.Event.{Event}
+use Rattle.gl_event.specs.declared.events.LockMode.{LockMode}
 use Rattle.gl_event.specs.declared.held.HeldEntry.{HeldEntry}
 use Rattle.gl_event.proofs.HeldLemmas.{entry_of-lock}
-use Rattle.gl_event.proofs.HeldLocks.{ascending_locks}
+use Rattle.gl_edges.proofs.Holding.{guards_are}
+use Rattle.gl_edges.specs.Guards.{guards_of}
 use Rattle.gl_edges.specs.Edges.{pair_at, edges_wanting, edges_after, edges_at, edges_below, edges_of_list, edges_made}
 use Rattle.gl_edges.specs.Samples.{IsTableOf}
 use Rattle.gl_edges.specs.Tracking.{Tracks, MayFollow, pair_for}
@@ -38,11 +40,11 @@ table_nil known pairs is = subst (IsTableOf known) (sym (append-nil pairs)) is
 -- ---- the edges of one acquire
 
 -- an edge whose fields were set is that of the held lock
-pub pair_is : (edge : Edge) (tracker : Tracker) (wanted loc : ℕ) (h : HeldEntry) → edge.thread ≡ tracker.thread → edge.wanted ≡ wanted → edge.second ≡ tracker.segment
-    → edge.guards ≡ ascending (map (λ h. h.lock) tracker.held)
-    → ◌≡◌ {A = Edge × Sample} (record edge { held = h.lock; first = h.seg }, record { place = tracker.place; held_loc = h.loc; wanted_loc = loc }) (pair_for tracker wanted loc h)
-pair_is edge tracker wanted loc h of_thread wants in_segment guarded = λ i. (
-  record { thread = of_thread i; held = h.lock; wanted = wants i; first = h.seg; second = in_segment i; guards = guarded i },
+pub pair_is : (edge : Edge) (tracker : Tracker) (wanted : ℕ) (mode : LockMode) (loc : ℕ) (h : HeldEntry) → edge.thread ≡ tracker.thread → edge.wanted ≡ wanted → edge.wanted_mode ≡ mode → edge.second ≡ tracker.segment
+    → edge.guards ≡ guards_of tracker.held
+    → ◌≡◌ {A = Edge × Sample} (record edge { held = h.lock; held_mode = h.mode; first = h.seg }, record { place = tracker.place; held_loc = h.loc; wanted_loc = loc }) (pair_for tracker wanted mode loc h)
+pair_is edge tracker wanted mode loc h of_thread wants wants_as in_segment guarded = λ i. (
+  record { thread = of_thread i; held = h.lock; held_mode = h.mode; wanted = wants i; wanted_mode = wants_as i; first = h.seg; second = in_segment i; guards = guarded i },
   record { place = tracker.place; held_loc = h.loc; wanted_loc = loc },
 )
 
@@ -74,26 +76,28 @@ append_among pairs xs ys to pair at =
     ]
 
 -- what an acquire makes, where its lock isn't held
-pub wanting_is : (thread : ℕ) (es : List Event) (loc wanted : ℕ) → depth es wanted ≡ 0 → edges_wanting thread es loc wanted ≡ map (pair_at thread es wanted loc) (held es)
+pub wanting_is : (thread : ℕ) (es : List Event) (wanted : ℕ) (mode : LockMode) (loc : ℕ) → depth es wanted ≡ 0 → edges_wanting thread es wanted mode loc ≡ map (pair_at thread es wanted mode loc) (held es)
 unfolding edges_wanting
-wanting_is thread es loc wanted free = ap (λ d. cond (eqb d 0) (map (pair_at thread es wanted loc) (held es)) []) free
+wanting_is thread es wanted mode loc free = ap (λ d. cond (eqb d 0) (map (pair_at thread es wanted mode loc) (held es)) []) free
 
 -- a lock that is held makes no edges
-pub wanting_none : (thread : ℕ) (es : List Event) (loc wanted : ℕ) → 0 < depth es wanted → edges_wanting thread es loc wanted ≡ []
+pub wanting_none : (thread : ℕ) (es : List Event) (wanted : ℕ) (mode : LockMode) (loc : ℕ) → 0 < depth es wanted → edges_wanting thread es wanted mode loc ≡ []
 unfolding edges_wanting
-wanting_none thread es loc wanted deep = ap (λ b. cond b (map (pair_at thread es wanted loc) (held es)) []) (ne_eqb (depth es wanted) 0 (λ e. absurd (omega arith)))
+wanting_none thread es wanted mode loc deep = ap (λ b. cond b (map (pair_at thread es wanted mode loc) (held es)) []) (ne_eqb (depth es wanted) 0 (λ e. absurd (omega arith)))
 
-module _ (thread : ℕ) (es : List Event) (tracker : Tracker) (tracked : Tracks thread es tracker) (wanted loc : ℕ) where
+module _ (thread : ℕ) (es : List Event) (tracker : Tracker) (tracked : Tracks thread es tracker) (wanted : ℕ) (mode : LockMode) (loc : ℕ) where
   -- a tracked thread makes for a held lock the pair that the definition says
-  pub pair_for_is : (lock : ℕ) (h : HeldEntry) → h ≡ entry_of es lock → pair_for tracker wanted loc h ≡ pair_at thread es wanted loc lock
+  pub pair_for_is : (lock : ℕ) (h : HeldEntry) → h ≡ entry_of es lock → pair_for tracker wanted mode loc h ≡ pair_at thread es wanted mode loc lock
   pair_for_is lock h is =
       let of_lock : h.lock ≡ lock = ap (λ x. x.lock) is ∙ entry_of-lock es lock in
-      let guarded = ascending_locks es tracker.held tracked.stands in
+      let guarded = guards_are es tracker.held tracked.stands in
       λ i. (
         record {
           thread = tracked.of_thread i;
           held = of_lock i;
+          held_mode = (is i).mode;
           wanted = wanted;
+          wanted_mode = mode;
           first = (is i).seg;
           second = tracked.in_segment i;
           guards = guarded i;
@@ -102,21 +106,21 @@ module _ (thread : ℕ) (es : List Event) (tracker : Tracker) (tracked : Tracks 
       )
 
   -- each pair of an entry is one of the definition
-  pub pairs_made : AreAmong (map (pair_for tracker wanted loc) tracker.held) (map (pair_at thread es wanted loc) (held es))
+  pub pairs_made : AreAmong (map (pair_for tracker wanted mode loc) tracker.held) (map (pair_at thread es wanted mode loc) (held es))
   pairs_made pair at =
-      let (h, there, is) = contains_map_from (pair_for tracker wanted loc) pair tracker.held at in
+      let (h, there, is) = contains_map_from (pair_for tracker wanted mode loc) pair tracker.held at in
       let entry : h ≡ entry_of es h.lock = All-contains (λ h. h ≡ entry_of es h.lock) tracker.held h tracked.stands.each there in
       let deep : 0 < depth es h.lock = All-contains (λ h. 0 < depth es h.lock) tracker.held h tracked.stands.positive there in
-      subst (Contains (map (pair_at thread es wanted loc) (held es))) (sym (pair_for_is h.lock h entry) ∙ is)
-      (contains_map (pair_at thread es wanted loc) h.lock (held es) (held_where_deep es h.lock deep))
+      subst (Contains (map (pair_at thread es wanted mode loc) (held es))) (sym (pair_for_is h.lock h entry) ∙ is)
+      (contains_map (pair_at thread es wanted mode loc) h.lock (held es) (held_where_deep es h.lock deep))
 
   -- each pair of the definition is that of an entry
-  pub pairs_all : AreAmong (map (pair_at thread es wanted loc) (held es)) (map (pair_for tracker wanted loc) tracker.held)
+  pub pairs_all : AreAmong (map (pair_at thread es wanted mode loc) (held es)) (map (pair_for tracker wanted mode loc) tracker.held)
   pairs_all pair at =
-      let (lock, there, is) = contains_map_from (pair_at thread es wanted loc) pair (held es) at in
+      let (lock, there, is) = contains_map_from (pair_at thread es wanted mode loc) pair (held es) at in
       let entry = tracked.stands.whole lock (deep_where_held es lock there) in
-      subst (Contains (map (pair_for tracker wanted loc) tracker.held)) (pair_for_is lock (entry_of es lock) refl ∙ is)
-      (contains_map (pair_for tracker wanted loc) (entry_of es lock) tracker.held entry)
+      subst (Contains (map (pair_for tracker wanted mode loc) tracker.held)) (pair_for_is lock (entry_of es lock) refl ∙ is)
+      (contains_map (pair_for tracker wanted mode loc) (entry_of es lock) tracker.held entry)
 
 -- a lock that the test doesn't find isn't held
 pub not_deep : (b : Bool) (d : ℕ) → (0 < d → b ≡ true) → b ≡ false → d ≡ 0

@@ -1,46 +1,106 @@
--- Ascending lists of locks: the ascending list of a list that ascends is itself, and an insert in order adds to the set.
-use Rattle.std.proofs.Common.{◌≡◌, ℕ, ◌+◌, ◌-◌, ◌<◌, ◌≤◌, Bool, true, false, eqb, List, [], ◌∷◌, ◌++◌, length, get_or, map, refl, sym, ap, subst, ◌∙◌, arith, inl, inr, Result, Ok, Err}
-use Rattle.std.specs.Prelude.{◌||◌, is_some, MatchResult}
-use Rattle.std.specs.Cmp.{nat_cmp_total, nat_eq_equiv, unsigned_tied}
+-- Ascending lists under a total order: the ascending list of a list that ascends is itself, and lists with the same members have the same one.
+use Rattle.std.proofs.Common.{◌≡◌, ℕ, Bool, true, false, eqb, List, [], ◌∷◌, map, Option, Some, None, refl, sym, ap, subst, cond, ◌∙◌, arith}
+use Rattle.std.specs.Prelude.{◌||◌, Contains, is_some}
+use Rattle.std.specs.Cmp.{IsTotalOrder, nat_cmp_total, nat_eq_equiv, tied_itself, unsigned_tied}
 use Rattle.std.specs.FinMap as fin
+use Rattle.std.specs.FinMap.{IsAntisymmetric}
 use Rattle.std.specs.FinMap.Entries.{put, by_order, is_some-find}
-use Rattle.std.specs.List.{list_any, AllByRecursion, insert}
-use Rattle.std.specs.List.Sorted.{IsStrictlySortedBy, IsStrictlyIncreasing, IsBinarySearchResult}
-use Rattle.std.specs.Ordering.{nat_cmp, eq_by_cmp}
-use Rattle.std.specs.declared.cmp.Ordering.TheVariants.{Less}
-use Rattle.std.proofs.lemmas.Bool.{cases_lt, cases_eq}
-use Rattle.std.proofs.lemmas.List.{nil_from_length, length-map}
-use Rattle.std.proofs.lemmas.List.Edits.{length-insert, get_or-insert_below, get_or-insert_at, get_or-insert_above}
-use Rattle.std.proofs.lemmas.Map.Keys.{IsStrictlyIncreasing-from_sorted, sorted_from_strictly_increasing, non_decreasing_from_sorted}
-use Rattle.std.proofs.lemmas.List.Sorted.{list_any-IsPermutation, IsPermutation-insert, searched}
-use Rattle.std.proofs.lemmas.List.Folds.{list_any_at, list_any-append}
+use Rattle.std.specs.List.{list_any, dedup, AllByRecursion}
+use Rattle.std.specs.List.Sorted.{IsStrictlySortedBy, IsPermutation, IsSorted}
+use Rattle.std.specs.Ordering.{nat_cmp, eq_by_cmp, is_eq}
+use Rattle.std.specs.declared.cmp.Ordering.{Ordering}
+use Rattle.std.specs.declared.cmp.Ordering.TheVariants.{Less, Equal, Greater}
+use Rattle.std.proofs.lemmas.List.{nil_from_length}
+use Rattle.std.proofs.lemmas.List.Folds.{list_any-from_Any, Any-from_list_any}
+use Rattle.std.proofs.lemmas.List.Kept.{IsStrictlySortedBy-dedup, Contains-dedup, Contains-from_dedup}
+use Rattle.std.proofs.lemmas.List.Sorted.{Contains-permutation, IsPermutation-sym}
 use Rattle.gl_event.specs.Events.{ascending}
-use Rattle.gl_event.proofs.HeldLocks.{same_ascending}
+use Rattle.gl_edges.specs.Guards.{guard_cmp, guard_eq, guard_equiv, guard_ties, guard_total, ascending_guards}
+use Rattle.gl_edges.specs.declared.guards.Guard.{Guard}
+use Rattle.gl_edges.proofs.Orders.{guard_cmp_exact}
 
--- numbers as the keys of a map with nothing at each
-abbrev marked : List ℕ → List (ℕ × Unit {0})
-marked ns = map (λ n. (n, tt {0})) ns
+-- the test of a tie
+pub tie : (r : Ordering) → is_eq r ≡ true → r ≡ Equal
+tie Less e = absurd (cc)
+tie Equal e = refl
+tie Greater e = absurd (cc)
 
--- a key that is below all others goes to the front
-put_front : (n : ℕ) (ns : List ℕ) → AllByRecursion (λ m. nat_cmp n m ≡ Less) ns → put nat_cmp n tt (marked ns) ≡ marked (n ∷ ns)
-put_front n [] all = refl
-put_front n (m ∷ ns) all = ap (λ r. by_order r ((n, tt) ∷ (m, tt) ∷ marked ns) ((m, tt) ∷ marked ns) ((m, tt) ∷ put nat_cmp n tt (marked ns))) all.0
+-- two tests that imply each other
+either_way : (a b : Bool) → (a ≡ true → b ≡ true) → (b ≡ true → a ≡ true) → a ≡ b
+either_way true b to from = sym (to refl)
+either_way false true to from = from refl
+either_way false false to from = refl
 
--- the map of an ascending list has it as its entries
-entries_of : (ns : List ℕ) → IsStrictlySortedBy nat_cmp ns → fin.entries (fin.from_entries {R = nat_cmp} (marked ns)) ≡ marked ns
-unfolding IsStrictlySortedBy
-entries_of [] sorted = nil_from_length _ (sym (fin.len-entries _) ∙ fin.len-empty nat_cmp (Unit {0}))
-entries_of (n ∷ ns) sorted =
-    fin.entries-insert nat_cmp_total _ n tt ∙ ap (put nat_cmp n tt) (entries_of ns sorted.1) ∙ put_front n ns sorted.0
+found : Bool → Option (Unit {0})
+found b = cond b (Some tt) None
 
--- the keys are the numbers
-keys_marked : (ns : List ℕ) → map (λ e. e.0) (marked ns) ≡ ns
+found_is : (x : Option (Unit {0})) → x ≡ found (is_some x)
+unfolding found
+found_is None = refl
+found_is (Some u) = refl
+
+-- elements as the keys of a map with nothing at each
+abbrev marked : {K : Type 0} → List K → List (K × Unit {0})
+marked xs = map (λ x. (x, tt {0})) xs
+
+-- the keys are the elements
+keys_marked : {K : Type 0} (xs : List K) → map (λ e. e.0) (marked xs) ≡ xs
 keys_marked [] = refl
-keys_marked (n ∷ ns) = ap (λ ms. n ∷ ms) (keys_marked ns)
+keys_marked (x ∷ xs) = ap (λ ys. x ∷ ys) (keys_marked xs)
 
--- the ascending list of an ascending list is itself
-pub ascending_sorted : (ns : List ℕ) → IsStrictlySortedBy nat_cmp ns → ascending ns ≡ ns
-ascending_sorted ns sorted = ap (map (λ e. e.0)) (entries_of ns sorted) ∙ keys_marked ns
+module _ {K : Type 0} (R : K → K → Ordering) (total : IsTotalOrder R) where
+  abbrev set_of : List K → fin.FinMap R (Unit {0})
+  set_of xs = fin.from_entries {R = R} (marked xs)
+
+  abbrev ascending_by : List K → List K
+  ascending_by xs = fin.keys (set_of xs)
+
+  -- a key that is below all others goes to the front
+  put_front : (x : K) (xs : List K) → AllByRecursion (λ y. R x y ≡ Less) xs → put R x tt (marked xs) ≡ marked (x ∷ xs)
+  put_front x [] all = refl
+  put_front x (y ∷ xs) all = ap (λ r. by_order r ((x, tt) ∷ (y, tt) ∷ marked xs) ((y, tt) ∷ marked xs) ((y, tt) ∷ put R x tt (marked xs))) all.0
+
+  -- the map of an ascending list has it as its entries
+  entries_of : (xs : List K) → IsStrictlySortedBy R xs → fin.entries (set_of xs) ≡ marked xs
+  unfolding IsStrictlySortedBy
+  entries_of [] sorted = nil_from_length _ (sym (fin.len-entries _) ∙ fin.len-empty R (Unit {0}))
+  entries_of (x ∷ xs) sorted = fin.entries-insert total _ x tt ∙ ap (put R x tt) (entries_of xs sorted.1) ∙ put_front x xs sorted.0
+
+  -- the ascending list of an ascending list is itself
+  pub sorted_stays : (xs : List K) → IsStrictlySortedBy R xs → ascending_by xs ≡ xs
+  sorted_stays xs sorted = ap (map (λ e. e.0)) (entries_of xs sorted) ∙ keys_marked xs
+
+  -- the set has what the list has
+  set_has : (xs : List K) (q : K) → fin.contains_key (set_of xs) q ≡ list_any (eq_by_cmp R q) xs
+  set_has xs q = ap is_some (fin.get-from_entries total (marked xs) q) ∙ is_some-find R q (marked xs) ∙ ap (list_any (eq_by_cmp R q)) (keys_marked xs)
+
+  any_from : (xs : List K) (q : K) → Contains xs q → list_any (eq_by_cmp R q) xs ≡ true
+  any_from xs q (k, within, is) = list_any-from_Any (eq_by_cmp R q) xs (k, q, within, is, ap is_eq (tied_itself total q))
+
+  module _ (exact : IsAntisymmetric R) where
+    from_any : (xs : List K) (q : K) → list_any (eq_by_cmp R q) xs ≡ true → Contains xs q
+    from_any xs q any =
+        let (k, x, within, is, same) = Any-from_list_any (eq_by_cmp R q) xs any in
+        let e : q ≡ x = exact q x (tie (R q x) same) in
+        subst (Contains xs) (sym e) (k, within, is)
+
+    -- the ascending list has the elements of the list
+    pub ascending_has : (xs : List K) (q : K) → Contains xs q → Contains (ascending_by xs) q
+    ascending_has xs q at = from_any (ascending_by xs) q (sym (fin.contains_key-keys (set_of xs) q) ∙ set_has xs q ∙ any_from xs q at)
+
+    -- and no others
+    pub ascending_from : (xs : List K) (q : K) → Contains (ascending_by xs) q → Contains xs q
+    ascending_from xs q at = from_any xs q (sym (set_has xs q) ∙ fin.contains_key-keys (set_of xs) q ∙ any_from (ascending_by xs) q at)
+
+    -- lists with the same members have the same ascending list
+    pub same_members : (xs ys : List K) → ((q : K) → Contains xs q → Contains ys q) → ((q : K) → Contains ys q → Contains xs q) → ascending_by xs ≡ ascending_by ys
+    same_members xs ys to from =
+        ap fin.keys (fin.same_map total exact (set_of xs) (set_of ys) (λ q.
+        found_is _ ∙ ap found (set_has xs q
+        ∙ either_way _ _ (λ any. any_from ys q (to q (from_any xs q any))) (λ any. any_from xs q (from q (from_any ys q any)))
+        ∙ sym (set_has ys q)) ∙ sym (found_is _)))
+
+-- ---- numbers
 
 -- a test by the order is one by equality
 tested : (ns : List ℕ) (q : ℕ) → list_any (eq_by_cmp nat_cmp q) ns ≡ list_any (λ l. eqb l q) ns
@@ -51,98 +111,24 @@ tested (n ∷ ns) q = λ i. (unsigned_tied q n ∙ nat_eq_equiv.symm q n) i || t
 pub ascending_any : (ns : List ℕ) (q : ℕ) → list_any (λ l. eqb l q) (ascending ns) ≡ list_any (λ l. eqb l q) ns
 ascending_any ns q =
     sym (tested (ascending ns) q)
-    ∙ sym (fin.contains_key-keys (fin.from_entries {R = nat_cmp} (marked ns)) q)
-    ∙ ap is_some (fin.get-from_entries nat_cmp_total (marked ns) q)
-    ∙ is_some-find nat_cmp q (marked ns)
-    ∙ ap (list_any (eq_by_cmp nat_cmp q)) (keys_marked ns)
+    ∙ sym (fin.contains_key-keys (set_of nat_cmp nat_cmp_total ns) q)
+    ∙ set_has nat_cmp nat_cmp_total ns q
     ∙ tested ns q
 
--- where a number stands above those before a place and below those from there on
-pub record FitsAt (xs : List ℕ) (i x : ℕ) : Type 0 where
-  -- the place lies in the list or at its end
-  pub within : i ≤ length xs
-  -- the number is above those before
-  pub above : (k : ℕ) → k < i → get_or xs k 0 < x
-  -- and below the others
-  pub below : (k : ℕ) → i ≤ k → k < length xs → x < get_or xs k 0
+-- ---- guards
 
--- after the insert each number is below the next
-rises_at : (xs : List ℕ) (i x : ℕ) → IsStrictlyIncreasing xs → FitsAt xs i x → (k : ℕ) → k + 1 < length xs + 1 → get_or (insert xs i x) k 0 < get_or (insert xs i x) (k + 1) 0
-rises_at xs i x rises fits k within =
-    elim (cases_lt k i) [
-      | inl front ↦
-          let here = get_or-insert_below xs i x 0 k front fits.within in
-          elim (cases_lt (k + 1) i) [
-            | inl both ↦
-                let next = get_or-insert_below xs i x 0 (k + 1) both fits.within in
-                let w = fits.within in
-                rw (here, next) (rises k (omega arith))
-            | inr last ↦
-                let is : k + 1 ≡ i = omega arith in
-                let next = get_or-insert_at xs i x 0 fits.within in
-                rw (here, is, next) (fits.above k front)
-          ]
-      | inr back ↦
-          let next = get_or-insert_above xs i x 0 k back fits.within in
-          elim (cases_eq k i) [
-            | inl is ↦
-                let here : get_or (insert xs i x) k 0 ≡ x = ap (λ j. get_or (insert xs i x) j 0) is ∙ get_or-insert_at xs i x 0 fits.within in
-                rw (next, here) (fits.below k back (omega arith))
-            | inr later ↦
-                let j = k - 1 in
-                let is : (k - 1) + 1 ≡ k = omega arith in
-                let here : get_or (insert xs i x) k 0 ≡ get_or xs (k - 1) 0 = ap (λ j. get_or (insert xs i x) j 0) (sym is) ∙ get_or-insert_above xs i x 0 (k - 1) (omega arith) fits.within in
-                let up = rises (k - 1) (omega arith) in
-                rw (next, here) (subst (λ j. get_or xs (k - 1) 0 < get_or xs j 0) is up)
-          ]
-    ]
+-- guards that are sorted and freed of repeats ascend
+pub dedup_ascends : (gs : List Guard) → IsSorted guard_cmp gs → IsStrictlySortedBy guard_cmp (dedup guard_eq gs)
+dedup_ascends gs sorted = IsStrictlySortedBy-dedup guard_total guard_ties gs sorted
 
--- a number inserted where it fits leaves the list ascending
-pub sorted_insert : (xs : List ℕ) (i x : ℕ) → IsStrictlySortedBy nat_cmp xs → FitsAt xs i x → IsStrictlySortedBy nat_cmp (insert xs i x)
-sorted_insert xs i x sorted fits =
-    sorted_from_strictly_increasing (insert xs i x)
-    (λ k within. let long = length-insert xs i x fits.within in rises_at xs i x (IsStrictlyIncreasing-from_sorted xs sorted) fits k (omega arith))
+-- guards that are counted as the same are
+same_guard : (a b : Guard) → guard_eq a b ≡ true → a ≡ b
+same_guard a b same = guard_cmp_exact a b (tie (guard_cmp a b) (sym (guard_ties a b) ∙ same))
 
--- a set with one more number
-pub ascending_insert : (xs : List ℕ) (i x : ℕ) → IsStrictlySortedBy nat_cmp xs → FitsAt xs i x → ascending (x ∷ xs) ≡ insert xs i x
-ascending_insert xs i x sorted fits =
-    same_ascending (x ∷ xs) (insert xs i x) (λ q. list_any-IsPermutation (λ l. eqb l q) (x ∷ xs) (insert xs i x) (IsPermutation-insert xs i x))
-    ∙ ascending_sorted (insert xs i x) (sorted_insert xs i x sorted fits)
-
--- a set with a number that it has
-pub ascending_present : (xs : List ℕ) (i x : ℕ) → IsStrictlySortedBy nat_cmp xs → i < length xs → get_or xs i 0 ≡ x → ascending (x ∷ xs) ≡ xs
-ascending_present xs i x sorted within is =
-    same_ascending (x ∷ xs) xs (λ q. there xs i x within is q)
-    ∙ ascending_sorted xs sorted
-  where
-    or_there : (a b : Bool) → (a ≡ true → b ≡ true) → (a || b) ≡ b
-    or_there true b f = sym (f refl)
-    or_there false b f = refl
-
-    there : (xs : List ℕ) (i x : ℕ) → i < length xs → get_or xs i 0 ≡ x → (q : ℕ) → (eqb x q || list_any (λ l. eqb l q) xs) ≡ list_any (λ l. eqb l q) xs
-    there xs i x within is q =
-        or_there (eqb x q) (list_any (λ l. eqb l q) xs)
-        (λ same. list_any_at (λ l. eqb l q) xs i 0 within (ap (λ l. eqb l q) is ∙ same))
-
--- a set of numbers, and one more
-pub ascending_push : (xs : List ℕ) (x : ℕ) → ascending (x ∷ ascending xs) ≡ ascending (xs ++ x ∷ [])
-ascending_push xs x =
-    same_ascending (x ∷ ascending xs) (xs ++ x ∷ [])
-    (λ q. ap (λ b. eqb x q || b) (ascending_any xs q) ∙ last (eqb x q) (list_any (λ l. eqb l q) xs) ∙ sym (list_any-append (λ l. eqb l q) xs (x ∷ [])))
-  where
-    last : (a b : Bool) → (a || b) ≡ (b || (a || false))
-    last true true = refl
-    last true false = refl
-    last false true = refl
-    last false false = refl
-
--- no numbers
-pub ascending_nil : ascending [] ≡ []
-ascending_nil = nil_from_length _ (length-map (fin.entries (fin.empty {X = Unit {0}} {R = nat_cmp})) (λ e. e.0) ∙ sym (fin.len-entries _) ∙ fin.len-empty nat_cmp (Unit {0}))
-
--- where a search in an ascending list ends
-pub search_ends : (xs : List ℕ) (x : ℕ) (r : Result ℕ ℕ) → IsStrictlySortedBy nat_cmp xs → IsBinarySearchResult (λ y. nat_cmp y x) xs r → MatchResult r (λ i. (i < length xs) × (get_or xs i 0 ≡ x)) (λ i. FitsAt xs i x)
-search_ends xs x (Ok i) sorted found = searched xs x (Ok i) found (λ i j up within. non_decreasing_from_sorted xs sorted i j 0 up within)
-search_ends xs x (Err i) sorted found =
-    let ends = searched xs x (Err i) found (λ i j up within. non_decreasing_from_sorted xs sorted i j 0 up within) in
-    record { within = ends.0; above = ends.1; below = ends.2 }
+-- they are the ascending list of the guards
+pub dedup_is_ascending : (xs ys : List Guard) → IsPermutation xs ys → IsSorted guard_cmp ys → dedup guard_eq ys ≡ ascending_guards xs
+dedup_is_ascending xs ys same sorted =
+    sym (sorted_stays guard_cmp guard_total (dedup guard_eq ys) (dedup_ascends ys sorted))
+    ∙ same_members guard_cmp guard_total guard_cmp_exact (dedup guard_eq ys) xs
+    (λ q at. Contains-permutation ys xs q (IsPermutation-sym xs ys same) (Contains-from_dedup guard_eq ys q at))
+    (λ q at. Contains-dedup guard_equiv same_guard ys q (Contains-permutation xs ys q same at))

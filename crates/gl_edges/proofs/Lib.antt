@@ -1,10 +1,10 @@
 pub mod Orders
 pub mod Guarding
 pub mod Membership
-pub mod Sets
 pub mod Least
 pub mod Tables
 pub mod Merging
+pub mod Holding
 pub mod Following
 pub mod Gathering
 pub mod Fronts

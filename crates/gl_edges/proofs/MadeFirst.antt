@@ -8,9 +8,11 @@ use Rattle.std.specs.declared.cmp.Ordering.TheVariants.{Less, Equal, Greater}
 use Rattle.std.proofs.lemmas.Bool.{cases_lt, lt-ltb}
 use Rattle.std.proofs.lemmas.List.{take-take, take-append-drop, length-take-le}
 use Rattle.std.proofs.lemmas.Option.{slice_get_within, slice_get-get_or}
-use Rattle.gl_event.specs.Events.{depth, location, segment, opened, opens, entry_of}
+use Rattle.gl_event.specs.Events.{depth, location, lock_mode, segment, held_mode, opened, opens, entry_of}
 use Rattle.gl_event.specs.declared.events.Event.{Event}
 use Rattle.gl_event.specs.declared.events.Event.TheVariants.{Acquire, Release}
+use Rattle.gl_event.specs.declared.events.LockMode.{LockMode}
+use Rattle.gl_event.specs.declared.events.LockMode.TheVariants.{Exclusive}
 use Rattle.gl_event.proofs.Depths.{greatest_is_below, nonempty_where_held, slice_get_before}
 use Rattle.gl_edges.specs.Edges.{sample_of, pair_at, edges_made, once, edges, least_samples}
 use Rattle.gl_edges.specs.Laws.{Makes, IsMade, IsMadeFirst}
@@ -59,6 +61,11 @@ some_or : (o : Option Event) (e : Event) → o ≡ Some e → option_map locatio
 some_or None e is = absurd (cc)
 some_or (Some f) e is = refl
 
+-- the mode of an entry
+mode_of : (es : List Event) (lock : ℕ) → (entry_of es lock).mode ≡ held_mode es lock
+unfolding entry_of
+mode_of es lock = refl
+
 -- the location of an entry, in the whole list
 loc_is : (es : List Event) (place lock : ℕ) → 0 < depth (take place es) lock → option_map location (slice_get es (opened (take place es) lock)) ≡ Some ((entry_of (take place es) lock).loc)
 loc_is es place lock deep =
@@ -67,7 +74,7 @@ loc_is es place lock deep =
     let same : slice_get es q ≡ slice_get (take place es) q =
     ap (λ xs. slice_get xs q) (sym (take-append-drop place es)) ∙ slice_get_before (take place es) (drop place es) q within in
     ap (option_map location) same
-    ∙ some_or (slice_get (take place es) q) (get_or (take place es) q (Release 0 0)) (slice_get-get_or (take place es) q (Release 0 0) within)
+    ∙ some_or (slice_get (take place es) q) (get_or (take place es) q (Release 0 Exclusive 0)) (slice_get-get_or (take place es) q (Release 0 Exclusive 0) within)
     ∙ ap Some (sym (loc_of (take place es) lock))
 
 -- ---- a pair at a place, in the words of the events
@@ -79,23 +86,24 @@ record IsMadeAt (es : List Event) (place : ℕ) (pair : Edge × Sample) : Type 0
   at : pair.1.place ≡ place
   -- and the location of the held lock
   held_at : option_map location (slice_get es (opened (take place es) pair.0.held)) ≡ Some pair.1.held_loc
-  -- and that of the wanted lock
+  -- and that of the wanted mode lock
   wanted_at : option_map location (slice_get es place) ≡ Some pair.1.wanted_loc
 
 -- the pairs of an acquire are made there
-made_of : (thread : ℕ) (es : List Event) (place wanted loc lock : ℕ) → slice_get es place ≡ Some (Acquire wanted loc) → depth (take place es) wanted ≡ 0 → 0 < depth (take place es) lock
-    → IsMadeAt es place (pair_at thread (take place es) wanted loc lock)
-made_of thread es place wanted loc lock acquires free deep = record {
+made_of : (thread : ℕ) (es : List Event) (place wanted : ℕ) (mode : LockMode) (loc lock : ℕ) → slice_get es place ≡ Some (Acquire wanted mode loc) → depth (take place es) wanted ≡ 0 → 0 < depth (take place es) lock
+    → IsMadeAt es place (pair_at thread (take place es) wanted mode loc lock)
+made_of thread es place wanted mode loc lock acquires free deep = record {
   made = record {
     loc = loc;
     wants = acquires;
     outermost = free;
     holds = deep;
+    holds_as = mode_of (take place es) lock;
     opened_in = seg_is es place lock deep;
     acquired_in = refl;
     guarded = refl;
   };
-  at = length-take-le place es (let w = slice_get_within es place (Acquire wanted loc) acquires in omega arith);
+  at = length-take-le place es (let w = slice_get_within es place (Acquire wanted mode loc) acquires in omega arith);
   held_at = loc_is es place lock deep;
   wanted_at = ap (option_map location) acquires;
 }
@@ -115,7 +123,7 @@ made_by : (lists : List (List Event)) (pair : Edge × Sample) → Contains (edge
 made_by lists pair at =
     let p = made_from lists pair at in
     subst (IsMadeBy lists) p.made.is
-    (record { es = p.es; of_thread = p.of_thread; place = p.place; made_at = made_of p.thread p.es p.place p.wanted p.loc p.made.lock p.acquires p.made.free p.made.deep })
+    (record { es = p.es; of_thread = p.of_thread; place = p.place; made_at = made_of p.thread p.es p.place p.wanted p.mode p.loc p.made.lock p.acquires p.made.free p.made.deep })
 
 -- the sample of an edge that is made at a place
 abbrev sample_at : (es : List Event) (place : ℕ) (edge : Edge) → Makes es place edge → Sample
@@ -127,8 +135,9 @@ made_pair lists es edge of_thread place made =
     let first = seg_is es place edge.held made.holds ∙ sym made.opened_in in
     let second = sym made.acquired_in in
     let guards = sym made.guarded in
-    let is : pair_at edge.thread (take place es) edge.wanted made.loc edge.held ≡ (edge, sample_at es place edge made) =
-    λ i. (record { thread = edge.thread; held = edge.held; wanted = edge.wanted; first = first i; second = second i; guards = guards i }, sample_at es place edge made) in
+    let held_as = mode_of (take place es) edge.held ∙ sym made.holds_as in
+    let is : pair_at edge.thread (take place es) edge.wanted edge.wanted_mode made.loc edge.held ≡ (edge, sample_at es place edge made) =
+    λ i. (record { thread = edge.thread; held = edge.held; held_mode = held_as i; wanted = edge.wanted; wanted_mode = edge.wanted_mode; first = first i; second = second i; guards = guards i }, sample_at es place edge made) in
     made_has lists (edge, sample_at es place edge made)
     (record {
       thread = edge.thread;
@@ -136,6 +145,7 @@ made_pair lists es edge of_thread place made =
       of_thread = of_thread;
       place = place;
       wanted = edge.wanted;
+      mode = edge.wanted_mode;
       loc = made.loc;
       acquires = made.wants;
       made = record { lock = edge.held; free = made.outermost; deep = made.holds; is = is };
@@ -198,7 +208,7 @@ same_list lists thread es fs p q = same_some fs es (slice_get lists thread) q p
 
 -- the sample of an edge that is made at a place has that place
 sample_place : (es : List Event) (place : ℕ) (edge : Edge) (made : Makes es place edge) → (sample_at es place edge made).place ≡ place
-sample_place es place edge made = length-take-le place es (let w = slice_get_within es place (Acquire edge.wanted made.loc) made.wants in omega arith)
+sample_place es place edge made = length-take-le place es (let w = slice_get_within es place (Acquire edge.wanted edge.wanted_mode made.loc) made.wants in omega arith)
 
 -- a sample of the list is where the edge is made first
 pub made_first : (lists : List (List Event)) (edge : Edge) (sample : Sample) → Contains (edges lists) (edge, sample) → IsMadeFirst lists edge sample

@@ -9,7 +9,7 @@ use Rattle.std.proofs.lemmas.List.Sums.{sum_by-cons}
 use Rattle.std.proofs.lemmas.Map.Views.{any-filter_same}
 use Rattle.gl_event.specs.Events.{acquires, acquired_lock, depth, held}
 use Rattle.gl_event.specs.declared.events.Event.{Event}
-use Rattle.gl_event.specs.declared.events.Event.TheVariants.{Acquire, Release, Fork, Join}
+use Rattle.gl_event.specs.declared.events.Event.TheVariants.{Acquire, Release, TryAcquire, Fork, Join}
 use Rattle.gl_edges.proofs.Guarding.{ascending_any}
 
 -- the first element
@@ -98,15 +98,16 @@ contains_from_any ns q any =
 
 -- ---- held locks
 
+one_more : (b c : Bool) (n : ℕ) → c ≡ ltb 0 n → (b || c) ≡ ltb 0 (cond b 1 0 + n)
+one_more true c n same = sym (lt-ltb 0 (1 + n) (omega arith))
+one_more false c n same = same ∙ ap (ltb 0) (omega arith)
+
 -- a lock is among those that the events acquire where it was acquired at least once
 acquired_any : (es : List Event) (lock : ℕ) → list_any (λ l. eqb l lock) (filter_map acquired_lock es) ≡ ltb 0 (count_by (acquires lock) es)
 acquired_any [] lock = refl
-acquired_any (Acquire l loc ∷ es) lock = rw sum_by-cons (one_more (eqb l lock) _ _ (acquired_any es lock))
-  where
-    one_more : (b c : Bool) (n : ℕ) → c ≡ ltb 0 n → (b || c) ≡ ltb 0 (cond b 1 0 + n)
-    one_more true c n same = sym (lt-ltb 0 (1 + n) (omega arith))
-    one_more false c n same = same ∙ ap (ltb 0) (omega arith)
-acquired_any (Release l loc ∷ es) lock = rw sum_by-cons (acquired_any es lock ∙ ap (ltb 0) (omega arith))
+acquired_any (Acquire l mode loc ∷ es) lock = rw sum_by-cons (one_more (eqb l lock) _ _ (acquired_any es lock))
+acquired_any (TryAcquire l mode loc ∷ es) lock = rw sum_by-cons (one_more (eqb l lock) _ _ (acquired_any es lock))
+acquired_any (Release l mode loc ∷ es) lock = rw sum_by-cons (acquired_any es lock ∙ ap (ltb 0) (omega arith))
 acquired_any (Fork t loc ∷ es) lock = rw sum_by-cons (acquired_any es lock ∙ ap (ltb 0) (omega arith))
 acquired_any (Join t loc ∷ es) lock = rw sum_by-cons (acquired_any es lock ∙ ap (ltb 0) (omega arith))
 

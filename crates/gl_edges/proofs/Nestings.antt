@@ -6,55 +6,61 @@ use Rattle.std.specs.BTreeSet.{insert_key}
 use Rattle.std.specs.Cmp.Lexicographic.{slice_cmp}
 use Rattle.std.specs.FinMap.{IsAntisymmetric, nat_cmp-IsAntisymmetric, slice_cmp-IsAntisymmetric}
 use Rattle.std.specs.List.{list_any}
-use Rattle.std.specs.Ordering.{nat_cmp, on, then_cmp, is_eq, match_ordering}
+use Rattle.std.specs.Ordering.{nat_cmp, on, then_cmp, match_ordering}
 use Rattle.std.specs.declared.cmp.Ordering.{Ordering}
 use Rattle.std.specs.declared.cmp.Ordering.TheVariants.{Less, Equal, Greater}
 use Rattle.std.proofs.lemmas.List.Folds.{Any-from_list_any}
-use Rattle.std.proofs.lemmas.List.Sorted.{IsPermutation-map, IsPermutation-sym, Contains-permutation, list_any-IsPermutation}
-use Rattle.std.proofs.lemmas.Simd.{map-map}
-use Rattle.gl_event.specs.Events.{ascending}
+use Rattle.std.proofs.lemmas.List.Sorted.{IsPermutation-sym, Contains-permutation}
+use Rattle.gl_event.specs.Modes.{mode_cmp}
+use Rattle.gl_event.specs.declared.events.LockMode.{LockMode}
 use Rattle.gl_event.specs.declared.held.HeldEntry.{HeldEntry}
-use Rattle.gl_event.proofs.HeldLocks.{same_ascending}
-use Rattle.gl_edges.specs.Seen.{opened_of, edge_from, edges_from, edges_from_all, edges_now}
+use Rattle.gl_edges.specs.Guards.{guard_cmp, guard_of, guard_total, guards_of, ascending_guards}
+use Rattle.gl_edges.specs.Seen.{opened_of, guard_from, edge_from, edges_from, edges_from_all, edges_now}
 use Rattle.gl_edges.specs.declared.edge.Edge.{Edge}
 use Rattle.gl_edges.specs.declared.seen.Nesting.{Nesting}
 use Rattle.gl_edges.specs.declared.seen.Opened.{Opened}
 use Rattle.gl_edges.specs.declared.tracker.Tracker.{Tracker}
 use Rattle.gl_edges.proofs.Membership.{contains_here, contains_later, contains_cases, contains_map, contains_map_from, contains_flat_map, contains_flat_map_from}
-use Rattle.gl_edges.proofs.Orders.{ties_first, ties_second}
+use Rattle.gl_edges.proofs.Orders.{ties_first, ties_second, mode_cmp_exact, guard_cmp_exact}
+use Rattle.gl_edges.proofs.Guarding.{same_members, tie}
 
 -- ---- acquires that tie
 
 -- held locks by their fields
 abbrev opened_cmp : Opened → Opened → Ordering
-opened_cmp = then_cmp (on (λ o. o.lock) nat_cmp) (on (λ o. o.first) nat_cmp)
+opened_cmp = then_cmp (on (λ o. o.lock) nat_cmp) (then_cmp (on (λ o. o.mode) mode_cmp) (on (λ o. o.first) nat_cmp))
 
 -- acquires by their fields
 abbrev nesting_cmp : Nesting → Nesting → Ordering
 nesting_cmp =
     then_cmp (on (λ n. n.wanted) nat_cmp)
+    (then_cmp (on (λ n. n.mode) mode_cmp)
     (then_cmp (on (λ n. n.second) nat_cmp)
-    (then_cmp (on (λ n. n.thread) nat_cmp) (on (λ n. n.held.items) (slice_cmp opened_cmp))))
+    (then_cmp (on (λ n. n.thread) nat_cmp) (on (λ n. n.held.items) (slice_cmp opened_cmp)))))
 
 -- held locks that tie are equal
 opened_exact : IsAntisymmetric opened_cmp
 opened_exact a b e =
     let lock : a.lock ≡ b.lock = nat_cmp-IsAntisymmetric _ _ (ties_first _ _ e) in
-    let first : a.first ≡ b.first = nat_cmp-IsAntisymmetric _ _ (ties_second (nat_cmp a.lock b.lock) _ e) in
-    λ i. record { lock = lock i; first = first i }
+    let rest = ties_second (nat_cmp a.lock b.lock) _ e in
+    let mode : a.mode ≡ b.mode = mode_cmp_exact _ _ (ties_first _ _ rest) in
+    let first : a.first ≡ b.first = nat_cmp-IsAntisymmetric _ _ (ties_second (mode_cmp a.mode b.mode) _ rest) in
+    λ i. record { lock = lock i; mode = mode i; first = first i }
 
 -- acquires with equal fields have the same edges
-same_edges : (a b : Nesting) → a.thread ≡ b.thread → a.wanted ≡ b.wanted → a.second ≡ b.second → a.held.items ≡ b.held.items → edges_from a ≡ edges_from b
-same_edges a b thread wanted second held = λ i.
+same_edges : (a b : Nesting) → a.thread ≡ b.thread → a.wanted ≡ b.wanted → a.mode ≡ b.mode → a.second ≡ b.second → a.held.items ≡ b.held.items → edges_from a ≡ edges_from b
+same_edges a b thread wanted mode second held = λ i.
     map
     (λ (o : Opened).
     record {
       thread = thread i;
       held = o.lock;
+      held_mode = o.mode;
       wanted = wanted i;
+      wanted_mode = mode i;
       first = o.first;
       second = second i;
-      guards = ascending (map (λ o. o.lock) (held i));
+      guards = ascending_guards (map guard_from (held i));
     })
     (held i)
 
@@ -62,86 +68,93 @@ same_edges a b thread wanted second held = λ i.
 tied_edges : (a b : Nesting) → nesting_cmp a b ≡ Equal → edges_from a ≡ edges_from b
 tied_edges a b e =
     let wanted : a.wanted ≡ b.wanted = nat_cmp-IsAntisymmetric _ _ (ties_first _ _ e) in
-    let e1 = ties_second (nat_cmp a.wanted b.wanted) _ e in
+    let e0 = ties_second (nat_cmp a.wanted b.wanted) _ e in
+    let mode : a.mode ≡ b.mode = mode_cmp_exact _ _ (ties_first _ _ e0) in
+    let e1 = ties_second (mode_cmp a.mode b.mode) _ e0 in
     let second : a.second ≡ b.second = nat_cmp-IsAntisymmetric _ _ (ties_first _ _ e1) in
     let e2 = ties_second (nat_cmp a.second b.second) _ e1 in
     let thread : a.thread ≡ b.thread = nat_cmp-IsAntisymmetric _ _ (ties_first _ _ e2) in
     let held : a.held.items ≡ b.held.items = slice_cmp-IsAntisymmetric opened_exact _ _ (ties_second (nat_cmp a.thread b.thread) _ e2) in
-    same_edges a b thread wanted second held
-
--- the test of a tie
-tie : (r : Ordering) → is_eq r ≡ true → r ≡ Equal
-tie Less e = absurd (cc)
-tie Equal e = refl
-tie Greater e = absurd (cc)
+    same_edges a b thread wanted mode second held
 
 -- ---- the edges of the next acquire
 
 -- an acquire that is made now, by its fields
-pub record IsNow (tracker : Tracker) (wanted : ℕ) (nesting : Nesting) : Type 0 where
+pub record IsNow (tracker : Tracker) (wanted : ℕ) (mode : LockMode) (nesting : Nesting) : Type 0 where
   -- the thread
   pub of_thread : nesting.thread ≡ tracker.thread
   -- the lock
   pub wants : nesting.wanted ≡ wanted
+  -- its mode
+  pub wants_as : nesting.mode ≡ mode
   -- the segment
   pub in_segment : nesting.second ≡ tracker.segment
   -- the held locks, in some order
   pub holds : IsPermutation (map opened_of tracker.held) nesting.held.items
 
 -- the edge of an acquire that is made now, for a held lock
-abbrev edge_now : Tracker → ℕ → HeldEntry → Edge
-edge_now tracker wanted h =
+abbrev edge_now : Tracker → ℕ → LockMode → HeldEntry → Edge
+edge_now tracker wanted mode h =
     record {
       thread = tracker.thread;
       held = h.lock;
+      held_mode = h.mode;
       wanted = wanted;
+      wanted_mode = mode;
       first = h.seg;
       second = tracker.segment;
-      guards = ascending (map (λ h. h.lock) tracker.held);
+      guards = guards_of tracker.held;
     }
 
-module _ (tracker : Tracker) (wanted : ℕ) (nesting : Nesting) (is_now : IsNow tracker wanted nesting) where
+module _ (tracker : Tracker) (wanted : ℕ) (mode : LockMode) (nesting : Nesting) (is_now : IsNow tracker wanted mode nesting) where
   -- its guards are the locks that are held
-  same_guards : ascending (map (λ o. o.lock) nesting.held.items) ≡ ascending (map (λ h. h.lock) tracker.held)
+  same_guards : ascending_guards (map guard_from nesting.held.items) ≡ guards_of tracker.held
   same_guards =
-      sym
-      (ap ascending (sym (map-map (λ (o : Opened). o.lock) opened_of tracker.held))
-      ∙ same_ascending _ _
-      (λ q. list_any-IsPermutation _ (map (λ (o : Opened). o.lock) (map opened_of tracker.held)) (map (λ o. o.lock) nesting.held.items)
-      (IsPermutation-map (λ (o : Opened). o.lock) (map opened_of tracker.held) nesting.held.items is_now.holds)))
+      same_members guard_cmp guard_total guard_cmp_exact (map guard_from nesting.held.items) (map guard_of tracker.held)
+      (λ g at.
+        let (o, there, is) = contains_map_from guard_from g nesting.held.items at in
+        let before = Contains-permutation nesting.held.items (map opened_of tracker.held) o (IsPermutation-sym (map opened_of tracker.held) nesting.held.items is_now.holds) there in
+        let (h, here, same) = contains_map_from opened_of o tracker.held before in
+        subst (Contains (map guard_of tracker.held)) (ap guard_from same ∙ is) (contains_map guard_of h tracker.held here))
+      (λ g at.
+        let (h, here, is) = contains_map_from guard_of g tracker.held at in
+        subst (Contains (map guard_from nesting.held.items)) is
+        (contains_map guard_from (opened_of h) nesting.held.items (Contains-permutation (map opened_of tracker.held) nesting.held.items (opened_of h) is_now.holds (contains_map opened_of h tracker.held here))))
 
   -- its edge for a held lock
-  same_edge : (h : HeldEntry) → edge_from nesting (opened_of h) ≡ edge_now tracker wanted h
+  same_edge : (h : HeldEntry) → edge_from nesting (opened_of h) ≡ edge_now tracker wanted mode h
   same_edge h = λ i. record {
     thread = is_now.of_thread i;
     held = h.lock;
+    held_mode = h.mode;
     wanted = is_now.wants i;
+    wanted_mode = is_now.wants_as i;
     first = h.seg;
     second = is_now.in_segment i;
     guards = same_guards i;
   }
 
   -- its edges are those that are made now
-  pub from_now : (edge : Edge) → Contains (edges_now tracker wanted) edge → Contains (edges_from nesting) edge
+  pub from_now : (edge : Edge) → Contains (edges_now tracker wanted mode) edge → Contains (edges_from nesting) edge
   from_now edge at =
-      let (h, there, is) = contains_map_from (edge_now tracker wanted) edge tracker.held at in
+      let (h, there, is) = contains_map_from (edge_now tracker wanted mode) edge tracker.held at in
       subst (Contains (edges_from nesting)) (same_edge h ∙ is)
       (contains_map (edge_from nesting) (opened_of h) nesting.held.items
       (Contains-permutation (map opened_of tracker.held) nesting.held.items (opened_of h) is_now.holds (contains_map opened_of h tracker.held there)))
 
   -- and no others
-  pub to_now : (edge : Edge) → Contains (edges_from nesting) edge → Contains (edges_now tracker wanted) edge
+  pub to_now : (edge : Edge) → Contains (edges_from nesting) edge → Contains (edges_now tracker wanted mode) edge
   to_now edge at =
       let (o, there, is) = contains_map_from (edge_from nesting) edge nesting.held.items at in
       let before = Contains-permutation nesting.held.items (map opened_of tracker.held) o (IsPermutation-sym (map opened_of tracker.held) nesting.held.items is_now.holds) there in
       let (h, here, same) = contains_map_from opened_of o tracker.held before in
-      subst (Contains (edges_now tracker wanted)) (sym (same_edge h) ∙ ap (edge_from nesting) same ∙ is)
-      (contains_map (edge_now tracker wanted) h tracker.held here)
+      subst (Contains (edges_now tracker wanted mode)) (sym (same_edge h) ∙ ap (edge_from nesting) same ∙ is)
+      (contains_map (edge_now tracker wanted mode) h tracker.held here)
 
   -- ---- acquires that were noted
 
   -- where the acquire is among those that were noted, its edges are theirs
-  pub found_now : (nestings : List Nesting) → list_any (is_at (nesting_cmp nesting)) nestings ≡ true → (edge : Edge) → Contains (edges_now tracker wanted) edge → Contains (edges_from_all nestings) edge
+  pub found_now : (nestings : List Nesting) → list_any (is_at (nesting_cmp nesting)) nestings ≡ true → (edge : Edge) → Contains (edges_now tracker wanted mode) edge → Contains (edges_from_all nestings) edge
   found_now nestings found edge at =
       let (k, other, within, is, same) = Any-from_list_any (is_at (nesting_cmp nesting)) nestings found in
       contains_flat_map edges_from other edge nestings (k, within, is)
@@ -173,11 +186,11 @@ insert_from cmp k x (y ∷ ys) at = by (cmp k y) at (λ later. insert_from cmp k
         ]
 
 -- the edges of acquires with one more
-pub noted_now : (tracker : Tracker) (wanted : ℕ) (nesting : Nesting) → IsNow tracker wanted nesting → (cmp : Nesting → Nesting → Ordering) (nestings : List Nesting) (edge : Edge)
-    → Contains (edges_from_all (insert_key cmp nestings nesting)) edge → Contains (edges_from_all nestings) edge ⊎ Contains (edges_now tracker wanted) edge
-noted_now tracker wanted nesting is_now cmp nestings edge at =
+pub noted_now : (tracker : Tracker) (wanted : ℕ) (mode : LockMode) (nesting : Nesting) → IsNow tracker wanted mode nesting → (cmp : Nesting → Nesting → Ordering) (nestings : List Nesting) (edge : Edge)
+    → Contains (edges_from_all (insert_key cmp nestings nesting)) edge → Contains (edges_from_all nestings) edge ⊎ Contains (edges_now tracker wanted mode) edge
+noted_now tracker wanted mode nesting is_now cmp nestings edge at =
     let (other, there, has) = contains_flat_map_from edges_from edge (insert_key cmp nestings nesting) at in
     elim (insert_from cmp nesting other nestings there) [
       | inl old ↦ inl (contains_flat_map edges_from other edge nestings old has)
-      | inr is ↦ inr (to_now tracker wanted nesting is_now edge (subst (λ n. Contains (edges_from n) edge) (sym is) has))
+      | inr is ↦ inr (to_now tracker wanted mode nesting is_now edge (subst (λ n. Contains (edges_from n) edge) (sym is) has))
     ]

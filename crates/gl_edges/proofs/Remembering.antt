@@ -10,7 +10,8 @@ use Rattle.std.proofs.lemmas.List.{append-nil}
 use Rattle.std.proofs.lemmas.List.Elements.{Contains-append_left, Contains-append_right, Contains-append_cases}
 use Rattle.gl_event.specs.Events.{depth, held}
 use Rattle.gl_event.specs.declared.events.Event.{Event}
-use Rattle.gl_event.specs.declared.events.Event.TheVariants.{Acquire, Release, Fork, Join}
+use Rattle.gl_event.specs.declared.events.Event.TheVariants.{Acquire, Release, TryAcquire, Fork, Join}
+use Rattle.gl_event.specs.declared.events.LockMode.{LockMode}
 use Rattle.gl_edges.specs.Edges.{pair_at, edges_wanting, edges_after}
 use Rattle.gl_edges.specs.Gatherers.{AreBefore, Gathers}
 use Rattle.gl_edges.specs.Laws.{AreAmong}
@@ -75,37 +76,37 @@ later_above sample less later =
 
 -- ---- one acquire
 
-module _ (tracker : Tracker) (wanted loc : ℕ) where
+module _ (tracker : Tracker) (wanted : ℕ) (mode : LockMode) (loc : ℕ) where
   -- its edges with their samples
   abbrev more : List (Edge × Sample)
-  more = map (pair_for tracker wanted loc) tracker.held
+  more = map (pair_for tracker wanted mode loc) tracker.held
 
   -- where all its edges stand among the pairs with earlier samples, the table has them
   pub table_seen : (known : BTreeMap Edge Sample) (pairs : List (Edge × Sample)) (seen : List Edge) → AreBefore seen pairs tracker.place
-      → ((edge : Edge) → Contains (edges_now tracker wanted) edge → Contains seen edge) → IsTableOf known pairs → IsTableOf known (pairs ++ more)
+      → ((edge : Edge) → Contains (edges_now tracker wanted mode) edge → Contains seen edge) → IsTableOf known pairs → IsTableOf known (pairs ++ more)
   table_seen known pairs seen before all is = table_stays known pairs more less is
     where
       less : HaveLess pairs more
       less edge sample at =
-          let (h, there, same) = contains_map_from (pair_for tracker wanted loc) (edge, sample) tracker.held at in
-          let now : Contains (edges_now tracker wanted) edge =
-          subst (Contains (edges_now tracker wanted)) (ap (λ pair. pair.0) same) (contains_map (λ h. (pair_for tracker wanted loc h).0) h tracker.held there) in
+          let (h, there, same) = contains_map_from (pair_for tracker wanted mode loc) (edge, sample) tracker.held at in
+          let now : Contains (edges_now tracker wanted mode) edge =
+          subst (Contains (edges_now tracker wanted mode)) (ap (λ pair. pair.0) same) (contains_map (λ h. (pair_for tracker wanted mode loc h).0) h tracker.held there) in
           let (earlier, has, early) = before edge (all edge now) in
           (earlier, has, later_above sample earlier (subst (λ s. earlier.place < s.place) (ap (λ pair. pair.1) same) early))
 
   -- after it, its edges stand among the pairs
   pub before_more : (pairs : List (Edge × Sample)) (old new : List Edge) → AreBefore old pairs tracker.place
-      → ((edge : Edge) → Contains new edge → Contains old edge ⊎ Contains (edges_now tracker wanted) edge) → AreBefore new (pairs ++ more) (tracker.place + 1)
+      → ((edge : Edge) → Contains new edge → Contains old edge ⊎ Contains (edges_now tracker wanted mode) edge) → AreBefore new (pairs ++ more) (tracker.place + 1)
   before_more pairs old new before noted edge at =
       elim (noted edge at) [
         | inl was ↦
             let (sample, there, early) = before edge was in
             (sample, Contains-append_left pairs more (edge, sample) there, omega (arith, early))
         | inr now ↦
-            let (h, there, same) = contains_map_from (λ h. (pair_for tracker wanted loc h).0) edge tracker.held now in
-            let sample = (pair_for tracker wanted loc h).1 in (
+            let (h, there, same) = contains_map_from (λ h. (pair_for tracker wanted mode loc h).0) edge tracker.held now in
+            let sample = (pair_for tracker wanted mode loc h).1 in (
               sample,
-              Contains-append_right pairs more (edge, sample) (subst (λ e. Contains more (e, sample)) same (contains_map (pair_for tracker wanted loc) h tracker.held there)),
+              Contains-append_right pairs more (edge, sample) (subst (λ e. Contains more (e, sample)) same (contains_map (pair_for tracker wanted mode loc) h tracker.held there)),
               omega arith,
             )
       ]
@@ -126,19 +127,20 @@ gathers_nothing pairs none place gatherer nothing is =
     (record { table = is.table; seen = λ edge at. let (sample, there, early) = is.seen edge at in (sample, there, omega (arith, early)) })
 
 -- an acquire of a lock that isn't held
-pub gathers_acquire : (thread : ℕ) (es : List Event) (tracker : Tracker) → Tracks thread es tracker → (wanted loc : ℕ) (pairs : List (Edge × Sample)) (gatherer : Gatherer) → depth es wanted ≡ 0
-    → Gathers (pairs ++ more tracker wanted loc) (tracker.place + 1) gatherer → Gathers (pairs ++ edges_wanting thread es loc wanted) (length es + 1) gatherer
-gathers_acquire thread es tracker tracked wanted loc pairs gatherer free is =
-    subst (λ xs. Gathers (pairs ++ xs) (length es + 1) gatherer) (sym (wanting_is thread es loc wanted free))
-    (subst (λ place. Gathers (pairs ++ map (pair_at thread es wanted loc) (held es)) (place + 1) gatherer) tracked.at_place
+pub gathers_acquire : (thread : ℕ) (es : List Event) (tracker : Tracker) → Tracks thread es tracker → (wanted : ℕ) (mode : LockMode) (loc : ℕ) (pairs : List (Edge × Sample)) (gatherer : Gatherer) → depth es wanted ≡ 0
+    → Gathers (pairs ++ more tracker wanted mode loc) (tracker.place + 1) gatherer → Gathers (pairs ++ edges_wanting thread es wanted mode loc) (length es + 1) gatherer
+gathers_acquire thread es tracker tracked wanted mode loc pairs gatherer free is =
+    subst (λ xs. Gathers (pairs ++ xs) (length es + 1) gatherer) (sym (wanting_is thread es wanted mode loc free))
+    (subst (λ place. Gathers (pairs ++ map (pair_at thread es wanted mode loc) (held es)) (place + 1) gatherer) tracked.at_place
     (gathers_alike _ _ (tracker.place + 1) gatherer
-    (append_among pairs _ _ (pairs_made thread es tracker tracked wanted loc))
-    (append_among pairs _ _ (pairs_all thread es tracker tracked wanted loc)) is))
+    (append_among pairs _ _ (pairs_made thread es tracker tracked wanted mode loc))
+    (append_among pairs _ _ (pairs_all thread es tracker tracked wanted mode loc)) is))
 
--- an event that is no acquire makes no edges
-pub no_edges : (thread : ℕ) (es : List Event) (event : Event) → ((lock loc : ℕ) → event ≡ Acquire lock loc → ⊥) → edges_after thread es event ≡ []
-no_edges thread es (Acquire lock loc) none = absurd (none lock loc refl)
-no_edges thread es (Release lock loc) none = refl
+-- an event that wants no lock makes no edges
+pub no_edges : (thread : ℕ) (es : List Event) (event : Event) → ((lock : ℕ) (mode : LockMode) (loc : ℕ) → event ≡ Acquire lock mode loc → ⊥) → edges_after thread es event ≡ []
+no_edges thread es (Acquire lock mode loc) none = absurd (none lock mode loc refl)
+no_edges thread es (Release lock mode loc) none = refl
+no_edges thread es (TryAcquire lock mode loc) none = refl
 no_edges thread es (Fork other loc) none = refl
 no_edges thread es (Join other loc) none = refl
 

@@ -10,27 +10,26 @@ use Rattle.std.proofs.lemmas.List.{length_push, length-map, get_or-map, get_or_a
 use Rattle.std.proofs.lemmas.List.Elements.{All-contains}
 use Rattle.std.proofs.lemmas.Map.Keys.{Less-from_sorted, sorted_from_all_adjacent}
 use Rattle.std.proofs.lemmas.Option.{slice_get-get_or}
-use Rattle.std.specs.FinMap as fin
 use Rattle.std.specs.Cmp.{nat_cmp_total, tied_itself}
-use Rattle.std.specs.List.{AllByRecursion}
 use Rattle.std.proofs.Math.Seq.{take-append_seam}
-use Rattle.gl_event.specs.declared.events.Event.TheVariants.{Acquire, Release, Fork, Join}
+use Rattle.gl_event.specs.declared.events.Event.TheVariants.{Acquire, Release, TryAcquire, Fork, Join}
+use Rattle.gl_event.specs.declared.events.LockMode.{LockMode}
 use Rattle.gl_event.proofs.Depths.{slice_get_last}
-use Rattle.gl_event.specs.Events.{ascending, depth, held, entry_of}
+use Rattle.gl_event.specs.Events.{depth, held, entry_of}
 use Rattle.gl_event.specs.declared.events.Event.{Event}
 use Rattle.gl_event.specs.declared.held.HeldEntry.{HeldEntry}
-use Rattle.gl_event.proofs.HeldLocks.{ascending_locks}
-use Rattle.gl_edges.specs.Edges.{edge_of, pair_at, edges_wanting, edges_after, edges_at}
+use Rattle.gl_edges.specs.Edges.{guards, edge_of, pair_at, edges_wanting, edges_after, edges_at}
 use Rattle.gl_edges.specs.Order.{edge_cmp, AreAscending, IsAboveLast}
 use Rattle.gl_edges.specs.Tracking.{Tracks}
 use Rattle.gl_edges.specs.declared.edge.Edge.{Edge}
 use Rattle.gl_edges.specs.declared.edge.Sample.{Sample}
 use Rattle.gl_edges.specs.declared.tracker.Tracker.{Tracker}
 use Rattle.gl_edges.proofs.Orders.{edge_cmp_total}
-use Rattle.gl_edges.proofs.Guarding.{ascending_any}
-use Rattle.gl_edges.proofs.Membership.{contains_map_from, contains_from_any, any_from_contains}
+use Rattle.std.proofs.lemmas.Simd.{map-map}
+use Rattle.gl_edges.specs.Guards.{guards_of}
+use Rattle.gl_edges.specs.declared.guards.Guard.{Guard}
+use Rattle.gl_edges.proofs.Holding.{guards_are, guards-locks, held_ascends, sorted_mapped}
 use Rattle.gl_edges.proofs.Gathering.{pair_for_is, wanting_is, wanting_none, edges_at_is}
-use Rattle.gl_edges.proofs.Tables.{sorted_from}
 
 -- ---- an edge above the last one
 
@@ -72,78 +71,60 @@ ascending_push pairs edge sample up above =
     (sorted_from_all_adjacent edge_cmp_total (firsts pairs ++ edge ∷ []) edge
     (λ k within. let long = length_push (firsts pairs) edge in adjacent pairs edge sample up above k (omega arith)))
 
--- ---- the entries of held locks
+-- ---- the pairs of an acquire
 
--- a lock of the set has an entry
-pub entry_there : (hs : List HeldEntry) (lock : ℕ) → Contains (ascending (map (λ h. h.lock) hs)) lock → Any (λ h. h.lock ≡ lock) hs
-entry_there hs lock at =
-    let among = contains_from_any (map (λ h. h.lock) hs) lock (sym (ascending_any (map (λ h. h.lock) hs) lock) ∙ any_from_contains (ascending (map (λ h. h.lock) hs)) lock at) in
-    let (h, (k, within, is), of_lock) = contains_map_from (λ h. h.lock) lock hs among in
-    (k, h, within, is, of_lock)
-
-module _ (thread : ℕ) (es : List Event) (tracker : Tracker) (tracked : Tracks thread es tracker) (wanted loc : ℕ) where
+module _ (thread : ℕ) (es : List Event) (tracker : Tracker) (tracked : Tracks thread es tracker) (wanted : ℕ) (mode : LockMode) (loc : ℕ) where
   -- the pair of a held lock is that of the definition
-  pair_of_entry : (h : HeldEntry) (lock : ℕ) (guards : List ℕ) → Contains tracker.held h → h.lock ≡ lock → guards ≡ ascending (map (λ h. h.lock) tracker.held)
+  pair_of_entry : (h : HeldEntry) (lock : ℕ) (guards : List Guard) → Contains tracker.held h → h.lock ≡ lock → guards ≡ guards_of tracker.held
       → ◌≡◌ {A = Edge × Sample} (
-        record { thread = tracker.thread; held = h.lock; wanted = wanted; first = h.seg; second = tracker.segment; guards = guards },
+        record { thread = tracker.thread; held = h.lock; held_mode = h.mode; wanted = wanted; wanted_mode = mode; first = h.seg; second = tracker.segment; guards = guards },
         record { place = tracker.place; held_loc = h.loc; wanted_loc = loc },
-      ) (pair_at thread es wanted loc lock)
+      ) (pair_at thread es wanted mode loc lock)
   pair_of_entry h lock guards there of_lock guarded =
       let entry : h ≡ entry_of es h.lock = All-contains (λ h. h ≡ entry_of es h.lock) tracker.held h tracked.stands.each there in
       (λ i. (
-        record { thread = tracker.thread; held = h.lock; wanted = wanted; first = h.seg; second = tracker.segment; guards = guarded i },
+        record { thread = tracker.thread; held = h.lock; held_mode = h.mode; wanted = wanted; wanted_mode = mode; first = h.seg; second = tracker.segment; guards = guarded i },
         record { place = tracker.place; held_loc = h.loc; wanted_loc = loc },
       ))
-      ∙ pair_for_is thread es tracker tracked wanted loc lock h (entry ∙ ap (entry_of es) of_lock)
+      ∙ pair_for_is thread es tracker tracked wanted mode loc lock h (entry ∙ ap (entry_of es) of_lock)
+
+  -- the pair of a guard
+  abbrev of_guard : Guard → Edge × Sample
+  of_guard g = pair_at thread es wanted mode loc g.lock
 
   -- one more pair
-  pub pairs_more : (pairs : List (Edge × Sample)) (locks : List ℕ) (i lock : ℕ) (h : HeldEntry) (guards : List ℕ) → i < length locks → lock ≡ get_or locks i lock
-      → Contains tracker.held h → h.lock ≡ lock → guards ≡ ascending (map (λ h. h.lock) tracker.held)
-      → pairs ≡ map (pair_at thread es wanted loc) (take i locks)
-      → pairs ++ (record { thread = tracker.thread; held = h.lock; wanted = wanted; first = h.seg; second = tracker.segment; guards = guards }, record { place = tracker.place; held_loc = h.loc; wanted_loc = loc }) ∷ []
-      ≡ map (pair_at thread es wanted loc) (take (i + 1) locks)
-  pairs_more pairs locks i lock h guards within item there of_lock guarded before =
-      (λ j. before j ++ (pair_of_entry h lock guards there of_lock guarded ∙ ap (pair_at thread es wanted loc) item) j ∷ [])
-      ∙ sym (map_more (pair_at thread es wanted loc) locks i lock within)
+  pub pairs_more : (pairs : List (Edge × Sample)) (gs : List Guard) (i : ℕ) (g : Guard) (h : HeldEntry) (guards : List Guard) → i < length gs → g ≡ get_or gs i g
+      → Contains tracker.held h → h.lock ≡ g.lock → guards ≡ guards_of tracker.held
+      → pairs ≡ map of_guard (take i gs)
+      → pairs ++ (record { thread = tracker.thread; held = h.lock; held_mode = h.mode; wanted = wanted; wanted_mode = mode; first = h.seg; second = tracker.segment; guards = guards }, record { place = tracker.place; held_loc = h.loc; wanted_loc = loc }) ∷ []
+      ≡ map of_guard (take (i + 1) gs)
+  pairs_more pairs gs i g h guards within item there of_lock guarded before =
+      (λ j. before j ++ (pair_of_entry h g.lock guards there of_lock guarded ∙ ap of_guard item) j ∷ [])
+      ∙ sym (map_more of_guard gs i g within)
 
   -- the pairs of all held locks
-  pub pairs_all : (pairs : List (Edge × Sample)) (locks : List ℕ) (i : ℕ) → length locks ≤ i → locks ≡ ascending (map (λ h. h.lock) tracker.held)
-      → pairs ≡ map (pair_at thread es wanted loc) (take i locks) → pairs ≡ map (pair_at thread es wanted loc) (held es)
-  pairs_all pairs locks i all are before =
-      before ∙ ap (map (pair_at thread es wanted loc)) (take_all i locks all ∙ are ∙ ascending_locks es tracker.held tracked.stands)
+  pub pairs_all : (pairs : List (Edge × Sample)) (gs : List Guard) (i : ℕ) → length gs ≤ i → gs ≡ guards_of tracker.held
+      → pairs ≡ map of_guard (take i gs) → pairs ≡ map (pair_at thread es wanted mode loc) (held es)
+  pairs_all pairs gs i all are before =
+      before
+      ∙ ap (map of_guard) (take_all i gs all ∙ are ∙ guards_are es tracker.held tracked.stands)
+      ∙ sym (map-map (pair_at thread es wanted mode loc) (λ (g : Guard). g.lock) (guards es))
+      ∙ ap (map (pair_at thread es wanted mode loc)) (guards-locks es)
 
 -- ---- the edges of one event ascend
-
--- a function that keeps the order keeps what is above
-all_mapped : {A B : Type 0} (R : A → A → Ordering) (S : B → B → Ordering) (f : A → B) → ((x y : A) → R x y ≡ Less → S (f x) (f y) ≡ Less)
-    → (x : A) (xs : List A) → AllByRecursion (λ y. R x y ≡ Less) xs → AllByRecursion (λ y. S (f x) y ≡ Less) (map f xs)
-all_mapped R S f keeps x [] all = record {}
-all_mapped R S f keeps x (y ∷ xs) all = (keeps x y all.0, all_mapped R S f keeps x xs all.1)
-
--- and leaves a list ascending
-sorted_mapped : {A B : Type 0} (R : A → A → Ordering) (S : B → B → Ordering) (f : A → B) → ((x y : A) → R x y ≡ Less → S (f x) (f y) ≡ Less)
-    → (xs : List A) → IsStrictlySortedBy R xs → IsStrictlySortedBy S (map f xs)
-unfolding IsStrictlySortedBy
-sorted_mapped R S f keeps [] sorted = record {}
-sorted_mapped R S f keeps (x ∷ xs) sorted = (all_mapped R S f keeps x xs sorted.0, sorted_mapped R S f keeps xs sorted.1)
-
--- the held locks ascend
-pub held_ascends : (es : List Event) → IsStrictlySortedBy nat_cmp (held es)
-unfolding held
-held_ascends es = sorted_from nat_cmp (fin.entries (fin.from_entries {R = nat_cmp} _)) (fin.entries_sorted _)
 
 -- where the first parts tie, the second ones decide
 by_second : (r s rest : Ordering) → r ≡ Equal → s ≡ Less → ordering_then r (ordering_then s rest) ≡ Less
 by_second r s rest tie less = ap (λ x. ordering_then x (ordering_then s rest)) tie ∙ ap (λ x. ordering_then x rest) less
 
 -- the edge of a greater held lock is above
-later_edge : (thread : ℕ) (es : List Event) (wanted a b : ℕ) → nat_cmp a b ≡ Less → edge_cmp (edge_of thread es wanted a) (edge_of thread es wanted b) ≡ Less
-later_edge thread es wanted a b up = by_second (nat_cmp thread thread) (nat_cmp a b) _ (tied_itself nat_cmp_total thread) up
+later_edge : (thread : ℕ) (es : List Event) (wanted : ℕ) (mode : LockMode) (a b : ℕ) → nat_cmp a b ≡ Less → edge_cmp (edge_of thread es wanted mode a) (edge_of thread es wanted mode b) ≡ Less
+later_edge thread es wanted mode a b up = by_second (nat_cmp thread thread) (nat_cmp a b) _ (tied_itself nat_cmp_total thread) up
 
 -- the edges of the pairs of an acquire
-map_firsts : (thread : ℕ) (es : List Event) (wanted loc : ℕ) (locks : List ℕ) → firsts (map (pair_at thread es wanted loc) locks) ≡ map (edge_of thread es wanted) locks
-map_firsts thread es wanted loc [] = refl
-map_firsts thread es wanted loc (lock ∷ locks) = ap (λ es'. edge_of thread es wanted lock ∷ es') (map_firsts thread es wanted loc locks)
+map_firsts : (thread : ℕ) (es : List Event) (wanted : ℕ) (mode : LockMode) (loc : ℕ) (locks : List ℕ) → firsts (map (pair_at thread es wanted mode loc) locks) ≡ map (edge_of thread es wanted mode) locks
+map_firsts thread es wanted mode loc [] = refl
+map_firsts thread es wanted mode loc (lock ∷ locks) = ap (λ es'. edge_of thread es wanted mode lock ∷ es') (map_firsts thread es wanted mode loc locks)
 
 -- no edges
 nothing_ascends : AreAscending []
@@ -151,20 +132,21 @@ unfolding IsStrictlySortedBy
 nothing_ascends = record {}
 
 -- the edges of an acquire ascend
-wanting_ascends : (thread : ℕ) (es : List Event) (loc wanted : ℕ) → AreAscending (edges_wanting thread es loc wanted)
-wanting_ascends thread es loc wanted =
+wanting_ascends : (thread : ℕ) (es : List Event) (wanted : ℕ) (mode : LockMode) (loc : ℕ) → AreAscending (edges_wanting thread es wanted mode loc)
+wanting_ascends thread es wanted mode loc =
     elim (cases_lt 0 (depth es wanted)) [
-      | inl deep ↦ subst AreAscending (sym (wanting_none thread es loc wanted deep)) nothing_ascends
+      | inl deep ↦ subst AreAscending (sym (wanting_none thread es wanted mode loc deep)) nothing_ascends
       | inr none ↦
-          subst AreAscending (sym (wanting_is thread es loc wanted (omega arith)))
-          (subst (IsStrictlySortedBy edge_cmp) (sym (map_firsts thread es wanted loc (held es)))
-          (sorted_mapped nat_cmp edge_cmp (edge_of thread es wanted) (later_edge thread es wanted) (held es) (held_ascends es)))
+          subst AreAscending (sym (wanting_is thread es wanted mode loc (omega arith)))
+          (subst (IsStrictlySortedBy edge_cmp) (sym (map_firsts thread es wanted mode loc (held es)))
+          (sorted_mapped nat_cmp edge_cmp (edge_of thread es wanted mode) (later_edge thread es wanted mode) (held es) (held_ascends es)))
     ]
 
 -- those of any event do
 pub after_ascends : (thread : ℕ) (es : List Event) (e : Event) → AreAscending (edges_after thread es e)
-after_ascends thread es (Acquire lock loc) = wanting_ascends thread es loc lock
-after_ascends thread es (Release lock loc) = nothing_ascends
+after_ascends thread es (Acquire lock mode loc) = wanting_ascends thread es lock mode loc
+after_ascends thread es (Release lock mode loc) = nothing_ascends
+after_ascends thread es (TryAcquire lock mode loc) = nothing_ascends
 after_ascends thread es (Fork other loc) = nothing_ascends
 after_ascends thread es (Join other loc) = nothing_ascends
 

@@ -6,9 +6,11 @@ use Rattle.std.proofs.lemmas.List.{take_more, map_more, length-map, length-take-
 use Rattle.gl_event.specs.Bounds.{greatest}
 use Rattle.gl_event.specs.Events.{depth}
 use Rattle.gl_event.specs.Lawful.{refusal, lock_refusal}
-use Rattle.gl_event.specs.Standing.{AnswersAcquire, AnswersRelease}
+use Rattle.gl_event.specs.Standing.{IsAcquireOf, AnswersAcquire, AnswersRelease}
 use Rattle.gl_event.specs.declared.events.Event.{Event}
-use Rattle.gl_event.specs.declared.events.Event.TheVariants.{Acquire, Release, Fork, Join}
+use Rattle.gl_event.specs.declared.events.Event.TheVariants.{Acquire, Release, TryAcquire, Fork, Join}
+use Rattle.gl_event.specs.declared.events.LockMode.{LockMode}
+use Rattle.gl_event.proofs.Lawfulness.{lock_refusal-of}
 use Rattle.gl_event.specs.declared.held.HeldEntry.{HeldEntry}
 use Rattle.gl_event.specs.declared.held.HeldFault.{HeldFault}
 use Rattle.gl_event.specs.declared.held.NotHeld.{NotHeld}
@@ -16,14 +18,19 @@ use Rattle.gl_edges.specs.Tracking.{Tracks}
 use Rattle.gl_edges.specs.declared.tracker.Tracker.{Tracker}
 
 -- an acquire that the locks allow is lawful next
-pub allowed_acquire : (thread : ℕ) (es : List Event) (lock loc : ℕ) → length es < 4000000000 → lock_refusal es (Acquire lock loc) ≡ None → refusal greatest thread es (Acquire lock loc) ≡ None
+pub allowed_acquire : (thread : ℕ) (es : List Event) (lock : ℕ) (mode : LockMode) (loc : ℕ) → length es < 4000000000 → lock_refusal es (Acquire lock mode loc) ≡ None → refusal greatest thread es (Acquire lock mode loc) ≡ None
 unfolding refusal
-allowed_acquire thread es lock loc few free = grind arith
+allowed_acquire thread es lock mode loc few free = grind arith
+
+-- so is one that could not have waited
+pub allowed_try : (thread : ℕ) (es : List Event) (lock : ℕ) (mode : LockMode) (loc : ℕ) → length es < 4000000000 → lock_refusal es (TryAcquire lock mode loc) ≡ None → refusal greatest thread es (TryAcquire lock mode loc) ≡ None
+unfolding refusal
+allowed_try thread es lock mode loc few free = grind arith
 
 -- a release that the locks allow is lawful next
-pub allowed_release : (thread : ℕ) (es : List Event) (lock loc : ℕ) → length es < 4000000000 → lock_refusal es (Release lock loc) ≡ None → refusal greatest thread es (Release lock loc) ≡ None
+pub allowed_release : (thread : ℕ) (es : List Event) (lock : ℕ) (mode : LockMode) (loc : ℕ) → length es < 4000000000 → lock_refusal es (Release lock mode loc) ≡ None → refusal greatest thread es (Release lock mode loc) ≡ None
 unfolding refusal
-allowed_release thread es lock loc few free = grind arith
+allowed_release thread es lock mode loc few free = grind arith
 
 -- a fork of another known thread is lawful next
 pub allowed_fork : (thread : ℕ) (es : List Event) (other loc : ℕ) → length es < 4000000000 → other < 1024 → other ≢ thread → refusal greatest thread es (Fork other loc) ≡ None
@@ -46,9 +53,9 @@ unfolding lock_refusal
 free_join es other loc = refl
 
 -- the locks allow a release of a held lock
-free_release : (es : List Event) (lock loc : ℕ) → 0 < depth es lock → lock_refusal es (Release lock loc) ≡ None
+free_release : (es : List Event) (lock : ℕ) (mode : LockMode) (loc : ℕ) → 0 < depth es lock → lock_refusal es (Release lock mode loc) ≡ None
 unfolding lock_refusal
-free_release es lock loc deep = grind (arith, ne_eqb)
+free_release es lock mode loc deep = grind (arith, ne_eqb)
 
 module _ (tracker : Tracker) (thread : ℕ) (es : List Event) (tracked : Tracks thread es tracker) (few : tracker.place < 4000000000) (e : Event)
     (allowed : (es : List Event) → length es < 4000000000 → lock_refusal es e ≡ None → refusal greatest tracker.thread es e ≡ None) where
@@ -58,14 +65,14 @@ module _ (tracker : Tracker) (thread : ℕ) (es : List Event) (tracked : Tracks 
       subst (λ t. refusal greatest t es e ≡ None) tracked.of_thread (allowed es (omega (arith, tracked.at_place)) free)
 
   -- an acquire that was accepted is lawful next
-  pub acquire_allowed : (lock loc : ℕ) (new : List HeldEntry) (answer : Result Bool HeldFault) → e ≡ Acquire lock loc → IsOk answer
-      → AnswersAcquire es lock loc tracker.place tracker.segment new answer → refusal greatest thread es e ≡ None
-  acquire_allowed lock loc new answer is ok says = allowed_free (subst (λ x. lock_refusal es x ≡ None) (sym is) (says.accepted.0 ok))
+  pub acquire_allowed : (lock : ℕ) (mode : LockMode) (loc : ℕ) (new : List HeldEntry) (answer : Result Bool HeldFault) → IsAcquireOf lock mode e → IsOk answer
+      → AnswersAcquire es lock mode loc tracker.place tracker.segment new answer → refusal greatest thread es e ≡ None
+  acquire_allowed lock mode loc new answer is ok says = allowed_free (lock_refusal-of lock mode es e is ∙ says.accepted.0 ok)
 
   -- a release that was accepted is lawful next
-  pub release_allowed : (lock loc : ℕ) (new : List HeldEntry) (answer : Result Bool NotHeld) → e ≡ Release lock loc → IsOk answer
+  pub release_allowed : (lock : ℕ) (mode : LockMode) (loc : ℕ) (new : List HeldEntry) (answer : Result Bool NotHeld) → e ≡ Release lock mode loc → IsOk answer
       → AnswersRelease es lock new answer → refusal greatest thread es e ≡ None
-  release_allowed lock loc new answer is ok says = allowed_free (subst (λ x. lock_refusal es x ≡ None) (sym is) (free_release es lock loc (says.accepted.0 ok)))
+  release_allowed lock mode loc new answer is ok says = allowed_free (subst (λ x. lock_refusal es x ≡ None) (sym is) (free_release es lock mode loc (says.accepted.0 ok)))
 
   -- a fork is lawful next
   pub fork_allowed : (other loc : ℕ) → e ≡ Fork other loc → refusal greatest thread es e ≡ None

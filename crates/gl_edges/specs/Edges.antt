@@ -1,5 +1,5 @@
--- The edges that the events of threads make: where a thread acquires a lock that it doesn't hold, one
--- edge for each lock that it holds.
+-- The edges that the events of threads make: where a thread wants and acquires a lock that it doesn't
+-- hold, one edge for each lock that it holds.
 use Rattle.std.specs.Prelude.{ℕ, List, [], ◌∷◌, map, length, take, slice_get, ◌==◌, if◌then◌else◌}
 use Rattle.std.specs.FinMap as table
 use Rattle.std.specs.FinMap.{FinMap}
@@ -8,20 +8,29 @@ use Rattle.std.specs.Option.{option_map_or}
 use Rattle.std.specs.Ordering.{is_lt}
 use Rattle.gl_event.specs.Events as events
 use Rattle.gl_event.specs.declared.events.Event.{Event}
+use Rattle.gl_event.specs.declared.events.LockMode.{LockMode}
+use Rattle.gl_edges.specs.Guards.{guard_of}
 use Rattle.gl_edges.specs.Order.{edge_cmp, sample_cmp}
 use Rattle.gl_edges.specs.declared.edge.Edge.{Edge}
 use Rattle.gl_edges.specs.declared.edge.Sample.{Sample}
+use Rattle.gl_edges.specs.declared.guards.Guard.{Guard}
 
--- the edge of a thread that, after these events, acquires the wanted lock while it holds this one
-abbrev pub edge_of : ℕ → List Event → ℕ → ℕ → Edge
-edge_of thread es wanted lock =
+-- the locks that are held after these events, ascending, each in the mode in which it is held
+unfoldable pub guards : List Event → List Guard
+guards es = map (λ lock. guard_of (events.entry_of es lock)) (events.held es)
+
+-- the edge of a thread that, after these events, acquires the wanted lock in this mode while it holds the other lock
+abbrev pub edge_of : ℕ → List Event → ℕ → LockMode → ℕ → Edge
+edge_of thread es wanted mode lock =
     record {
       thread = thread;
       held = lock;
+      held_mode = (events.entry_of es lock).mode;
       wanted = wanted;
+      wanted_mode = mode;
       first = (events.entry_of es lock).seg;
       second = events.segment es;
-      guards = events.held es;
+      guards = guards es;
     }
 
 -- where that edge is seen, if the acquire of the wanted lock stands at this location
@@ -29,19 +38,19 @@ abbrev pub sample_of : List Event → ℕ → ℕ → Sample
 sample_of es loc lock = record { place = length es; held_loc = (events.entry_of es lock).loc; wanted_loc = loc }
 
 -- both
-abbrev pub pair_at : ℕ → List Event → ℕ → ℕ → ℕ → Edge × Sample
-pair_at thread es wanted loc lock = (edge_of thread es wanted lock, sample_of es loc lock)
+abbrev pub pair_at : ℕ → List Event → ℕ → LockMode → ℕ → ℕ → Edge × Sample
+pair_at thread es wanted mode loc lock = (edge_of thread es wanted mode lock, sample_of es loc lock)
 
 -- the edges of an acquire after these events: one for each held lock, and none if the lock is held already
-unfoldable pub edges_wanting : ℕ → List Event → ℕ → ℕ → List (Edge × Sample)
-edges_wanting thread es loc wanted =
+unfoldable pub edges_wanting : ℕ → List Event → ℕ → LockMode → ℕ → List (Edge × Sample)
+edges_wanting thread es wanted mode loc =
     if events.depth es wanted == 0
-    then map (pair_at thread es wanted loc) (events.held es)
+    then map (pair_at thread es wanted mode loc) (events.held es)
     else []
 
--- the edges that an event makes after these events: only an acquire makes edges
+-- the edges that an event makes after these events: only one that wants a lock makes edges
 abbrev pub edges_after : ℕ → List Event → Event → List (Edge × Sample)
-edges_after thread es e = option_map_or (edges_wanting thread es (events.location e)) (events.acquired_lock e) []
+edges_after thread es e = option_map_or (λ wanted. edges_wanting thread es wanted (events.lock_mode e) (events.location e)) (events.wanted_lock e) []
 
 -- the edges that the event at this place of a thread's list makes
 unfoldable pub edges_at : ℕ → List Event → ℕ → List (Edge × Sample)

@@ -1,28 +1,31 @@
 -- The edges of lists of events, and their samples, in the words of the events.
 use Rattle.std.specs.Prelude.{◌≡◌, ℕ, ◌<◌, ◌≤◌, List, Some, take, slice_get, Contains}
 use Rattle.std.specs.Option.{option_map}
-use Rattle.gl_event.specs.Events.{depth, held, location, opened, segment}
+use Rattle.gl_event.specs.Events.{depth, held_mode, location, opened, segment}
 use Rattle.gl_event.specs.declared.events.Event.{Event}
 use Rattle.gl_event.specs.declared.events.Event.TheVariants.{Acquire}
+use Rattle.gl_edges.specs.Edges.{guards}
 use Rattle.gl_edges.specs.declared.edge.Edge.{Edge}
 use Rattle.gl_edges.specs.declared.edge.Sample.{Sample}
 
--- at this place of its list of events, a thread acquires the wanted lock while it holds the held one
+-- at this place of its list of events, a thread wants and acquires the wanted lock while it holds the held one
 pub record Makes (es : List Event) (place : ℕ) (edge : Edge) : Type 0 where
   -- where in the source the acquire stands
   pub loc : ℕ
-  -- the thread acquires the wanted lock there
-  pub wants : slice_get es place ≡ Some (Acquire edge.wanted loc)
+  -- the thread acquires the wanted lock there, in the wanted mode, and could have waited for it
+  pub wants : slice_get es place ≡ Some (Acquire edge.wanted edge.wanted_mode loc)
   -- and didn't hold it
   pub outermost : depth (take place es) edge.wanted ≡ 0
   -- it holds the held lock
   pub holds : 0 < depth (take place es) edge.held
+  -- in the mode of the acquire that opened it
+  pub holds_as : edge.held_mode ≡ held_mode (take place es) edge.held
   -- and opened that one in the first segment
   pub opened_in : edge.first ≡ segment (take (opened (take place es) edge.held) es)
   -- the acquire lies in the second segment
   pub acquired_in : edge.second ≡ segment (take place es)
-  -- the guards are all locks that the thread holds
-  pub guarded : edge.guards ≡ held (take place es)
+  -- the guards are all locks that the thread holds, each in its mode
+  pub guarded : edge.guards ≡ guards (take place es)
 
 -- the thread of the edge makes it at some place
 pub record IsMade (lists : List (List Event)) (edge : Edge) : Type 0 where

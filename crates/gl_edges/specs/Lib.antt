@@ -1,5 +1,6 @@
 pub mod Edges
 pub mod Gatherers
+pub mod Guards
 pub mod Laws
 pub mod Order
 pub mod Samples

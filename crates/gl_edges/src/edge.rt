@@ -2,7 +2,7 @@
 ghost use Rattle.std.specs.Prelude.{◌≡◌, IfOk};
 
 use crate::guards::Guards;
-use gl_event::{LocId, LockId, Memory, ThreadId};
+use gl_event::{LocId, LockId, LockMode, Memory, ThreadId};
 use std::alloc::Global;
 
 /// One thread wanted a lock while it held another one.
@@ -14,13 +14,17 @@ pub struct Edge {
     pub thread: ThreadId,
     /// The lock that the thread held.
     pub held: LockId,
-    /// The lock that the thread acquired.
+    /// The mode in which it held that lock.
+    pub held_mode: LockMode,
+    /// The lock that the thread wanted, and acquired.
     pub wanted: LockId,
+    /// The mode in which it wanted that lock.
+    pub wanted_mode: LockMode,
     /// The segment in which the held lock was opened, by its outermost acquire.
     pub first: u32,
     /// The segment in which the wanted lock was acquired.
     pub second: u32,
-    /// All locks that the thread held just before, the held one among them.
+    /// All locks that the thread held just before, each in its mode, the held one among them.
     pub guards: Guards,
 }
 
@@ -33,7 +37,9 @@ impl Edge {
         Ok(Edge {
             thread: self.thread,
             held: self.held,
+            held_mode: self.held_mode,
             wanted: self.wanted,
+            wanted_mode: self.wanted_mode,
             first: self.first,
             second: self.second,
             guards,

@@ -17,7 +17,7 @@ use crate::list::EdgeList;
 use crate::seen::Seen;
 use crate::table::{into_list, keep};
 use crate::tracker::Tracker;
-use gl_event::{Event, LocId, LockId, Memory, ThreadId};
+use gl_event::{Event, LocId, LockId, LockMode, Memory, ThreadId};
 use std::alloc::Global;
 use std::collections::BTreeMap;
 
@@ -38,14 +38,15 @@ impl Gatherer {
         alloc: Global,
         tracker: &Tracker,
         wanted: LockId,
+        mode: LockMode,
         loc: LocId,
     ) -> Result<(), Memory>
-        ensures { OnOk result ((pairs : List (Edge × Sample)) → Gathers pairs tracker.now.place self.old → Gathers (pairs ++ map (pair_for tracker.now wanted loc) tracker.now.held) (tracker.now.place + 1) self.new) }
+        ensures { OnOk result ((pairs : List (Edge × Sample)) → Gathers pairs tracker.now.place self.old → Gathers (pairs ++ map (pair_for tracker.now wanted mode loc) tracker.now.held) (tracker.now.place + 1) self.new) }
     {
-        if self.seen.note(alloc, tracker, wanted)? {
+        if self.seen.note(alloc, tracker, wanted, mode)? {
             return Ok(());
         }
-        self.add_each(alloc, tracker, wanted, loc)
+        self.add_each(alloc, tracker, wanted, mode, loc)
     }
 
     // Puts in the edges of an acquire of a lock that the thread doesn't hold: one for each lock
@@ -55,18 +56,21 @@ impl Gatherer {
         alloc: Global,
         tracker: &Tracker,
         wanted: LockId,
+        mode: LockMode,
         loc: LocId,
     ) -> Result<(), Memory>
-        ensures table { OnOk result ((pairs : List (Edge × Sample)) → IsTableOf self.old.table pairs → IsTableOf self.new.table (pairs ++ map (pair_for tracker.now wanted loc) tracker.now.held)) }
+        ensures table { OnOk result ((pairs : List (Edge × Sample)) → IsTableOf self.old.table pairs → IsTableOf self.new.table (pairs ++ map (pair_for tracker.now wanted mode loc) tracker.now.held)) }
         ensures seen { OnOk result (self.new.seen ≡ self.old.seen) }
     {
         let entries = tracker.held.entries();
         self.edge.thread = tracker.thread;
         self.edge.wanted = wanted;
+        self.edge.wanted_mode = mode;
         self.edge.second = tracker.segment;
         self.edge.guards.refill(entries)?;
         for entry in entries {
             self.edge.held = entry.lock;
+            self.edge.held_mode = entry.mode;
             self.edge.first = entry.seg;
             let sample = Sample {
                 place: tracker.place,
@@ -82,13 +86,13 @@ impl Gatherer {
     fn add_edges(&mut self, alloc: Global, tracker: &Tracker, event: &Event) -> Result<(), Memory>
         ensures { OnOk result ((thread : ℕ) (es : List Event) (pairs : List (Edge × Sample)) → Tracks thread es tracker.now → Gathers pairs (length es) self.old → Gathers (pairs ++ edges_after thread es event.now) (length es + 1) self.new) }
     {
-        let Event::Acquire { lock, loc } = *event else {
+        let Event::Acquire { lock, mode, loc } = *event else {
             return Ok(());
         };
         if tracker.held.holds(lock) {
             return Ok(());
         }
-        self.add_acquire(alloc, tracker, lock, loc)
+        self.add_acquire(alloc, tracker, lock, mode, loc)
     }
 
     // Takes the next event of the thread.
@@ -132,7 +136,9 @@ pub fn edges_of(alloc: Global, lists: &[Vec<Event>]) -> Result<EdgeList, Memory>
         edge: Edge {
             thread: ThreadId::new(0),
             held: LockId::new(0),
+            held_mode: LockMode::Exclusive,
             wanted: LockId::new(0),
+            wanted_mode: LockMode::Exclusive,
             first: 0,
             second: 0,
             guards: Guards::empty(alloc),

@@ -1,39 +1,47 @@
-//! Sets of locks.
-ghost use Rattle.std.specs.Prelude.{◌≡◌, ℕ, List, [], ◌∷◌, map, nat_eq, refl, Some, IfOk, OnOk};
-ghost use Rattle.std.specs.Cmp.{on_per, on_equiv, on_total, on_po, partial_equiv_from_equiv};
-ghost use Rattle.std.specs.Cmp.Lexicographic.{pointwise, slice_cmp, nat_list_cmp_total, nat_list_eq_equiv, texts_ties, texts_po};
+//! Sets of locks, each in a mode.
+ghost use Rattle.std.specs.Prelude.{◌≡◌, List, [], map, refl, IfOk, OnOk};
+ghost use Rattle.std.specs.Cmp.{partial_equiv_from_equiv, po};
+ghost use Rattle.std.specs.Cmp.Lexicographic.{pointwise, slice_cmp, lists_equiv, lists_ties, lists_total};
 ghost use Rattle.std.specs.List.Sorted.{IsStrictlySortedBy};
-ghost use Rattle.std.specs.Ordering.{nat_cmp, as_partial_cmp};
-ghost use Rattle.gl_event.specs.Events.{ascending};
+ghost use Rattle.std.specs.Ordering.{as_partial_cmp};
+ghost use Rattle.gl_edges.specs.Guards.{guard_cmp, guard_eq, guard_equiv, guard_ties, guard_total, ascending_guards, guards_of};
 
-use gl_event::{HeldEntry, LockId, Memory};
+use gl_event::{HeldEntry, LockId, LockMode, Memory};
 use std::alloc::Global;
 use std::cmp::Ordering;
 use std::marker::Model;
 
-/// A set of locks: those that a thread held as it acquired one more. Contracts see the ascending
-/// list of the locks.
+/// A lock that a thread holds, and in which mode. Guards are ordered by lock, and then by mode.
+#[derive(Clone, Copy, Debug, PartialEq, Eq, PartialOrd, Ord, Hash)]
+pub struct Guard {
+    pub lock: LockId,
+    pub mode: LockMode,
+}
+
+/// A set of locks, each in a mode: those that a thread held as it acquired one more. Contracts see
+/// the ascending list of them.
 #[derive(Drop, Debug)]
 pub struct Guards {
-    locks: Vec<LockId>,
+    locks: Vec<Guard>,
 }
 
 impl Model for Guards {
-    ghost use Rattle.std.specs.Prelude.{List, ℕ};
+    ghost use Rattle.std.specs.Prelude.{List};
     ghost use Rattle.std.specs.List.Sorted.{IsStrictlySortedBy};
-    ghost use Rattle.std.specs.Ordering.{nat_cmp};
+    ghost use Rattle.gl_edges.specs.Guards.{guard_cmp};
+    ghost use Rattle.gl_edges.specs.declared.guards.Guard.{Guard};
 
-    ghost Value = { List ℕ };
+    ghost Value = { List Guard };
 
     ghost view = { λ g. g.locks.items };
 
-    ghost invariant = { λ g. IsStrictlySortedBy nat_cmp g.locks.items };
+    ghost invariant = { λ g. IsStrictlySortedBy guard_cmp g.locks.items };
 }
 
 impl Guards {
-    /// The set of these locks, in whatever order they stand, and each of them once.
-    pub fn new(locks: Vec<LockId>) -> Guards
-        ensures { result ≡ ascending locks.items }
+    /// The set of these, in whatever order they stand, and each of them once.
+    pub fn new(locks: Vec<Guard>) -> Guards
+        ensures { result ≡ ascending_guards locks.items }
     {
         let mut locks = locks;
         locks.sort_unstable();
@@ -41,8 +49,8 @@ impl Guards {
         Guards { locks }
     }
 
-    /// The locks, ascending.
-    pub fn into_vec(self) -> Vec<LockId>
+    /// The locks with their modes, ascending.
+    pub fn into_vec(self) -> Vec<Guard>
         ensures { result.items ≡ self }
     {
         self.locks
@@ -57,34 +65,17 @@ impl Guards {
         }
     }
 
-    // Takes all locks out.
-    fn clear(&mut self)
-        ensures { self.new ≡ [] }
-    {
-        self.locks.clear();
-    }
-
-    // Puts the lock into the set.
-    fn insert(&mut self, lock: LockId) -> Result<(), Memory>
-        ensures { OnOk result (self.new ≡ ascending (lock ∷ self.old)) }
-    {
-        let Err(place) = self.locks.as_slice().binary_search(&lock) else {
-            return Ok(());
-        };
-        self.locks.insert(place, lock)?;
-        Ok(())
-    }
-
-    /// Becomes the set of the locks of these entries. A set that had as many locks before takes no
-    /// memory.
+    /// Becomes the set of these held locks. A set that had as many locks before takes no memory.
     pub(crate) fn refill(&mut self, entries: &[HeldEntry]) -> Result<(), Memory>
-        ensures { OnOk result (self.new ≡ ascending (map (λ h. h.lock) entries.now)) }
+        ensures { OnOk result (self.new ≡ guards_of entries.now) }
     {
-        self.clear();
-        for entry in entries {
-            self.insert(entry.lock)?;
+        match fill(&mut self.locks, entries) {
+            Ok(()) => Ok(()),
+            Err(refused) => {
+                self.locks.clear();
+                Err(refused)
+            }
         }
-        Ok(())
     }
 
     /// The same locks once more, or that there is no memory for them.
@@ -95,19 +86,36 @@ impl Guards {
         Ok(Guards { locks })
     }
 
-    /// The locks, ascending.
-    pub fn as_slice(&self) -> &[LockId]
+    /// The locks with their modes, ascending.
+    pub fn as_slice(&self) -> &[Guard]
         ensures locks { result.now ≡ self.now }
-        ensures ascending { IsStrictlySortedBy nat_cmp self.now }
+        ensures ascending { IsStrictlySortedBy guard_cmp self.now }
     {
         self.locks.as_slice()
     }
 }
 
-impl PartialEq for Guards {
-    ghost eq = { pointwise nat_eq };
+// The held locks as guards, each once, ascending.
+fn fill(locks: &mut Vec<Guard>, entries: &[HeldEntry]) -> Result<(), Memory>
+    ensures ascending { OnOk result (IsStrictlySortedBy guard_cmp locks.new.items) }
+    ensures guards { OnOk result (locks.new.items ≡ guards_of entries.now) }
+{
+    locks.clear();
+    for entry in entries {
+        locks.push(Guard {
+            lock: entry.lock,
+            mode: entry.mode,
+        })?;
+    }
+    locks.sort_unstable();
+    locks.dedup();
+    Ok(())
+}
 
-    ghost laws = { partial_equiv_from_equiv nat_list_eq_equiv };
+impl PartialEq for Guards {
+    ghost eq = { pointwise guard_eq };
+
+    ghost laws = { partial_equiv_from_equiv (lists_equiv guard_equiv) };
 
     fn eq(&self, other: &Guards) -> bool {
         self.as_slice() == other.as_slice()
@@ -115,13 +123,13 @@ impl PartialEq for Guards {
 }
 
 impl Eq for Guards {
-    ghost laws = { nat_list_eq_equiv };
+    ghost laws = { lists_equiv guard_equiv };
 }
 
 impl PartialOrd for Guards {
-    ghost partial_cmp = { as_partial_cmp (slice_cmp nat_cmp) };
+    ghost partial_cmp = { as_partial_cmp (slice_cmp guard_cmp) };
 
-    ghost laws = { texts_po };
+    ghost laws = { po (lists_total guard_total) (lists_ties guard_cmp guard_ties) };
 
     fn partial_cmp(&self, other: &Guards) -> Option<Ordering> {
         Some(self.cmp(other))
@@ -129,13 +137,13 @@ impl PartialOrd for Guards {
 }
 
 impl Ord for Guards {
-    ghost cmp = { slice_cmp nat_cmp };
+    ghost cmp = { slice_cmp guard_cmp };
 
-    ghost total = { nat_list_cmp_total };
+    ghost total = { lists_total guard_total };
 
     ghost matches_partial_cmp = { λ a b. refl };
 
-    ghost matches_eq = { texts_ties };
+    ghost matches_eq = { lists_ties guard_cmp guard_ties };
 
     fn cmp(&self, other: &Guards) -> Ordering {
         self.as_slice().cmp(other.as_slice())

@@ -5,19 +5,21 @@ ghost use Rattle.std.specs.Cmp.{IsTotalOrder};
 ghost use Rattle.std.specs.FinMap.{IsAntisymmetric};
 ghost use Rattle.gl_edges.specs.declared.edge.Edge.{Edge};
 ghost use Rattle.gl_edges.specs.declared.edge.Sample.{Sample};
+ghost use Rattle.gl_edges.specs.declared.guards.Guard.{Guard};
 ghost use Rattle.std.specs.List.{flat_map, enumerate_from};
 ghost use Rattle.std.specs.List.Sorted.{IsStrictlySortedBy};
 ghost use Rattle.std.specs.Ordering.{nat_cmp};
 ghost use Rattle.gl_event.specs.Events as events;
 ghost use Rattle.gl_event.specs.declared.events.Event.{Event};
-ghost use Rattle.gl_edges.specs.Edges.{edges, edges_at, edges_of_list, once};
+ghost use Rattle.gl_edges.specs.Edges.{edges, edges_at, edges_of_list, guards, once};
 ghost use Rattle.gl_edges.specs.Laws.{IsMade, IsMadeFirst, AreAmong};
 ghost use Rattle.gl_edges.specs.Order.{edge_cmp, sample_cmp, AreAscending};
 ghost use Rattle.gl_edges.specs.contracts.edge.EdgeOrd.TheImpl as edge_order;
 ghost use Rattle.gl_edges.specs.contracts.edge.SampleOrd.TheImpl as sample_order;
 
-/// Edges are compared by thread, held lock, wanted lock, first and second segment, and guards, in
-/// this order: that is a total order, and only equal edges tie.
+/// Edges are compared by thread, held lock and its mode, wanted lock and its mode, first and second
+/// segment, and guards, in this order, where exclusive comes before shared: that is a total order,
+/// and only equal edges tie.
 pub fn edges_are_ordered_by_their_fields()
     ensures by_fields { (a b : Edge) → edge_order.ghosts.cmp a b ≡ edge_cmp a b }
     ensures total { IsTotalOrder edge_cmp }
@@ -32,9 +34,9 @@ pub fn samples_are_ordered_by_their_fields()
     ensures exact { IsAntisymmetric sample_cmp }
 {}
 
-/// An edge is in the list of edges exactly if the thread with its number makes it: if it acquires
-/// the wanted lock, which it doesn't hold, while it holds the held one, in these segments and with
-/// these guards.
+/// An edge is in the list of edges exactly if the thread with its number makes it: if it wants and
+/// acquires the wanted lock, which it doesn't hold, while it holds the held one, in these modes and
+/// segments and with these guards. A try acquire wants nothing and makes no edge.
 pub fn edges_are_those_made()
     ensures { (lists : List (List Event)) (edge : Edge) → Contains (map (λ pair. pair.0) (edges lists)) edge ↔ IsMade lists edge }
 {}
@@ -68,9 +70,10 @@ pub fn edges_come_step_by_step()
     ensures all { (lists : List (List Event)) → edges lists ≡ once (flat_map (λ numbered. edges_of_list numbered.0 numbered.1) (enumerate_from 0 lists)) }
 {}
 
-/// The guards of an edge are the locks that are held, and these are the locks of positive depth,
-/// ascending.
+/// The guards of an edge are the locks that are held, each in the mode of the acquire that opened
+/// it, and these are the locks of positive depth, ascending.
 pub fn held_locks_are_those_of_positive_depth()
+    ensures guards { (es : List Event) (guard : Guard) → Contains (guards es) guard ↔ (0 < events.depth es guard.lock) × (guard.mode ≡ events.held_mode es guard.lock) }
     ensures members { (es : List Event) (lock : ℕ) → Contains (events.held es) lock ↔ (0 < events.depth es lock) }
     ensures ascending { (es : List Event) → IsStrictlySortedBy nat_cmp (events.held es) }
 {}

@@ -3,7 +3,8 @@
 //! A thread that acquires lock 0 and then lock 1 makes the edge from 0 to 1, with the guards 0 (all
 //! locks that it held just before) and a [`Sample`] that says where both acquires stand. A second
 //! thread that acquires 1 and then 0 makes the edge from 1 to 0, and the two edges are a cycle: a
-//! potential deadlock. An acquire of a lock that the thread holds already makes no edge.
+//! potential deadlock. An acquire of a lock that the thread holds already makes no edge, nor does
+//! one that could not have waited. Edges and guards say in which mode each lock is held or wanted.
 //!
 //! [`edges_of`] finds the edges of whole lists of events, [`Tracker`] those of one event after the
 //! other. Both name an edge by its fields alone; where a thread makes it twice, the first place
@@ -24,7 +25,7 @@ mod tracker;
 
 pub use edge::{Edge, Sample};
 pub use gather::edges_of;
-pub use guards::Guards;
+pub use guards::{Guard, Guards};
 pub use laws::{
     edges_are_ordered_by_their_fields, edges_are_those_made, edges_ascend, edges_come_step_by_step,
     held_locks_are_those_of_positive_depth, once_needs_no_order, samples_are_of_the_first_place,

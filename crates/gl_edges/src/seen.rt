@@ -1,7 +1,7 @@
 //! Acquires that a thread made before, with the same locks held.
 //!
 //! A program runs the same code over and over. An acquire that a thread made before, of the same lock,
-//! with the same locks held and in the same segments, makes the same edges, and these have earlier
+//! with the same locks held, in the same modes and segments, makes the same edges, and these have earlier
 //! samples already. So one look-up of the whole acquire is enough, where there would be one for each
 //! held lock.
 //!
@@ -12,7 +12,7 @@ ghost use Rattle.gl_edges.specs.Seen.{edges_now, opened_of};
 ghost use Rattle.gl_edges.specs.declared.edge.Edge.{Edge};
 
 use crate::tracker::Tracker;
-use gl_event::{LockId, Memory, ThreadId};
+use gl_event::{LockId, LockMode, Memory, ThreadId};
 use std::alloc::Global;
 use std::collections::BTreeSet;
 use std::marker::Model;
@@ -20,10 +20,11 @@ use std::marker::Model;
 // Under fewer held locks an acquire is not noted: its edges are looked up as fast.
 const MANY_HELD: usize = 4;
 
-/// A held lock, and the segment in which it was opened.
+/// A held lock, its mode, and the segment in which it was opened.
 #[derive(Clone, Copy, Debug, PartialEq, Eq, PartialOrd, Ord)]
 struct Opened {
     lock: LockId,
+    mode: LockMode,
     first: u32,
 }
 
@@ -33,6 +34,7 @@ struct Opened {
 #[derive(Drop, Debug, PartialEq, Eq, PartialOrd, Ord)]
 struct Nesting {
     wanted: LockId,
+    mode: LockMode,
     second: u32,
     thread: ThreadId,
     held: Vec<Opened>,
@@ -43,6 +45,7 @@ impl Nesting {
     fn new(alloc: Global) -> Nesting {
         Nesting {
             wanted: LockId::new(0),
+            mode: LockMode::Exclusive,
             second: 0,
             thread: ThreadId::new(0),
             held: Vec::new(alloc),
@@ -51,19 +54,27 @@ impl Nesting {
 
     /// Becomes the acquire of a lock that the thread doesn't hold. One that had as many held locks
     /// before takes no memory.
-    fn refill(&mut self, tracker: &Tracker, wanted: LockId) -> Result<(), Memory>
+    fn refill(
+        &mut self,
+        tracker: &Tracker,
+        wanted: LockId,
+        mode: LockMode,
+    ) -> Result<(), Memory>
         ensures thread { OnOk result (self.new.thread ≡ tracker.now.thread) }
         ensures wanted { OnOk result (self.new.wanted ≡ wanted) }
+        ensures mode { OnOk result (self.new.mode ≡ mode) }
         ensures second { OnOk result (self.new.second ≡ tracker.now.segment) }
         ensures held { OnOk result (IsPermutation (map opened_of tracker.now.held) self.new.held.items) }
     {
         self.thread = tracker.thread;
         self.wanted = wanted;
+        self.mode = mode;
         self.second = tracker.segment;
         self.held.clear();
         for entry in tracker.held.entries() {
             self.held.push(Opened {
                 lock: entry.lock,
+                mode: entry.mode,
                 first: entry.seg,
             })?;
         }
@@ -75,12 +86,14 @@ impl Nesting {
     fn copy(&self, alloc: Global) -> Result<Nesting, Memory>
         ensures thread { IfOk result (λ nesting. nesting.thread ≡ self.now.thread) }
         ensures wanted { IfOk result (λ nesting. nesting.wanted ≡ self.now.wanted) }
+        ensures mode { IfOk result (λ nesting. nesting.mode ≡ self.now.mode) }
         ensures second { IfOk result (λ nesting. nesting.second ≡ self.now.second) }
         ensures held { IfOk result (λ nesting. nesting.held.items ≡ self.now.held.items) }
     {
         let held = Vec::from_slice(alloc, self.held.as_slice())?;
         Ok(Nesting {
             wanted: self.wanted,
+            mode: self.mode,
             second: self.second,
             thread: self.thread,
             held,
@@ -133,14 +146,15 @@ impl Seen {
         alloc: Global,
         tracker: &Tracker,
         wanted: LockId,
+        mode: LockMode,
     ) -> Result<bool, Memory>
-        ensures known { IfOk result (λ known. IsTrue known → (edge : Edge) → Contains (edges_now tracker.now wanted) edge → Contains self.old edge) }
-        ensures noted { OnOk result ((edge : Edge) → Contains self.new edge → Contains self.old edge ⊎ Contains (edges_now tracker.now wanted) edge) }
+        ensures known { IfOk result (λ known. IsTrue known → (edge : Edge) → Contains (edges_now tracker.now wanted mode) edge → Contains self.old edge) }
+        ensures noted { OnOk result ((edge : Edge) → Contains self.new edge → Contains self.old edge ⊎ Contains (edges_now tracker.now wanted mode) edge) }
     {
         if tracker.held.entries().len() < MANY_HELD {
             return Ok(false);
         }
-        self.next.refill(tracker, wanted)?;
+        self.next.refill(tracker, wanted, mode)?;
         if self.nestings.contains(&self.next) {
             return Ok(true);
         }

@@ -8,7 +8,7 @@ ghost use Rattle.gl_edges.specs.Tracking.{Tracks, MayFollow};
 
 use crate::edge::{Edge, Sample};
 use crate::guards::Guards;
-use gl_event::{Event, Held, HeldEntry, LocId, LockId, Memory, ThreadId};
+use gl_event::{Event, Held, HeldEntry, LocId, LockId, LockMode, Memory, ThreadId};
 use std::alloc::Global;
 
 /// What a thread holds after its events so far, and where the next one stands.
@@ -58,13 +58,13 @@ impl Tracker {
     pub fn next_edges(&self, alloc: Global, event: &Event) -> Result<Vec<(Edge, Sample)>, Memory>
         ensures { (thread : ℕ) (es : List Event) → Tracks thread es self.now → IfOk result (λ v. v.items ≡ edges_after thread es event.now) }
     {
-        let Event::Acquire { lock, loc } = *event else {
+        let Event::Acquire { lock, mode, loc } = *event else {
             return Ok(Vec::new(alloc));
         };
         if self.held.holds(lock) {
             return Ok(Vec::new(alloc));
         }
-        self.edges_to(alloc, lock, loc)
+        self.edges_to(alloc, lock, mode, loc)
     }
 
     // The edges from each held lock to one that isn't held, ascending.
@@ -72,20 +72,23 @@ impl Tracker {
         &self,
         alloc: Global,
         wanted: LockId,
+        mode: LockMode,
         loc: LocId,
     ) -> Result<Vec<(Edge, Sample)>, Memory>
-        ensures { (thread : ℕ) (es : List Event) → Tracks thread es self.now → IfOk result (λ v. v.items ≡ map (pair_at thread es wanted loc) (events.held es)) }
+        ensures { (thread : ℕ) (es : List Event) → Tracks thread es self.now → IfOk result (λ v. v.items ≡ map (pair_at thread es wanted mode loc) (events.held es)) }
     {
         let mut guards = Guards::empty(alloc);
         guards.refill(self.held.entries())?;
         let mut pairs = Vec::new(alloc);
         let locks = guards.as_slice();
-        for lock in locks {
-            let entry = entry_for(self.held.entries(), *lock);
+        for guard in locks {
+            let entry = entry_for(self.held.entries(), guard.lock);
             let edge = Edge {
                 thread: self.thread,
                 held: entry.lock,
+                held_mode: entry.mode,
                 wanted,
+                wanted_mode: mode,
                 first: entry.seg,
                 second: self.segment,
                 guards: guards.copy(alloc)?,
@@ -109,8 +112,8 @@ impl Tracker {
         let place = self.place;
         self.place = place + 1;
         match event {
-            Event::Acquire { lock, loc } => {
-                let _ = self.held.acquire(lock, loc, place, self.segment);
+            Event::Acquire { lock, mode, loc } | Event::TryAcquire { lock, mode, loc } => {
+                let _ = self.held.acquire(lock, mode, loc, place, self.segment);
             }
             Event::Release { lock, .. } => {
                 let _ = self.held.release(lock);

@@ -2,4 +2,5 @@ pub mod Bounds
 pub mod Events
 pub mod Faults
 pub mod Lawful
+pub mod Modes
 pub mod Standing

@@ -1,17 +1,72 @@
 //! The events of a thread, and the segments that forks and joins cut its run into.
-ghost use Rattle.std.specs.Prelude.{◌≡◌};
+ghost use Rattle.std.specs.Prelude.{◌≡◌, refl, nat_eq};
+ghost use Rattle.std.specs.Cmp.{nat_cmp_total, nat_eq_equiv, on_equiv, on_per, on_po, on_total, partial_equiv_from_equiv, partial_order_from_total, unsigned_po, unsigned_ties};
+ghost use Rattle.std.specs.Ordering.{as_partial_cmp, on};
+ghost use Rattle.gl_event.specs.Modes.{rank, mode_cmp};
+
+use std::cmp::Ordering;
 
 use crate::ids::{LocId, LockId, ThreadId};
 
 /// How a lock is held: by one thread alone, or by readers together. The two are ordered as they
 /// stand here.
-#[derive(Clone, Copy, Debug, PartialEq, Eq, PartialOrd, Ord, Hash, Default)]
+#[derive(Clone, Copy, Debug, Hash, Default)]
 pub enum LockMode {
     /// No other thread holds the lock meanwhile.
     #[default]
     Exclusive,
     /// Other threads may hold the lock meanwhile, all of them in this mode.
     Shared,
+}
+
+impl LockMode {
+    // Its place in the order of modes.
+    fn rank(self) -> u8
+        ensures { result ≡ rank self }
+    {
+        match self {
+            LockMode::Exclusive => 0,
+            LockMode::Shared => 1,
+        }
+    }
+}
+
+impl PartialEq for LockMode {
+    ghost eq = { λ a b. nat_eq (rank a) (rank b) };
+
+    ghost laws = { on_per rank (partial_equiv_from_equiv nat_eq_equiv) };
+
+    fn eq(&self, other: &LockMode) -> bool {
+        self.rank() == other.rank()
+    }
+}
+
+impl Eq for LockMode {
+    ghost laws = { on_equiv rank nat_eq_equiv };
+}
+
+impl PartialOrd for LockMode {
+    ghost partial_cmp = { as_partial_cmp mode_cmp };
+
+    ghost laws = { on_po rank unsigned_po };
+
+    fn partial_cmp(&self, other: &LockMode) -> Option<Ordering> {
+        Some(self.cmp(other))
+    }
+}
+
+impl Ord for LockMode {
+    ghost cmp = { mode_cmp };
+
+    ghost total = { on_total rank nat_cmp_total };
+
+    ghost matches_partial_cmp = { λ a b. refl };
+
+    ghost matches_eq = { λ a b. unsigned_ties (rank a) (rank b) };
+
+    fn cmp(&self, other: &LockMode) -> Ordering {
+        self.rank().cmp(&other.rank())
+    }
 }
 
 impl LockMode {

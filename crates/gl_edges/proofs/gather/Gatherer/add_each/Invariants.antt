@@ -1,5 +1,5 @@
 use Rattle.std.proofs.Common.{◌≡◌, List, ◌++◌, map, take}
-use Rattle.gl_event.specs.Events.{ascending}
+use Rattle.gl_edges.specs.Guards.{guards_of}
 use Rattle.gl_edges.specs.Samples.{IsTableOf}
 use Rattle.gl_edges.specs.Tracking.{pair_for}
 use Rattle.gl_edges.specs.declared.edge.Edge.{Edge}
@@ -10,8 +10,9 @@ abbrev pub invariant-loop-entry : goal.invariant-loop-entry
 invariant-loop-entry l = record {
   of_thread : l.self.edge.thread ≡ l.tracker.thread;
   wants : l.self.edge.wanted ≡ l.fn.wanted;
+  wants_as : l.self.edge.wanted_mode ≡ l.fn.mode;
   in_segment : l.self.edge.second ≡ l.tracker.segment;
-  guarded : l.self.edge.guards ≡ ascending (map (λ h. h.lock) l.tracker.held);
+  guarded : l.self.edge.guards ≡ guards_of l.tracker.held;
   same_seen : l.self.seen ≡ l.fn.self.seen;
-  known : (pairs : List (Edge × Sample)) → IsTableOf l.fn.self.table pairs → IsTableOf l.self.table (pairs ++ map (pair_for l.tracker l.fn.wanted l.fn.loc) (take l.entry-index l.tracker.held));
+  known : (pairs : List (Edge × Sample)) → IsTableOf l.fn.self.table pairs → IsTableOf l.self.table (pairs ++ map (pair_for l.tracker l.fn.wanted l.fn.mode l.fn.loc) (take l.entry-index l.tracker.held));
 }

@@ -9,7 +9,7 @@ pub returns-then-holds : goal.returns-then-holds
 returns-then-holds c = λ thread es pairs tracked is.
     let deep = (c.holds.ensures es tracked.stands).0 c.if-holds.true in
     rw c.in-Acquire.is
-    (gathers_nothing pairs _ (length es) c.args.self.now (wanting_none thread es c.in-Acquire.loc c.in-Acquire.lock deep) is)
+    (gathers_nothing pairs _ (length es) c.args.self.now (wanting_none thread es c.in-Acquire.lock c.in-Acquire.mode c.in-Acquire.loc deep) is)
 
 pub returns : goal.returns
 returns c =
@@ -17,7 +17,7 @@ returns c =
     (λ added thread es pairs tracked is.
     let free = not_deep c.holds.result _ (c.holds.ensures es tracked.stands).1 c.if-holds.false in
     rw c.in-Acquire.is
-    (gathers_acquire thread es c.args.tracker.now tracked c.in-Acquire.lock c.in-Acquire.loc pairs c.add_acquire.new.self free
+    (gathers_acquire thread es c.args.tracker.now tracked c.in-Acquire.lock c.in-Acquire.mode c.in-Acquire.loc pairs c.add_acquire.new.self free
     (added pairs (subst (λ place. Gathers pairs place c.args.self.now) (sym tracked.at_place) is))))
     c.add_acquire.ensures
 

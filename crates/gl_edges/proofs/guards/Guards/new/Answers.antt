@@ -1,14 +1,15 @@
-use Rattle.std.proofs.Common.{eqb, ◌∙◌}
+use Rattle.std.proofs.Common.{◌∙◌}
+use Rattle.gl_edges.specs.Guards.{guard_eq}
 use Rattle.std.proofs.lemmas.List.Filters.{dedup_is}
-use Rattle.gl_edges.proofs.Sets.{dedup_ascends, dedup_is_ascending}
+use Rattle.gl_edges.proofs.Guarding.{dedup_ascends, dedup_is_ascending}
 use Rattle.gl_edges.proofs.guards.Guards.new.Goals as goal
 
 pub invariant_of-result : goal.invariant_of-result
 invariant_of-result c =
-    let once = dedup_is eqb c.sort_unstable.new.self.items c.dedup.new.self.items c.dedup.ensures.filtered in
+    let once = dedup_is guard_eq c.sort_unstable.new.self.items c.dedup.new.self.items c.dedup.ensures.filtered in
     rw once (dedup_ascends c.sort_unstable.new.self.items c.sort_unstable.ensures.sorted)
 
 pub returns : goal.returns
 returns c =
-    let once = dedup_is eqb c.sort_unstable.new.self.items c.dedup.new.self.items c.dedup.ensures.filtered in
+    let once = dedup_is guard_eq c.sort_unstable.new.self.items c.dedup.new.self.items c.dedup.ensures.filtered in
     once ∙ dedup_is_ascending c.args.locks.items c.sort_unstable.new.self.items c.sort_unstable.ensures.permutation c.sort_unstable.ensures.sorted

@@ -4,5 +4,5 @@ use Rattle.gl_edges.specs.Edges.{pair_at}
 use Rattle.gl_edges.specs.Tracking.{Tracks}
 use Rattle.gl_edges.proofs.tracker.Tracker.edges_to.Given as goal
 
-abbrev pub invariant-loop-lock : goal.invariant-loop-lock
-invariant-loop-lock l = (thread : ℕ) (es : List Event) → Tracks thread es l.self → l.pairs.items ≡ map (pair_at thread es l.wanted l.loc) (take l.lock-index l.locks)
+abbrev pub invariant-loop-guard : goal.invariant-loop-guard
+invariant-loop-guard l = (thread : ℕ) (es : List Event) → Tracks thread es l.self → l.pairs.items ≡ map (λ g. pair_at thread es l.wanted l.mode l.loc g.lock) (take l.guard-index l.locks)

@@ -6,10 +6,10 @@ use Rattle.gl_edges.proofs.tracker.Tracker.next_edges.Goals as goal
 pub returns-then-holds : goal.returns-then-holds
 returns-then-holds c = λ thread es tracked.
     let deep = (c.holds.ensures es tracked.stands).0 c.if-holds.true in
-    rw c.in-Acquire.is (c.new-then-holds.ensures.items ∙ sym (wanting_none thread es c.in-Acquire.loc c.in-Acquire.lock deep))
+    rw c.in-Acquire.is (c.new-then-holds.ensures.items ∙ sym (wanting_none thread es c.in-Acquire.lock c.in-Acquire.mode c.in-Acquire.loc deep))
 
 pub returns : goal.returns
 returns c = λ thread es tracked.
     let free = not_deep c.holds.result _ (c.holds.ensures es tracked.stands).1 c.if-holds.false in
     rw c.in-Acquire.is
-    (IfOk-weaker c.edges_to.result _ _ (λ v is. is ∙ sym (wanting_is thread es c.in-Acquire.loc c.in-Acquire.lock free)) (c.edges_to.ensures thread es tracked))
+    (IfOk-weaker c.edges_to.result _ _ (λ v is. is ∙ sym (wanting_is thread es c.in-Acquire.lock c.in-Acquire.mode c.in-Acquire.loc free)) (c.edges_to.ensures thread es tracked))
