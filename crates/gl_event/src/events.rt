@@ -71,6 +71,17 @@ impl Ord for LockMode {
 
 impl LockMode {
     ghost use Rattle.gl_event.specs.Lawful.{is_upgrade};
+    ghost use Rattle.gl_event.specs.Modes.{conflict};
+
+    /// Whether two threads can't hold a lock in these modes at the same time: only readers can.
+    pub fn conflicts_with(self, other: LockMode) -> bool
+        ensures { result ≡ conflict self other }
+    {
+        match self {
+            LockMode::Exclusive => true,
+            LockMode::Shared => other == LockMode::Exclusive,
+        }
+    }
 
     /// Whether an acquire in this mode would make a lock that is held in the other one exclusive.
     /// Such a thread waits for all readers to go, itself among them.

@@ -10,21 +10,55 @@ use Rattle.std.proofs.lemmas.List.Kept.{AllPairs-cons}
 use Rattle.gl_event.specs.declared.events.Segment.{Segment}
 use Rattle.gl_edges.specs.declared.edge.Edge.{Edge}
 use Rattle.gl_filters.specs.declared.query.Mode.{Mode}
-use Rattle.gl_filters.specs.Cycle.{asks_guards, asks_order, is_ordered, AreApart, IsCycle}
-use Rattle.gl_filters.specs.Test.{share_one, is_clear, goes_with, go_together, lead_on, begins_least, is_path, last_of, is_cycle}
+use Rattle.gl_filters.specs.Cycle.{asks_guards, asks_order, is_ordered, LeadsOn, HasGate, AreApart, IsCycle}
+use Rattle.gl_event.specs.Modes.{conflict}
+use Rattle.gl_edges.specs.declared.guards.Guard.{Guard}
+use Rattle.gl_filters.specs.Test.{clash_on, guards_clash, leads_to, is_clear, goes_with, go_together, lead_on, begins_least, is_path, last_of, is_cycle}
 
--- no lock is in both sets where none was found
-pub apart_tells : (gs hs : List ℕ) → share_one gs hs ≡ false → (lock : ℕ) → Contains gs lock → Contains hs lock → ⊥
-apart_tells gs hs none lock (k, k_in, k_is) (j, j_in, j_is) =
-    let found : list_any (λ h. eqb h lock) hs ≡ true = list_any-from_Any (λ h. eqb h lock) hs (j, lock, j_in, j_is, eq-eqb lock lock refl) in
-    false≢true (sym none ∙ list_any-from_Any (λ g. list_any (λ h. eqb h g) hs) gs (k, lock, k_in, k_is, found))
+-- guards of one lock, not both shared, clash
+clash_from : (g h : Guard) → g.lock ≡ h.lock → conflict g.mode h.mode ≡ true → clash_on g h ≡ true
+clash_from g h same conflicting = and_from (eqb g.lock h.lock) _ (eq-eqb g.lock h.lock same) conflicting
 
--- none is found where no lock is in both sets
-pub apart_from : (gs hs : List ℕ) → ((lock : ℕ) → Contains gs lock → Contains hs lock → ⊥) → share_one gs hs ≡ false
+-- a gate of both sets is found
+pub gate_found : (gs hs : List Guard) (lock : ℕ) → (gate : HasGate gs hs lock) → list_any (clash_on (record { lock = lock; mode = gate.one })) hs ≡ true
+gate_found gs hs lock gate =
+    let (j, j_in, j_is) = gate.in_other in
+    list_any-from_Any (clash_on (record { lock = lock; mode = gate.one })) hs (j, record { lock = lock; mode = gate.other }, j_in, j_is, clash_from (record { lock = lock; mode = gate.one }) (record { lock = lock; mode = gate.other }) refl gate.in_conflict)
+
+-- what clashes with a guard of the other set makes a gate
+pub gate_from : (gs hs : List Guard) (g : Guard) → Contains gs g → list_any (clash_on g) hs ≡ true → HasGate gs hs g.lock
+gate_from gs hs g at found =
+    let (j, h, j_in, j_is, clash) = Any-from_list_any (clash_on g) hs found in
+    let parts = and_parts (eqb g.lock h.lock) _ clash in
+    let same : g.lock ≡ h.lock = eqb-true g.lock h.lock parts.0 in
+    record {
+      one = g.mode;
+      other = h.mode;
+      in_one = at;
+      in_other = subst (λ l. Contains hs (record { lock = l; mode = h.mode })) (sym same) (j, j_in, j_is);
+      in_conflict = parts.1;
+    }
+
+-- there is no gate where none was found
+pub apart_tells : (gs hs : List Guard) → guards_clash gs hs ≡ false → (lock : ℕ) → HasGate gs hs lock → ⊥
+apart_tells gs hs none lock gate =
+    let (k, k_in, k_is) = gate.in_one in
+    false≢true (sym none ∙ list_any-from_Any (λ g. list_any (clash_on g) hs) gs (k, record { lock = lock; mode = gate.one }, k_in, k_is, gate_found gs hs lock gate))
+
+-- none is found where there is no gate
+pub apart_from : (gs hs : List Guard) → ((lock : ℕ) → HasGate gs hs lock → ⊥) → guards_clash gs hs ≡ false
 apart_from gs hs apart = false_from_ne_true _ (λ found.
-    let g = Any-from_list_any (λ g. list_any (λ h. eqb h g) hs) gs found in
-    let h = Any-from_list_any (λ h. eqb h g.1) hs g.4 in
-    apart g.1 (g.0, g.2, g.3) (subst (Contains hs) (eqb-true _ _ h.4) (h.0, h.2, h.3)))
+    let (k, g, k_in, k_is, any) = Any-from_list_any (λ g. list_any (clash_on g) hs) gs found in
+    apart g.lock (gate_from gs hs g (k, k_in, k_is) any))
+
+-- the test of one edge leading on to another
+pub leads_tells : (e f : Edge) → leads_to e f ≡ true → LeadsOn e f
+leads_tells e f passes =
+    let parts = and_parts (eqb e.wanted f.held) _ passes in
+    record { same_lock = eqb-true e.wanted f.held parts.0; in_conflict = parts.1 }
+
+pub leads_from : (e f : Edge) → LeadsOn e f → leads_to e f ≡ true
+leads_from e f leads = and_from (eqb e.wanted f.held) _ (eq-eqb e.wanted f.held leads.same_lock) leads.in_conflict
 
 -- what holds of two edges that may stand in one cycle
 record AreFit (before : Segment → Segment → Bool) (mode : Mode) (e f : Edge) : Type 0 where
@@ -52,7 +86,7 @@ unfolding goes_with is_clear
 fit_tells before mode e f goes =
     let parts = and_parts (not (eqb e.held f.held) && not (eqb e.thread f.thread)) _ goes in
     let differ = and_parts (not (eqb e.held f.held)) _ parts.0 in
-    let clear = and_parts (not (asks_guards mode && share_one e.guards f.guards)) _ parts.1 in
+    let clear = and_parts (not (asks_guards mode && guards_clash e.guards f.guards)) _ parts.1 in
     record {
       locks = unlike e.held f.held differ.0;
       threads = unlike e.thread f.thread differ.1;
@@ -101,20 +135,20 @@ module _ (before : Segment → Segment → Bool) (mode : Mode) where
       (all_from (goes_with before mode e) es (λ k d below. fit_from before mode e _ (pairs_head (AreFit before mode) e es pairs k d below)))
       (together_from es (pairs_tail (AreFit before mode) e es pairs))
 
-lead_on_tells : (es : List Edge) → lead_on es ≡ true → (i : ℕ) (e f : Edge) → slice_get es i ≡ Some e → slice_get es (suc i) ≡ Some f → e.wanted ≡ f.held
+lead_on_tells : (es : List Edge) → lead_on es ≡ true → (i : ℕ) (e f : Edge) → slice_get es i ≡ Some e → slice_get es (suc i) ≡ Some f → LeadsOn e f
 lead_on_tells [] passes i e f here next = absurd (cc)
 lead_on_tells (c ∷ []) passes i e f here next = absurd (cc)
 lead_on_tells (c ∷ d ∷ es) passes zero e f here next =
     let c_is : c ≡ e = cc in
     let d_is : d ≡ f = cc in
-    ap (λ (x : Edge). x.wanted) (sym c_is) ∙ (eqb-true _ _ ((and_parts (eqb c.wanted d.held) _ passes).0) ∙ ap (λ (x : Edge). x.held) d_is)
-lead_on_tells (c ∷ d ∷ es) passes (suc i) e f here next = lead_on_tells (d ∷ es) ((and_parts (eqb c.wanted d.held) _ passes).1) i e f here next
+    subst (λ x. LeadsOn x f) c_is (subst (LeadsOn c) d_is (leads_tells c d ((and_parts (leads_to c d) _ passes).0)))
+lead_on_tells (c ∷ d ∷ es) passes (suc i) e f here next = lead_on_tells (d ∷ es) ((and_parts (leads_to c d) _ passes).1) i e f here next
 
-lead_on_from : (es : List Edge) → ((i : ℕ) (e f : Edge) → slice_get es i ≡ Some e → slice_get es (suc i) ≡ Some f → e.wanted ≡ f.held) → lead_on es ≡ true
+lead_on_from : (es : List Edge) → ((i : ℕ) (e f : Edge) → slice_get es i ≡ Some e → slice_get es (suc i) ≡ Some f → LeadsOn e f) → lead_on es ≡ true
 lead_on_from [] leads = refl
 lead_on_from (c ∷ []) leads = refl
 lead_on_from (c ∷ d ∷ es) leads =
-    and_from (eqb c.wanted d.held) _ (eq-eqb _ _ (leads 0 c d refl refl)) (lead_on_from (d ∷ es) (λ i e f here next. leads (suc i) e f here next))
+    and_from (leads_to c d) _ (leads_from c d (leads 0 c d refl refl)) (lead_on_from (d ∷ es) (λ i e f here next. leads (suc i) e f here next))
 
 -- the last edge stands at the last place
 last_at : (e : Edge) (es : List Edge) → slice_get (e ∷ es) (length es) ≡ Some (last_of e es)
@@ -151,7 +185,7 @@ module _ (before : Segment → Segment → Bool) (mode : Mode) (len : ℕ) where
         leads_back = λ e f last first.
             let e_is : last_of c es ≡ e = same_Some _ e (sym (end_at c es) ∙ last) in
             let f_is : c ≡ f = same_Some c f first in
-            ap (λ (x : Edge). x.wanted) (sym e_is) ∙ (eqb-true _ _ inner.1 ∙ ap (λ (x : Edge). x.held) f_is);
+            subst (λ x. LeadsOn x f) e_is (subst (LeadsOn (last_of c es)) f_is (leads_tells (last_of c es) c inner.1));
         locks_differ = λ i j d lower below. (fit i j d lower below).locks;
         threads_differ = λ i j d lower below. (fit i j d lower below).threads;
         least_first = λ e first. subst (λ (x : Edge). All (λ (f : Edge). x.thread ≤ f.thread) (c ∷ es)) (same_Some c e first) (least_tells c es rest.1);
@@ -170,10 +204,10 @@ module _ (before : Segment → Segment → Bool) (mode : Mode) (len : ℕ) where
         apart = λ asked. cycle.apart asked i j d lower below;
         unordered = λ asked. cycle.unordered asked i j d lower below;
       } in
-      let closed : (last_of c es).wanted ≡ c.held = cycle.leads_back (last_of c es) c (end_at c es) refl in
+      let closed : LeadsOn (last_of c es) c = cycle.leads_back (last_of c es) c (end_at c es) refl in
       and_from _ _ (le-leb _ _ cycle.two_or_more)
       (and_from _ _
       (and_from _ _
       (lead_on_from (c ∷ es) (λ i e f here next. cycle.leads_on i e f here (rw add-one next)))
       (and_from _ _ (together_from before mode (c ∷ es) fit) (least_from c es (cycle.least_first c refl))))
-      (eq-eqb _ _ closed))
+      (leads_from (last_of c es) c closed))

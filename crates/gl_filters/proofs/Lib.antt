@@ -1,5 +1,6 @@
 pub mod Paths
 pub mod Cycling
+pub mod Gates
 pub mod Judged
 pub mod Valid
 pub mod Verdicts

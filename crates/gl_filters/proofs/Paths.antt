@@ -1,12 +1,12 @@
 -- A path grows edge by edge, and each front of a path is a path.
-use Rattle.std.proofs.Common.{◌≡◌, Bool, true, false, ◌&&◌, eqb, leb, List, [], ◌∷◌, ◌++◌, refl, sym, ap, ◌∙◌}
+use Rattle.std.proofs.Common.{◌≡◌, Bool, true, false, ◌&&◌, leb, List, [], ◌∷◌, ◌++◌, refl, sym, ap, ◌∙◌}
 use Rattle.std.specs.List.{list_all}
 use Rattle.std.proofs.lemmas.List.{append_assoc, append-nil}
 use Rattle.std.proofs.lemmas.Bool.{false≢true, and_parts, false_from_ne_true}
 use Rattle.gl_event.specs.declared.events.Segment.{Segment}
 use Rattle.gl_edges.specs.declared.edge.Edge.{Edge}
 use Rattle.gl_filters.specs.declared.query.Mode.{Mode}
-use Rattle.gl_filters.specs.Test.{goes_with, go_together, lead_on, is_path, last_of, can_follow}
+use Rattle.gl_filters.specs.Test.{leads_to, goes_with, go_together, lead_on, is_path, last_of, can_follow}
 
 -- conjunctions in another grouping
 and_four : (a b c d : Bool) → ((a && b) && (c && d)) ≡ ((a && c) && (b && d))
@@ -38,9 +38,9 @@ module _ (before : Segment → Segment → Bool) (mode : Mode) where
       (λ i. list_all_push (goes_with before mode e) es f i && go_together_push es f i)
       ∙ and_four (list_all (goes_with before mode e) es) (goes_with before mode e f) (go_together before mode es) (list_all (λ d. goes_with before mode d f) es)
 
-lead_on_push : (e : Edge) (es : List Edge) (f : Edge) → lead_on ((e ∷ es) ++ f ∷ []) ≡ (lead_on (e ∷ es) && eqb ((last_of e es).wanted) f.held)
-lead_on_push e [] f = and_true (eqb e.wanted f.held)
-lead_on_push e (d ∷ es) f = ap (λ b. eqb e.wanted d.held && b) (lead_on_push d es f) ∙ sym (and_assoc (eqb e.wanted d.held) (lead_on (d ∷ es)) (eqb ((last_of d es).wanted) f.held))
+lead_on_push : (e : Edge) (es : List Edge) (f : Edge) → lead_on ((e ∷ es) ++ f ∷ []) ≡ (lead_on (e ∷ es) && leads_to (last_of e es) f)
+lead_on_push e [] f = and_true (leads_to e f)
+lead_on_push e (d ∷ es) f = ap (λ b. leads_to e d && b) (lead_on_push d es f) ∙ sym (and_assoc (leads_to e d) (lead_on (d ∷ es)) (leads_to (last_of d es) f))
 
 -- three conjunctions, each with one more part
 and_three : (a b c x y z : Bool) → ((a && x) && ((b && y) && (c && z))) ≡ ((a && (b && c)) && (x && (y && z)))
@@ -58,7 +58,7 @@ unfolding is_path can_follow
 is_path_push before mode [] f = refl
 is_path_push before mode (e ∷ es) f =
     (λ i. lead_on_push e es f i && (go_together_push before mode (e ∷ es) f i && list_all_push (λ d. leb e.thread d.thread) es f i))
-    ∙ and_three (lead_on (e ∷ es)) (go_together before mode (e ∷ es)) (list_all (λ d. leb e.thread d.thread) es) (eqb ((last_of e es).wanted) f.held) (list_all (λ d. goes_with before mode d f) (e ∷ es)) (leb e.thread f.thread)
+    ∙ and_three (lead_on (e ∷ es)) (go_together before mode (e ∷ es)) (list_all (λ d. leb e.thread d.thread) es) (leads_to (last_of e es) f) (list_all (λ d. goes_with before mode d f) (e ∷ es)) (leb e.thread f.thread)
 
 -- a front of a path is a path
 pub is_path-front : (before : Segment → Segment → Bool) (mode : Mode) (es fs : List Edge) → is_path before mode (es ++ fs) ≡ true → is_path before mode es ≡ true

@@ -126,10 +126,10 @@ first_lesser_is_one es i j a b =
 
 least_shared_is_one : (es : List Edge) (i j lock other : ℕ) (e f : Edge) → slice_get es i ≡ Some e → slice_get es j ≡ Some f → IsLeastShared es i j lock → IsLeastShared es i j other → lock ≡ other
 least_shared_is_one es i j lock other e f at_e at_f a b =
-    let (in_e, in_f, least) = a e f at_e at_f in
-    let (other_in_e, other_in_f, other_least) = b e f at_e at_f in
-    let up = least other other_in_e other_in_f in
-    let down = other_least lock in_e in_f in
+    let (gate, least) = a e f at_e at_f in
+    let (other_gate, other_least) = b e f at_e at_f in
+    let up = least other other_gate in
+    let down = other_least lock gate in
     omega arith
 
 -- ---- the tests in their order

@@ -2,11 +2,14 @@
 -- The order of segments is a parameter: a test of whether the first of two segments is before the second.
 use Rattle.std.specs.Prelude.{◌≡◌, ◌≢◌, ℕ, ◌+◌, ◌≤◌, ◌-◌, Bool, true, false, ◌||◌, List, length, slice_get, Some, All, AllPairs, Contains}
 use Rattle.gl_event.specs.declared.events.Segment.{Segment}
+use Rattle.gl_event.specs.Modes.{conflict}
+use Rattle.gl_event.specs.declared.events.LockMode.{LockMode}
 use Rattle.gl_edges.specs.declared.edge.Edge.{Edge}
+use Rattle.gl_edges.specs.declared.guards.Guard.{Guard}
 use Rattle.gl_filters.specs.declared.query.Mode.{Mode}
 use Rattle.gl_filters.specs.declared.query.Mode.TheVariants.{Basic, Guarded, Full}
 
--- the mode asks for guard sets that have no lock in common
+-- the mode asks for guard sets without a gate
 abbrev pub asks_guards : Mode → Bool
 asks_guards Basic = false
 asks_guards Guarded = true
@@ -29,13 +32,22 @@ second_segment e = record { thread = e.thread; index = e.second }
 abbrev pub is_ordered : (Segment → Segment → Bool) → Edge → Edge → Bool
 is_ordered before e f = before (second_segment e) (first_segment f) || before (second_segment f) (first_segment e)
 
--- one edge leads on to another: it wants the lock that the other one holds
-abbrev pub LeadsOn : Edge → Edge → Type 0
-LeadsOn e f = e.wanted ≡ f.held
+-- one edge leads on to another: it wants the lock that the other one holds, and not both as readers
+pub record LeadsOn (e f : Edge) : Type 0 where
+  pub same_lock : e.wanted ≡ f.held
+  pub in_conflict : conflict e.wanted_mode f.held_mode ≡ true
 
--- no lock is a guard of both edges
+-- the lock is a gate: both guard sets have it, and not both shared, so that one thread keeps the other out
+pub record HasGate (gs hs : List Guard) (lock : ℕ) : Type 0 where
+  pub one : LockMode
+  pub other : LockMode
+  pub in_one : Contains gs (record { lock = lock; mode = one })
+  pub in_other : Contains hs (record { lock = lock; mode = other })
+  pub in_conflict : conflict one other ≡ true
+
+-- no lock is a gate of the two edges
 abbrev pub AreApart : Edge → Edge → Type 0
-AreApart e f = (lock : ℕ) → Contains e.guards lock → ¬ Contains f.guards lock
+AreApart e f = (lock : ℕ) → ¬ HasGate e.guards f.guards lock
 
 -- a cycle of this mode of at most this many edges
 pub record IsCycle (before : Segment → Segment → Bool) (mode : Mode) (len : ℕ) (cycle : List Edge) : Type 0 where
@@ -50,7 +62,7 @@ pub record IsCycle (before : Segment → Segment → Bool) (mode : Mode) (len : 
   pub threads_differ : AllPairs (λ e f. e.thread ≢ f.thread) cycle
   -- it begins with the least thread, so that each cycle is listed once and not once for each rotation
   pub least_first : (e : Edge) → slice_get cycle 0 ≡ Some e → All (λ f. e.thread ≤ f.thread) cycle
-  -- no two edges have a guard in common, where the mode asks for it
+  -- no two edges have a gate, where the mode asks for it
   pub apart : asks_guards mode ≡ true → AllPairs AreApart cycle
   -- no two edges are ordered, where the mode asks for it
   pub unordered : asks_order mode ≡ true → AllPairs (λ e f. is_ordered before e f ≡ false) cycle

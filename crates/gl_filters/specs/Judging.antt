@@ -1,12 +1,12 @@
 -- What a list of edges is, as a cycle: the first fault that it has, or that it has none.
-use Rattle.std.specs.Prelude.{◌≡◌, ◌≢◌, ℕ, ◌+◌, ◌<◌, ◌≤◌, Bool, true, false, ◌==◌, if◌then◌else◌, List, length, map, slice_get, Some, Contains}
+use Rattle.std.specs.Prelude.{◌≡◌, ◌≢◌, ℕ, ◌+◌, ◌<◌, ◌≤◌, Bool, true, false, ◌==◌, if◌then◌else◌, List, length, map, slice_get, Some}
 use Rattle.std.specs.List.{filter_map}
 use Rattle.gl_event.specs.declared.events.Segment.{Segment}
 use Rattle.gl_edges.specs.declared.edge.Edge.{Edge}
 use Rattle.gl_edges.specs.declared.edge.Sample.{Sample}
 use Rattle.gl_filters.specs.Asked.{Asked}
-use Rattle.gl_filters.specs.Cycle.{asks_guards, asks_order, is_ordered}
-use Rattle.gl_filters.specs.Test.{share_one}
+use Rattle.gl_filters.specs.Cycle.{asks_guards, asks_order, is_ordered, LeadsOn, HasGate}
+use Rattle.gl_filters.specs.Test.{guards_clash}
 use Rattle.gl_filters.specs.declared.verdict.Clash.{Clash}
 use Rattle.gl_filters.specs.declared.verdict.Clash.TheVariants.{SameHeld, SameThreads, Shared, InOrder}
 use Rattle.gl_filters.specs.declared.verdict.Verdict.{Verdict}
@@ -16,11 +16,11 @@ use Rattle.gl_filters.specs.declared.verdict.Verdict.TheVariants.{TooShort, TooL
 abbrev pub picked : List (Edge × Sample) → List ℕ → List Edge
 picked table positions = filter_map (slice_get (map (λ pair. pair.0) table)) positions
 
--- two edges clash: they hold one lock, are of one thread, share a guard or are ordered
+-- two edges clash: they hold one lock, are of one thread, have guards that clash or are ordered
 unfoldable pub clashes : (Segment → Segment → Bool) → Clash → Edge → Edge → Bool
 clashes before SameHeld e f = e.held == f.held
 clashes before SameThreads e f = e.thread == f.thread
-clashes before Shared e f = share_one e.guards f.guards
+clashes before Shared e f = guards_clash e.guards f.guards
 clashes before InOrder e f = is_ordered before e f
 
 -- the edge at place i clashes with none of those at the later places below n
@@ -51,7 +51,7 @@ following n i = if i + 1 == n then 0 else i + 1
 
 -- the edge at place i leads on to the next one, round
 abbrev pub IsClosedAt : List Edge → ℕ → Type 0
-IsClosedAt es i = (e f : Edge) → slice_get es i ≡ Some e → slice_get es (following (length es) i) ≡ Some f → e.wanted ≡ f.held
+IsClosedAt es i = (e f : Edge) → slice_get es i ≡ Some e → slice_get es (following (length es) i) ≡ Some f → LeadsOn e f
 
 -- the edge at place i is the first that does not lead on to the next one
 pub record IsFirstOpen (es : List Edge) (i : ℕ) : Type 0 where
@@ -59,7 +59,7 @@ pub record IsFirstOpen (es : List Edge) (i : ℕ) : Type 0 where
   pub next : Edge
   pub at_one : slice_get es i ≡ Some one
   pub at_next : slice_get es (following (length es) i) ≡ Some next
-  pub open_here : one.wanted ≢ next.held
+  pub open_here : ¬ LeadsOn one next
   pub closed_before : (k : ℕ) → k < i → IsClosedAt es k
 
 -- the edge at place i has no lesser thread than the first
@@ -75,10 +75,10 @@ pub record IsFirstLesser (es : List Edge) (i : ℕ) : Type 0 where
   pub below : lesser.thread < first.thread
   pub none_before : (k : ℕ) → k < i → IsNotLesserAt es k
 
--- the least lock that is a guard of the edges at both places
+-- the least lock that is a gate of the edges at both places
 abbrev pub IsLeastShared : List Edge → ℕ → ℕ → ℕ → Type 0
 IsLeastShared es i j lock = (e f : Edge) → slice_get es i ≡ Some e → slice_get es j ≡ Some f
-    → Contains e.guards lock × Contains f.guards lock × ((other : ℕ) → Contains e.guards other → Contains f.guards other → lock ≤ other)
+    → HasGate e.guards f.guards lock × ((other : ℕ) → HasGate e.guards f.guards other → lock ≤ other)
 
 module _ (before : Segment → Segment → Bool) (asked : Asked) (es : List Edge) where
   -- what holds where the tests before each one have passed

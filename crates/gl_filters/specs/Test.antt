@@ -2,18 +2,28 @@
 use Rattle.std.specs.Prelude.{ℕ, Bool, true, false, not, ◌&&◌, List, [], ◌∷◌, length, ◌==◌, nat_le}
 use Rattle.std.specs.List.{list_any, list_all}
 use Rattle.gl_event.specs.declared.events.Segment.{Segment}
+use Rattle.gl_event.specs.Modes.{conflict}
 use Rattle.gl_edges.specs.declared.edge.Edge.{Edge}
+use Rattle.gl_edges.specs.declared.guards.Guard.{Guard}
 use Rattle.gl_filters.specs.Cycle.{asks_guards, asks_order, is_ordered}
 use Rattle.gl_filters.specs.declared.query.Mode.{Mode}
 
--- the two lists have a number in common
-abbrev pub share_one : List ℕ → List ℕ → Bool
-share_one gs hs = list_any (λ g. list_any (λ h. h == g) hs) gs
+-- two guards clash: they are of one lock, and not both shared
+abbrev pub clash_on : Guard → Guard → Bool
+clash_on g h = (g.lock == h.lock) && conflict g.mode h.mode
+
+-- a guard of the first set clashes with one of the second
+abbrev pub guards_clash : List Guard → List Guard → Bool
+guards_clash gs hs = list_any (λ g. list_any (clash_on g) hs) gs
+
+-- the first edge wants the lock that the second one holds, and not both as readers
+abbrev pub leads_to : Edge → Edge → Bool
+leads_to e f = (e.wanted == f.held) && conflict e.wanted_mode f.held_mode
 
 -- guards and order let the two edges stand in one cycle of this mode
 unfoldable pub is_clear : (Segment → Segment → Bool) → Mode → Edge → Edge → Bool
 is_clear before mode e f =
-    not (asks_guards mode && share_one e.guards f.guards) && not (asks_order mode && is_ordered before e f)
+    not (asks_guards mode && guards_clash e.guards f.guards) && not (asks_order mode && is_ordered before e f)
 
 -- the two edges may stand in one cycle of this mode
 unfoldable pub goes_with : (Segment → Segment → Bool) → Mode → Edge → Edge → Bool
@@ -28,7 +38,7 @@ go_together before mode (e ∷ es) = list_all (goes_with before mode e) es && go
 abbrev pub lead_on : List Edge → Bool
 lead_on [] = true
 lead_on (e ∷ []) = true
-lead_on (e ∷ f ∷ es) = (e.wanted == f.held) && lead_on (f ∷ es)
+lead_on (e ∷ f ∷ es) = leads_to e f && lead_on (f ∷ es)
 
 -- no edge has a lesser thread than the first
 abbrev pub begins_least : List Edge → Bool
@@ -47,7 +57,7 @@ last_of e (f ∷ es) = last_of f es
 -- the last edge leads on to the first
 abbrev pub leads_back : List Edge → Bool
 leads_back [] = false
-leads_back (e ∷ es) = (last_of e es).wanted == e.held
+leads_back (e ∷ es) = leads_to (last_of e es) e
 
 -- a cycle of this mode, of any length
 unfoldable pub is_cycle : (Segment → Segment → Bool) → Mode → List Edge → Bool
@@ -57,8 +67,8 @@ is_cycle before mode es = nat_le 2 (length es) && (is_path before mode es && lea
 unfoldable pub can_follow : (Segment → Segment → Bool) → Mode → List Edge → Edge → Bool
 can_follow before mode [] f = true
 can_follow before mode (e ∷ es) f =
-    ((last_of e es).wanted == f.held) && (list_all (λ d. goes_with before mode d f) (e ∷ es) && nat_le e.thread f.thread)
+    leads_to (last_of e es) f && (list_all (λ d. goes_with before mode d f) (e ∷ es) && nat_le e.thread f.thread)
 
 -- the second edge may follow the first one in a cycle of this mode
 unfoldable pub is_compatible : (Segment → Segment → Bool) → Mode → Edge → Edge → Bool
-is_compatible before mode e f = ((e.wanted == f.held) && not (e.thread == f.thread)) && is_clear before mode e f
+is_compatible before mode e f = (leads_to e f && not (e.thread == f.thread)) && is_clear before mode e f

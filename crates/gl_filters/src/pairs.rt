@@ -1,24 +1,49 @@
 //! Which two edges may stand in one cycle.
-ghost use Rattle.std.specs.Prelude.{◌≡◌, ◌&&◌, ◌||◌, ◌==◌, not};
+ghost use Rattle.std.specs.Prelude.{◌≡◌};
+ghost use Rattle.std.specs.List.{list_any};
 ghost use Rattle.gl_segments.specs.Clocks.{is_before};
 ghost use Rattle.gl_filters.specs.Cycle.{asks_guards, asks_order, is_ordered};
-ghost use Rattle.gl_filters.specs.Test.{share_one, is_clear, goes_with, is_compatible};
+ghost use Rattle.gl_filters.specs.Test.{clash_on, guards_clash, leads_to, is_clear, goes_with, is_compatible};
 
 use crate::query::Mode;
-use gl_edges::{Edge, Guards};
+use gl_edges::{Edge, Guard, Guards};
 use gl_event::Segment;
 use gl_segments::Order;
 
-// Whether the two sets have a lock in common: a gate lock. Sets are small, at most 64 locks.
-pub(crate) fn share_lock(a: &Guards, b: &Guards) -> bool
-    ensures { result ≡ share_one a.now b.now }
+// Whether the guards are of one lock, and not both shared.
+fn do_clash(g: &Guard, h: &Guard) -> bool
+    ensures { result ≡ clash_on g.now h.now }
+{
+    g.lock == h.lock && g.mode.conflicts_with(h.mode)
+}
+
+// Whether the guard clashes with one of these.
+pub(crate) fn clashes_with_any(guard: &Guard, others: &[Guard]) -> bool
+    ensures { result ≡ list_any (clash_on guard.now) others.now }
+{
+    others.iter().any(|other| do_clash(guard, other))
+}
+
+// Whether guards of the two sets clash: there is a gate lock. Sets are small, at most 64 locks.
+pub(crate) fn have_gate(a: &Guards, b: &Guards) -> bool
+    ensures { result ≡ guards_clash a.now b.now }
 {
     let others = b.as_slice();
-    a.as_slice().iter().any(|lock| others.contains(lock))
+    a.as_slice()
+        .iter()
+        .any(|guard| clashes_with_any(guard, others))
+}
+
+/// Whether the first edge leads on to the second: it wants the lock that the second one holds, and
+/// not both as readers. A reader doesn't wait for a reader.
+pub fn leads_on(e: &Edge, f: &Edge) -> bool
+    ensures { result ≡ leads_to e.now f.now }
+{
+    e.wanted == f.held && e.wanted_mode.conflicts_with(f.held_mode)
 }
 
 impl Mode {
-    // Whether guard sets of a cycle's edges have no lock in common.
+    // Whether guard sets of a cycle's edges have no gate lock.
     pub(crate) fn asks_guards(self) -> bool
         ensures { result ≡ asks_guards self }
     {
@@ -72,7 +97,7 @@ pub(crate) fn are_ordered(order: &Order, e: &Edge, f: &Edge) -> bool
 fn are_clear(mode: Mode, order: &Order, e: &Edge, f: &Edge) -> bool
     ensures { result ≡ is_clear (is_before order.now) mode e.now f.now }
 {
-    if mode.asks_guards() && share_lock(&e.guards, &f.guards) {
+    if mode.asks_guards() && have_gate(&e.guards, &f.guards) {
         return false;
     }
     if mode.asks_order() && are_ordered(order, e, f) {
@@ -82,8 +107,8 @@ fn are_clear(mode: Mode, order: &Order, e: &Edge, f: &Edge) -> bool
 }
 
 /// Whether two edges may stand in one cycle of this mode, at any distance: their held locks and
-/// their threads differ, from Guarded on their guards have no lock in common, and in Full they
-/// aren't ordered.
+/// their threads differ, from Guarded on their guards have no gate lock, and in Full they aren't
+/// ordered.
 #[tactic(auto, unfolding(crate::specs::Test::goes_with))]
 pub fn goes_with(mode: Mode, order: &Order, e: &Edge, f: &Edge) -> bool
     ensures { result ≡ goes_with (is_before order.now) mode e.now f.now }
@@ -94,14 +119,14 @@ pub fn goes_with(mode: Mode, order: &Order, e: &Edge, f: &Edge) -> bool
     are_clear(mode, order, e, f)
 }
 
-/// Whether the second edge may follow the first one in a cycle of this mode: the first wants the
-/// lock that the second holds, their threads differ, from Guarded on their guards have no lock in
-/// common, and in Full they aren't ordered.
+/// Whether the second edge may follow the first one in a cycle of this mode: the first leads on to
+/// the second, their threads differ, from Guarded on their guards have no gate lock, and in Full
+/// they aren't ordered.
 #[tactic(auto, unfolding(crate::specs::Test::is_compatible))]
 pub fn compatible(mode: Mode, order: &Order, e: &Edge, f: &Edge) -> bool
     ensures { result ≡ is_compatible (is_before order.now) mode e.now f.now }
 {
-    if e.wanted != f.held || e.thread == f.thread {
+    if !leads_on(e, f) || e.thread == f.thread {
         return false;
     }
     are_clear(mode, order, e, f)

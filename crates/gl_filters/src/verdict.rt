@@ -1,14 +1,17 @@
 //! What a list of edges is, as a cycle.
-ghost use Rattle.std.specs.Prelude.{◌≡◌, ◌<◌, ◌≤◌, ℕ, Some, length, map, slice_get, All, Contains, MatchOption, true};
+ghost use Rattle.std.specs.Prelude.{◌≡◌, ◌<◌, ◌≤◌, ℕ, Some, length, slice_get, All, MatchOption, true};
 ghost use Rattle.gl_segments.specs.Clocks.{is_before};
 ghost use Rattle.gl_edges.specs.declared.edge.Edge.{Edge};
 ghost use Rattle.gl_filters.specs.Judging.{picked, clashes, IsFree, IsFirstAfter, NoPair, IsFirstPair, following, IsClosedAt, IsFirstOpen, IsNotLesserAt, IsFirstLesser, IsVerdict, IsLeastShared};
 ghost use Rattle.gl_filters.specs.declared.verdict.Clash.TheVariants.{Shared};
-ghost use Rattle.gl_filters.specs.Test.{share_one};
+ghost use Rattle.gl_filters.specs.Cycle.{HasGate};
+ghost use Rattle.gl_filters.specs.Test.{guards_clash};
+ghost use Rattle.std.specs.List.Sorted.{IsStrictlySortedBy};
+ghost use Rattle.gl_edges.specs.Guards.{guard_cmp};
 
-use crate::pairs::{are_ordered, share_lock};
+use crate::pairs::{are_ordered, clashes_with_any, have_gate, leads_on};
 use crate::query::Query;
-use gl_edges::{Edge, EdgeList, Guards, Sample};
+use gl_edges::{Edge, EdgeList, Guard, Sample};
 use gl_event::LockId;
 use gl_segments::Order;
 
@@ -20,7 +23,7 @@ pub enum Verdict {
     TooShort,
     /// It has more edges than asked for.
     TooLong,
-    /// The edge here doesn't want the lock that the next one, round, holds.
+    /// The edge here doesn't want the lock that the next one, round, holds, or both as readers.
     NotClosed(usize),
     /// The edges here hold the same lock.
     SameLock(usize, usize),
@@ -28,7 +31,7 @@ pub enum Verdict {
     SameThread(usize, usize),
     /// The edge here is of a lesser thread than the first edge.
     NotLeast(usize),
-    /// The edges here have this guard in common.
+    /// The edges here have this guard in common, and not both shared.
     SharedGuard(usize, usize, LockId),
     /// The edges here are ordered.
     Ordered(usize, usize),
@@ -62,7 +65,7 @@ fn do_clash(clash: Clash, order: &Order, e: &Edge, f: &Edge) -> bool
     match clash {
         Clash::SameHeld => e.held == f.held,
         Clash::SameThreads => e.thread == f.thread,
-        Clash::Shared => share_lock(&e.guards, &f.guards),
+        Clash::Shared => have_gate(&e.guards, &f.guards),
         Clash::InOrder => are_ordered(order, e, f),
     }
 }
@@ -129,7 +132,7 @@ fn first_open(table: &[(Edge, Sample)], cycle: &[usize]) -> Option<usize>
 {
     for i in 0..cycle.len() {
         let next = next_place(i, cycle.len());
-        if edge_at(table, cycle, i).wanted != edge_at(table, cycle, next).held {
+        if !leads_on(edge_at(table, cycle, i), edge_at(table, cycle, next)) {
             return Some(i);
         }
     }
@@ -170,24 +173,22 @@ fn first_pair_where(
     first_pair(clash, order, table, cycle)
 }
 
-// The least lock that both sets have.
-fn shared_lock(a: &Guards, b: &Guards) -> LockId
-    requires { share_one a.now b.now ≡ true }
-    ensures one { Contains a.now result }
-    ensures other { Contains b.now result }
-    ensures least { (lock : ℕ) → Contains a.now lock → Contains b.now lock → result ≤ lock }
+// The least lock that is a gate of both sets.
+fn gate_lock(guards: &[Guard], others: &[Guard]) -> LockId
+    requires ascending { IsStrictlySortedBy guard_cmp guards.now }
+    requires clash { guards_clash guards.now others.now ≡ true }
+    ensures gate { HasGate guards.now others.now result }
+    ensures least { (lock : ℕ) → HasGate guards.now others.now lock → result ≤ lock }
 {
-    let locks = a.as_slice();
-    let others = b.as_slice();
-    for lock in locks {
-        if others.contains(lock) {
-            return *lock;
+    for guard in guards {
+        if clashes_with_any(guard, others) {
+            return guard.lock;
         }
     }
     unreachable!()
 }
 
-// The least lock that the edges at both places have as a guard.
+// The least lock that is a gate of the edges at both places.
 fn guard_at(order: &Order, table: &[(Edge, Sample)], cycle: &[usize], i: usize, j: usize) -> LockId
     requires within { All (λ p. p < length table.now) cycle.now }
     requires clash { IsFirstAfter (clashes (is_before order.now) Shared) (picked table.now cycle.now) i j }
@@ -196,7 +197,7 @@ fn guard_at(order: &Order, table: &[(Edge, Sample)], cycle: &[usize], i: usize, 
     let _ = order;
     let one = edge_at(table, cycle, i);
     let other = edge_at(table, cycle, j);
-    shared_lock(&one.guards, &other.guards)
+    gate_lock(one.guards.as_slice(), other.guards.as_slice())
 }
 
 // What the edges at these positions are, as a cycle that the query asks for.

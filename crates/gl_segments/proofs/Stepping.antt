@@ -7,7 +7,7 @@ use Rattle.std.proofs.lemmas.List.{length-map, get_or_past}
 use Rattle.std.proofs.lemmas.Option.{slice_get_within, same_Some, slice_get-map}
 use Rattle.gl_event.specs.Events.{closes, segment}
 use Rattle.gl_event.specs.declared.events.Event.{Event}
-use Rattle.gl_event.specs.declared.events.Event.TheVariants.{Acquire, Release, Fork, Join}
+use Rattle.gl_event.specs.declared.events.Event.TheVariants.{Acquire, Release, TryAcquire, Fork, Join}
 use Rattle.gl_event.specs.declared.events.Segment.{Segment}
 use Rattle.gl_segments.specs.Orders.{AreLawful}
 use Rattle.gl_segments.specs.Segments.{IsSegment, StandsIn, IsNext, IsFork, IsJoin, IsStep}
@@ -114,8 +114,9 @@ joined_join lists thread loc a (Some cs) at h =
 
 -- the same, whichever the event
 joined_cases : (lists : List (List Event)) (e : Event) (a : Segment) → Contains (joined_last (cuts_of lists) e) a → IsJoined lists e a
-joined_cases lists (Acquire lock loc) a h = absurd (contains_nil a h)
-joined_cases lists (Release lock loc) a h = absurd (contains_nil a h)
+joined_cases lists (Acquire lock mode loc) a h = absurd (contains_nil a h)
+joined_cases lists (Release lock mode loc) a h = absurd (contains_nil a h)
+joined_cases lists (TryAcquire lock mode loc) a h = absurd (contains_nil a h)
 joined_cases lists (Fork thread loc) a h = absurd (contains_nil a h)
 joined_cases lists (Join thread loc) a h = joined_join lists thread loc a (slice_get (cuts_of lists) thread) refl h
 

@@ -8,7 +8,7 @@ use Rattle.std.proofs.lemmas.List.Elements.{Contains-append_left, Contains-push,
 use Rattle.std.proofs.lemmas.Option.{same_Some, slice_get_within, slice_get_read, slice_get-map, slice_get_past}
 use Rattle.gl_event.specs.Events.{closes}
 use Rattle.gl_event.specs.declared.events.Event.{Event}
-use Rattle.gl_event.specs.declared.events.Event.TheVariants.{Acquire, Release, Fork, Join}
+use Rattle.gl_event.specs.declared.events.Event.TheVariants.{Acquire, Release, TryAcquire, Fork, Join}
 use Rattle.gl_event.specs.declared.events.Segment.{Segment}
 use Rattle.gl_segments.specs.Orders.{lists_of}
 use Rattle.gl_segments.specs.Tables.{row, AddsForks, Forks, cut_at, joined_last, IsRowOf}
@@ -206,7 +206,8 @@ joined_none vecs thread loc past =
 
 -- an event that is no join
 pub joined_other : (cuts : List (List Event)) (e : Event) → ((thread loc : ℕ) → e ≡ Join thread loc → ⊥) → joined_last cuts e ≡ []
-joined_other cuts (Acquire lock loc) other = refl
-joined_other cuts (Release lock loc) other = refl
+joined_other cuts (Acquire lock mode loc) other = refl
+joined_other cuts (Release lock mode loc) other = refl
+joined_other cuts (TryAcquire lock mode loc) other = refl
 joined_other cuts (Fork thread loc) other = refl
 joined_other cuts (Join thread loc) other = absurd (other thread loc refl)

@@ -9,10 +9,12 @@ use Rattle.std.proofs.lemmas.List.{length-map}
 use Rattle.std.proofs.lemmas.List.Sums.{length-filter, count_by-le-length}
 use Rattle.std.proofs.lemmas.Option.{slice_get_within}
 use Rattle.gl_event.specs.Bounds.{greatest}
-use Rattle.gl_event.specs.Events.{acquires, acquired_lock, depth, held}
-use Rattle.gl_event.specs.Lawful.{IsLawful, refusal, lock_refusal}
+use Rattle.gl_event.specs.Events.{acquires, acquired_lock, depth, held, held_mode}
+use Rattle.gl_event.specs.Lawful.{IsLawful, refusal, lock_refusal, acquire_refusal, is_upgrade}
 use Rattle.gl_event.specs.declared.events.Event.{Event}
-use Rattle.gl_event.specs.declared.events.Event.TheVariants.{Acquire, Release, Fork, Join}
+use Rattle.gl_event.specs.declared.events.Event.TheVariants.{Acquire, Release, TryAcquire, Fork, Join}
+use Rattle.gl_event.specs.declared.events.LockMode.TheVariants.{Exclusive, Shared}
+use Rattle.gl_event.specs.declared.events.LockMode.{LockMode}
 use Rattle.gl_segments.proofs.Cutting.{length_take_within}
 
 -- the numbers as a set
@@ -32,8 +34,9 @@ len_set (n ∷ ns) = rw (fin.len-insert nat_cmp_total (set_of ns) n tt) (either_
 -- no more acquires than events
 locks_few : (es : List Event) → length (filter_map acquired_lock es) ≤ length es
 locks_few [] = omega arith
-locks_few (Acquire l loc ∷ es) = let r = locks_few es in omega arith
-locks_few (Release l loc ∷ es) = let r = locks_few es in omega arith
+locks_few (Acquire l mode loc ∷ es) = let r = locks_few es in omega arith
+locks_few (Release l mode loc ∷ es) = let r = locks_few es in omega arith
+locks_few (TryAcquire l mode loc ∷ es) = let r = locks_few es in omega arith
 locks_few (Fork t loc ∷ es) = let r = locks_few es in omega arith
 locks_few (Join t loc ∷ es) = let r = locks_few es in omega arith
 
@@ -55,13 +58,18 @@ depth_few : (es : List Event) (lock : ℕ) → depth es lock ≤ length es
 unfolding depth
 depth_few es lock = let r = count_by-le-length (acquires lock) es in omega arith
 
--- locks allow an acquire after a short list
-free_acquire : (es : List Event) (lock loc : ℕ) → length es < 64 → lock_refusal es (Acquire lock loc) ≡ None
-unfolding lock_refusal
-free_acquire es lock loc few = let h = held_few es in let d = depth_few es lock in grind arith
+-- a shared acquire is no upgrade
+no_upgrade : (held : LockMode) → is_upgrade held Shared ≡ false
+no_upgrade Exclusive = refl
+no_upgrade Shared = refl
 
--- an acquire may come after a short list
-pub allowed_acquire : (thread : ℕ) (es : List Event) (lock loc : ℕ) → length es < 64 → refusal greatest thread es (Acquire lock loc) ≡ None
+-- locks allow a shared acquire after a short list
+free_acquire : (es : List Event) (lock loc : ℕ) → length es < 64 → lock_refusal es (Acquire lock Shared loc) ≡ None
+unfolding lock_refusal acquire_refusal
+free_acquire es lock loc few = let h = held_few es in let d = depth_few es lock in let u = no_upgrade (held_mode es lock) in grind arith
+
+-- a shared acquire may come after a short list
+pub allowed_acquire : (thread : ℕ) (es : List Event) (lock loc : ℕ) → length es < 64 → refusal greatest thread es (Acquire lock Shared loc) ≡ None
 unfolding refusal
 allowed_acquire thread es lock loc few = let free = free_acquire es lock loc few in grind arith
 

@@ -3,7 +3,7 @@ use Rattle.std.specs.Prelude.{◌≡◌, ◌↔◌, ℕ, ◌+◌, ◌<◌, ◌�
 use Rattle.std.specs.Option.{option_map_or}
 use Rattle.gl_event.specs.Events.{segment, closes}
 use Rattle.gl_event.specs.declared.events.Event.{Event}
-use Rattle.gl_event.specs.declared.events.Event.TheVariants.{Acquire, Release, Fork, Join}
+use Rattle.gl_event.specs.declared.events.Event.TheVariants.{Acquire, Release, TryAcquire, Fork, Join}
 use Rattle.gl_event.specs.declared.events.Segment.{Segment}
 use Rattle.gl_event.specs.declared.limits.TheConstants.{MAX_THREADS}
 use Rattle.gl_segments.specs.Segments.{IsStep, Leads}
@@ -75,8 +75,9 @@ Forks cuts thread s = (loc : ℕ) × (cut_at cuts s ≡ Some (Fork thread loc))
 
 -- the last segment of the thread that the event joins, if that has a list
 abbrev pub joined_last : List (List Event) → Event → List Segment
-joined_last cuts (Acquire lock loc) = []
-joined_last cuts (Release lock loc) = []
+joined_last cuts (Acquire lock mode loc) = []
+joined_last cuts (Release lock mode loc) = []
+joined_last cuts (TryAcquire lock mode loc) = []
 joined_last cuts (Fork thread loc) = []
 joined_last cuts (Join thread loc) = option_map_or (λ es. record { thread = thread; index = length es } ∷ []) (slice_get cuts thread) []
 

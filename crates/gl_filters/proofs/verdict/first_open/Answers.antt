@@ -3,6 +3,9 @@ use Rattle.std.specs.Prelude.{slice_get}
 use Rattle.std.proofs.lemmas.Option.{same_Some}
 use Rattle.gl_filters.specs.Judging.{picked, following, IsClosedAt}
 use Rattle.gl_edges.specs.declared.edge.Edge.{Edge}
+use Rattle.std.proofs.lemmas.Bool.{false≢true}
+use Rattle.gl_filters.specs.Cycle.{LeadsOn}
+use Rattle.gl_filters.proofs.Cycling.{leads_tells, leads_from}
 use Rattle.gl_filters.proofs.Judged.{picked_length}
 use Rattle.gl_filters.proofs.verdict.first_open.Goals as goal
 
@@ -15,7 +18,7 @@ returns-then-ne c =
       next = c.edge_at-in-loop-i.result.now;
       at_one = c.edge_at.ensures;
       at_next = subst (λ k. slice_get (picked c.args.table.now c.args.cycle.now) k ≡ Some c.edge_at-in-loop-i.result.now) next_is c.edge_at-in-loop-i.ensures;
-      open_here = search rules;
+      open_here = λ leads. false≢true (c.leads_on.ensures ∙ leads_from _ _ leads);
       closed_before = c.loop-i.invariant;
     }
 
@@ -27,8 +30,7 @@ loop-i-preserved c =
     (λ e f one next.
     let e_is = same_Some _ e (sym c.edge_at.ensures ∙ one) in
     let f_is = same_Some _ f (sym c.edge_at-in-loop-i.ensures ∙ ap (slice_get (picked c.args.table.now c.args.cycle.now)) next_is ∙ next) in
-    let equal : c.edge_at.result.now.wanted ≡ c.edge_at-in-loop-i.result.now.held = search rules in
-    ap (λ (x : Edge). x.wanted) (sym e_is) ∙ (equal ∙ ap (λ (x : Edge). x.held) f_is))
+    subst (λ x. LeadsOn x f) e_is (subst (LeadsOn c.edge_at.result.now) f_is (leads_tells _ _ (sym c.leads_on.ensures))))
 
 pub returns : goal.returns
 returns c = λ i within.
