@@ -1,11 +1,12 @@
 //! What an intake answers, note by note.
 use crate::{Accepted, Intake, Refused};
-use gl_event::{Body, Event, Limits, LocId, LockId, Note, Refusal, ThreadId};
+use gl_event::{Body, Event, Limits, LocId, LockId, LockMode, Note, Refusal, ThreadId};
 use std::test::Fail;
 
 fn acquire(lock: u32) -> Event {
     Event::Acquire {
         lock: LockId::new(lock),
+        mode: LockMode::Exclusive,
         loc: LocId::new(0),
     }
 }
@@ -13,6 +14,7 @@ fn acquire(lock: u32) -> Event {
 fn release(lock: u32) -> Event {
     Event::Release {
         lock: LockId::new(lock),
+        mode: LockMode::Exclusive,
         loc: LocId::new(0),
     }
 }

@@ -4,10 +4,11 @@ use Rattle.std.specs.Prelude.{IsOk, OnOk}
 use Rattle.std.proofs.lemmas.Bool.{false≢true}
 use Rattle.gl_event.specs.Bounds.{Bounds}
 use Rattle.gl_event.specs.Events.{closes, partner}
-use Rattle.gl_event.specs.Lawful.{lock_refusal, refusal}
+use Rattle.gl_event.specs.Lawful.{lock_refusal, acquire_refusal, refusal}
 use Rattle.gl_event.specs.Standing.{StandsFor}
 use Rattle.gl_event.specs.declared.events.Event.{Event}
-use Rattle.gl_event.specs.declared.events.Event.TheVariants.{Fork, Join}
+use Rattle.gl_event.specs.declared.events.Event.TheVariants.{Acquire, TryAcquire, Fork, Join}
+use Rattle.gl_event.specs.declared.events.LockMode.{LockMode}
 use Rattle.gl_event.specs.declared.events.Refusal.{Refusal}
 use Rattle.gl_event.specs.declared.events.Refusal.TheVariants.{PlaceFull}
 use Rattle.gl_event.proofs.Depths.{segment_push}
@@ -19,6 +20,16 @@ use Rattle.gl_recorder.proofs.Refusals.{by_lock, by_forked, by_joined, list_full
 pub ok_gives : {A E : Type 0} (r : Result A E) (P : Type 0) → IsOk r → OnOk r P → P
 ok_gives (Ok x) P is h = h
 ok_gives (Err e) P is h = absurd (false≢true is)
+
+-- both kinds of acquire are refused alike
+module _ (es : List Event) (lock : ℕ) (mode : LockMode) (r : Option Refusal) (is : r ≡ acquire_refusal es lock mode) (loc : ℕ) where
+  pub as_acquire : r ≡ lock_refusal es (Acquire lock mode loc)
+  unfolding lock_refusal
+  as_acquire = is
+
+  pub as_try_acquire : r ≡ lock_refusal es (TryAcquire lock mode loc)
+  unfolding lock_refusal
+  as_try_acquire = is
 
 module _ (limits : Bounds) (thread : ℕ) (es : List Event) (t : Taking) (tracks : Tracks limits thread es t) where
   -- the list is as long as it may be

@@ -5,7 +5,7 @@
 //!
 //! ```text
 //! let mut taker = Taker::new(ThreadId::new(0), &limits);
-//! let note = taker.take(Event::Acquire { lock, loc })?;
+//! let note = taker.take(Event::Acquire { lock, mode, loc })?;
 //! ..
 //! let last = taker.end();
 //! ```

@@ -1,16 +1,18 @@
 //! The recorder of one thread.
-ghost use Rattle.std.specs.Prelude.{◌≡◌, ◌≢◌, ◌↔◌, ℕ, ◌+◌, ◌<◌, ◌≤◌, None, Some, List, [], ◌∷◌, ◌++◌, length, OnOk, OnErr};
+ghost use Rattle.std.specs.Prelude.{◌≡◌, ◌≢◌, ◌↔◌, ℕ, ◌+◌, ◌<◌, ◌≤◌, None, Some, List, [], ◌∷◌, ◌++◌, length, OnOk, OnErr, IfSome, IfNone};
 ghost use Rattle.gl_event.specs.Bounds.{Bounds};
-ghost use Rattle.gl_event.specs.Events.{depth};
-ghost use Rattle.gl_event.specs.Lawful.{lock_refusal, refusal};
-ghost use Rattle.gl_event.specs.Standing.{StandsFor};
+ghost use Rattle.gl_event.specs.Events.{depth, entry_of, location};
+ghost use Rattle.gl_event.specs.Lawful.{lock_refusal, acquire_refusal, refusal};
+ghost use Rattle.gl_event.specs.Standing.{StandsFor, IsAcquireOf};
 ghost use Rattle.gl_event.specs.declared.events.Event.{Event};
-ghost use Rattle.gl_event.specs.declared.events.Event.TheVariants.{Acquire, Release};
+ghost use Rattle.gl_event.specs.declared.events.Event.TheVariants.{Release};
+ghost use Rattle.gl_event.specs.declared.events.LockMode.{LockMode};
 ghost use Rattle.gl_recorder.specs.Taking.{Tracks, end_note, answer_to, partner_refusal};
 ghost use Rattle.gl_event.specs.declared.limits.TheConstants.{MAX_EVENTS};
 
 use gl_event::{
-    Body, Event, Held, Limits, LocId, LockId, MAX_DEPTH, MAX_HELD, Note, Refusal, ThreadId,
+    Body, Event, Held, HeldEntry, Limits, LocId, LockId, LockMode, MAX_DEPTH, MAX_HELD, Note,
+    Refusal, ThreadId,
 };
 use std::marker::Model;
 
@@ -38,38 +40,41 @@ impl Model for Taker {
     ghost invariant = { λ t. t.segments ≤ t.taken };
 }
 
-// How deep the lock is held, 0 where it isn't held.
-fn depth_of(held: &Held, lock: LockId) -> u32
-    ensures { (es : List Event) → StandsFor es held.now → result ≡ depth es lock }
+// What is known of the lock, where it is held.
+fn entry_of(held: &Held, lock: LockId) -> Option<HeldEntry>
+    ensures found { (es : List Event) → StandsFor es held.now → IfSome result (λ entry. (entry ≡ entry_of es lock) × (0 < depth es lock)) }
+    ensures absent { (es : List Event) → StandsFor es held.now → IfNone result (depth es lock ≡ 0) }
 {
     for entry in held.entries() {
         if entry.lock == lock {
-            return entry.depth;
+            return Some(*entry);
         }
     }
-    0
+    None
 }
 
-// Why the lock can't be acquired.
-fn acquire_refusal(held: &Held, lock: LockId) -> Option<Refusal>
-    ensures { (es : List Event) → StandsFor es held.now → (loc : ℕ) → result ≡ lock_refusal es (Acquire lock loc) }
+// Why the lock can't be acquired in this mode.
+fn acquire_refusal(held: &Held, lock: LockId, mode: LockMode) -> Option<Refusal>
+    ensures { (es : List Event) → StandsFor es held.now → result ≡ acquire_refusal es lock mode }
 {
-    let depth = depth_of(held, lock);
-    if depth == 0 {
+    let Some(entry) = entry_of(held, lock) else {
         if held.entries().len() >= MAX_HELD {
             return Some(Refusal::HeldFull);
         }
         return None;
-    }
-    if depth >= MAX_DEPTH {
+    };
+    if entry.depth >= MAX_DEPTH {
         return Some(Refusal::DepthFull);
+    }
+    if mode.upgrades(entry.mode) {
+        return Some(Refusal::Upgrade);
     }
     None
 }
 
 // Why the lock can't be released.
 fn release_refusal(held: &Held, lock: LockId) -> Option<Refusal>
-    ensures { (es : List Event) → StandsFor es held.now → (loc : ℕ) → result ≡ lock_refusal es (Release lock loc) }
+    ensures { (es : List Event) → StandsFor es held.now → (mode : LockMode) (loc : ℕ) → result ≡ lock_refusal es (Release lock mode loc) }
 {
     if held.holds(lock) {
         return None;
@@ -158,7 +163,8 @@ impl Taker {
         ensures { (limits : Bounds) (thread : ℕ) (es : List Event) → Tracks limits thread es self.now → self.now.taken < limits.events → result ≡ refusal limits thread es event.now }
     {
         match *event {
-            Event::Acquire { lock, .. } => acquire_refusal(&self.held, lock),
+            Event::Acquire { lock, mode, .. } => acquire_refusal(&self.held, lock, mode),
+            Event::TryAcquire { lock, mode, .. } => acquire_refusal(&self.held, lock, mode),
             Event::Release { lock, .. } => release_refusal(&self.held, lock),
             Event::Fork { thread, .. } => self.partner_refusal(thread),
             Event::Join { thread, .. } => self.partner_refusal(thread),
@@ -184,25 +190,30 @@ impl Taker {
         ensures { (limits : Bounds) (thread : ℕ) (es : List Event) → Tracks limits thread es self.old → refusal limits thread es event.now ≡ None → Tracks limits thread (es ++ event.now ∷ []) self.new }
     {
         match *event {
-            Event::Acquire { lock, loc } => self.keep_acquire(lock, loc),
-            Event::Release { lock, loc } => self.keep_release(lock),
+            Event::Acquire { lock, mode, loc } => self.keep_acquire(lock, mode, loc),
+            Event::TryAcquire { lock, mode, loc } => self.keep_acquire(lock, mode, loc),
+            Event::Release { lock, .. } => self.keep_release(lock),
             Event::Fork { .. } => self.close_segment(),
             Event::Join { .. } => self.close_segment(),
         }
     }
 
-    fn keep_acquire(&mut self, lock: LockId, loc: LocId)
+    // Counts an acquire, of either kind.
+    fn keep_acquire(&mut self, lock: LockId, mode: LockMode, loc: LocId)
         requires { self.old.taken < MAX_EVENTS }
-        ensures { (limits : Bounds) (thread : ℕ) (es : List Event) → Tracks limits thread es self.old → refusal limits thread es (Acquire lock loc) ≡ None → Tracks limits thread (es ++ Acquire lock loc ∷ []) self.new }
+        ensures { (limits : Bounds) (thread : ℕ) (es : List Event) (e : Event) → Tracks limits thread es self.old → IsAcquireOf lock mode e → location e ≡ loc → refusal limits thread es e ≡ None → Tracks limits thread (es ++ e ∷ []) self.new }
     {
         // check has shown that the lock can be acquired
-        let _ = self.held.acquire(lock, loc, self.taken, self.segments);
+        let _ = self
+            .held
+            .acquire(lock, mode, loc, self.taken, self.segments);
         self.taken += 1;
     }
 
+    // Counts a release.
     fn keep_release(&mut self, lock: LockId)
         requires { self.old.taken < MAX_EVENTS }
-        ensures { (limits : Bounds) (thread loc : ℕ) (es : List Event) → Tracks limits thread es self.old → refusal limits thread es (Release lock loc) ≡ None → Tracks limits thread (es ++ Release lock loc ∷ []) self.new }
+        ensures { (limits : Bounds) (thread loc : ℕ) (mode : LockMode) (es : List Event) → Tracks limits thread es self.old → refusal limits thread es (Release lock mode loc) ≡ None → Tracks limits thread (es ++ Release lock mode loc ∷ []) self.new }
     {
         // check has shown that the lock is held
         let _ = self.held.release(lock);

@@ -1,11 +1,28 @@
 //! What recorders answer at their limits.
 use crate::{Refusal, Taker};
-use gl_event::{Body, Event, Limits, LocId, LockId, MAX_DEPTH, Note, ThreadId};
+use gl_event::{Body, Event, Limits, LocId, LockId, LockMode, MAX_DEPTH, Note, ThreadId};
 use std::test::Fail;
 
 fn acquire(lock: u32) -> Event {
     Event::Acquire {
         lock: LockId::new(lock),
+        mode: LockMode::Exclusive,
+        loc: LocId::new(0),
+    }
+}
+
+fn acquire_shared(lock: u32) -> Event {
+    Event::Acquire {
+        lock: LockId::new(lock),
+        mode: LockMode::Shared,
+        loc: LocId::new(0),
+    }
+}
+
+fn try_acquire(lock: u32, mode: LockMode) -> Event {
+    Event::TryAcquire {
+        lock: LockId::new(lock),
+        mode,
         loc: LocId::new(0),
     }
 }
@@ -13,6 +30,7 @@ fn acquire(lock: u32) -> Event {
 fn release(lock: u32) -> Event {
     Event::Release {
         lock: LockId::new(lock),
+        mode: LockMode::Exclusive,
         loc: LocId::new(0),
     }
 }
@@ -67,12 +85,15 @@ fn limits_reached(rt: HostRuntime) -> Result<(), Fail> {
 fn deepest_acquire(rt: HostRuntime) -> Result<(), Fail> {
     let mut taker = Taker::new(ThreadId::new(0), &Limits::new(1, 1, 4_000_000_000, 1)?);
     for _ in 0..MAX_DEPTH {
-        assert!(rt; taker.take(acquire(7)).is_ok());
+        assert!(rt; taker.take(acquire_shared(7)).is_ok());
     }
+    assert_eq!(rt; taker.take(acquire_shared(7)), Err(Refusal::DepthFull));
+    // the depth is looked at before the mode
     assert_eq!(rt; taker.take(acquire(7)), Err(Refusal::DepthFull));
     assert_eq!(rt; taker.taken(), MAX_DEPTH);
     assert!(rt; taker.take(release(7)).is_ok());
-    assert!(rt; taker.take(acquire(7)).is_ok());
+    assert_eq!(rt; taker.take(acquire(7)), Err(Refusal::Upgrade));
+    assert!(rt; taker.take(acquire_shared(7)).is_ok());
     Ok(())
 }
 
@@ -88,5 +109,26 @@ fn stray_release(rt: HostRuntime) -> Result<(), Fail> {
     // the first reason in the stated order is answered
     assert_eq!(rt; taker.take(fork(0)), Err(Refusal::PlaceFull));
     assert_eq!(rt; taker.end(), note(2, Body::Ended { count: 2 }));
+    Ok(())
+}
+
+#[test]
+fn upgrade_refused(rt: HostRuntime) -> Result<(), Fail> {
+    let mut taker = Taker::new(ThreadId::new(0), &Limits::new(1, 1, 100, 1)?);
+    assert!(rt; taker.take(acquire_shared(0)).is_ok());
+    assert_eq!(rt; taker.take(acquire(0)), Err(Refusal::Upgrade));
+    assert_eq!(rt;
+        taker.take(try_acquire(0, LockMode::Exclusive)),
+        Err(Refusal::Upgrade)
+    );
+    let again = try_acquire(0, LockMode::Shared);
+    assert_eq!(rt; taker.take(again), Ok(note(1, Body::Happened(again))));
+    // either release lowers the depth
+    assert!(rt; taker.take(release(0)).is_ok());
+    assert_eq!(rt; taker.check(acquire(0)), Err(Refusal::Upgrade));
+    assert!(rt; taker.take(release(0)).is_ok());
+    assert!(rt; taker.take(acquire(0)).is_ok());
+    assert!(rt; taker.take(acquire_shared(0)).is_ok());
+    assert_eq!(rt; taker.taken(), 6);
     Ok(())
 }

@@ -4,7 +4,7 @@ use Rattle.gl_recorder.proofs.Refusals.{held_released, unheld_released}
 use Rattle.gl_recorder.proofs.taker.release_refusal.Goals as goal
 
 pub returns-then-holds : goal.returns-then-holds
-returns-then-holds c = λ es stands loc. held_released es c.args.lock loc ((c.holds.ensures es stands).0 c.if-holds.true)
+returns-then-holds c = λ es stands mode loc. held_released es c.args.lock loc mode ((c.holds.ensures es stands).0 c.if-holds.true)
 
 pub returns : goal.returns
-returns c = λ es stands loc. unheld_released es c.args.lock loc (λ some. false≢true (sym c.if-holds.false ∙ (c.holds.ensures es stands).1 some))
+returns c = λ es stands mode loc. unheld_released es c.args.lock loc mode (λ some. false≢true (sym c.if-holds.false ∙ (c.holds.ensures es stands).1 some))
