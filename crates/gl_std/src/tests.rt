@@ -1,21 +1,39 @@
 ghost use Rattle.std.specs.Prelude.{None};
 
 use crate::{Failed, Lists, ReadFault, Source, StdKind, Trace, read_source, read_trace};
-use gl_event::{Event, Limits, LocId, LockId, ThreadId};
+use gl_event::{Event, Limits, LocId, LockId, LockMode, ThreadId};
 use std::alloc::Global;
 use std::process::Abort;
 use std::test::Fail;
 
-fn acquire(lock: u32, loc: u32) -> Event {
+fn acquire_in(mode: LockMode, lock: u32, loc: u32) -> Event {
     Event::Acquire {
         lock: LockId::new(lock),
+        mode,
+        loc: LocId::new(loc),
+    }
+}
+
+fn acquire(lock: u32, loc: u32) -> Event {
+    acquire_in(LockMode::Exclusive, lock, loc)
+}
+
+fn release_in(mode: LockMode, lock: u32, loc: u32) -> Event {
+    Event::Release {
+        lock: LockId::new(lock),
+        mode,
         loc: LocId::new(loc),
     }
 }
 
 fn release(lock: u32, loc: u32) -> Event {
-    Event::Release {
+    release_in(LockMode::Exclusive, lock, loc)
+}
+
+fn try_acquire(mode: LockMode, lock: u32, loc: u32) -> Event {
+    Event::TryAcquire {
         lock: LockId::new(lock),
+        mode,
         loc: LocId::new(loc),
     }
 }
@@ -202,6 +220,53 @@ fn stray_release(rt: HostRuntime) -> Result<(), Fail> {
     assert_eq!(rt; (trace.skipped, trace.stray), (0, 1));
     assert_eq!(rt; (trace.names.threads(), trace.names.locks()), (1, 1));
     assert_eq!(rt; trace.names.find_lock(b"a"), None);
+    Ok(())
+}
+
+#[test]
+fn upgrade_refused(rt: HostRuntime) -> Result<(), Fail> {
+    let limits = greatest()?;
+    let waiting = b"T0|racq(a)|1\nT0|acq(a)|2\n";
+    expect_fault(&rt, rt.alloc(), waiting, &limits, 2, StdKind::Upgrade);
+    let tried = b"T0|tryracq(a)|1\nT0|tryacq(a)|2\n";
+    expect_fault(&rt, rt.alloc(), tried, &limits, 2, StdKind::Upgrade);
+    Ok(())
+}
+
+#[test]
+fn either_release_word(rt: HostRuntime) -> Result<(), Fail> {
+    let text = b"T0|racq(a)|1\nT0|rel(a)|2\nT0|rrel(a)|3\n";
+    let trace = read_trace(rt.alloc(), text, &greatest()?)?;
+    let events = [acquire_in(LockMode::Shared, 0, 0), release(0, 1)];
+    expect_list(&rt, &trace, 0, &events);
+    assert_eq!(rt; (trace.skipped, trace.stray), (0, 1));
+    Ok(())
+}
+
+#[test]
+fn reentrant_shared(rt: HostRuntime) -> Result<(), Fail> {
+    let text = b"T0|acq(a)|1\nT0|racq(a)|2\nT0|rrel(a)|3\nT0|acq(b)|4\n";
+    let trace = read_trace(rt.alloc(), text, &greatest()?)?;
+    let events = [
+        acquire(0, 0),
+        acquire_in(LockMode::Shared, 0, 1),
+        release_in(LockMode::Shared, 0, 2),
+        acquire(1, 3),
+    ];
+    expect_list(&rt, &trace, 0, &events);
+    Ok(())
+}
+
+#[test]
+fn tried_acquires(rt: HostRuntime) -> Result<(), Fail> {
+    let text = b"T0|tryacq(a)|1\nT0|tryracq(b)|2\nT0|tryrel(a)|3\n";
+    let trace = read_trace(rt.alloc(), text, &greatest()?)?;
+    let events = [
+        try_acquire(LockMode::Exclusive, 0, 0),
+        try_acquire(LockMode::Shared, 1, 1),
+    ];
+    expect_list(&rt, &trace, 0, &events);
+    assert_eq!(rt; trace.skipped, 1);
     Ok(())
 }
 
