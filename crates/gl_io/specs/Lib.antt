@@ -1,2 +1,2 @@
-pub mod Turn
+pub mod Reads
 pub mod Wrapped

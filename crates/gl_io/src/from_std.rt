@@ -6,8 +6,9 @@ use crate::sink::Sink;
 use crate::source::{Failed, Source};
 use std::io;
 
-/// A reader or a writer of std as a [`Source`] or a [`Sink`]. Each error is `Failed`, and so is a
-/// writer's answer that it took none of bytes that aren't empty.
+/// A reader or a writer of std as a [`Source`] or a [`Sink`]. A call makes one call of what it wraps,
+/// and answers as that does. Each error is `Failed`, also one that tells of an interruption, and so
+/// is a writer's answer that it took none of bytes that aren't empty.
 #[derive(Drop)]
 pub struct FromStd<T> {
     inner: T,

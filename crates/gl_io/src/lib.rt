@@ -2,14 +2,14 @@
 //!
 //! A [`Source`] gives bytes and a [`Sink`] takes them, each call some; both tell contracts which
 //! bytes are meant and whether they have failed. [`FromStd`] makes either from a reader or writer
-//! of std. [`read_whole`] reads a source to its end within a number of turns, and [`write_out`]
-//! writes a whole text.
+//! of std, and [`write_out`] writes a whole text.
 //!
 //! ```text
 //! let mut input = FromStd::new(rt.stdin());
-//! let gathered = read_whole(rt.alloc(), &mut input, 1_000_000_000)?;
+//! let mut buffer = [0u8; 100];
+//! let count = input.read(&mut buffer)?;
 //! let mut output = FromStd::new(rt.stdout());
-//! write_out(&mut output, gathered.text.as_slice())
+//! write_out(&mut output, &buffer[..count])
 //! ```
 //!
 //! A source or sink that has failed is not to be used again: each call on it has that as a
@@ -22,7 +22,7 @@ mod source;
 
 pub use from_std::FromStd;
 pub use sink::{Sink, WriteFault, write_out};
-pub use source::{CHUNK, Failed, Gathered, Source, read_whole};
+pub use source::{CHUNK, Failed, Source};
 
 #[cfg(test)]
 mod tests;

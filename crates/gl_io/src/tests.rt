@@ -1,53 +1,41 @@
 //! Fake readers and writers, and what reading and writing them gives.
-ghost use Rattle.std.specs.Prelude.{◌<◌, None, false};
+ghost use Rattle.std.specs.Prelude.{◌<◌, None};
 
-use crate::{Failed, FromStd, Sink, Source, WriteFault, read_whole, write_out};
-use std::io::Cursor;
+use crate::{Failed, FromStd, Sink, Source, WriteFault, write_out};
+use std::io::{self, Cursor, ErrorKind};
 use std::test::Fail;
 
-// Gives its text in pieces, and then ends or fails.
+// A reader and writer of std of one byte a call, which counts its calls and fails at one of them.
 #[derive(Drop)]
-struct Pieces<'a> {
-    rest: &'a [u8],
-    piece: usize,
-    fails: bool,
-    is_failed: bool,
+struct FailsOnce {
+    calls: u32,
+    fails_at: u32,
+    kind: ErrorKind,
 }
 
-impl Source for Pieces<'_> {
-    ghost remaining = { λ _. None };
-
-    ghost failed = { λ s. s.is_failed };
-
-    fn read(&mut self, buffer: &mut [u8]) -> Result<usize, Failed> {
-        let count = self.piece.min(self.rest.len()).min(buffer.len());
-        if count == 0 && self.fails {
-            self.is_failed = true;
-            return Err(Failed);
+impl FailsOnce {
+    fn call(&mut self, length: usize) -> io::Result<usize> {
+        self.calls = self.calls.saturating_add(1);
+        if self.calls == self.fails_at {
+            return Err(io::Error::from(self.kind));
         }
-        buffer[..count].copy_from_slice(&self.rest[..count]);
-        self.rest = &self.rest[count..];
-        Ok(count)
+        Ok(length.min(1))
     }
 }
 
-// Gives bars and never ends.
-#[derive(Drop)]
-struct Endless;
+impl io::Read for FailsOnce {
+    fn read(&mut self, buffer: &mut [u8]) -> io::Result<usize> {
+        self.call(buffer.len())
+    }
+}
 
-impl Source for Endless {
-    ghost remaining = { λ _. None };
+impl io::Write for FailsOnce {
+    fn write(&mut self, bytes: &[u8]) -> io::Result<usize> {
+        self.call(bytes.len())
+    }
 
-    ghost failed = { λ _. false };
-
-    fn read(&mut self, buffer: &mut [u8]) -> Result<usize, Failed> {
-        match buffer.first_mut() {
-            Some(byte) => {
-                *byte = b'|';
-                Ok(1)
-            }
-            None => Ok(0),
-        }
+    fn flush(&mut self) -> io::Result<()> {
+        Ok(())
     }
 }
 
@@ -83,51 +71,33 @@ impl Sink for Narrow {
 const REPORT: &[u8] = b"cycle 1: 2 edges\n  T0 holds a since 1 wants b at 2\n";
 
 #[test]
-fn pieces_are_joined(rt: HostRuntime) -> Result<(), Fail> {
-    for piece in [1, 7, 100] {
-        let mut input = Pieces {
-            rest: REPORT,
-            piece,
-            fails: false,
-            is_failed: false,
-        };
-        let gathered = read_whole(rt.alloc(), &mut input, 100)?;
-        assert!(rt; gathered.is_whole, "in pieces of {piece}");
-        assert_eq!(rt; gathered.text.as_slice(), REPORT, "in pieces of {piece}");
+fn wrapped_reader_fails_once(rt: HostRuntime) -> Result<(), Fail> {
+    for kind in [ErrorKind::Other, ErrorKind::Interrupted] {
+        let mut input = FromStd::new(FailsOnce {
+            calls: 0,
+            fails_at: 2,
+            kind,
+        });
+        let mut buffer = [0u8; 4];
+        assert_eq!(rt; input.read(&mut buffer)?, 1);
+        assert_eq!(rt; input.read(&mut buffer), Err(Failed));
+        assert_eq!(rt; input.into_inner().calls, 2);
     }
     Ok(())
 }
 
 #[test]
-fn reader_fails_in_mid_stream(rt: HostRuntime) -> Result<(), Fail> {
-    let mut input = Pieces {
-        rest: b"T0\nT1",
-        piece: 2,
-        fails: true,
-        is_failed: false,
-    };
-    let gathered = read_whole(rt.alloc(), &mut input, 100)?;
-    assert!(rt; !gathered.is_whole);
-    assert_eq!(rt; gathered.text.as_slice(), b"T0\nT1".as_slice());
-    assert!(rt; input.is_failed);
-    Ok(())
-}
-
-#[test]
-fn turns_used_up(rt: HostRuntime) -> Result<(), Fail> {
-    let mut nothing: &[u8] = b"";
-    let empty = read_whole(rt.alloc(), &mut FromStd::new(nothing), 1)?;
-    assert!(rt; empty.is_whole);
-    assert!(rt; empty.text.is_empty());
-    nothing = b"six by";
-    let six = read_whole(rt.alloc(), &mut FromStd::new(nothing), 1)?;
-    assert!(rt; !six.is_whole);
-    assert_eq!(rt; six.text.as_slice(), b"six by".as_slice());
-    assert!(rt; read_whole(rt.alloc(), &mut FromStd::new(nothing), 2)?.is_whole);
-    assert!(rt; !read_whole(rt.alloc(), &mut FromStd::new(nothing), 0)?.is_whole);
-    let endless = read_whole(rt.alloc(), &mut Endless, 1_000)?;
-    assert!(rt; !endless.is_whole);
-    assert_eq!(rt; endless.text.len(), 1_000);
+fn wrapped_writer_fails_once(rt: HostRuntime) -> Result<(), Fail> {
+    for kind in [ErrorKind::Other, ErrorKind::Interrupted] {
+        let mut output = FromStd::new(FailsOnce {
+            calls: 0,
+            fails_at: 3,
+            kind,
+        });
+        let answer = write_out(&mut output, REPORT);
+        assert_eq!(rt; answer, Err(WriteFault { written: 2 }));
+        assert_eq!(rt; output.into_inner().calls, 3);
+    }
     Ok(())
 }
 
@@ -159,10 +129,12 @@ fn writer_fails(rt: HostRuntime) -> Result<(), Fail> {
 #[test]
 fn std_reader_and_writer(rt: HostRuntime) -> Result<(), Fail> {
     let mut input = FromStd::new(Cursor::new(REPORT));
-    let gathered = read_whole(rt.alloc(), &mut input, 2)?;
-    assert!(rt; gathered.is_whole);
+    let mut buffer = [0u8; 100];
+    let count = input.read(&mut buffer)?;
+    assert_eq!(rt; &buffer[..count], REPORT);
+    assert_eq!(rt; input.read(&mut buffer)?, 0);
     let mut output = FromStd::new(Vec::new(rt.alloc()));
-    assert_eq!(rt; write_out(&mut output, gathered.text.as_slice()), Ok(()));
+    assert_eq!(rt; write_out(&mut output, REPORT), Ok(()));
     assert_eq!(rt; output.into_inner().as_slice(), REPORT);
     // a writer of std with room for five bytes answers 0 bytes of the sixth
     let mut narrow = FromStd::new(Cursor::new([0u8; 5]));

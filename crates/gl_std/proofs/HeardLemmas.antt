@@ -1,8 +1,8 @@
 -- What was heard of a source.
-use Rattle.std.proofs.Common.{◌≡◌, ◌≤◌, ◌⊎◌, ℕ, Bool, true, false, List, Option, Result, Ok, Err, length, sym, ap, ◌∙◌}
-use Rattle.std.specs.Prelude.{IfOk, IfSome}
-use Rattle.std.specs.Io.KnownBytes.{Consumes, IsAtEnd}
+use Rattle.std.proofs.Common.{◌≡◌, ℕ, Bool, List, Option, Result, Ok, Err, sym, ap, subst, ◌∙◌}
+use Rattle.std.specs.Prelude.{IfOk}
 use Rattle.gl_event.specs.Bounds.{Bounds}
+use Rattle.gl_io.specs.Reads.{HasRead}
 use Rattle.gl_std.specs.Heard.{HasHeard}
 use Rattle.gl_std.specs.Pieces.{judged, Knows}
 use Rattle.gl_std.specs.Trace.{trace_of, IsTraceOver}
@@ -14,16 +14,12 @@ use Rattle.gl_std.specs.declared.trace.Trace.{Trace}
 use Rattle.gl_std.proofs.StepLemmas.{trace_of_over}
 
 -- what the end of reading gives, where this text was read
-pub heard_so : {F : Type 0} (fault : Option (ℕ × StdKind)) (pieces : PieceReader) (limits limits2 : Bounds) (turns : ℕ) (old new : Option (List ℕ)) (failed whole : Bool) (text : List ℕ) (r : Result Heard F) → limits2 ≡ limits → Consumes old new text → (whole ≡ true → IfSome old (λ everything. text ≡ everything)) → (whole ≡ true → IsAtEnd new) → (whole ≡ true → failed ≡ false) → (whole ≡ false → (failed ≡ true) ⊎ (turns ≤ length text)) → Knows fault pieces text → IfOk r (λ h. (t : List ℕ) → Knows fault pieces t → trace_of limits2 (judged whole t) ≡ h.trace) → IfOk r (λ h. h.is_whole ≡ whole) → IfOk r (HasHeard limits turns old new failed)
-heard_so fault pieces limits limits2 turns old new failed whole text (Err e) same bytes all ended sound cut known traced is = traced
-heard_so fault pieces limits limits2 turns old new failed whole text (Ok h) same bytes all ended sound cut known traced is =
+pub heard_so : {F : Type 0} (fault : Option (ℕ × StdKind)) (pieces : PieceReader) (limits limits2 : Bounds) (turns : ℕ) (old new : Option (List ℕ)) (failed whole : Bool) (text : List ℕ) (r : Result Heard F) → limits2 ≡ limits → HasRead turns old new failed text whole → Knows fault pieces text → IfOk r (λ h. (t : List ℕ) → Knows fault pieces t → trace_of limits2 (judged whole t) ≡ h.trace) → IfOk r (λ h. h.is_whole ≡ whole) → IfOk r (HasHeard limits turns old new failed)
+heard_so fault pieces limits limits2 turns old new failed whole text (Err e) same read known traced is = traced
+heard_so fault pieces limits limits2 turns old new failed whole text (Ok h) same read known traced is =
     record {
       text = text;
-      bytes = bytes;
-      all = λ e. all (sym is ∙ e);
-      ended = λ e. ended (sym is ∙ e);
-      sound = λ e. sound (sym is ∙ e);
-      cut = λ e. cut (sym is ∙ e);
+      read = subst (HasRead turns old new failed text) (sym is) read;
       trace = ap (λ w. trace_of limits (judged w text)) is ∙ ap (λ l. trace_of l (judged whole text)) (sym same) ∙ traced text known;
     }
 

@@ -13,9 +13,9 @@ use Rattle.gl_event.specs.Bounds.{Bounds, AreWithinRange}
 use Rattle.gl_event.specs.Lawful.{lock_refusal, refusal, IsLawful}
 use Rattle.gl_event.proofs.Lawfulness.{IsLawful-nil, IsLawful-push}
 use Rattle.gl_event.specs.declared.events.Event.{Event}
-use Rattle.gl_event.specs.declared.events.Event.TheVariants.{Acquire, Release, Fork, Join}
+use Rattle.gl_event.specs.declared.events.Event.TheVariants.{Acquire, Release, TryAcquire, Fork, Join}
 use Rattle.gl_event.specs.declared.events.Refusal.{Refusal}
-use Rattle.gl_event.specs.declared.events.Refusal.TheVariants.{PlaceFull, NoSuchThread, OnItself, NotHeld, HeldFull as NoRoom, DepthFull as TooDeep}
+use Rattle.gl_event.specs.declared.events.Refusal.TheVariants.{PlaceFull, NoSuchThread, OnItself, NotHeld, HeldFull as NoRoom, DepthFull as TooDeep, Upgrade as IsUpgrade}
 use Rattle.gl_std.specs.Line.{Shape, shape_of, is_on_itself, is_on_thread}
 use Rattle.gl_std.specs.Reading.{AreApart}
 use Rattle.gl_std.proofs.ShapeLemmas.{shape_of_apart}
@@ -29,7 +29,7 @@ use Rattle.gl_std.specs.declared.faults.StdKind.{StdKind}
 use Rattle.gl_std.specs.declared.faults.ReadFault.{ReadFault}
 use Rattle.gl_std.specs.declared.faults.ReadFault.TheVariants.{Line}
 use Rattle.gl_std.specs.declared.line.Operation.{Operation}
-use Rattle.gl_std.specs.declared.line.Operation.TheVariants.{Acquire as AcquireOf, Release as ReleaseOf, Fork as ForkOf, Join as JoinOf}
+use Rattle.gl_std.specs.declared.line.Operation.TheVariants.{Acquire as AcquireOf, Release as ReleaseOf, TryAcquire as TryAcquireOf, Fork as ForkOf, Join as JoinOf}
 use Rattle.gl_std.specs.declared.names.Found.{Found}
 use Rattle.gl_std.specs.declared.row.Verdict.{Verdict}
 use Rattle.gl_std.specs.declared.row.Verdict.TheVariants.{Kept, Stray, Fault}
@@ -118,8 +118,9 @@ events_lawful limits lists (Some i) each = ⊎_elim (λ at. each i (get_or lists
 -- another thread
 refusal_by_locks : (limits : Bounds) (thread : ℕ) (es : List Event) (operation : Operation) (operand loc : ℕ) → nat_le limits.events (length es) ≡ false → lock_refusal es (event_of operation operand loc) ≡ None → (is_on_thread operation ≡ true → (operand < limits.threads) × (operand ≢ thread)) → refusal limits thread es (event_of operation operand loc) ≡ None
 unfolding refusal
-refusal_by_locks limits thread es AcquireOf lock loc room locks other = ap (λ v. cond v (Some PlaceFull) (lock_refusal es (Acquire lock loc))) room ∙ locks
-refusal_by_locks limits thread es ReleaseOf lock loc room locks other = ap (λ v. cond v (Some PlaceFull) (lock_refusal es (Release lock loc))) room ∙ locks
+refusal_by_locks limits thread es (AcquireOf mode) lock loc room locks other = ap (λ v. cond v (Some PlaceFull) (lock_refusal es (Acquire lock mode loc))) room ∙ locks
+refusal_by_locks limits thread es (ReleaseOf mode) lock loc room locks other = ap (λ v. cond v (Some PlaceFull) (lock_refusal es (Release lock mode loc))) room ∙ locks
+refusal_by_locks limits thread es (TryAcquireOf mode) lock loc room locks other = ap (λ v. cond v (Some PlaceFull) (lock_refusal es (TryAcquire lock mode loc))) room ∙ locks
 refusal_by_locks limits thread es ForkOf partner loc room locks other =
     let is = other refl in
     let below : nat_le limits.threads partner ≡ false = let low = is.0 in grind (arith, nat_tests, low) in
@@ -136,14 +137,16 @@ refusal_by_locks limits thread es JoinOf partner loc room locks other =
     ∙ ap (λ v. cond v (Some OnItself) (lock_refusal es (Join partner loc))) apart ∙ locks
 
 IsNamed-told : (names : NameLists) (operation : Operation) (operand loc : ℕ) → (is_on_thread operation ≡ false → operand < length names.locks) → (is_on_thread operation ≡ true → operand < length names.threads) → loc < length names.locs → IsNamed names (event_of operation operand loc)
-IsNamed-told names AcquireOf lock loc a b c = (a refl, c)
-IsNamed-told names ReleaseOf lock loc a b c = (a refl, c)
+IsNamed-told names (AcquireOf mode) lock loc a b c = (a refl, c)
+IsNamed-told names (ReleaseOf mode) lock loc a b c = (a refl, c)
+IsNamed-told names (TryAcquireOf mode) lock loc a b c = (a refl, c)
 IsNamed-told names ForkOf other loc a b c = (b refl, c)
 IsNamed-told names JoinOf other loc a b c = (b refl, c)
 
 IsNamed-more : (old new : NameLists) → length old.threads ≤ length new.threads → length old.locks ≤ length new.locks → length old.locs ≤ length new.locs → (e : Event) → IsNamed old e → IsNamed new e
-IsNamed-more old new a b c (Acquire lock loc) h = (omega (arith, h.0, b), omega (arith, h.1, c))
-IsNamed-more old new a b c (Release lock loc) h = (omega (arith, h.0, b), omega (arith, h.1, c))
+IsNamed-more old new a b c (Acquire lock mode loc) h = (omega (arith, h.0, b), omega (arith, h.1, c))
+IsNamed-more old new a b c (Release lock mode loc) h = (omega (arith, h.0, b), omega (arith, h.1, c))
+IsNamed-more old new a b c (TryAcquire lock mode loc) h = (omega (arith, h.0, b), omega (arith, h.1, c))
 IsNamed-more old new a b c (Fork t loc) h = (omega (arith, h.0, a), omega (arith, h.1, c))
 IsNamed-more old new a b c (Join t loc) h = (omega (arith, h.0, a), omega (arith, h.1, c))
 
@@ -351,6 +354,7 @@ kept_verdict None (Some kind) h = absurd cc
 kept_verdict (Some NotHeld) limit h = absurd cc
 kept_verdict (Some NoRoom) limit h = absurd cc
 kept_verdict (Some TooDeep) limit h = absurd cc
+kept_verdict (Some IsUpgrade) limit h = absurd cc
 kept_verdict (Some PlaceFull) limit h = absurd cc
 kept_verdict (Some NoSuchThread) limit h = absurd cc
 kept_verdict (Some OnItself) limit h = absurd cc

@@ -4,7 +4,7 @@ use Rattle.std.specs.Fmt.{decimal}
 use Rattle.gl_std.specs.declared.faults.ReadFault.{ReadFault}
 use Rattle.gl_std.specs.declared.faults.ReadFault.TheVariants.{Line, Memory}
 use Rattle.gl_std.specs.declared.faults.StdKind.{StdKind}
-use Rattle.gl_std.specs.declared.faults.StdKind.TheVariants.{TooLong, NoBar, NoLocation, NoThread, BadOperand, OnItself, HeldFull, DepthFull, TooManyThreads, TooManyEvents, TooManyNames}
+use Rattle.gl_std.specs.declared.faults.StdKind.TheVariants.{TooLong, NoBar, NoLocation, NoThread, BadOperand, OnItself, HeldFull, DepthFull, Upgrade, TooManyThreads, TooManyEvents, TooManyNames}
 
 -- what is printed of a fault
 abbrev pub text_of : StdKind → List ℕ
@@ -16,6 +16,7 @@ text_of BadOperand = codes "bad operand"
 text_of OnItself = codes "thread forks or joins itself"
 text_of HeldFull = codes "too many locks held"
 text_of DepthFull = codes "lock taken too often"
+text_of Upgrade = codes "shared lock taken exclusively"
 text_of TooManyThreads = codes "too many threads"
 text_of TooManyEvents = codes "too many events"
 text_of TooManyNames = codes "too many names"

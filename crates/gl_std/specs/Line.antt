@@ -2,10 +2,11 @@
 use Rattle.std.specs.Prelude.{◌≡◌, ◌≢◌, ℕ, ◌-◌, ◌<◌, ◌≤◌, Bool, true, false, ◌&&◌, List, [], ◌∷◌, ◌++◌, Contains, Option, Some, None, IsTrue, length, take, nat_lt, slice_index, ◌==◌, if◌then◌else◌, codes}
 use Rattle.std.specs.Option.{option_map, option_map_or}
 use Rattle.std.specs.Str.{bytes_eq}
+use Rattle.gl_event.specs.declared.events.LockMode.TheVariants.{Exclusive, Shared}
 use Rattle.gl_std.specs.declared.faults.StdKind.{StdKind}
 use Rattle.gl_std.specs.declared.faults.StdKind.TheVariants.{TooLong, NoBar, NoLocation, NoThread, BadOperand, OnItself}
 use Rattle.gl_std.specs.declared.line.Operation.{Operation}
-use Rattle.gl_std.specs.declared.line.Operation.TheVariants.{Acquire, Release, Fork, Join}
+use Rattle.gl_std.specs.declared.line.Operation.TheVariants.{Acquire, Release, TryAcquire, Fork, Join}
 use Rattle.gl_std.specs.declared.line.Shape.{Shape as Said}
 use Rattle.gl_std.specs.declared.line.Shape.TheVariants.{Blank as SaidBlank, Bad as SaidBad, Other as SaidOther, Call as SaidCall}
 use Rattle.gl_std.specs.declared.line.TheConstants.{MAX_LINE, BAR, OPEN, CLOSE}
@@ -25,16 +26,21 @@ cut_at byte (b ∷ rest) = if b == byte then Some ([], rest) else option_map (λ
 -- the operation that has this name
 abbrev pub operation_of : List ℕ → Option Operation
 operation_of name =
-    if bytes_eq name (codes "acq") then Some Acquire
-    else (if bytes_eq name (codes "rel") then Some Release
+    if bytes_eq name (codes "acq") then Some (Acquire Exclusive)
+    else (if bytes_eq name (codes "racq") then Some (Acquire Shared)
+    else (if bytes_eq name (codes "rel") then Some (Release Exclusive)
+    else (if bytes_eq name (codes "rrel") then Some (Release Shared)
+    else (if bytes_eq name (codes "tryacq") then Some (TryAcquire Exclusive)
+    else (if bytes_eq name (codes "tryracq") then Some (TryAcquire Shared)
     else (if bytes_eq name (codes "fork") then Some Fork
     else (if bytes_eq name (codes "join") then Some Join
-    else None)))
+    else None)))))))
 
 -- the operation is on another thread, and not on a lock
 abbrev pub is_on_thread : Operation → Bool
-is_on_thread Acquire = false
-is_on_thread Release = false
+is_on_thread (Acquire mode) = false
+is_on_thread (Release mode) = false
+is_on_thread (TryAcquire mode) = false
 is_on_thread Fork = true
 is_on_thread Join = true
 

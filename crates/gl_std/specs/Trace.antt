@@ -5,19 +5,19 @@ use Rattle.std.specs.Str.{bytes_eq}
 use Rattle.gl_event.specs.Bounds.{Bounds}
 use Rattle.gl_event.specs.Lawful.{lock_refusal, IsLawful}
 use Rattle.gl_event.specs.declared.events.Event.{Event}
-use Rattle.gl_event.specs.declared.events.Event.TheVariants.{Acquire, Release, Fork, Join}
+use Rattle.gl_event.specs.declared.events.Event.TheVariants.{Acquire, Release, TryAcquire, Fork, Join}
 use Rattle.gl_event.specs.declared.events.Refusal.{Refusal}
-use Rattle.gl_event.specs.declared.events.Refusal.TheVariants.{HeldFull as NoRoom, DepthFull as TooDeep}
+use Rattle.gl_event.specs.declared.events.Refusal.TheVariants.{HeldFull as NoRoom, DepthFull as TooDeep, Upgrade as IsUpgrade}
 use Rattle.gl_std.specs.Line.{Shape, shape_of, is_on_thread}
 use Rattle.gl_std.specs.Line.Shape.{Blank, Bad, Other, Call}
 use Rattle.gl_std.specs.Lines.{lines}
 use Rattle.gl_std.specs.Names.{NameLists}
 use Rattle.gl_std.specs.declared.faults.StdKind.{StdKind}
-use Rattle.gl_std.specs.declared.faults.StdKind.TheVariants.{HeldFull, DepthFull, TooManyThreads, TooManyEvents, TooManyNames}
+use Rattle.gl_std.specs.declared.faults.StdKind.TheVariants.{HeldFull, DepthFull, Upgrade, TooManyThreads, TooManyEvents, TooManyNames}
 use Rattle.gl_std.specs.declared.faults.ReadFault.{ReadFault}
 use Rattle.gl_std.specs.declared.faults.ReadFault.TheVariants.{Line}
 use Rattle.gl_std.specs.declared.line.Operation.{Operation}
-use Rattle.gl_std.specs.declared.line.Operation.TheVariants.{Acquire as AcquireOf, Release as ReleaseOf, Fork as ForkOf, Join as JoinOf}
+use Rattle.gl_std.specs.declared.line.Operation.TheVariants.{Acquire as AcquireOf, Release as ReleaseOf, TryAcquire as TryAcquireOf, Fork as ForkOf, Join as JoinOf}
 use Rattle.gl_std.specs.declared.names.Found.{Found}
 use Rattle.gl_std.specs.declared.row.Verdict.{Verdict}
 use Rattle.gl_std.specs.declared.row.Verdict.TheVariants.{Kept, Stray, Fault}
@@ -71,8 +71,9 @@ with_lists lists operation found event =
 
 -- the event of an operation on this lock or thread
 abbrev pub event_of : Operation → ℕ → ℕ → Event
-event_of AcquireOf lock loc = Acquire lock loc
-event_of ReleaseOf lock loc = Release lock loc
+event_of (AcquireOf mode) lock loc = Acquire lock mode loc
+event_of (ReleaseOf mode) lock loc = Release lock mode loc
+event_of (TryAcquireOf mode) lock loc = TryAcquire lock mode loc
 event_of ForkOf other loc = Fork other loc
 event_of JoinOf other loc = Join other loc
 
@@ -101,6 +102,7 @@ verdict_of None None = Kept
 verdict_of None (Some kind) = Fault kind
 verdict_of (Some NoRoom) limit = Fault HeldFull
 verdict_of (Some TooDeep) limit = Fault DepthFull
+verdict_of (Some IsUpgrade) limit = Fault Upgrade
 verdict_of (Some other) limit = Stray
 
 -- the names, with those of the three that are new
@@ -159,8 +161,9 @@ trace_of limits text = read_from limits 1 nothing (lines text)
 
 -- whatever the event speaks of has a name
 abbrev pub IsNamed : NameLists → Event → Type 0
-IsNamed names (Acquire lock loc) = (lock < length names.locks) × (loc < length names.locs)
-IsNamed names (Release lock loc) = (lock < length names.locks) × (loc < length names.locs)
+IsNamed names (Acquire lock mode loc) = (lock < length names.locks) × (loc < length names.locs)
+IsNamed names (Release lock mode loc) = (lock < length names.locks) × (loc < length names.locs)
+IsNamed names (TryAcquire lock mode loc) = (lock < length names.locks) × (loc < length names.locs)
 IsNamed names (Fork thread loc) = (thread < length names.threads) × (loc < length names.locs)
 IsNamed names (Join thread loc) = (thread < length names.threads) × (loc < length names.locs)
 

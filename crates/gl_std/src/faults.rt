@@ -24,6 +24,8 @@ pub enum StdKind {
     HeldFull,
     /// The thread has acquired the lock 1,000,000 times without a release.
     DepthFull,
+    /// An exclusive acquire, tried or not, of a lock that the thread holds in shared mode.
+    Upgrade,
     /// More threads than the limit allows, with those that the line names for the first time.
     TooManyThreads,
     /// One more event of the thread than the limit allows.
@@ -48,6 +50,7 @@ impl StdKind {
             StdKind::OnItself => "thread forks or joins itself",
             StdKind::HeldFull => "too many locks held",
             StdKind::DepthFull => "lock taken too often",
+            StdKind::Upgrade => "shared lock taken exclusively",
             StdKind::TooManyThreads => "too many threads",
             StdKind::TooManyEvents => "too many events",
             StdKind::TooManyNames => "too many names",

@@ -5,6 +5,7 @@ ghost use Rattle.gl_std.specs.Line.{cut_at, before_close, is_on_itself, is_on_th
 
 use crate::faults::StdKind;
 use bstr::ByteSlice;
+use gl_event::LockMode;
 
 /// The longest line, in bytes, without what ends it.
 pub const MAX_LINE: usize = 65_536;
@@ -18,10 +19,12 @@ pub(crate) const CLOSE: u8 = b')';
 /// The operations that are events.
 #[derive(Clone, Copy, Debug, PartialEq, Eq)]
 pub(crate) enum Operation {
-    /// The thread acquires a lock.
-    Acquire,
-    /// The thread releases a lock.
-    Release,
+    /// The thread acquires a lock, and waits for it where it has to.
+    Acquire(LockMode),
+    /// The thread releases a lock, in whichever mode it holds it.
+    Release(LockMode),
+    /// The thread acquires a lock by an attempt that could not have waited for ever.
+    TryAcquire(LockMode),
     /// The thread starts another thread.
     Fork,
     /// The thread waits for another thread to end.
@@ -34,7 +37,7 @@ impl Operation {
         ensures { result ≡ is_on_thread self }
     {
         match self {
-            Operation::Acquire | Operation::Release => false,
+            Operation::Acquire(_) | Operation::Release(_) | Operation::TryAcquire(_) => false,
             Operation::Fork | Operation::Join => true,
         }
     }
@@ -143,10 +146,22 @@ fn operation_of(name: &[u8]) -> Option<Operation>
     ensures { result ≡ operation_of name.now }
 {
     if name == b"acq".as_slice() {
-        return Some(Operation::Acquire);
+        return Some(Operation::Acquire(LockMode::Exclusive));
+    }
+    if name == b"racq".as_slice() {
+        return Some(Operation::Acquire(LockMode::Shared));
     }
     if name == b"rel".as_slice() {
-        return Some(Operation::Release);
+        return Some(Operation::Release(LockMode::Exclusive));
+    }
+    if name == b"rrel".as_slice() {
+        return Some(Operation::Release(LockMode::Shared));
+    }
+    if name == b"tryacq".as_slice() {
+        return Some(Operation::TryAcquire(LockMode::Exclusive));
+    }
+    if name == b"tryracq".as_slice() {
+        return Some(Operation::TryAcquire(LockMode::Shared));
     }
     if name == b"fork".as_slice() {
         return Some(Operation::Fork);

@@ -201,12 +201,19 @@ fn event_of(operation: Operation, operand: u32, loc: LocId) -> Event
     ensures { result ≡ event_of operation operand loc }
 {
     match operation {
-        Operation::Acquire => Event::Acquire {
+        Operation::Acquire(mode) => Event::Acquire {
             lock: LockId::new(operand),
+            mode,
             loc,
         },
-        Operation::Release => Event::Release {
+        Operation::Release(mode) => Event::Release {
             lock: LockId::new(operand),
+            mode,
+            loc,
+        },
+        Operation::TryAcquire(mode) => Event::TryAcquire {
+            lock: LockId::new(operand),
+            mode,
             loc,
         },
         Operation::Fork => Event::Fork {

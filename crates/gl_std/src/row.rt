@@ -3,7 +3,7 @@ ghost use Rattle.std.specs.Prelude.{◌≡◌, ◌^◌, ◌<◌, [], ◌∷◌, 
 ghost use Rattle.gl_event.specs.Lawful.{lock_refusal};
 
 use crate::faults::StdKind;
-use gl_event::{Event, Held, HeldFault, LocId, LockId};
+use gl_event::{Event, Held, HeldFault, LocId, LockId, LockMode};
 use std::alloc::{AllocError, Global};
 use std::marker::Model;
 
@@ -42,10 +42,11 @@ impl Model for Row {
 
 impl Row {
     ghost use Rattle.std.specs.Prelude.{◌+◌, true};
-    ghost use Rattle.gl_event.specs.Events.{closes};
+    ghost use Rattle.gl_event.specs.Events.{closes, location};
+    ghost use Rattle.gl_event.specs.Standing.{IsAcquireOf};
     ghost use Rattle.gl_std.specs.Trace.{verdict_of};
     ghost use Rattle.gl_std.specs.declared.row.Verdict.TheVariants.{Kept, Stray};
-    ghost use Rattle.gl_event.specs.declared.events.Event.TheVariants.{Acquire, Release};
+    ghost use Rattle.gl_event.specs.declared.events.Event.TheVariants.{Release};
 
     /// No events.
     pub(crate) fn new(alloc: Global) -> Row
@@ -86,8 +87,13 @@ impl Row {
         ensures stray { result ≡ Ok Stray → self.new ≡ self.old }
     {
         match event {
-            Event::Acquire { lock, loc } => self.acquire(alloc, lock, loc, limit),
-            Event::Release { lock, loc } => self.release(alloc, lock, loc, limit),
+            Event::Acquire { lock, mode, loc } => {
+                self.acquire(alloc, event, lock, mode, loc, limit)
+            }
+            Event::Release { lock, mode, loc } => self.release(alloc, lock, mode, loc, limit),
+            Event::TryAcquire { lock, mode, loc } => {
+                self.acquire(alloc, event, lock, mode, loc, limit)
+            }
             Event::Fork { .. } => self.close(event, limit),
             Event::Join { .. } => self.close(event, limit),
         }
@@ -114,30 +120,35 @@ impl Row {
         }
     }
 
-    // `take`, for an acquire.
+    // `take`, for an acquire of this lock in this mode, tried or not.
     fn acquire(
         &mut self,
         alloc: Global,
+        event: Event,
         lock: LockId,
+        mode: LockMode,
         loc: LocId,
         limit: Option<StdKind>,
     ) -> Result<Verdict, AllocError>
-        requires { length self.old < 2 ^ 32 }
-        ensures verdict { IfOk result (λ v. v ≡ verdict_of (lock_refusal self.old (Acquire lock loc)) limit) }
-        ensures kept { result ≡ Ok Kept → self.new ≡ self.old ++ Acquire lock loc ∷ [] }
+        requires few { length self.old < 2 ^ 32 }
+        requires acquires { IsAcquireOf lock mode event }
+        requires located { loc ≡ location event }
+        ensures verdict { IfOk result (λ v. v ≡ verdict_of (lock_refusal self.old event) limit) }
+        ensures kept { result ≡ Ok Kept → self.new ≡ self.old ++ event ∷ [] }
         ensures stray { result ≡ Ok Stray → self.new ≡ self.old }
     {
         let place = self.events.len() as u32;
-        match self.held.acquire(lock, loc, place, self.closed) {
+        match self.held.acquire(lock, mode, loc, place, self.closed) {
             Ok(_) => {}
             Err(HeldFault::HeldFull) => return Ok(Verdict::Fault(StdKind::HeldFull)),
             Err(HeldFault::DepthFull) => return Ok(Verdict::Fault(StdKind::DepthFull)),
+            Err(HeldFault::Upgrade) => return Ok(Verdict::Fault(StdKind::Upgrade)),
         }
         if let Some(kind) = limit {
             *self = Row::new(alloc);
             return Ok(Verdict::Fault(kind));
         }
-        match self.events.push(Event::Acquire { lock, loc }) {
+        match self.events.push(event) {
             Ok(()) => Ok(Verdict::Kept),
             Err(_) => {
                 *self = Row::new(alloc);
@@ -151,11 +162,12 @@ impl Row {
         &mut self,
         alloc: Global,
         lock: LockId,
+        mode: LockMode,
         loc: LocId,
         limit: Option<StdKind>,
     ) -> Result<Verdict, AllocError>
-        ensures verdict { IfOk result (λ v. v ≡ verdict_of (lock_refusal self.old (Release lock loc)) limit) }
-        ensures kept { result ≡ Ok Kept → self.new ≡ self.old ++ Release lock loc ∷ [] }
+        ensures verdict { IfOk result (λ v. v ≡ verdict_of (lock_refusal self.old (Release lock mode loc)) limit) }
+        ensures kept { result ≡ Ok Kept → self.new ≡ self.old ++ Release lock mode loc ∷ [] }
         ensures stray { result ≡ Ok Stray → self.new ≡ self.old }
     {
         match self.held.release(lock) {
@@ -166,7 +178,7 @@ impl Row {
             *self = Row::new(alloc);
             return Ok(Verdict::Fault(kind));
         }
-        match self.events.push(Event::Release { lock, loc }) {
+        match self.events.push(Event::Release { lock, mode, loc }) {
             Ok(()) => Ok(Verdict::Kept),
             Err(_) => {
                 *self = Row::new(alloc);

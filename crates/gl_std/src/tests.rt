@@ -1,21 +1,39 @@
-ghost use Rattle.std.specs.Prelude.{None};
+ghost use Rattle.std.specs.Prelude.{◌≡◌, false, None};
 
 use crate::{Failed, Lists, ReadFault, Source, StdKind, Trace, read_source, read_trace};
-use gl_event::{Event, Limits, LocId, LockId, ThreadId};
+use gl_event::{Event, Limits, LocId, LockId, LockMode, ThreadId};
 use std::alloc::Global;
 use std::process::Abort;
 use std::test::Fail;
 
-fn acquire(lock: u32, loc: u32) -> Event {
+fn acquire_in(mode: LockMode, lock: u32, loc: u32) -> Event {
     Event::Acquire {
         lock: LockId::new(lock),
+        mode,
+        loc: LocId::new(loc),
+    }
+}
+
+fn acquire(lock: u32, loc: u32) -> Event {
+    acquire_in(LockMode::Exclusive, lock, loc)
+}
+
+fn release_in(mode: LockMode, lock: u32, loc: u32) -> Event {
+    Event::Release {
+        lock: LockId::new(lock),
+        mode,
         loc: LocId::new(loc),
     }
 }
 
 fn release(lock: u32, loc: u32) -> Event {
-    Event::Release {
+    release_in(LockMode::Exclusive, lock, loc)
+}
+
+fn try_acquire(mode: LockMode, lock: u32, loc: u32) -> Event {
+    Event::TryAcquire {
         lock: LockId::new(lock),
+        mode,
         loc: LocId::new(loc),
     }
 }
@@ -146,6 +164,16 @@ fn bad_lines(rt: HostRuntime) -> Result<(), Fail> {
 }
 
 #[test]
+fn faults_differ(rt: HostRuntime) -> Result<(), Fail> {
+    let fault = |line, kind| ReadFault::Line { line, kind };
+    let one = fault(1, StdKind::NoBar);
+    assert_ne!(rt; one, fault(2, StdKind::NoBar));
+    assert_ne!(rt; one, fault(1, StdKind::NoLocation));
+    assert_ne!(rt; one, ReadFault::Memory);
+    Ok(())
+}
+
+#[test]
 fn forks_and_joins(rt: HostRuntime) -> Result<(), Fail> {
     let text = b"M|fork(T0)|1\nM|join(T0)|2\nM|fork(T1)|3\n";
     let trace = read_trace(rt.alloc(), text, &greatest()?)?;
@@ -202,6 +230,53 @@ fn stray_release(rt: HostRuntime) -> Result<(), Fail> {
     assert_eq!(rt; (trace.skipped, trace.stray), (0, 1));
     assert_eq!(rt; (trace.names.threads(), trace.names.locks()), (1, 1));
     assert_eq!(rt; trace.names.find_lock(b"a"), None);
+    Ok(())
+}
+
+#[test]
+fn upgrade_refused(rt: HostRuntime) -> Result<(), Fail> {
+    let limits = greatest()?;
+    let waiting = b"T0|racq(a)|1\nT0|acq(a)|2\n";
+    expect_fault(&rt, rt.alloc(), waiting, &limits, 2, StdKind::Upgrade);
+    let tried = b"T0|tryracq(a)|1\nT0|tryacq(a)|2\n";
+    expect_fault(&rt, rt.alloc(), tried, &limits, 2, StdKind::Upgrade);
+    Ok(())
+}
+
+#[test]
+fn either_release_word(rt: HostRuntime) -> Result<(), Fail> {
+    let text = b"T0|racq(a)|1\nT0|rel(a)|2\nT0|rrel(a)|3\n";
+    let trace = read_trace(rt.alloc(), text, &greatest()?)?;
+    let events = [acquire_in(LockMode::Shared, 0, 0), release(0, 1)];
+    expect_list(&rt, &trace, 0, &events);
+    assert_eq!(rt; (trace.skipped, trace.stray), (0, 1));
+    Ok(())
+}
+
+#[test]
+fn reentrant_shared(rt: HostRuntime) -> Result<(), Fail> {
+    let text = b"T0|acq(a)|1\nT0|racq(a)|2\nT0|rrel(a)|3\nT0|acq(b)|4\n";
+    let trace = read_trace(rt.alloc(), text, &greatest()?)?;
+    let events = [
+        acquire(0, 0),
+        acquire_in(LockMode::Shared, 0, 1),
+        release_in(LockMode::Shared, 0, 2),
+        acquire(1, 3),
+    ];
+    expect_list(&rt, &trace, 0, &events);
+    Ok(())
+}
+
+#[test]
+fn tried_acquires(rt: HostRuntime) -> Result<(), Fail> {
+    let text = b"T0|tryacq(a)|1\nT0|tryracq(b)|2\nT0|tryrel(a)|3\n";
+    let trace = read_trace(rt.alloc(), text, &greatest()?)?;
+    let events = [
+        try_acquire(LockMode::Exclusive, 0, 0),
+        try_acquire(LockMode::Shared, 1, 1),
+    ];
+    expect_list(&rt, &trace, 0, &events);
+    assert_eq!(rt; trace.skipped, 1);
     Ok(())
 }
 
@@ -271,6 +346,21 @@ struct Pieces<'a> {
     piece: usize,
     fails: bool,
     is_failed: bool,
+    reads: u64,
+}
+
+impl<'a> Pieces<'a> {
+    fn new(rest: &'a [u8], piece: usize, fails: bool) -> Pieces<'a>
+        ensures { result.is_failed ≡ false }
+    {
+        Pieces {
+            rest,
+            piece,
+            fails,
+            is_failed: false,
+            reads: 0,
+        }
+    }
 }
 
 impl Source for Pieces<'_> {
@@ -279,6 +369,7 @@ impl Source for Pieces<'_> {
     ghost failed = { λ s. s.is_failed };
 
     fn read(&mut self, buffer: &mut [u8]) -> Result<usize, Failed> {
+        self.reads = self.reads.saturating_add(1);
         let count = self.piece.min(self.rest.len()).min(buffer.len());
         if count == 0 && self.fails {
             self.is_failed = true;
@@ -293,12 +384,8 @@ impl Source for Pieces<'_> {
 #[test]
 fn pieces_are_joined(rt: HostRuntime) -> Result<(), Fail> {
     for piece in [1, 7, 1_000] {
-        let mut input = Pieces {
-            rest: b"T0|acq(a)|1\r\nT0|acq(b)|2\nT1|r(x)|3\n\nT0|rel(b)|4",
-            piece,
-            fails: false,
-            is_failed: false,
-        };
+        let text = b"T0|acq(a)|1\r\nT0|acq(b)|2\nT1|r(x)|3\n\nT0|rel(b)|4";
+        let mut input = Pieces::new(text, piece, false);
         let heard = read_source(rt.alloc(), &mut input, 100, &greatest()?)?;
         assert!(rt; heard.is_whole, "in pieces of {piece}");
         let trace = heard.trace?;
@@ -316,23 +403,25 @@ fn pieces_are_joined(rt: HostRuntime) -> Result<(), Fail> {
 }
 
 #[test]
+fn turns_used_up(rt: HostRuntime) -> Result<(), Fail> {
+    // two reads give the text, and a third one meets the end
+    for (turns, reads, is_whole) in [(0, 0, false), (2, 2, false), (3, 3, true), (9, 3, true)] {
+        let mut input = Pieces::new(b"T0|acq(a)|1\n", 6, false);
+        let heard = read_source(rt.alloc(), &mut input, turns, &greatest()?)?;
+        assert_eq!(rt; heard.is_whole, is_whole, "in {turns} turns");
+        assert_eq!(rt; input.reads, reads, "in {turns} turns");
+    }
+    Ok(())
+}
+
+#[test]
 fn only_ended_lines_are_judged(rt: HostRuntime) -> Result<(), Fail> {
     let text = b"T0|acq(a)|1\nT0";
-    let mut input = Pieces {
-        rest: text,
-        piece: 5,
-        fails: true,
-        is_failed: false,
-    };
+    let mut input = Pieces::new(text, 5, true);
     let heard = read_source(rt.alloc(), &mut input, 100, &greatest()?)?;
     assert!(rt; !heard.is_whole);
     expect_list(&rt, &heard.trace?, 0, &[acquire(0, 0)]);
-    input = Pieces {
-        rest: text,
-        piece: 5,
-        fails: false,
-        is_failed: false,
-    };
+    input = Pieces::new(text, 5, false);
     let heard = read_source(rt.alloc(), &mut input, 100, &greatest()?)?;
     assert!(rt; heard.is_whole);
     let fault = ReadFault::Line {
@@ -345,12 +434,8 @@ fn only_ended_lines_are_judged(rt: HostRuntime) -> Result<(), Fail> {
 
 #[test]
 fn reading_goes_on_after_a_fault(rt: HostRuntime) -> Result<(), Fail> {
-    let mut input = Pieces {
-        rest: b"\nT0|acq(a)\n|acq(a)|1\nT0|acq(a)|1\n",
-        piece: 6,
-        fails: false,
-        is_failed: false,
-    };
+    let text = b"\nT0|acq(a)\n|acq(a)|1\nT0|acq(a)|1\n";
+    let mut input = Pieces::new(text, 6, false);
     let heard = read_source(rt.alloc(), &mut input, 100, &greatest()?)?;
     assert!(rt; heard.is_whole);
     let fault = ReadFault::Line {

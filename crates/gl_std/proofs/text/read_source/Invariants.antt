@@ -16,4 +16,5 @@ invariant-loop-turn g l = record {
   room : vec_len l.buffer ≡ CHUNK;
   sound : g.R.Source.failed l.input ≡ false;
   some : l.turn ≤ length text;
+  within : length text ≤ l.turn * CHUNK;
 }
