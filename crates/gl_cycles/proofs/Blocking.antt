@@ -7,6 +7,7 @@ use Rattle.std.proofs.lemmas.List.{append-nil}
 use Rattle.gl_event.specs.declared.events.Segment.{Segment}
 use Rattle.gl_edges.specs.declared.edge.Edge.{Edge}
 use Rattle.gl_filters.specs.declared.query.Mode.{Mode}
+use Rattle.gl_filters.proofs.Cycling.{leads_not, leads_same}
 use Rattle.gl_filters.specs.Test.{goes_with, is_path, is_cycle, can_follow, leads_back, last_of}
 use Rattle.gl_filters.proofs.Paths.{is_path_push, is_path-cut}
 use Rattle.gl_cycles.specs.AllCycles.{picked, lists_below, all_cycles}
@@ -66,7 +67,7 @@ module _ (before : Segment → Segment → Bool) (mode : Mode) (edges : List Edg
   -- an edge that the last edge doesn't lead on to can't follow
   pub not_led_on : (e : Edge) (es : List Edge) (f : Edge) → (last_of e es).wanted ≢ f.held → can_follow before mode (e ∷ es) f ≡ false
   unfolding can_follow
-  not_led_on e es f other = and_left _ _ (ne_eqb _ _ other)
+  not_led_on e es f other = and_left _ _ (leads_not (last_of e es) f other)
 
   -- two edges that hold one lock don't go together
   same_held : (e f : Edge) → e.held ≡ f.held → goes_with before mode e f ≡ false
@@ -78,6 +79,6 @@ module _ (before : Segment → Segment → Bool) (mode : Mode) (edges : List Edg
   unfolding can_follow
   none_after_closed e es f closed =
       elim (cases_eq (last_of e es).wanted f.held) [
-        | inl same ↦ and_right _ _ (and_left _ _ (and_left _ _ (same_held e f (sym (eqb-true _ _ closed) ∙ same))))
-        | inr other ↦ and_left _ _ (ne_eqb _ _ other)
+        | inl same ↦ and_right _ _ (and_left _ _ (and_left _ _ (same_held e f (sym (leads_same (last_of e es) e closed) ∙ same))))
+        | inr other ↦ and_left _ _ (leads_not (last_of e es) f other)
       ]

@@ -1,5 +1,5 @@
 -- The edges of a path by its positions.
-use Rattle.std.proofs.Common.{◌≡◌, ℕ, zero, suc, ◌+◌, ◌-◌, ◌<◌, Bool, true, false, ◌&&◌, eqb, leb, List, [], ◌∷◌, ◌++◌, length, take, drop, get_or, Some, refl, sym, ap, ◌∙◌, arith}
+use Rattle.std.proofs.Common.{◌≡◌, ◌≢◌, ℕ, zero, suc, ◌+◌, ◌-◌, ◌<◌, Bool, true, false, ◌&&◌, eqb, leb, List, [], ◌∷◌, ◌++◌, length, take, drop, get_or, Some, refl, sym, ap, ◌∙◌, arith}
 use Rattle.std.specs.Prelude.{slice_get, All}
 use Rattle.std.specs.List.{list_all, cons_option}
 use Rattle.std.proofs.lemmas.Option.{slice_get-get_or, same_Some}
@@ -10,7 +10,8 @@ use Rattle.gl_event.specs.declared.events.Segment.{Segment}
 use Rattle.gl_edges.specs.declared.edge.Edge.{Edge}
 use Rattle.gl_edges.specs.declared.edge.Sample.{Sample}
 use Rattle.gl_filters.specs.declared.query.Mode.{Mode}
-use Rattle.gl_filters.specs.Test.{goes_with, can_follow, leads_back, last_of}
+use Rattle.gl_filters.specs.Test.{leads_to, goes_with, can_follow, leads_back, last_of}
+use Rattle.gl_filters.proofs.Cycling.{leads_not}
 use Rattle.gl_filters.proofs.Paths.{list_all_push, last_of_push}
 use Rattle.gl_cycles.specs.AllCycles.{edges_of_table, picked}
 use Rattle.gl_cycles.proofs.Blocking.{picked-append, picked-push}
@@ -68,10 +69,10 @@ abbrev pub held_first : List Edge → ℕ
 held_first [] = 0
 held_first (e ∷ es) = e.held
 
--- whether one more edge closes a path
-pub leads_back-push : (es : List Edge) (f : Edge) → 0 < length es → leads_back (es ++ f ∷ []) ≡ eqb f.wanted (held_first es)
-leads_back-push [] f some = absurd (omega arith)
-leads_back-push (e ∷ es) f some = ap (λ h. eqb h.wanted e.held) (last_of_push e es f)
+-- an edge that wants another lock than the first one holds doesn't close a path
+pub unclosed-push : (es : List Edge) (f : Edge) → 0 < length es → f.wanted ≢ held_first es → leads_back (es ++ f ∷ []) ≡ false
+unclosed-push [] f some other = absurd (omega arith)
+unclosed-push (e ∷ es) f some other = ap (λ h. leads_to h e) (last_of_push e es f) ∙ leads_not f e other
 
 first_held : (edges : List Edge) (path : List ℕ) (e : Edge) → 0 < length path → slice_get edges (get_or path 0 0) ≡ Some e → e.held ≡ held_first (picked edges path)
 first_held edges [] e some first = absurd (omega arith)
@@ -79,17 +80,17 @@ first_held edges (i ∷ path) e some first = sym (ap held_first (picked-cons edg
 
 -- whether a path is closed, by its first and its last edge
 pub leads_back-picked : (edges : List Edge) (path : List ℕ) (e g : Edge) → AreWithin edges path → 0 < length path
-    → slice_get edges (get_or path 0 0) ≡ Some e → slice_get edges (get_or path (length path - 1) 0) ≡ Some g → leads_back (picked edges path) ≡ eqb g.wanted e.held
+    → slice_get edges (get_or path 0 0) ≡ Some e → slice_get edges (get_or path (length path - 1) 0) ≡ Some g → leads_back (picked edges path) ≡ leads_to g e
 leads_back-picked edges [] e g within some first last = absurd (omega arith)
 leads_back-picked edges (i ∷ path) e g within some first last =
     let end : length (i ∷ path) - 1 ≡ length path = omega arith in
     let last_at : slice_get edges (get_or (i ∷ path) (length path) 0) ≡ Some g = sym (ap (λ k. slice_get edges (get_or (i ∷ path) k 0)) end) ∙ last in
-    ap leads_back (picked-cons edges i path e first) ∙ ap (λ h. eqb h.wanted e.held) (last_of_picked edges i path e g (λ k d lt. within (suc k) d (omega arith)) first last_at)
+    ap leads_back (picked-cons edges i path e first) ∙ ap (λ h. leads_to h e) (last_of_picked edges i path e g (λ k d lt. within (suc k) d (omega arith)) first last_at)
 
 -- what may follow a path, by its first and its last edge
 pub can_follow-picked : (before : Segment → Segment → Bool) (mode : Mode) (edges : List Edge) (path : List ℕ) (e g f : Edge) → AreWithin edges path → 0 < length path
     → slice_get edges (get_or path 0 0) ≡ Some e → slice_get edges (get_or path (length path - 1) 0) ≡ Some g
-    → can_follow before mode (picked edges path) f ≡ (eqb g.wanted f.held && (list_all (λ d. goes_with before mode d f) (picked edges path) && leb e.thread f.thread))
+    → can_follow before mode (picked edges path) f ≡ (leads_to g f && (list_all (λ d. goes_with before mode d f) (picked edges path) && leb e.thread f.thread))
 unfolding can_follow
 can_follow-picked before mode edges [] e g f within some first last = absurd (omega arith)
 can_follow-picked before mode edges (i ∷ path) e g f within some first last =
@@ -97,8 +98,8 @@ can_follow-picked before mode edges (i ∷ path) e g f within some first last =
     let last_at : slice_get edges (get_or (i ∷ path) (length path) 0) ≡ Some g = sym (ap (λ k. slice_get edges (get_or (i ∷ path) k 0)) end) ∙ last in
     let es = picked-cons edges i path e first in
     ap (λ l. can_follow before mode l f) es
-    ∙ ap (λ h. eqb h.wanted f.held && (list_all (λ d. goes_with before mode d f) (e ∷ picked edges path) && leb e.thread f.thread)) (last_of_picked edges i path e g (λ k d lt. within (suc k) d (omega arith)) first last_at)
-    ∙ ap (λ l. eqb g.wanted f.held && (list_all (λ d. goes_with before mode d f) l && leb e.thread f.thread)) (sym es)
+    ∙ ap (λ h. leads_to h f && (list_all (λ d. goes_with before mode d f) (e ∷ picked edges path) && leb e.thread f.thread)) (last_of_picked edges i path e g (λ k d lt. within (suc k) d (omega arith)) first last_at)
+    ∙ ap (λ l. leads_to g f && (list_all (λ d. goes_with before mode d f) l && leb e.thread f.thread)) (sym es)
 
 -- one more position of the path
 pub picked-more : (edges : List Edge) (path : List ℕ) (k : ℕ) (e : Edge) → k < length path → slice_get edges (get_or path k 0) ≡ Some e → picked edges (take (k + 1) path) ≡ picked edges (take k path) ++ e ∷ []
@@ -113,12 +114,12 @@ module _ (table : List (Edge × Sample)) (path : List ℕ) (within : All (λ i. 
   at_path k d lt = edge_at table (get_or path k 0) d (within k 0 lt)
 
   pub closed_by_table : (first last : Edge × Sample) → 0 < length path
-      → leads_back (picked (edges_of_table table) path) ≡ eqb (get_or table (get_or path (length path - 1) 0) last).0.wanted (get_or table (get_or path 0 0) first).0.held
+      → leads_back (picked (edges_of_table table) path) ≡ leads_to (get_or table (get_or path (length path - 1) 0) last).0 (get_or table (get_or path 0 0) first).0
   closed_by_table first last some = leads_back-picked (edges_of_table table) path _ _ within_edges some (at_path 0 first some) (at_path (length path - 1) last (omega arith))
 
   pub follow_by_table : (before : Segment → Segment → Bool) (mode : Mode) (f : Edge) (first last : Edge × Sample) → 0 < length path
       → can_follow before mode (picked (edges_of_table table) path) f
-      ≡ (eqb (get_or table (get_or path (length path - 1) 0) last).0.wanted f.held && (list_all (λ d. goes_with before mode d f) (picked (edges_of_table table) path) && leb (get_or table (get_or path 0 0) first).0.thread f.thread))
+      ≡ (leads_to (get_or table (get_or path (length path - 1) 0) last).0 f && (list_all (λ d. goes_with before mode d f) (picked (edges_of_table table) path) && leb (get_or table (get_or path 0 0) first).0.thread f.thread))
   follow_by_table before mode f first last some = can_follow-picked before mode (edges_of_table table) path _ _ f within_edges some (at_path 0 first some) (at_path (length path - 1) last (omega arith))
 
   pub more_by_table : (k : ℕ) (d : Edge × Sample) → k < length path → picked (edges_of_table table) (take (k + 1) path) ≡ picked (edges_of_table table) (take k path) ++ (get_or table (get_or path k 0) d).0 ∷ []

@@ -16,7 +16,7 @@ use Rattle.gl_cycles.proofs.Lists.{upto-more, upto-until, take-take_append, take
 use Rattle.gl_cycles.proofs.Blocking.{all_cycles-block, block-zero, block-suc, block-stray, not_led_on, none_after_closed, picked-push}
 use Rattle.gl_filters.proofs.Paths.{is_path_push}
 use Rattle.gl_cycles.proofs.Level.{block-off}
-use Rattle.gl_cycles.proofs.Fronts.{AreWithin, held_first, leads_back-push, wanted_after, element_at, length-picked}
+use Rattle.gl_cycles.proofs.Fronts.{AreWithin, held_first, unclosed-push, wanted_after, element_at, length-picked}
 
 pub length-first : {X : Type 0} (n : ℕ) (xs : List X) → length (take n xs) ≤ n
 length-first n xs = let l = length-take n xs in omega arith
@@ -94,7 +94,7 @@ other_locks before mode edges front cap some = λ i f at other.
             | inr unclosed ↦
                 block-zero before mode edges (front ++ i ∷ [])
                 ∙ ap (λ b. cond b ((front ++ i ∷ []) ∷ []) [])
-                (not_cycle before mode edges 0 (front ++ i ∷ []) cap (ap leads_back (picked-push edges front i f at) ∙ leads_back-push (picked edges front) f some ∙ ne_eqb _ _ unclosed))
+                (not_cycle before mode edges 0 (front ++ i ∷ []) cap (ap leads_back (picked-push edges front i f at) ∙ unclosed-push (picked edges front) f some unclosed))
           ]
       | inr apart ↦ other_lock before mode edges 0 front cap some i f at apart
     ]

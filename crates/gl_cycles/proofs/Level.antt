@@ -8,6 +8,7 @@ use Rattle.gl_event.specs.declared.events.Segment.{Segment}
 use Rattle.gl_edges.specs.declared.edge.Edge.{Edge}
 use Rattle.gl_edges.proofs.Membership.{contains_cases, contains_none}
 use Rattle.gl_filters.specs.declared.query.Mode.{Mode}
+use Rattle.gl_filters.proofs.Cycling.{leads_same}
 use Rattle.gl_filters.specs.Test.{lead_on, leads_back, last_of, is_path, is_cycle}
 use Rattle.std.specs.Option.{option_map}
 use Rattle.std.proofs.lemmas.Option.{slice_get_within, get_or_from_slice_get, slice_get-map, same_Some}
@@ -30,7 +31,7 @@ module _ (rank : ℕ → ℕ) where
   to_last e [] leads up = omega arith
   to_last e (f ∷ es) leads up =
       let parts = and_parts _ _ leads in
-      let same : rank e.wanted ≡ rank f.held = ap rank (eqb-true _ _ parts.0) in
+      let same : rank e.wanted ≡ rank f.held = ap rank (leads_same e f parts.0) in
       let rest = All-tail rises e (f ∷ es) up in
       let here = All-head rises f es rest in
       let later = to_last f es parts.1 rest in
@@ -45,7 +46,7 @@ module _ (rank : ℕ → ℕ) where
       ]
   through d e (f ∷ es) leads up among =
       let parts = and_parts _ _ leads in
-      let same : rank e.wanted ≡ rank f.held = ap rank (eqb-true _ _ parts.0) in
+      let same : rank e.wanted ≡ rank f.held = ap rank (leads_same e f parts.0) in
       let first = All-head rises e (f ∷ es) up in
       let rest = All-tail rises e (f ∷ es) up in
       elim (contains_cases e d (f ∷ es) among) [
@@ -64,7 +65,7 @@ module _ (rank : ℕ → ℕ) where
       let on = through d e es leads up among in
       let before = on.0 in
       let after = on.1 in
-      let closed : rank (last_of e es).wanted ≡ rank e.held = ap rank (eqb-true _ _ back) in
+      let closed : rank (last_of e es).wanted ≡ rank e.held = ap rank (leads_same (last_of e es) e back) in
       let here = All-contains rises (e ∷ es) d up among in
       omega arith
 

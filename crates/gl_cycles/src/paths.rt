@@ -16,7 +16,7 @@ use crate::loops::edges_on_loops;
 use arrayvec::ArrayVec;
 use gl_edges::{Edge, EdgeList, Sample};
 use gl_event::Memory;
-use gl_filters::{Mode, Query, goes_with};
+use gl_filters::{Mode, Query, goes_with, leads_on};
 use gl_segments::Order;
 use std::alloc::Global;
 
@@ -47,7 +47,7 @@ impl Searcher<'_> {
     {
         let first = path[0];
         let last = path[path.len() - 1];
-        self.table[last].0.wanted == self.table[first].0.held
+        leads_on(&self.table[last].0, &self.table[first].0)
     }
 
     // Whether each edge of the path goes with this one.
@@ -74,7 +74,7 @@ impl Searcher<'_> {
         let edge = &self.table[next].0;
         let first = path[0];
         let last = path[path.len() - 1];
-        if self.table[last].0.wanted != edge.held {
+        if !leads_on(&self.table[last].0, edge) {
             return false;
         }
         if edge.thread < self.table[first].0.thread {

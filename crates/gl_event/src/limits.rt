@@ -70,7 +70,7 @@ impl Model for Limits {
 }
 
 impl Limits {
-    ghost use Rattle.gl_event.specs.Bounds.{first_out_of_range, AreWithinRange};
+    ghost use Rattle.gl_event.specs.Bounds.{first_out_of_range, greatest, AreWithinRange};
 
     /// The limits with these four numbers, or the first of them that is out of its range.
     pub fn new(threads: u32, ring: u32, events: u32, names: u32) -> Result<Limits, BadLimits>
@@ -96,6 +96,18 @@ impl Limits {
             events,
             names,
         })
+    }
+
+    /// The greatest limits: each number is as great as it may be.
+    pub fn greatest() -> Limits
+        ensures { result ≡ greatest }
+    {
+        Limits {
+            threads: MAX_THREADS,
+            ring: MAX_RING,
+            events: MAX_EVENTS,
+            names: MAX_NAMES,
+        }
     }
 
     /// How many threads there may be.

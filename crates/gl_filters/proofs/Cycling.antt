@@ -3,7 +3,7 @@ use Rattle.std.proofs.Common.{◌≡◌, ◌≢◌, ℕ, zero, suc, ◌-◌, ◌
 use Rattle.std.specs.Prelude.{slice_get, Contains, All, AllPairs}
 use Rattle.std.specs.List.{list_all, list_any}
 use Rattle.std.proofs.Math.Numerals.{add-one}
-use Rattle.std.proofs.lemmas.Bool.{false≢true, and_parts, and_from, false_from_ne_true, eq-eqb, eqb-true, leb-true, le-leb, not-true, not_from_false}
+use Rattle.std.proofs.lemmas.Bool.{false≢true, and_parts, and_from, and_left, false_from_ne_true, eq-eqb, eqb-true, leb-true, le-leb, not-true, not_from_false}
 use Rattle.std.proofs.lemmas.Option.{same_Some}
 use Rattle.std.proofs.lemmas.List.Folds.{Any-from_list_any, list_any-from_Any}
 use Rattle.std.proofs.lemmas.List.Kept.{AllPairs-cons}
@@ -56,6 +56,14 @@ pub leads_tells : (e f : Edge) → leads_to e f ≡ true → LeadsOn e f
 leads_tells e f passes =
     let parts = and_parts (eqb e.wanted f.held) _ passes in
     record { same_lock = eqb-true e.wanted f.held parts.0; in_conflict = parts.1 }
+
+-- an edge doesn't lead on to one that holds another lock
+pub leads_not : (e f : Edge) → e.wanted ≢ f.held → leads_to e f ≡ false
+leads_not e f other = and_left _ _ (false_from_ne_true _ (λ same. other (eqb-true e.wanted f.held same)))
+
+-- and where it does, the locks are the same
+pub leads_same : (e f : Edge) → leads_to e f ≡ true → e.wanted ≡ f.held
+leads_same e f passes = (leads_tells e f passes).same_lock
 
 pub leads_from : (e f : Edge) → LeadsOn e f → leads_to e f ≡ true
 leads_from e f leads = and_from (eqb e.wanted f.held) _ (eq-eqb e.wanted f.held leads.same_lock) leads.in_conflict

@@ -15,9 +15,11 @@
 //! that these could stand for.
 #![tactic(auto)]
 
+mod lawful;
 mod taker;
 
 pub use gl_event::Refusal;
+pub use lawful::{are_lawful, is_lawful};
 pub use taker::Taker;
 
 #[cfg(test)]

@@ -8,6 +8,7 @@ use Rattle.gl_edges.specs.declared.edge.Edge.{Edge}
 use Rattle.gl_edges.specs.declared.edge.Sample.{Sample}
 use Rattle.gl_segments.specs.Clocks.{is_before}
 use Rattle.gl_cycles.specs.AllCycles.{edges_of_table}
+use Rattle.gl_filters.specs.Test.{leads_to}
 use Rattle.gl_cycles.proofs.Fronts.{edge_at, follow_by_table}
 use Rattle.gl_cycles.proofs.paths.Searcher.can_join.Goals as goal
 
@@ -31,12 +32,12 @@ both true false x p q = cc
 both false b x p q = cc
 
 -- the last edge leads on to another lock
-pub returns-then-ne : goal.returns-then-ne
-returns-then-ne c = λ f at.
+pub returns-then-not-leads_on : goal.returns-then-not-leads_on
+returns-then-not-leads_on c = λ f at.
     let table = c.args.self.now.table.now in
     let is = is_there table c.args.next c.index-self-next.result f c.requires.there at in
     sym (follow_by_table table c.args.path.now c.requires.within (is_before c.args.self.now.order.now) c.args.self.now.mode f c.index-self-last.result c.index-self-last.result c.requires.some
-    ∙ and_left _ _ (ap (λ x. eqb (get_or table (get_or c.args.path.now (length c.args.path.now - 1) 0) c.index-self-last.result).0.wanted x.held) is ∙ not-true _ (sym c.ne.ensures ∙ c.if-ne.true)))
+    ∙ and_left _ _ (ap (λ x. leads_to (get_or table (get_or c.args.path.now (length c.args.path.now - 1) 0) c.index-self-last.result).0 x) is ∙ sym c.if-not-leads_on.ensures))
 
 -- the thread is less than that of the first edge
 pub returns-then-lt : goal.returns-then-lt
@@ -53,6 +54,6 @@ returns c = λ f at.
     let table = c.args.self.now.table.now in
     let is = is_there table c.args.next c.index-self-next.result f c.requires.there at in
     let not_less = ltb-false _ _ (sym (less _ _) ∙ sym c.lt.ensures ∙ c.if-lt.false) in
-    let led_on = not-false _ (sym c.ne.ensures ∙ c.if-ne.false) in
+    let led_on = sym c.if-not-leads_on.ensures in
     rw is (c.goes_with_all.ensures ∙ sym (follow_by_table table c.args.path.now c.requires.within (is_before c.args.self.now.order.now) c.args.self.now.mode _ c.index-self-first.result c.index-self-last.result c.requires.some
     ∙ both _ _ _ led_on (le-leb _ _ not_less)))
