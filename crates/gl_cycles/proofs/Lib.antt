@@ -3,7 +3,6 @@ pub mod Lists
 pub mod Blocking
 pub mod Fronts
 pub mod Growing
-pub mod Trials
 pub mod Ascending
 pub mod Members
 pub mod ByEdges

@@ -1,16 +1,15 @@
 //! Worked examples.
-ghost use Rattle.std.specs.Prelude.{◌≡◌, ◌≢◌, ◌<◌, ◌≤◌, ℕ, List, [], ◌∷◌, ◌++◌, map, length, slice_get, None, Some, IsTrue};
+ghost use Rattle.std.specs.Prelude.{◌≡◌, ◌≤◌, ℕ, List, map, length, slice_get, Some, IsTrue};
 ghost use Rattle.gl_event.specs.Bounds.{greatest};
-ghost use Rattle.gl_event.specs.Lawful.{IsLawful, lock_refusal, refusal};
+ghost use Rattle.gl_event.specs.Lawful.{IsLawful};
 ghost use Rattle.gl_event.specs.declared.events.Event.{Event};
-ghost use Rattle.gl_edges.specs.Tracking.{Tracks};
 
 use crate::components::{Step, components};
 use crate::found::{Cycles, Found, Report, ReportFault};
 use crate::paths::search;
 use crate::reports::report_over;
 use gl_edges::{EdgeList, edges_of};
-use gl_event::{Event, Held, LocId, LockId, MAX_EVENTS, MAX_THREADS, Memory, ThreadId};
+use gl_event::{Event, Limits, LocId, LockId, LockMode, Memory, ThreadId};
 use gl_filters::{Mode, Query};
 use gl_segments::Order;
 use std::alloc::Global;
@@ -20,6 +19,7 @@ use std::test::Fail;
 fn acq(lock: u32, loc: u32) -> Event {
     Event::Acquire {
         lock: LockId::new(lock),
+        mode: LockMode::Exclusive,
         loc: LocId::new(loc),
     }
 }
@@ -28,6 +28,7 @@ fn acq(lock: u32, loc: u32) -> Event {
 fn rel(lock: u32, loc: u32) -> Event {
     Event::Release {
         lock: LockId::new(lock),
+        mode: LockMode::Exclusive,
         loc: LocId::new(loc),
     }
 }
@@ -48,100 +49,12 @@ fn join(thread: u32, loc: u32) -> Event {
     }
 }
 
-// Whether the thread may fork or join the other one.
-fn is_other(thread: ThreadId, other: ThreadId) -> bool
-    ensures known { IsTrue result → other < 1024 }
-    ensures apart { IsTrue result → other ≢ thread }
-{
-    if other.number() >= MAX_THREADS {
-        return false;
-    }
-    other != thread
-}
-
-// Whether the event is no fork or join of the thread itself, or of an unknown one.
-fn is_allowed(thread: ThreadId, event: &Event) -> bool
-    ensures { IsTrue result → (es : List Event) → length es < 4000000000 → lock_refusal es event.now ≡ None → refusal greatest thread es event.now ≡ None }
-{
-    match *event {
-        Event::Acquire { .. } => true,
-        Event::Release { .. } => true,
-        Event::Fork { thread: other, .. } => is_other(thread, other),
-        Event::Join { thread: other, .. } => is_other(thread, other),
-    }
-}
-
-// A thread after its events so far.
-#[derive(Drop)]
-struct Follower {
-    thread: ThreadId,
-    held: Held,
-    place: u32,
-    segment: u32,
-}
-
-// Takes the event, if it is lawful next.
-fn take(tracker: &mut Follower, event: Event) -> bool
-    ensures allowed { IsTrue result → (thread : ℕ) (es : List Event) → Tracks thread es (record { thread = tracker.old.thread; held = tracker.old.held; place = tracker.old.place; segment = tracker.old.segment }) → refusal greatest thread es event ≡ None }
-    ensures follows { IsTrue result → (thread : ℕ) (es : List Event) → Tracks thread es (record { thread = tracker.old.thread; held = tracker.old.held; place = tracker.old.place; segment = tracker.old.segment })
-        → Tracks thread (es ++ event ∷ []) (record { thread = tracker.new.thread; held = tracker.new.held; place = tracker.new.place; segment = tracker.new.segment }) }
-{
-    if tracker.place >= MAX_EVENTS || tracker.segment >= MAX_EVENTS {
-        return false;
-    }
-    if !is_allowed(tracker.thread, &event) {
-        return false;
-    }
-    let place = tracker.place;
-    tracker.place = place + 1;
-    match event {
-        Event::Acquire { lock, loc } => {
-            let answer = tracker.held.acquire(lock, loc, place, tracker.segment);
-            answer.is_ok()
-        }
-        Event::Release { lock, .. } => {
-            let answer = tracker.held.release(lock);
-            answer.is_ok()
-        }
-        Event::Fork { .. } | Event::Join { .. } => {
-            tracker.segment += 1;
-            true
-        }
-    }
-}
-
-// Whether the list is lawful under the greatest limits.
-fn is_lawful(thread: ThreadId, list: &[Event]) -> bool
-    ensures { IsTrue result → IsLawful greatest thread list.now }
-{
-    let mut tracker = Follower {
-        thread,
-        held: Held::new(),
-        place: 0,
-        segment: 0,
-    };
-    for event in list {
-        if !take(&mut tracker, *event) {
-            return false;
-        }
-    }
-    true
-}
-
-// Whether there are few enough lists, and each is lawful under the greatest limits.
+// Whether the lists are lawful under the greatest limits.
 fn are_lawful(lists: &[Vec<Event>]) -> bool
     ensures few { IsTrue result → length lists.now ≤ 1024 }
     ensures lawful { IsTrue result → (thread : ℕ) (es : List Event) → slice_get (map (λ v. v.items) lists.now) thread ≡ Some es → IsLawful greatest thread es }
 {
-    if lists.len() > 1024 {
-        return false;
-    }
-    for (number, list) in lists.iter().enumerate() {
-        if !is_lawful(ThreadId::new(number as u32), list.as_slice()) {
-            return false;
-        }
-    }
-    true
+    gl_recorder::are_lawful(&Limits::greatest(), lists)
 }
 
 // Whether these cycles are listed.

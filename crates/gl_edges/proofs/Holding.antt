@@ -89,13 +89,13 @@ unfolding guards
 guards_are es entries stands =
     same_members guard_cmp guard_total guard_cmp_exact (map guard_of entries) (map (guard_at es) (held es))
     (λ g at.
-      let (h, there, is) = contains_map_from guard_of g entries at in
-      let entry : h ≡ entry_of es h.lock = All-contains (λ h. h ≡ entry_of es h.lock) entries h stands.each there in
-      let deep : 0 < depth es h.lock = All-contains (λ h. 0 < depth es h.lock) entries h stands.positive there in
-      subst (Contains (map (guard_at es) (held es))) (ap guard_of (sym entry) ∙ is) (contains_map (guard_at es) h.lock (held es) (held_where_deep es h.lock deep)))
+    let (h, there, is) = contains_map_from guard_of g entries at in
+    let entry : h ≡ entry_of es h.lock = All-contains (λ h. h ≡ entry_of es h.lock) entries h stands.each there in
+    let deep : 0 < depth es h.lock = All-contains (λ h. 0 < depth es h.lock) entries h stands.positive there in
+    subst (Contains (map (guard_at es) (held es))) (ap guard_of (sym entry) ∙ is) (contains_map (guard_at es) h.lock (held es) (held_where_deep es h.lock deep)))
     (λ g at.
-      let (lock, there, is) = contains_map_from (guard_at es) g (held es) at in
-      subst (Contains (map guard_of entries)) is (contains_map guard_of (entry_of es lock) entries (stands.whole lock (deep_where_held es lock there))))
+    let (lock, there, is) = contains_map_from (guard_at es) g (held es) at in
+    subst (Contains (map guard_of entries)) is (contains_map guard_of (entry_of es lock) entries (stands.whole lock (deep_where_held es lock there))))
     ∙ sorted_stays guard_cmp guard_total (map (guard_at es) (held es)) (sorted_mapped nat_cmp guard_cmp (guard_at es) (keeps_order es) (held es) (held_ascends es))
 
 -- a guard of the entries is the lock of one

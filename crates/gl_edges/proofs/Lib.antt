@@ -13,4 +13,3 @@ pub mod Remembering
 pub mod Steps
 pub mod Made
 pub mod MadeFirst
-pub mod Trials

@@ -112,14 +112,14 @@ module _ (tracker : Tracker) (wanted : ℕ) (mode : LockMode) (nesting : Nesting
   same_guards =
       same_members guard_cmp guard_total guard_cmp_exact (map guard_from nesting.held.items) (map guard_of tracker.held)
       (λ g at.
-        let (o, there, is) = contains_map_from guard_from g nesting.held.items at in
-        let before = Contains-permutation nesting.held.items (map opened_of tracker.held) o (IsPermutation-sym (map opened_of tracker.held) nesting.held.items is_now.holds) there in
-        let (h, here, same) = contains_map_from opened_of o tracker.held before in
-        subst (Contains (map guard_of tracker.held)) (ap guard_from same ∙ is) (contains_map guard_of h tracker.held here))
+      let (o, there, is) = contains_map_from guard_from g nesting.held.items at in
+      let before = Contains-permutation nesting.held.items (map opened_of tracker.held) o (IsPermutation-sym (map opened_of tracker.held) nesting.held.items is_now.holds) there in
+      let (h, here, same) = contains_map_from opened_of o tracker.held before in
+      subst (Contains (map guard_of tracker.held)) (ap guard_from same ∙ is) (contains_map guard_of h tracker.held here))
       (λ g at.
-        let (h, here, is) = contains_map_from guard_of g tracker.held at in
-        subst (Contains (map guard_from nesting.held.items)) is
-        (contains_map guard_from (opened_of h) nesting.held.items (Contains-permutation (map opened_of tracker.held) nesting.held.items (opened_of h) is_now.holds (contains_map opened_of h tracker.held here))))
+      let (h, here, is) = contains_map_from guard_of g tracker.held at in
+      subst (Contains (map guard_from nesting.held.items)) is
+      (contains_map guard_from (opened_of h) nesting.held.items (Contains-permutation (map opened_of tracker.held) nesting.held.items (opened_of h) is_now.holds (contains_map opened_of h tracker.held here))))
 
   -- its edge for a held lock
   same_edge : (h : HeldEntry) → edge_from nesting (opened_of h) ≡ edge_now tracker wanted mode h

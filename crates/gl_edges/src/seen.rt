@@ -54,12 +54,7 @@ impl Nesting {
 
     /// Becomes the acquire of a lock that the thread doesn't hold. One that had as many held locks
     /// before takes no memory.
-    fn refill(
-        &mut self,
-        tracker: &Tracker,
-        wanted: LockId,
-        mode: LockMode,
-    ) -> Result<(), Memory>
+    fn refill(&mut self, tracker: &Tracker, wanted: LockId, mode: LockMode) -> Result<(), Memory>
         ensures thread { OnOk result (self.new.thread ≡ tracker.now.thread) }
         ensures wanted { OnOk result (self.new.wanted ≡ wanted) }
         ensures mode { OnOk result (self.new.mode ≡ mode) }

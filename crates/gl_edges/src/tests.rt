@@ -1,16 +1,15 @@
 //! Worked examples, and each call that takes memory on its happy path.
-ghost use Rattle.std.specs.Prelude.{◌≡◌, ◌≢◌, ◌<◌, ◌≤◌, ℕ, List, [], ◌∷◌, ◌++◌, map, length, slice_get, None, Some, IsTrue};
+ghost use Rattle.std.specs.Prelude.{◌≡◌, ◌≤◌, ℕ, List, map, length, slice_get, Some, IsTrue};
 ghost use Rattle.gl_event.specs.Bounds.{greatest};
-ghost use Rattle.gl_event.specs.Lawful.{IsLawful, lock_refusal, refusal};
+ghost use Rattle.gl_event.specs.Lawful.{IsLawful};
 ghost use Rattle.gl_event.specs.declared.events.Event.{Event};
-ghost use Rattle.gl_edges.specs.Tracking.{Tracks};
 
 use crate::edge::{Edge, Sample};
 use crate::gather::edges_of;
-use crate::guards::Guards;
+use crate::guards::{Guard, Guards};
 use crate::list::EdgeList;
 use crate::tracker::Tracker;
-use gl_event::{Event, LocId, LockId, MAX_EVENTS, MAX_THREADS, Memory, ThreadId};
+use gl_event::{Event, Limits, LocId, LockId, LockMode, MAX_THREADS, Memory, ThreadId};
 use std::alloc::Global;
 use std::test::Fail;
 
@@ -18,6 +17,7 @@ use std::test::Fail;
 fn acq(lock: u32, loc: u32) -> Event {
     Event::Acquire {
         lock: LockId::new(lock),
+        mode: LockMode::Exclusive,
         loc: LocId::new(loc),
     }
 }
@@ -26,59 +26,8 @@ fn acq(lock: u32, loc: u32) -> Event {
 fn rel(lock: u32, loc: u32) -> Event {
     Event::Release {
         lock: LockId::new(lock),
+        mode: LockMode::Exclusive,
         loc: LocId::new(loc),
-    }
-}
-
-// Whether the thread may fork or join the other one.
-fn is_other(thread: ThreadId, other: ThreadId) -> bool
-    ensures known { IsTrue result → other < 1024 }
-    ensures apart { IsTrue result → other ≢ thread }
-{
-    if other.number() >= MAX_THREADS {
-        return false;
-    }
-    other != thread
-}
-
-// Whether the event is no fork or join of the thread itself, or of an unknown one.
-fn is_allowed(thread: ThreadId, event: &Event) -> bool
-    ensures { IsTrue result → (es : List Event) → length es < 4000000000 → lock_refusal es event.now ≡ None → refusal greatest thread es event.now ≡ None }
-{
-    match *event {
-        Event::Acquire { .. } => true,
-        Event::Release { .. } => true,
-        Event::Fork { thread: other, .. } => is_other(thread, other),
-        Event::Join { thread: other, .. } => is_other(thread, other),
-    }
-}
-
-// Takes the event, if it is lawful next.
-fn take(tracker: &mut Tracker, event: Event) -> bool
-    ensures allowed { IsTrue result → (thread : ℕ) (es : List Event) → Tracks thread es tracker.old → refusal greatest thread es event ≡ None }
-    ensures follows { IsTrue result → (thread : ℕ) (es : List Event) → Tracks thread es tracker.old → Tracks thread (es ++ event ∷ []) tracker.new }
-{
-    if tracker.place >= MAX_EVENTS || tracker.segment >= MAX_EVENTS {
-        return false;
-    }
-    if !is_allowed(tracker.thread, &event) {
-        return false;
-    }
-    let place = tracker.place;
-    tracker.place = place + 1;
-    match event {
-        Event::Acquire { lock, loc } => {
-            let answer = tracker.held.acquire(lock, loc, place, tracker.segment);
-            answer.is_ok()
-        }
-        Event::Release { lock, .. } => {
-            let answer = tracker.held.release(lock);
-            answer.is_ok()
-        }
-        Event::Fork { .. } | Event::Join { .. } => {
-            tracker.segment += 1;
-            true
-        }
     }
 }
 
@@ -86,29 +35,18 @@ fn take(tracker: &mut Tracker, event: Event) -> bool
 fn is_lawful(thread: ThreadId, list: &[Event]) -> bool
     ensures { IsTrue result → IsLawful greatest thread list.now }
 {
-    let mut tracker = Tracker::new(thread);
-    for event in list {
-        if !take(&mut tracker, *event) {
-            return false;
-        }
+    if thread.number() >= MAX_THREADS {
+        return false;
     }
-    true
+    gl_recorder::is_lawful(&Limits::greatest(), thread, list)
 }
 
-// Whether there are few enough lists, and each is lawful under the greatest limits.
+// Whether the lists are lawful under the greatest limits.
 fn are_lawful(lists: &[Vec<Event>]) -> bool
     ensures few { IsTrue result → length lists.now ≤ 1024 }
     ensures lawful { IsTrue result → (thread : ℕ) (es : List Event) → slice_get (map (λ v. v.items) lists.now) thread ≡ Some es → IsLawful greatest thread es }
 {
-    if lists.len() > 1024 {
-        return false;
-    }
-    for (number, list) in lists.iter().enumerate() {
-        if !is_lawful(ThreadId::new(number as u32), list.as_slice()) {
-            return false;
-        }
-    }
-    true
+    gl_recorder::are_lawful(&Limits::greatest(), lists)
 }
 
 // An edge and its sample, as they are wanted.
@@ -116,6 +54,8 @@ fn are_lawful(lists: &[Vec<Event>]) -> bool
 struct Want<'a> {
     thread: u32,
     held: u32,
+    // of the held lock and of all guards
+    mode: LockMode,
     wanted: u32,
     first: u32,
     second: u32,
@@ -125,12 +65,21 @@ struct Want<'a> {
     wanted_loc: u32,
 }
 
-fn are_locks(locks: &[LockId], numbers: &[u32]) -> bool {
-    if locks.len() != numbers.len() {
+// A guard, exclusive or shared.
+fn guard(lock: u32, mode: LockMode) -> Guard {
+    Guard {
+        lock: LockId::new(lock),
+        mode,
+    }
+}
+
+// Whether these are guards of the locks with these numbers, all of them in the mode.
+fn are_locks(guards: &[Guard], numbers: &[u32], mode: LockMode) -> bool {
+    if guards.len() != numbers.len() {
         return false;
     }
-    for (lock, number) in locks.iter().zip(numbers) {
-        if lock.number() != *number {
+    for (found, number) in guards.iter().zip(numbers) {
+        if *found != guard(*number, mode) {
             return false;
         }
     }
@@ -140,10 +89,12 @@ fn are_locks(locks: &[LockId], numbers: &[u32]) -> bool {
 fn is_as_wanted(edge: &Edge, sample: &Sample, want: &Want) -> bool {
     edge.thread == ThreadId::new(want.thread)
         && edge.held == LockId::new(want.held)
+        && edge.held_mode == want.mode
         && edge.wanted == LockId::new(want.wanted)
+        && edge.wanted_mode == LockMode::Exclusive
         && edge.first == want.first
         && edge.second == want.second
-        && are_locks(edge.guards.as_slice(), want.guards)
+        && are_locks(edge.guards.as_slice(), want.guards, want.mode)
         && sample.place == want.place
         && sample.held_loc == LocId::new(want.held_loc)
         && sample.wanted_loc == LocId::new(want.wanted_loc)
@@ -169,7 +120,7 @@ fn fork(thread: u32, loc: u32) -> Event {
     }
 }
 
-// An edge of a thread that has forked and joined nobody.
+// An edge of a thread that has forked and joined nobody, whose locks are all exclusive.
 fn plain<'a>(
     thread: u32,
     held: u32,
@@ -181,6 +132,7 @@ fn plain<'a>(
     Want {
         thread,
         held,
+        mode: LockMode::Exclusive,
         wanted,
         first: 0,
         second: 0,
@@ -337,19 +289,83 @@ fn tracker_steps(rt: HostRuntime) -> Result<(), Fail> {
     Ok(())
 }
 
-// A set of locks has each of them once, ascending.
+// A set of locks has each of them once in each mode, ascending, exclusive before shared.
 #[test]
 fn guards_of_locks(rt: HostRuntime) -> Result<(), Fail> {
     let alloc = rt.alloc();
     let locks = vec![in alloc;
-        LockId::new(3),
-        LockId::new(1),
-        LockId::new(3),
-        LockId::new(2),
+        guard(3, LockMode::Shared),
+        guard(1, LockMode::Exclusive),
+        guard(3, LockMode::Exclusive),
+        guard(3, LockMode::Shared),
     ]?;
-    let guards = Guards::new(locks);
-    assert!(rt; are_locks(guards.as_slice(), &[1, 2, 3]));
-    assert!(rt; are_locks(&guards.into_vec(), &[1, 2, 3]));
+    let guards = Guards::new(locks).into_vec();
+    assert_eq!(rt; guards.len(), 3);
+    assert_eq!(rt; guards[0], guard(1, LockMode::Exclusive));
+    assert_eq!(rt; guards[1], guard(3, LockMode::Exclusive));
+    assert_eq!(rt; guards[2], guard(3, LockMode::Shared));
+    Ok(())
+}
+
+// An acquire in shared mode.
+fn racq(lock: u32, loc: u32) -> Event {
+    Event::Acquire {
+        lock: LockId::new(lock),
+        mode: LockMode::Shared,
+        loc: LocId::new(loc),
+    }
+}
+
+// An acquire that could not have waited.
+fn tryacq(lock: u32, loc: u32) -> Event {
+    Event::TryAcquire {
+        lock: LockId::new(lock),
+        mode: LockMode::Exclusive,
+        loc: LocId::new(loc),
+    }
+}
+
+// The mode of a held lock is that of its outermost acquire, and edges of shared locks come after
+// those of exclusive ones.
+#[test]
+fn mode_orders_edges(rt: HostRuntime) -> Result<(), Fail> {
+    let alloc = rt.alloc();
+    let lists = vec![in alloc;
+        vec![in alloc;
+            racq(0, 1),
+            racq(0, 2),
+            acq(1, 3),
+            rel(1, 4),
+            rel(0, 5),
+            rel(0, 6),
+            acq(0, 7),
+            racq(0, 8),
+            acq(1, 9)
+        ]?,
+    ]?;
+    assert!(rt; are_lawful(&lists));
+    let found = edges_of(alloc, &lists)?;
+    let shared = Want {
+        mode: LockMode::Shared,
+        ..plain(0, 0, 1, &[0], 2, (1, 3))
+    };
+    let wants = [plain(0, 0, 1, &[0], 8, (7, 9)), shared];
+    assert!(rt; are_as_wanted(found.entries(), &wants));
+    Ok(())
+}
+
+// A lock that is tried is held and a guard, but never wanted.
+#[test]
+fn tried_locks(rt: HostRuntime) -> Result<(), Fail> {
+    let alloc = rt.alloc();
+    let lists = vec![in alloc; vec![in alloc; acq(0, 1), tryacq(1, 2), acq(2, 3)]?]?;
+    assert!(rt; are_lawful(&lists));
+    let found = edges_of(alloc, &lists)?;
+    let wants = [
+        plain(0, 0, 2, &[0, 1], 2, (1, 3)),
+        plain(0, 1, 2, &[0, 1], 2, (2, 3)),
+    ];
+    assert!(rt; are_as_wanted(found.entries(), &wants));
     Ok(())
 }
 

@@ -1,7 +1,7 @@
 //! Worked examples.
-ghost use Rattle.std.specs.Prelude.{◌≡◌, ◌≢◌, ℕ, ◌<◌, ◌≤◌, List, length, slice_get, None, Some, IsTrue};
+ghost use Rattle.std.specs.Prelude.{◌≡◌, ℕ, ◌≤◌, List, length, slice_get, Some, IsTrue};
 ghost use Rattle.gl_event.specs.Bounds.{greatest};
-ghost use Rattle.gl_event.specs.Lawful.{IsLawful, refusal};
+ghost use Rattle.gl_event.specs.Lawful.{IsLawful};
 ghost use Rattle.gl_event.specs.declared.events.Event.{Event};
 ghost use Rattle.gl_segments.specs.Orders.{lists_of};
 
@@ -9,7 +9,7 @@ use crate::pairs::{compatible, goes_with};
 use crate::query::{BadQuery, MAX_CYCLES, MAX_LEN, Mode, Query};
 use crate::verdict::{Verdict, judge};
 use gl_edges::{EdgeList, edges_of};
-use gl_event::{Event, LocId, LockId, MAX_THREADS, ThreadId};
+use gl_event::{Event, Limits, LocId, LockId, LockMode, ThreadId};
 use gl_segments::Order;
 use std::test::Fail;
 
@@ -17,6 +17,7 @@ use std::test::Fail;
 fn acq(lock: u32, loc: u32) -> Event {
     Event::Acquire {
         lock: LockId::new(lock),
+        mode: LockMode::Exclusive,
         loc: LocId::new(loc),
     }
 }
@@ -37,58 +38,12 @@ fn join(thread: u32, loc: u32) -> Event {
     }
 }
 
-// Whether the thread may fork or join the other one.
-fn is_other(thread: ThreadId, other: ThreadId) -> bool
-    ensures known { IsTrue result → other < 1024 }
-    ensures apart { IsTrue result → other ≢ thread }
-{
-    if other.number() >= MAX_THREADS {
-        return false;
-    }
-    other.number() != thread.number()
-}
-
-// Whether the event may come next in a short list of the thread's.
-fn is_allowed(thread: ThreadId, event: Event) -> bool
-    ensures { IsTrue result → (es : List Event) → length es < 64 → refusal greatest thread es event ≡ None }
-{
-    match event {
-        Event::Acquire { .. } => true,
-        Event::Release { .. } => false,
-        Event::Fork { thread: other, .. } => is_other(thread, other),
-        Event::Join { thread: other, .. } => is_other(thread, other),
-    }
-}
-
-// Whether the list is short, releases nothing and is lawful under the greatest limits.
-fn is_lawful(thread: ThreadId, list: &[Event]) -> bool
-    ensures { IsTrue result → IsLawful greatest thread list.now }
-{
-    if list.len() > 64 {
-        return false;
-    }
-    for event in list {
-        if !is_allowed(thread, *event) {
-            return false;
-        }
-    }
-    true
-}
-
-// Whether there are few enough lists, and each is short, releases nothing and is lawful.
+// Whether the lists are lawful under the greatest limits.
 fn are_lawful(lists: &[Vec<Event>]) -> bool
     ensures few { IsTrue result → length lists.now ≤ 1024 }
     ensures lawful { IsTrue result → (thread : ℕ) (es : List Event) → slice_get (lists_of lists.now) thread ≡ Some es → IsLawful greatest thread es }
 {
-    if lists.len() > 1024 {
-        return false;
-    }
-    for (number, list) in lists.iter().enumerate() {
-        if !is_lawful(ThreadId::new(number as u32), list.as_slice()) {
-            return false;
-        }
-    }
-    true
+    gl_recorder::are_lawful(&Limits::greatest(), lists)
 }
 
 fn is_refused(query: Result<Query, BadQuery>, wanted: BadQuery) -> bool {

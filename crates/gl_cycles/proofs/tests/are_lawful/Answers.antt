@@ -1,10 +1,11 @@
-use Rattle.std.proofs.Common.{refl}
-use Rattle.gl_event.specs.Bounds.{greatest}
-use Rattle.gl_event.specs.Lawful.{IsLawful}
-use Rattle.gl_edges.proofs.Trials.{lists_more}
+use Rattle.std.proofs.Common.{arith}
+use Rattle.std.proofs.lemmas.List.{length-map}
 use Rattle.gl_cycles.proofs.tests.are_lawful.Goals as goal
 
-pub loop-number-preserved : goal.loop-number-preserved
-loop-number-preserved c =
-    let this = rw (c.new.ensures, c.as_slice.ensures.value) at (c.if-not-is_lawful.ensures refl) in
-    lists_more (λ v. v.items) (IsLawful greatest) c.args.lists.now c.loop-number.number c.index-lists-number.result c.loop-number-test.true c.index-lists-number.is c.loop-number.invariant this
+pub returns-clause-few : goal.returns-clause-few
+returns-clause-few c = λ ok.
+    let all = rw c.greatest.ensures at (c.are_lawful.ensures.0 ok) in
+    omega (arith, all.few, length-map c.args.lists.now (λ v. v.items))
+
+pub returns-clause-lawful : goal.returns-clause-lawful
+returns-clause-lawful c = λ ok. (rw c.greatest.ensures at (c.are_lawful.ensures.0 ok)).each
