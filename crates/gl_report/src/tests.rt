@@ -4,8 +4,8 @@ ghost use Rattle.gl_edges.specs.Order.{IsAboveLast};
 
 use crate::text;
 use gl_cycles::{Cycles, Found, Report};
-use gl_edges::{Edge, EdgeList, Guards, Sample};
-use gl_event::{Limits, LocId, LockId, Memory, ThreadId};
+use gl_edges::{Edge, EdgeList, Guard, Guards, Sample};
+use gl_event::{Limits, LocId, LockId, LockMode, Memory, ThreadId};
 use gl_filters::{Mode, Query};
 use gl_std::{Names, read_trace};
 use std::alloc::Global;
@@ -51,14 +51,17 @@ fn is_above(pairs: &[(Edge, Sample)], edge: &Edge) -> bool
 
 // Appends the edge where it is above the last one.
 fn add(alloc: Global, list: &mut EdgeList, row: &EdgeRow) -> Result<bool, Memory> {
-    let held = LockId::new(row.held);
+    let mode = LockMode::Exclusive;
+    let lock = LockId::new(row.held);
     let edge = Edge {
         thread: ThreadId::new(row.thread),
-        held,
+        held: lock,
+        held_mode: mode,
         wanted: LockId::new(row.wanted),
+        wanted_mode: mode,
         first: 0,
         second: 0,
-        guards: Guards::new(vec![in alloc; held]?),
+        guards: Guards::new(vec![in alloc; Guard { lock, mode }]?),
     };
     if !is_above(list.entries(), &edge) {
         return Ok(false);

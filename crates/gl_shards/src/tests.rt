@@ -1,21 +1,27 @@
 //! Worked examples, and each call that takes memory on its happy path.
 use crate::shard::{MAX_SHARDS, shard_of};
 use crate::table::{Table, merge};
-use gl_edges::{Edge, Guards, Sample};
-use gl_event::{LocId, LockId, Memory, ThreadId};
+use gl_edges::{Edge, Guard, Guards, Sample};
+use gl_event::{LocId, LockId, LockMode, Memory, ThreadId};
 use std::alloc::Global;
 use std::test::Fail;
 
-// The edge of a thread between two locks, with no other lock held.
+// The edge of a thread between two exclusive locks, with no other lock held.
 fn edge(alloc: Global, thread: u32, held: u32, wanted: u32) -> Result<Edge, Memory> {
-    let locks = vec![in alloc; LockId::new(held)]?;
+    let mode = LockMode::Exclusive;
+    let guard = Guard {
+        lock: LockId::new(held),
+        mode,
+    };
     Ok(Edge {
         thread: ThreadId::new(thread),
         held: LockId::new(held),
+        held_mode: mode,
         wanted: LockId::new(wanted),
+        wanted_mode: mode,
         first: 0,
         second: 0,
-        guards: Guards::new(locks),
+        guards: Guards::new(vec![in alloc; guard]?),
     })
 }
 

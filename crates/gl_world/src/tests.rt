@@ -4,7 +4,7 @@ ghost use Rattle.std.specs.Prelude.{◌≡◌, length, IfOk};
 use crate::{Did, Step, World};
 use gl_cycles::{Report, ReportFault};
 use gl_edges::{Edge, Sample};
-use gl_event::{Body, Event, Limits, LocId, LockId, Note, Refusal, Segment, ThreadId};
+use gl_event::{Body, Event, Limits, LocId, LockId, LockMode, Note, Refusal, Segment, ThreadId};
 use gl_filters::{Mode, Query};
 use gl_intake::{Accepted, Refused};
 use std::alloc::{AllocError, Global};
@@ -13,6 +13,7 @@ use std::test::Fail;
 fn acquire(lock: u32, loc: u32) -> Event {
     Event::Acquire {
         lock: LockId::new(lock),
+        mode: LockMode::Exclusive,
         loc: LocId::new(loc),
     }
 }
@@ -20,6 +21,7 @@ fn acquire(lock: u32, loc: u32) -> Event {
 fn release(lock: u32, loc: u32) -> Event {
     Event::Release {
         lock: LockId::new(lock),
+        mode: LockMode::Exclusive,
         loc: LocId::new(loc),
     }
 }
@@ -136,7 +138,7 @@ fn is_edge(pair: &(Edge, Sample), edge: (u32, u32, u32), sample: (u32, u32, u32)
         && pair.0.first == 0
         && pair.0.second == 0
         && guards.len() == 1
-        && guards[0].number() == edge.1
+        && guards[0].lock.number() == edge.1
         && pair.1.place == sample.0
         && pair.1.held_loc.number() == sample.1
         && pair.1.wanted_loc.number() == sample.2
