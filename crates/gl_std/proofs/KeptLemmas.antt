@@ -72,7 +72,7 @@ Tells-none told shapes skipped stray a b =
       numbered = λ k d h. absurd (omega arith);
       lists = λ name. sym (append_nil (events_named told.names.threads told.lists name));
       skipped = a;
-      stray = b;
+      stray = omega (arith, b);
     }
 
 fold_two : (f : KeptLine → List ℕ) (ms ns : List KeptLine) (seen mid new : List (List ℕ)) → mid ≡ fold mention seen (map f ms) → new ≡ fold mention mid (map f ns) → new ≡ fold mention seen (map f (ms ++ ns))
@@ -166,13 +166,12 @@ allowed_no_stray es (TryAcquire lock mode loc) h = refl
 allowed_no_stray es (Fork thread loc) h = refl
 allowed_no_stray es (Join thread loc) h = refl
 
-after_verdict-kept : (number : ℕ) (told kept more : Trace) (shape : Shape) (line : KeptLine) (v : Verdict) (stray : Bool) → is_other shape ≡ false → is_call shape ≡ true → (v ≡ Kept → stray ≡ false) → (v ≡ Stray → stray ≡ true) → Tells told (shape ∷ []) (line ∷ []) kept → IsTrace (after_verdict number told kept v) more → Tells told (shape ∷ []) (cond stray [] (line ∷ [])) more
-after_verdict-kept number told kept more shape line Kept stray other call keeps drops new is =
-    subst (λ b. Tells told (shape ∷ []) (cond b [] (line ∷ [])) more) (sym (keeps refl)) (subst (Tells told (shape ∷ []) (line ∷ [])) (same_trace kept more is) new)
-after_verdict-kept number told kept more shape line Stray stray other call keeps drops new is =
-    let none = Tells-none told (shape ∷ []) told.skipped (told.stray + 1) (ap (λ b. told.skipped + (cond b 1 0 + 0)) (sym other)) (ap (λ b. told.stray + (cond b 1 0 + 0)) (sym call)) in
-    subst (λ b. Tells told (shape ∷ []) (cond b [] (line ∷ [])) more) (sym (drops refl)) (subst (Tells told (shape ∷ []) []) (same_trace (record told { stray = told.stray + 1 }) more is) none)
-after_verdict-kept number told kept more shape line (Fault kind) stray other call keeps drops new is = absurd (no_trace (Line number kind) more is)
+after_verdict-kept : (number : ℕ) (told kept more : Trace) (shapes : List Shape) (line : KeptLine) (v : Verdict) (stray : Bool) → (v ≡ Kept → stray ≡ false) → (v ≡ Stray → stray ≡ true) → Tells told shapes [] (record told { stray = told.stray + 1 }) → Tells told shapes (line ∷ []) kept → IsTrace (after_verdict number told kept v) more → Tells told shapes (cond stray [] (line ∷ [])) more
+after_verdict-kept number told kept more shapes line Kept stray keeps drops none new is =
+    subst (λ b. Tells told shapes (cond b [] (line ∷ [])) more) (sym (keeps refl)) (subst (Tells told shapes (line ∷ [])) (same_trace kept more is) new)
+after_verdict-kept number told kept more shapes line Stray stray keeps drops none new is =
+    subst (λ b. Tells told shapes (cond b [] (line ∷ [])) more) (sym (drops refl)) (subst (Tells told shapes []) (same_trace (record told { stray = told.stray + 1 }) more is) none)
+after_verdict-kept number told kept more shapes line (Fault kind) stray keeps drops none new is = absurd (no_trace (Line number kind) more is)
 
 own_event : (b : Bool) (line : KeptLine) → own b line.event ≡ map (λ l. l.event) (cond b (line ∷ []) [])
 own_event true line = refl
@@ -248,9 +247,11 @@ after_shape-kept limits number told more (Call operation thread operand location
     let es = events_of told.lists found.thread in
     let limit = limit_fault limits told operation found in
     let line : KeptLine = record { operation = operation; thread = thread; operand = operand; loc = location; event = event } in
-    after_verdict-kept number told (with_call told operation thread operand location) more (Call operation thread operand location) line (verdict_of (lock_refusal es event) limit) (is_stray es event) refl refl
+    let shapes = Call operation thread operand location ∷ [] in
+    after_verdict-kept number told (with_call told operation thread operand location) more shapes line (verdict_of (lock_refusal es event) limit) (is_stray es event)
     (λ kept. allowed_no_stray es event (kept_verdict (lock_refusal es event) limit kept).0)
     (λ dropped. dropped_stray es event limit dropped)
+    (Tells-none told shapes told.skipped (told.stray + 1) (omega arith) (omega arith))
     (call_told told operation thread operand location each) is
 
 read_from-kept : (limits : Bounds) (ls : List (List ℕ)) (number : ℕ) (told more : Trace) → IsTraceOver limits told → IsTrace (read_from limits number told ls) more → Tells told (map shape_of ls) (kept_from limits number told ls) more
@@ -265,4 +266,4 @@ pub trace_of-kept : TracesTellLines
 unfolding trace_of
 trace_of-kept limits text trace is =
     let all = read_from-kept limits (lines text) 1 nothing trace (nothing_over limits) is in
-    record { threads = all.threads; locks = all.locks; locs = all.locs; numbered = all.numbered; lists = all.lists; skipped = all.skipped; stray = all.stray }
+    record { threads = all.threads; locks = all.locks; locs = all.locs; numbered = all.numbered; lists = all.lists; skipped = omega (arith, all.skipped); stray = omega (arith, all.stray) }
