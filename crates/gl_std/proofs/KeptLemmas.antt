@@ -39,7 +39,7 @@ use Rattle.gl_std.proofs.StepLemmas.{IsTrace, acting, place_of, threads_of, lock
 use Rattle.gl_std.proofs.PlaceLemmas.{events_named, own, events_named-after, events_named-listed}
 
 -- a name that has no number is mentioned for the first time
-with_name-mention : (names : List (List ℕ)) (name : List ℕ) → with_name names (position (bytes_eq name) names) name ≡ mention names name
+pub with_name-mention : (names : List (List ℕ)) (name : List ℕ) → with_name names (position (bytes_eq name) names) name ≡ mention names name
 with_name-mention names name =
     by (nat_lt (position_or_len (bytes_eq name) names) (length names)) ∙ ap (λ b. cond b names (names ++ name ∷ [])) (sym (any_where_placed (bytes_eq name) names))
   where

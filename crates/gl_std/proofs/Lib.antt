@@ -1,5 +1,6 @@
 pub mod CutLemmas
-pub mod GrowthLemmas
+pub mod FaultLemmas
+mod GrowthLemmas
 pub mod HeardLemmas
 pub mod LinesLemmas
 pub mod KeptLemmas

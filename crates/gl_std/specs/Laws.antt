@@ -1,17 +1,23 @@
 -- What holds of the traces of all texts.
-use Rattle.std.specs.Prelude.{◌≡◌, ℕ, ◌+◌, List, [], ◌∷◌, ◌++◌, Some, Result, Ok, Err, Bool, true, false, length, map, filter, fold, position, count_by, slice_get, All, ◌==◌, if◌then◌else◌}
+use Rattle.std.specs.Prelude.{◌≡◌, ◌⊎◌, ℕ, ◌+◌, ◌<◌, ◌≤◌, List, [], ◌∷◌, ◌++◌, Option, Some, None, Result, Ok, Err, Bool, true, false, length, map, filter, fold, position, count_by, slice_get, All, ◌==◌, if◌then◌else◌}
 use Rattle.std.specs.List.{list_any, flat_map}
 use Rattle.std.specs.Str.{bytes_eq}
 use Rattle.gl_event.specs.Events.{depth}
+use Rattle.gl_event.specs.Lawful.{lock_refusal}
+use Rattle.gl_event.specs.declared.events.Refusal.{Refusal}
+use Rattle.gl_event.specs.declared.events.Refusal.TheVariants.{HeldFull as NoRoom, DepthFull as TooDeep, Upgrade as IsUpgrade}
 use Rattle.gl_std.specs.Line.{Shape, shape_of, is_on_thread}
 use Rattle.gl_std.specs.Line.Shape.{Blank, Bad, Other, Call}
 use Rattle.gl_std.specs.declared.faults.ReadFault.{ReadFault}
+use Rattle.gl_std.specs.declared.faults.ReadFault.TheVariants.{Line}
+use Rattle.gl_std.specs.declared.faults.StdKind.{StdKind}
+use Rattle.gl_std.specs.declared.faults.StdKind.TheVariants.{HeldFull, DepthFull, Upgrade, TooManyThreads, TooManyEvents, TooManyNames}
 use Rattle.gl_event.specs.Bounds.{Bounds}
 use Rattle.gl_event.specs.declared.events.Event.{Event}
 use Rattle.gl_event.specs.declared.events.Event.TheVariants.{Acquire, Release, TryAcquire, Fork, Join}
 use Rattle.gl_std.specs.Lines.{LF, lines}
 use Rattle.gl_std.specs.Names.{NameLists}
-use Rattle.gl_std.specs.Trace.{found_in, events_of, event_of, event_told, after_line, and_then, read_from, nothing, trace_of, IsTraceOver}
+use Rattle.gl_std.specs.Trace.{found_in, threads_after, locks_after, events_of, event_of, event_told, after_line, and_then, read_from, nothing, trace_of, IsTraceOver}
 use Rattle.gl_std.specs.declared.line.Operation.{Operation}
 use Rattle.gl_std.specs.declared.trace.Trace.{Trace}
 
@@ -136,3 +142,42 @@ pub record TellsLines (shapes : List Shape) (kept : List KeptLine) (trace : Trac
 -- the trace of a text tells the lines that are kept as events
 abbrev pub TracesTellLines : Type 0
 TracesTellLines = (limits : Bounds) (text : List ℕ) (trace : Trace) → trace_of limits text ≡ Ok trace → TellsLines (map shape_of (lines text)) (kept_from limits 1 nothing (lines text)) trace
+
+-- why the locks that are held after this trace don't allow the event of a call
+abbrev pub refusal_of_call : Trace → Operation → List ℕ → List ℕ → List ℕ → Option Refusal
+refusal_of_call told operation thread operand location =
+    let found = found_in told.names operation thread operand location in
+    lock_refusal (events_of told.lists found.thread) (event_told told.names operation found)
+
+-- what the line says is at fault after this trace: the first reason that fits is one of the line alone, then one of the locks,
+-- then one of the limits, on threads, on events and on names in turn
+pub data IsFaultAfter (limits : Bounds) (told : Trace) : Shape → StdKind → Type 0 where
+  alone : (kind : StdKind) → IsFaultAfter limits told (Bad kind) kind
+  held_full : (operation : Operation) (thread operand location : List ℕ) → refusal_of_call told operation thread operand location ≡ Some NoRoom → IsFaultAfter limits told (Call operation thread operand location) HeldFull
+  too_deep : (operation : Operation) (thread operand location : List ℕ) → refusal_of_call told operation thread operand location ≡ Some TooDeep → IsFaultAfter limits told (Call operation thread operand location) DepthFull
+  upgrade : (operation : Operation) (thread operand location : List ℕ) → refusal_of_call told operation thread operand location ≡ Some IsUpgrade → IsFaultAfter limits told (Call operation thread operand location) Upgrade
+  many_threads : (operation : Operation) (thread operand location : List ℕ) → refusal_of_call told operation thread operand location ≡ None
+      → limits.threads < threads_after told.names operation (found_in told.names operation thread operand location) → IsFaultAfter limits told (Call operation thread operand location) TooManyThreads
+  many_events : (operation : Operation) (thread operand location : List ℕ) → refusal_of_call told operation thread operand location ≡ None
+      → threads_after told.names operation (found_in told.names operation thread operand location) ≤ limits.threads
+      → limits.events ≤ length (events_of told.lists (position (bytes_eq thread) told.names.threads)) → IsFaultAfter limits told (Call operation thread operand location) TooManyEvents
+  many_names : (operation : Operation) (thread operand location : List ℕ) → refusal_of_call told operation thread operand location ≡ None
+      → threads_after told.names operation (found_in told.names operation thread operand location) ≤ limits.threads
+      → length (events_of told.lists (position (bytes_eq thread) told.names.threads)) < limits.events
+      → (limits.names < locks_after told.names operation (found_in told.names operation thread operand location)) ⊎ (limits.names < length (mention told.names.locs location))
+      → IsFaultAfter limits told (Call operation thread operand location) TooManyNames
+
+-- the text's first line at fault is this one: the lines before it have a trace, after which it is at fault
+pub record IsFirstFault (limits : Bounds) (text : List ℕ) (number : ℕ) (kind : StdKind) : Type 0 where
+  pub front : List (List ℕ)
+  pub line : List ℕ
+  pub rest : List (List ℕ)
+  pub parts : lines text ≡ front ++ line ∷ rest
+  pub counted : number ≡ length front + 1
+  pub told : Trace
+  pub before : read_from limits 1 nothing front ≡ Ok told
+  pub because : IsFaultAfter limits told (shape_of line) kind
+
+-- a text that has a fault in place of a trace has it in the first line at fault
+abbrev pub FaultsComeFirst : Type 0
+FaultsComeFirst = (limits : Bounds) (text : List ℕ) (number : ℕ) (kind : StdKind) → trace_of limits text ≡ Err (Line number kind) → IsFirstFault limits text number kind

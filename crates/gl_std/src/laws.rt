@@ -1,5 +1,5 @@
 //! What holds of all texts. Each of these functions does nothing: its contract is a law.
-ghost use Rattle.gl_std.specs.Laws.{ReadingGoesOn, TracesGrow, TracesObeyLimits, TracesTellLines};
+ghost use Rattle.gl_std.specs.Laws.{FaultsComeFirst, ReadingGoesOn, TracesGrow, TracesObeyLimits, TracesTellLines};
 ghost use Rattle.gl_std.specs.Line.{LinesSayOneThing};
 ghost use Rattle.gl_std.specs.Lines.{LinesAreUnique, LinesFollowLines};
 
@@ -38,4 +38,11 @@ pub fn traces_grow()
 /// and each thread's events are those of its lines, in order.
 pub fn traces_tell_lines()
     ensures { TracesTellLines }
+{}
+
+/// The fault of a text is that of its first line at fault: the lines before it have a trace. Of the
+/// reasons that fit a line, those of the line alone come first, then those of the locks that its
+/// thread holds, then the limits.
+pub fn faults_come_first()
+    ensures { FaultsComeFirst }
 {}

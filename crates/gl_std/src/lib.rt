@@ -44,8 +44,8 @@ mod trace;
 pub use faults::{ReadFault, StdKind};
 pub use gl_io::{Failed, FromStd, Sink, Source};
 pub use laws::{
-    lines_are_unique, lines_follow_lines, lines_say_one_thing, reading_goes_on, traces_grow,
-    traces_obey_limits, traces_tell_lines,
+    faults_come_first, lines_are_unique, lines_follow_lines, lines_say_one_thing, reading_goes_on,
+    traces_grow, traces_obey_limits, traces_tell_lines,
 };
 pub use line::MAX_LINE;
 pub use lists::Lists;
