@@ -10,3 +10,4 @@ pub mod PlaceLemmas
 pub mod RowLemmas
 pub mod ShapeLemmas
 pub mod StepLemmas
+pub mod WrittenLemmas

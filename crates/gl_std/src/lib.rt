@@ -40,6 +40,7 @@ mod row;
 mod tests;
 mod text;
 mod trace;
+mod writing;
 
 pub use faults::{ReadFault, StdKind};
 pub use gl_io::{Failed, FromStd, Sink, Source};
@@ -53,3 +54,4 @@ pub use names::Names;
 pub use read::read_trace;
 pub use text::{Heard, read_source};
 pub use trace::Trace;
+pub use writing::write_trace;
