@@ -8,6 +8,8 @@ pub mod NameLemmas
 pub mod PieceLemmas
 pub mod PlaceLemmas
 pub mod RowLemmas
+pub mod SayingLemmas
 pub mod ShapeLemmas
 pub mod StepLemmas
+pub mod ToldLemmas
 pub mod WrittenLemmas
