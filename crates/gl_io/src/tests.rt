@@ -1,5 +1,5 @@
 //! Fake readers and writers, and what reading and writing them gives.
-ghost use Rattle.std.specs.Prelude.{◌<◌, None};
+ghost use Rattle.std.specs.Prelude.{◌<◌, ◌≤◌, IfOk, None};
 
 use crate::{Failed, FromStd, Sink, Source, WriteFault, write_out};
 use std::io::{self, Cursor, ErrorKind};
@@ -14,7 +14,9 @@ struct FailsOnce {
 }
 
 impl FailsOnce {
-    fn call(&mut self, length: usize) -> io::Result<usize> {
+    fn call(&mut self, length: usize) -> io::Result<usize>
+        ensures { IfOk result (λ count. count ≤ length) }
+    {
         self.calls = self.calls.saturating_add(1);
         if self.calls == self.fails_at {
             return Err(io::Error::from(self.kind));

@@ -77,7 +77,7 @@ lists_of-goes_on true lists number None e k es h =
     let later = with_event-goes_on lists number e k es h in
     (later.0, push_goes_on (with_event lists number e) [] k (es ++ later.0) later.1)
 
-Grows-itself : (told : Trace) (skipped stray : ℕ) → Grows told (record { names = told.names; lists = told.lists; skipped = skipped; stray = stray })
+pub Grows-itself : (told : Trace) (skipped stray : ℕ) → Grows told (record { names = told.names; lists = told.lists; skipped = skipped; stray = stray })
 Grows-itself told skipped stray =
     record {
       threads = IsFront-itself told.names.threads;
@@ -86,7 +86,7 @@ Grows-itself told skipped stray =
       lists = λ k es h. GoesOn-same told.lists k es h;
     }
 
-Grows-then : (a b c : Trace) → Grows a b → Grows b c → Grows a c
+pub Grows-then : (a b c : Trace) → Grows a b → Grows b c → Grows a c
 Grows-then a b c one two =
     record {
       threads = IsFront-then a.names.threads b.names.threads c.names.threads one.threads two.threads;
@@ -98,7 +98,7 @@ Grows-then a b c one two =
           (more.0 ++ most.0, most.1 ∙ ap (λ l. Some l) (append_assoc es more.0 most.0));
     }
 
-call_grows : (told : Trace) (operation : Operation) (thread operand location : List ℕ) → Grows told (with_call told operation thread operand location)
+pub call_grows : (told : Trace) (operation : Operation) (thread operand location : List ℕ) → Grows told (with_call told operation thread operand location)
 call_grows told operation thread operand location =
     let found = found_in told.names operation thread operand location in
     let on = is_on_thread operation in

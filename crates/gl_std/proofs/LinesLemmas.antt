@@ -144,14 +144,14 @@ without_cr-none (b ∷ c ∷ line) none =
     let later : without_cr (c ∷ line) ≡ c ∷ line = without_cr-none (c ∷ line) (λ ends. none (b ∷ ends.0, ap (λ xs. b ∷ xs) ends.1)) in
     elim (eqb b CR) as (λ v. cond (v && false) [] (b ∷ without_cr (c ∷ line)) ≡ b ∷ c ∷ line) [ true ↦ ap (λ xs. b ∷ xs) later | false ↦ ap (λ xs. b ∷ xs) later ]
 
-without_cr-append : (line : List ℕ) → without_cr (line ++ CR ∷ []) ≡ line
+pub without_cr-append : (line : List ℕ) → without_cr (line ++ CR ∷ []) ≡ line
 without_cr-append [] = refl
 without_cr-append (b ∷ []) = elim (eqb b CR) as (λ v. cond (v && false) [] (b ∷ []) ≡ b ∷ []) [ true ↦ refl | false ↦ refl ]
 without_cr-append (b ∷ c ∷ line) =
     let later : without_cr (c ∷ (line ++ CR ∷ [])) ≡ c ∷ line = without_cr-append (c ∷ line) in
     elim (eqb b CR) as (λ v. cond (v && false) [] (b ∷ without_cr (c ∷ (line ++ CR ∷ []))) ≡ b ∷ c ∷ line) [ true ↦ ap (λ xs. b ∷ xs) later | false ↦ ap (λ xs. b ∷ xs) later ]
 
-holds_lf-cr : (line : List ℕ) → holds_lf line ≡ false → holds_lf (line ++ CR ∷ []) ≡ false
+pub holds_lf-cr : (line : List ℕ) → holds_lf line ≡ false → holds_lf (line ++ CR ∷ []) ≡ false
 holds_lf-cr [] h = refl
 holds_lf-cr (b ∷ line) h = both_false (eqb b LF) (holds_lf (line ++ CR ∷ [])) (or_left (eqb b LF) (holds_lf line) h) (holds_lf-cr line (or_right (eqb b LF) (holds_lf line) h))
 

@@ -19,7 +19,7 @@ use Rattle.std.specs.Str.{bytes_eq}
 use Rattle.std.proofs.lemmas.Slice.Eq.{bytes_eq-Decides}
 use Rattle.gl_std.proofs.CutLemmas.{holds, cut_at-Some, cut_at-None}
 
-holds-none : (byte : ℕ) (text : List ℕ) → ¬ Contains text byte → holds byte text ≡ false
+pub holds-none : (byte : ℕ) (text : List ℕ) → ¬ Contains text byte → holds byte text ≡ false
 holds-none byte text none = by (holds byte text) refl
   where
     by : (v : Bool) → holds byte text ≡ v → v ≡ false
@@ -29,7 +29,7 @@ holds-none byte text none = by (holds byte text) refl
         absurd (none (at.0, at.2, get_or_default text at.0 byte at.1 at.2 ∙ at.3 ∙ is))
     by false e = refl
 
-free_of : (byte : ℕ) (text : List ℕ) → holds byte text ≡ false → ¬ Contains text byte
+pub free_of : (byte : ℕ) (text : List ℕ) → holds byte text ≡ false → ¬ Contains text byte
 free_of byte text h has = false≢true (sym h ∙ list_any_at (λ b. eqb b byte) text has.0 byte has.1 (eq-eqb (get_or text has.0 byte) byte has.2))
 
 -- a text without the byte isn't cut

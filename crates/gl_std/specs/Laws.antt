@@ -1,17 +1,24 @@
 -- What holds of the traces of all texts.
-use Rattle.std.specs.Prelude.{◌≡◌, ℕ, ◌+◌, List, [], ◌∷◌, ◌++◌, Some, Result, Ok, Err, length, map, filter, fold, position, slice_get, if◌then◌else◌}
+use Rattle.std.specs.Prelude.{◌≡◌, ◌⊎◌, ℕ, ◌+◌, ◌<◌, ◌≤◌, List, [], ◌∷◌, ◌++◌, Option, Some, None, Result, Ok, Err, Bool, true, false, length, map, filter, fold, position, count_by, slice_get, All, ◌==◌, if◌then◌else◌}
 use Rattle.std.specs.List.{list_any, flat_map}
 use Rattle.std.specs.Str.{bytes_eq}
+use Rattle.gl_event.specs.Events.{depth}
 use Rattle.gl_event.specs.Lawful.{lock_refusal}
+use Rattle.gl_event.specs.declared.events.Refusal.{Refusal}
+use Rattle.gl_event.specs.declared.events.Refusal.TheVariants.{HeldFull as NoRoom, DepthFull as TooDeep, Upgrade as IsUpgrade}
 use Rattle.gl_std.specs.Line.{Shape, shape_of, is_on_thread}
 use Rattle.gl_std.specs.Line.Shape.{Blank, Bad, Other, Call}
 use Rattle.gl_std.specs.declared.faults.ReadFault.{ReadFault}
-use Rattle.gl_std.specs.declared.row.Verdict.{Verdict}
-use Rattle.gl_std.specs.declared.row.Verdict.TheVariants.{Kept, Stray, Fault}
+use Rattle.gl_std.specs.declared.faults.ReadFault.TheVariants.{Line}
+use Rattle.gl_std.specs.declared.faults.StdKind.{StdKind}
+use Rattle.gl_std.specs.declared.faults.StdKind.TheVariants.{HeldFull, DepthFull, Upgrade, TooManyThreads, TooManyEvents, TooManyNames}
 use Rattle.gl_event.specs.Bounds.{Bounds}
 use Rattle.gl_event.specs.declared.events.Event.{Event}
+use Rattle.gl_event.specs.declared.events.Event.TheVariants.{Acquire, Release, TryAcquire, Fork, Join}
 use Rattle.gl_std.specs.Lines.{LF, lines}
-use Rattle.gl_std.specs.Trace.{found_in, events_of, event_told, limit_fault, verdict_of, after_line, and_then, read_from, nothing, trace_of, IsTraceOver}
+use Rattle.gl_std.specs.Names.{NameLists}
+use Rattle.gl_std.specs.Trace.{found_in, threads_after, locks_after, events_of, event_of, event_told, after_line, and_then, read_from, nothing, trace_of, IsTraceOver}
+use Rattle.gl_std.specs.declared.line.Operation.{Operation}
 use Rattle.gl_std.specs.declared.trace.Trace.{Trace}
 
 -- a text's trace obeys the limits: its lists are lawful, and whatever they speak of has one name
@@ -38,40 +45,68 @@ pub record Grows (old new : Trace) : Type 0 where
 abbrev pub TracesGrow : Type 0
 TracesGrow = (limits : Bounds) (front rest : List ℕ) (old new : Trace) → trace_of limits (front ++ LF ∷ []) ≡ Ok old → trace_of limits (front ++ LF ∷ rest) ≡ Ok new → Grows old new
 
--- a line that is kept as an event: its names, and the event by their numbers
+-- a line that is kept as an event: what it says, and the event
 pub record KeptLine : Type 0 where
+  pub operation : Operation
   -- the acting thread
   pub thread : List ℕ
-  -- the threads that the line names: the acting one, and then one that it forks or joins
-  pub threads : List (List ℕ)
-  -- the lock that the line names, if it does
-  pub locks : List (List ℕ)
+  -- the lock, or the thread that is forked or joined
+  pub operand : List ℕ
   pub loc : List ℕ
   pub event : Event
 
--- the line, if its event is kept
-abbrev pub if_kept : Verdict → KeptLine → List KeptLine
-if_kept Kept line = line ∷ []
-if_kept Stray line = []
-if_kept (Fault kind) line = []
+-- the threads that the line names: the acting one, and then one that it forks or joins
+abbrev pub threads_in : KeptLine → List (List ℕ)
+threads_in line = line.thread ∷ (if is_on_thread line.operation then line.operand ∷ [] else [])
 
--- the line that says this, if it is kept as an event
-abbrev pub kept_in : Bounds → Trace → Shape → List KeptLine
-kept_in limits told Blank = []
-kept_in limits told (Bad kind) = []
-kept_in limits told Other = []
-kept_in limits told (Call operation thread operand location) =
+-- the lock that the line names, if it does
+abbrev pub locks_in : KeptLine → List (List ℕ)
+locks_in line = if is_on_thread line.operation then [] else line.operand ∷ []
+
+-- the names of threads or of locks, whichever the operation is on
+abbrev pub operands : Operation → NameLists → List (List ℕ)
+operands operation names = if is_on_thread operation then names.threads else names.locks
+
+-- the line's event is its operation, by the numbers at which its names stand
+pub record IsNumbered (names : NameLists) (line : KeptLine) : Type 0 where
+  pub operand_number : ℕ
+  pub loc_number : ℕ
+  pub operand_at : slice_get (operands line.operation names) operand_number ≡ Some line.operand
+  pub loc_at : slice_get names.locs loc_number ≡ Some line.loc
+  pub event_is : line.event ≡ event_of line.operation operand_number loc_number
+
+-- the event releases a lock that its thread, with these events so far, doesn't hold
+abbrev pub is_stray : List Event → Event → Bool
+is_stray es (Acquire lock mode loc) = false
+is_stray es (Release lock mode loc) = depth es lock == 0
+is_stray es (TryAcquire lock mode loc) = false
+is_stray es (Fork thread loc) = false
+is_stray es (Join thread loc) = false
+
+-- the line that says this, where it is kept as an event: where it tells one, and that isn't a stray
+abbrev pub kept_in : Trace → Shape → List KeptLine
+kept_in told Blank = []
+kept_in told (Bad kind) = []
+kept_in told Other = []
+kept_in told (Call operation thread operand location) =
     let found = found_in told.names operation thread operand location in
     let event = event_told told.names operation found in
-    if_kept
-    (verdict_of (lock_refusal (events_of told.lists found.thread) event) (limit_fault limits told operation found))
-    (record {
-      thread = thread;
-      threads = thread ∷ (if is_on_thread operation then operand ∷ [] else []);
-      locks = if is_on_thread operation then [] else operand ∷ [];
-      loc = location;
-      event = event;
-    })
+    if is_stray (events_of told.lists found.thread) event then []
+    else record { operation = operation; thread = thread; operand = operand; loc = location; event = event } ∷ []
+
+-- the line tells of an operation that isn't watched
+abbrev pub is_other : Shape → Bool
+is_other Blank = false
+is_other (Bad kind) = false
+is_other Other = true
+is_other (Call operation thread operand location) = false
+
+-- the line tells an event, kept or stray
+abbrev pub is_call : Shape → Bool
+is_call Blank = false
+is_call (Bad kind) = false
+is_call Other = false
+is_call (Call operation thread operand location) = true
 
 -- what follows from a trace, or nothing after a fault
 abbrev pub if_told : Result Trace ReadFault → (Trace → List KeptLine) → List KeptLine
@@ -82,7 +117,7 @@ if_told (Err fault) next = []
 abbrev pub kept_from : Bounds → ℕ → Trace → List (List ℕ) → List KeptLine
 kept_from limits number told [] = []
 kept_from limits number told (line ∷ rest) =
-    kept_in limits told (shape_of line) ++ if_told (after_line limits number told line) (λ more. kept_from limits (number + 1) more rest)
+    kept_in told (shape_of line) ++ if_told (after_line limits number told line) (λ more. kept_from limits (number + 1) more rest)
 
 -- the names, with this one at the end if it isn't among them
 abbrev pub mention : List (List ℕ) → List ℕ → List (List ℕ)
@@ -92,13 +127,57 @@ mention seen name = if list_any (bytes_eq name) seen then seen else seen ++ name
 abbrev pub first_mentions : List (List ℕ) → List (List ℕ)
 first_mentions names = fold mention [] names
 
--- the trace tells these lines: names have numbers by first mention, and each thread's events are those of its lines, in order
-pub record TellsLines (kept : List KeptLine) (trace : Trace) : Type 0 where
-  pub threads : trace.names.threads ≡ first_mentions (flat_map (λ line. line.threads) kept)
-  pub locks : trace.names.locks ≡ first_mentions (flat_map (λ line. line.locks) kept)
+-- the trace tells these lines, which say this, and of which these are kept: names have numbers by first mention, each event
+-- has the numbers of its line's names, and each thread's events are those of its lines, in order; the lines with other
+-- operations are counted, and so are the events that aren't kept
+pub record TellsLines (shapes : List Shape) (kept : List KeptLine) (trace : Trace) : Type 0 where
+  pub threads : trace.names.threads ≡ first_mentions (flat_map threads_in kept)
+  pub locks : trace.names.locks ≡ first_mentions (flat_map locks_in kept)
   pub locs : trace.names.locs ≡ first_mentions (map (λ line. line.loc) kept)
+  pub numbered : All (IsNumbered trace.names) kept
   pub lists : (thread : List ℕ) → events_of trace.lists (position (bytes_eq thread) trace.names.threads) ≡ map (λ line. line.event) (filter (λ line. bytes_eq thread line.thread) kept)
+  pub skipped : trace.skipped ≡ count_by is_other shapes
+  pub stray : length kept + trace.stray ≡ count_by is_call shapes
 
 -- the trace of a text tells the lines that are kept as events
 abbrev pub TracesTellLines : Type 0
-TracesTellLines = (limits : Bounds) (text : List ℕ) (trace : Trace) → trace_of limits text ≡ Ok trace → TellsLines (kept_from limits 1 nothing (lines text)) trace
+TracesTellLines = (limits : Bounds) (text : List ℕ) (trace : Trace) → trace_of limits text ≡ Ok trace → TellsLines (map shape_of (lines text)) (kept_from limits 1 nothing (lines text)) trace
+
+-- why the locks that are held after this trace don't allow the event of a call
+abbrev pub refusal_of_call : Trace → Operation → List ℕ → List ℕ → List ℕ → Option Refusal
+refusal_of_call told operation thread operand location =
+    let found = found_in told.names operation thread operand location in
+    lock_refusal (events_of told.lists found.thread) (event_told told.names operation found)
+
+-- what the line says is at fault after this trace: the first reason that fits is one of the line alone, then one of the locks,
+-- then one of the limits, on threads, on events and on names in turn
+pub data IsFaultAfter (limits : Bounds) (told : Trace) : Shape → StdKind → Type 0 where
+  alone : (kind : StdKind) → IsFaultAfter limits told (Bad kind) kind
+  held_full : (operation : Operation) (thread operand location : List ℕ) → refusal_of_call told operation thread operand location ≡ Some NoRoom → IsFaultAfter limits told (Call operation thread operand location) HeldFull
+  too_deep : (operation : Operation) (thread operand location : List ℕ) → refusal_of_call told operation thread operand location ≡ Some TooDeep → IsFaultAfter limits told (Call operation thread operand location) DepthFull
+  upgrade : (operation : Operation) (thread operand location : List ℕ) → refusal_of_call told operation thread operand location ≡ Some IsUpgrade → IsFaultAfter limits told (Call operation thread operand location) Upgrade
+  many_threads : (operation : Operation) (thread operand location : List ℕ) → refusal_of_call told operation thread operand location ≡ None
+      → limits.threads < threads_after told.names operation (found_in told.names operation thread operand location) → IsFaultAfter limits told (Call operation thread operand location) TooManyThreads
+  many_events : (operation : Operation) (thread operand location : List ℕ) → refusal_of_call told operation thread operand location ≡ None
+      → threads_after told.names operation (found_in told.names operation thread operand location) ≤ limits.threads
+      → limits.events ≤ length (events_of told.lists (position (bytes_eq thread) told.names.threads)) → IsFaultAfter limits told (Call operation thread operand location) TooManyEvents
+  many_names : (operation : Operation) (thread operand location : List ℕ) → refusal_of_call told operation thread operand location ≡ None
+      → threads_after told.names operation (found_in told.names operation thread operand location) ≤ limits.threads
+      → length (events_of told.lists (position (bytes_eq thread) told.names.threads)) < limits.events
+      → (limits.names < locks_after told.names operation (found_in told.names operation thread operand location)) ⊎ (limits.names < length (mention told.names.locs location))
+      → IsFaultAfter limits told (Call operation thread operand location) TooManyNames
+
+-- the text's first line at fault is this one: the lines before it have a trace, after which it is at fault
+pub record IsFirstFault (limits : Bounds) (text : List ℕ) (number : ℕ) (kind : StdKind) : Type 0 where
+  pub front : List (List ℕ)
+  pub line : List ℕ
+  pub rest : List (List ℕ)
+  pub parts : lines text ≡ front ++ line ∷ rest
+  pub counted : number ≡ length front + 1
+  pub told : Trace
+  pub before : read_from limits 1 nothing front ≡ Ok told
+  pub because : IsFaultAfter limits told (shape_of line) kind
+
+-- a text that has a fault in place of a trace has it in the first line at fault
+abbrev pub FaultsComeFirst : Type 0
+FaultsComeFirst = (limits : Bounds) (text : List ℕ) (number : ℕ) (kind : StdKind) → trace_of limits text ≡ Err (Line number kind) → IsFirstFault limits text number kind

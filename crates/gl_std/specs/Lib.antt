@@ -7,3 +7,4 @@ pub mod Names
 pub mod Pieces
 pub mod Reading
 pub mod Trace
+pub mod Written

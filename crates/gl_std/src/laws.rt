@@ -1,7 +1,8 @@
 //! What holds of all texts. Each of these functions does nothing: its contract is a law.
-ghost use Rattle.gl_std.specs.Laws.{ReadingGoesOn, TracesGrow, TracesObeyLimits, TracesTellLines};
+ghost use Rattle.gl_std.specs.Laws.{FaultsComeFirst, ReadingGoesOn, TracesGrow, TracesObeyLimits, TracesTellLines};
 ghost use Rattle.gl_std.specs.Line.{LinesSayOneThing};
 ghost use Rattle.gl_std.specs.Lines.{LinesAreUnique, LinesFollowLines};
+ghost use Rattle.gl_std.specs.Written.{WrittenLinesSayEvents, WrittenTextsSayTraces};
 
 /// A text has one list of lines.
 pub fn lines_are_unique()
@@ -38,4 +39,23 @@ pub fn traces_grow()
 /// and each thread's events are those of its lines, in order.
 pub fn traces_tell_lines()
     ensures { TracesTellLines }
+{}
+
+/// The fault of a text is that of its first line at fault: the lines before it have a trace. Of the
+/// reasons that fit a line, those of the line alone come first, then those of the locks that its
+/// thread holds, then the limits.
+pub fn faults_come_first()
+    ensures { FaultsComeFirst }
+{}
+
+/// What is written of an event is one line, and read again that line says the same operation of the
+/// same thread, operand and location, where a line can tell these names.
+pub fn written_lines_say_events()
+    ensures { WrittenLinesSayEvents }
+{}
+
+/// What is written of a trace that was read is lines that say, thread by thread, the events of its
+/// lists: the same operations, in the same order, of the same threads, operands and locations.
+pub fn written_texts_say_traces()
+    ensures { WrittenTextsSayTraces }
 {}

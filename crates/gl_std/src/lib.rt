@@ -10,19 +10,29 @@
 //! ```
 //!
 //! [`read_trace`] gives each thread's events as a list, with threads, locks and locations as numbers
-//! in order of first mention, and the [`Names`] that the numbers stand for. `acq` and `rel` of a lock
-//! are events, and so are `fork` and `join` of another thread, which gets a number and a list of its
-//! own. A line with another operation is skipped and counted, and so is a release of a lock that its
+//! in order of first mention, and the [`Names`] that the numbers stand for. These operations are
+//! events:
+//!
+//! | Word | Event |
+//! |---|---|
+//! | `acq`, `racq` | the thread acquires a lock, exclusively or shared with other readers |
+//! | `tryacq`, `tryracq` | it acquires one by an attempt that could not have waited for ever |
+//! | `rel`, `rrel` | it releases a lock once; either word does, in whichever mode the lock is held |
+//! | `fork`, `join` | it starts or has waited for another thread, which gets a number and a list |
+//!
+//! A line with another operation is skipped and counted, and so is a release of a lock that its
 //! thread doesn't hold. The first line that is at fault decides the text: [`ReadFault::Line`] has its
 //! number and what is wrong with it.
 //!
 //! [`read_source`] reads the text of a [`Source`] as it comes, piece by piece, and doesn't keep it.
+//! [`write_trace`] writes a trace as such a text, thread by thread.
 //!
 //! The definitions go from bytes to lines (`specs/Lines`), from a line alone to what it says
 //! (`specs/Line`), and from lines to the trace (`specs/Trace`), one step a line; `specs/Heard` says
-//! what was read of a source. Above them stand
+//! what was read of a source, and `specs/Written` what is written of a trace. Above them stand
 //! the laws (`specs/Laws`): a text has one list of lines, a line says one thing, a text is read
-//! piece by piece, and its trace tells the kept lines and obeys the limits.
+//! piece by piece, its trace tells the kept lines and obeys the limits, the first fault in the order
+//! of the reasons decides, and a line that is written says its event.
 #![tactic(auto)]
 
 mod faults;
@@ -40,12 +50,14 @@ mod row;
 mod tests;
 mod text;
 mod trace;
+mod writing;
 
 pub use faults::{ReadFault, StdKind};
 pub use gl_io::{Failed, FromStd, Sink, Source};
 pub use laws::{
-    lines_are_unique, lines_follow_lines, lines_say_one_thing, reading_goes_on, traces_grow,
-    traces_obey_limits, traces_tell_lines,
+    faults_come_first, lines_are_unique, lines_follow_lines, lines_say_one_thing, reading_goes_on,
+    traces_grow, traces_obey_limits, traces_tell_lines, written_lines_say_events,
+    written_texts_say_traces,
 };
 pub use line::MAX_LINE;
 pub use lists::Lists;
@@ -53,3 +65,4 @@ pub use names::Names;
 pub use read::read_trace;
 pub use text::{Heard, read_source};
 pub use trace::Trace;
+pub use writing::write_trace;

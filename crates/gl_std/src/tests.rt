@@ -1,6 +1,8 @@
 ghost use Rattle.std.specs.Prelude.{◌≡◌, false, None};
 
-use crate::{Failed, Lists, ReadFault, Source, StdKind, Trace, read_source, read_trace};
+use crate::{
+    Failed, Lists, ReadFault, Source, StdKind, Trace, read_source, read_trace, write_trace,
+};
 use gl_event::{Event, Limits, LocId, LockId, LockMode, ThreadId};
 use std::alloc::Global;
 use std::process::Abort;
@@ -444,5 +446,21 @@ fn reading_goes_on_after_a_fault(rt: HostRuntime) -> Result<(), Fail> {
     };
     assert_eq!(rt; heard.trace.err(), Some(fault));
     assert!(rt; input.rest.is_empty());
+    Ok(())
+}
+
+// What is written of the text's trace.
+fn replayed(alloc: Global, text: &[u8]) -> Result<Vec<u8>, Fail> {
+    let trace = read_trace(alloc, text, &greatest()?)?;
+    Ok(write_trace(alloc, &trace)?)
+}
+
+#[test]
+fn replayed_lists(rt: HostRuntime) -> Result<(), Fail> {
+    let text = b"T1|acq(b)|5\nT0|acq(a)|1\nT1|rel(b)|6\nT1|r(x)|9\n";
+    let lists = b"T1|acq(b)|5\nT1|rel(b)|6\nT0|acq(a)|1\n";
+    assert_eq!(rt; replayed(rt.alloc(), text)?.as_slice(), lists.as_slice());
+    let ends_with_cr = replayed(rt.alloc(), b"T0|acq(a)|x\r")?;
+    assert_eq!(rt; ends_with_cr.as_slice(), b"T0|acq(a)|x\r\r\n".as_slice());
     Ok(())
 }

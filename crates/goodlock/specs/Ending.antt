@@ -1,7 +1,8 @@
 -- How a prediction ends: what was read, what was written, and what is answered.
-use Rattle.std.specs.Prelude.{◌≡◌, ◌≢◌, ◌⊎◌, ℕ, ◌<◌, ◌≤◌, Bool, true, false, List, Option, Err, IfSome, length, take}
-use Rattle.std.specs.Io.KnownBytes.{Appends, Consumes, Keeps}
+use Rattle.std.specs.Prelude.{◌≡◌, ◌≢◌, ℕ, ◌<◌, Bool, true, false, List, Option, Err, length, take}
+use Rattle.std.specs.Io.KnownBytes.{Appends, Keeps}
 use Rattle.gl_event.specs.Bounds.{greatest}
+use Rattle.gl_io.specs.Reads.{HasRead}
 use Rattle.gl_std.specs.Lines.{ended_lines}
 use Rattle.gl_std.specs.Trace.{trace_of}
 use Rattle.gl_std.specs.declared.faults.StdKind.{StdKind}
@@ -12,13 +13,6 @@ use Rattle.goodlock.specs.Answer.Answer.{Report, Refusal}
 use Rattle.goodlock.specs.Lines.{fault_line}
 use Rattle.goodlock.specs.declared.ended.Ended.{Ended}
 use Rattle.goodlock.specs.declared.ended.Ended.TheVariants.{Clean, Cycles, Refused, Memory, ReadFailed, WriteFailed}
-
--- what the reads gave: these bytes, which are all where the input was read whole. It wasn't only where
--- the reader failed or each of the turns gave a byte
-pub record HasRead (turns : ℕ) (old new : Option (List ℕ)) (failed : Bool) (text : List ℕ) (whole : Bool) : Type 0 where
-  pub bytes : Consumes old new text
-  pub all : whole ≡ true → IfSome old (λ everything. text ≡ everything)
-  pub cut : whole ≡ false → (failed ≡ true) ⊎ (turns ≤ length text)
 
 -- the report was written whole, and nothing else
 pub record HasWritten (asked : Asked) (text : List ℕ) (lists_cycle : Bool) (old new : Option (List ℕ)) : Type 0 where
@@ -51,27 +45,28 @@ abbrev pub IsRefusalOf : Asked → List ℕ → Bool → List ℕ → Type 0
 IsRefusalOf asked text true line = IsAnswer asked text (Refusal line)
 IsRefusalOf asked text false line = IsFaultBefore text line
 
--- how it ended, where this text was read, whole or not, and the writer held the old bytes before and the new ones after
+-- how it ended, where this text was read, whole or not, and the writer held the old bytes before and the new ones after. The
+-- writer has failed only where it is answered
 abbrev pub EndsAs : Asked → List ℕ → Bool → Option (List ℕ) → Option (List ℕ) → Bool → Ended → Type 0
-EndsAs asked text whole old new failed Clean = (whole ≡ true) × HasWritten asked text false old new
-EndsAs asked text whole old new failed Cycles = (whole ≡ true) × HasWritten asked text true old new
-EndsAs asked text whole old new failed (Refused line) = Keeps old new × IsRefusalOf asked text whole line.items
-EndsAs asked text whole old new failed ReadFailed = Keeps old new × (whole ≡ false) × HasNoFault text
+EndsAs asked text whole old new failed Clean = (whole ≡ true) × HasWritten asked text false old new × (failed ≡ false)
+EndsAs asked text whole old new failed Cycles = (whole ≡ true) × HasWritten asked text true old new × (failed ≡ false)
+EndsAs asked text whole old new failed (Refused line) = Keeps old new × IsRefusalOf asked text whole line.items × (failed ≡ false)
+EndsAs asked text whole old new failed ReadFailed = Keeps old new × (whole ≡ false) × HasNoFault text × (failed ≡ false)
 EndsAs asked text whole old new failed (WriteFailed count) = (whole ≡ true) × HasWrittenFront asked text count old new failed
-EndsAs asked text whole old new failed Memory = Keeps old new
+EndsAs asked text whole old new failed Memory = Keeps old new × (failed ≡ false)
 
 -- a prediction of what is asked, in at most so many turns: the reader had the bytes `old` left and then `new`, the writer held
 -- `before` and then `after`; each may have failed
 pub data HasPredicted (asked : Asked) (turns : ℕ) (old new : Option (List ℕ)) (read_failed : Bool) (before after : Option (List ℕ)) (write_failed : Bool) : Ended → Type 0 where
   -- memory for the text was refused while it was read
-  out_of_memory : Keeps before after → HasPredicted asked turns old new read_failed before after write_failed Memory
+  out_of_memory : Keeps before after → write_failed ≡ false → HasPredicted asked turns old new read_failed before after write_failed Memory
   -- a text was read, whole or not
   ended_so : (text : List ℕ) (whole : Bool) (ended : Ended) → HasRead turns old new read_failed text whole → EndsAs asked text whole before after write_failed ended
       → HasPredicted asked turns old new read_failed before after write_failed ended
 
 -- what became of this report
 abbrev pub HasWrittenReport : List ℕ → Bool → Option (List ℕ) → Option (List ℕ) → Bool → Ended → Type 0
-HasWrittenReport printed lists_cycle old new failed Clean = (lists_cycle ≡ false) × Appends old new printed
-HasWrittenReport printed lists_cycle old new failed Cycles = (lists_cycle ≡ true) × Appends old new printed
+HasWrittenReport printed lists_cycle old new failed Clean = (lists_cycle ≡ false) × Appends old new printed × (failed ≡ false)
+HasWrittenReport printed lists_cycle old new failed Cycles = (lists_cycle ≡ true) × Appends old new printed × (failed ≡ false)
 HasWrittenReport printed lists_cycle old new failed (WriteFailed count) = Appends old new (take count printed) × (count < length printed) × (failed ≡ true)
 HasWrittenReport printed lists_cycle old new failed other = ⊥

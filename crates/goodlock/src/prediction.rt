@@ -1,5 +1,5 @@
 //! Predicting over a reader and a writer.
-ghost use Rattle.std.specs.Prelude.{◌≡◌, ◌≤◌, ◌^◌, ℕ, Bool, true, false, List, Option, IfOk};
+ghost use Rattle.std.specs.Prelude.{◌≡◌, ◌≤◌, ◌^◌, ℕ, true, false, List, Option, IfOk};
 ghost use Rattle.gl_event.specs.Bounds.{greatest};
 ghost use Rattle.gl_std.specs.Lines.{ended_lines};
 ghost use Rattle.gl_std.specs.Trace.{trace_of, IsTraceOver};
@@ -16,7 +16,7 @@ use std::alloc::Global;
 // How a prediction ends over a text that wasn't read whole, with this trace or first fault of the
 // lines that LF has ended.
 fn end_early(alloc: Global, read: Result<Trace, ReadFault>) -> Ended
-    ensures { (asked : Asked) (text : List ℕ) (held : Option (List ℕ)) (failed : Bool) → trace_of greatest (ended_lines text) ≡ read → EndsAs asked text false held held failed result }
+    ensures { (asked : Asked) (text : List ℕ) (held : Option (List ℕ)) → trace_of greatest (ended_lines text) ≡ read → EndsAs asked text false held held false result }
 {
     match judge(alloc, read) {
         Ok(()) => Ended::ReadFailed,

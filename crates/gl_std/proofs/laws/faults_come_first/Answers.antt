@@ -1,0 +1,5 @@
+use Rattle.gl_std.proofs.FaultLemmas.{trace_of-fault}
+use Rattle.gl_std.proofs.laws.faults_come_first.Goals as goal
+
+pub returns : goal.returns
+returns c = trace_of-fault
