@@ -1,5 +1,5 @@
 -- A note has no refusal exactly where it is its thread's next one.
-use Rattle.std.proofs.Common.{◌≡◌, ◌≢◌, ◌⊎◌, ℕ, ◌<◌, ◌≤◌, Bool, true, false, cond, eqb, leb, List, length, get_or, Option, Some, None, refl, ap, ◌∙◌, inl, inr}
+use Rattle.std.proofs.Common.{◌≡◌, ◌≢◌, ◌⊎◌, ℕ, ◌<◌, ◌≤◌, Bool, true, false, cond, eqb, leb, List, length, get_or, Option, Some, None, refl, sym, ap, ◌∙◌, inl, inr}
 use Rattle.std.proofs.lemmas.Bool.{eqb-true, eq-eqb, le-leb, lt-leb, leb-false}
 use Rattle.std.specs.Option.{option_map}
 use Rattle.gl_event.specs.Bounds.{Bounds}
@@ -10,7 +10,7 @@ use Rattle.gl_event.specs.declared.notes.Note.{Note}
 use Rattle.gl_event.specs.declared.notes.Body.{Body}
 use Rattle.gl_event.specs.declared.notes.Body.TheVariants.{Happened, Ended}
 use Rattle.gl_recorder.specs.Taking.{Tracks}
-use Rattle.gl_intake.specs.Stream.{events_of, has_ended, FitsAfter, IsNext, body_refusal, refusal_after, note_refusal}
+use Rattle.gl_intake.specs.Stream.{events_of, has_ended, FitsAfter, IsNext, IsRefusedFor, body_refusal, refusal_after, note_refusal}
 use Rattle.gl_intake.specs.Rows.{AreRows}
 use Rattle.gl_intake.specs.declared.intake.Row.{Row}
 use Rattle.gl_intake.specs.declared.notes.Refused.{Refused}
@@ -106,3 +106,8 @@ never_for_memory limits stream note why h is =
       | inl e ↦ absurd (cc)
       | inr known ↦ known_never limits (events_of note.thread stream) (has_ended note.thread stream) note known
     ]
+
+-- a note that may come next, and isn't refused for want of memory, isn't refused
+pub never_refused : (limits : Bounds) (stream : List Note) (note : Note) (why : Refused) → note_refusal limits stream note ≡ None → why ≢ Memory → IsRefusedFor limits stream note why → ⊥
+never_refused limits stream note why none enough (inl refused) = let both : None ≡ Some why = sym none ∙ refused in absurd (cc)
+never_refused limits stream note why none enough (inr short) = enough short.1

@@ -129,7 +129,9 @@ fn ten_thousand_events(rt: HostRuntime) -> Result<(), Fail> {
         Ok(Accepted::Ended { count: 0 })
     );
     assert_eq!(rt; intake.stream().len(), 10_001);
-    assert_eq!(rt; intake.log(ThreadId::new(1)).len(), 10_000);
+    let logs = intake.logs();
+    assert_eq!(rt; logs.len(), 2);
+    assert_eq!(rt; logs.last().map(|log| log.len()), Some(10_000));
     assert_eq!(rt;
         intake.ready(&happened(1, 10_000, acquire(0))),
         Err(Refused::Unlawful(Refusal::PlaceFull))
