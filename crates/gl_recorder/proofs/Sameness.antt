@@ -1,8 +1,8 @@
 -- All lists of events that a recorder could have taken refuse the same events next.
-use Rattle.std.proofs.Common.{◌≡◌, ℕ, ◌<◌, ◌≤◌, List, length, get_or, None, refl, sym, ap, ◌∙◌, arith, inl, inr}
-use Rattle.std.proofs.lemmas.Bool.{leb-false, cases_lt}
+use Rattle.std.proofs.Common.{◌≡◌, ℕ, ◌<◌, List, length, None, refl, sym, ◌∙◌, arith, inl, inr}
+use Rattle.std.proofs.lemmas.Bool.{cases_lt}
 use Rattle.gl_event.specs.Bounds.{Bounds}
-use Rattle.gl_event.specs.Events.{depth, entry_of, partner}
+use Rattle.gl_event.specs.Events.{depth, entry_of}
 use Rattle.gl_event.specs.Lawful.{lock_refusal, acquire_refusal, refusal}
 use Rattle.gl_event.specs.Standing.{StandsFor}
 use Rattle.gl_event.specs.declared.events.Event.{Event}

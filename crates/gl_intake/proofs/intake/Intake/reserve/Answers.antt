@@ -1,7 +1,5 @@
-use Rattle.std.proofs.Common.{◌<◌, ◌≤◌, get_or, set, length, subst, sym, arith}
-use Rattle.std.specs.Prelude.{OnOk}
+use Rattle.std.proofs.Common.{◌<◌, length, subst, sym, arith}
 use Rattle.gl_intake.specs.Stream.{Collected}
-use Rattle.gl_intake.specs.Rows.{spares}
 use Rattle.gl_intake.proofs.Kept.{kept_room}
 use Rattle.gl_intake.proofs.Room.{ok_both, room_made}
 use Rattle.gl_intake.proofs.intake.Intake.reserve.Goals as goal
