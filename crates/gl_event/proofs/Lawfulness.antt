@@ -1,15 +1,18 @@
 -- Lawful lists grow event by event, and never release a lock more often than they acquire it.
-use Rattle.std.proofs.Common.{◌≡◌, ℕ, zero, suc, ◌+◌, ◌-◌, ◌<◌, ◌≤◌, Bool, true, false, cond, eqb, List, [], ◌∷◌, ◌++◌, length, take, count_by, Some, None, refl, sym, ap, ◌∙◌, arith, ◌⊎◌, inl, inr}
+use Rattle.std.proofs.Common.{◌≡◌, ℕ, zero, suc, ◌+◌, ◌-◌, ◌<◌, ◌≤◌, Bool, true, false, cond, eqb, leb, List, [], ◌∷◌, ◌++◌, length, take, count_by, Option, Some, None, refl, sym, ap, ◌∙◌, arith, ◌⊎◌, inl, inr}
 use Rattle.std.specs.Prelude.{slice_get}
-use Rattle.std.proofs.lemmas.Bool.{eqb-true}
+use Rattle.std.proofs.lemmas.Bool.{eqb-true, lt-leb, leb-false}
 use Rattle.std.proofs.lemmas.List.{take-append-le, take_all, append-nil, append_assoc, length_push}
-use Rattle.gl_event.specs.Events.{acquired_lock, acquires, releases, closes, depth}
+use Rattle.gl_event.specs.Events.{acquired_lock, acquires, releases, closes, depth, partner}
 use Rattle.gl_event.specs.Lawful.{lock_refusal, acquire_refusal, refusal, IsLawful, HasLawfulLocks}
 use Rattle.gl_event.specs.Standing.{IsAcquireOf}
-use Rattle.gl_event.specs.Bounds.{Bounds}
+use Rattle.gl_event.specs.Bounds.{Bounds, AreWithinRange, greatest}
 use Rattle.gl_event.specs.declared.events.Event.{Event}
 use Rattle.gl_event.specs.declared.events.Event.TheVariants.{Acquire, Release, TryAcquire, Fork, Join}
 use Rattle.gl_event.specs.declared.events.LockMode.{LockMode}
+use Rattle.gl_event.specs.declared.events.Refusal.{Refusal}
+use Rattle.gl_event.specs.declared.limits.TheConstants.{MAX_THREADS, MAX_EVENTS}
+use Rattle.std.specs.Option.{option_map_or}
 use Rattle.gl_event.proofs.Depths.{count_by_push, depth_push, slice_get_before, slice_get_last}
 
 -- a place within a list that grew by one lies in the old list, or is the last
@@ -167,3 +170,28 @@ regroup a r x y within = omega arith
 pub depth_after : (es : List Event) (e : Event) (k : ℕ) → HasLawfulLocks es → depth (es ++ e ∷ []) k ≡ (depth es k + cond (acquires k e) 1 0) - cond (releases k e) 1 0
 unfolding depth
 depth_after es e k all = let within = releases_within es k all in depth_push es e k ∙ regroup _ _ _ _ within
+
+-- ---- the greatest limits
+
+by_places : (limit most n : ℕ) → limit ≤ most → leb limit n ≡ false → leb most n ≡ false
+by_places limit most n fits within = lt-leb most n (let w = leb-false limit n within in omega arith)
+
+by_threads : (limit most : ℕ) (other : Option ℕ) → limit ≤ most → option_map_or (leb limit) other false ≡ false → option_map_or (leb most) other false ≡ false
+by_threads limit most None fits known = refl
+by_threads limit most (Some other) fits known = by_places limit most other fits known
+
+first_two : (a b : Bool) (x y : Refusal) (rest : Option Refusal) → cond a (Some x) (cond b (Some y) rest) ≡ None → (a ≡ false) × (b ≡ false) × (rest ≡ None)
+first_two true b x y rest none = absurd (cc)
+first_two false true x y rest none = absurd (cc)
+first_two false false x y rest none = (refl, refl, none)
+
+-- what may come next under some limits may under the greatest
+pub allowed_by_greatest : (limits : Bounds) (thread : ℕ) (es : List Event) (e : Event) → AreWithinRange limits → refusal limits thread es e ≡ None → refusal greatest thread es e ≡ None
+unfolding refusal
+allowed_by_greatest limits thread es e range allowed =
+    let (few, known, rest) = first_two (leb limits.events (length es)) (option_map_or (leb limits.threads) (partner e) false) _ _ _ allowed in
+    rw (by_places limits.events MAX_EVENTS (length es) range.events_fit few, by_threads limits.threads MAX_THREADS (partner e) range.threads_fit known) rest
+
+-- what is lawful under some limits is lawful under the greatest
+pub lawful_by_greatest : (limits : Bounds) (thread : ℕ) (es : List Event) → AreWithinRange limits → IsLawful limits thread es → IsLawful greatest thread es
+lawful_by_greatest limits thread es range lawful = record { each = λ place e at. allowed_by_greatest limits thread _ e range (lawful.each place e at) }

@@ -11,12 +11,14 @@ mod events;
 mod held;
 mod ids;
 mod limits;
+mod lists;
 mod notes;
 
 pub use events::{Event, LockMode, Refusal, Segment};
 pub use held::{Held, HeldEntry, HeldFault, MAX_DEPTH, MAX_HELD, NotHeld};
 pub use ids::{LocId, LockId, ThreadId};
 pub use limits::{BadLimits, Limits, MAX_EVENTS, MAX_NAMES, MAX_RING, MAX_THREADS};
+pub use lists::{append, append_both, make_room};
 pub use notes::{Body, Note};
 
 /// Want of memory: a growth was refused. Calls that may take memory answer it, and only then.

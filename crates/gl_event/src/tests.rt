@@ -89,5 +89,8 @@ fn upgrade_refused(rt: HostRuntime) {
         Ok(true)
     );
     assert_eq!(rt; held.acquire(lock, LockMode::Shared, loc, 3, 0), Ok(false));
-    assert_eq!(rt; held.entries()[0].mode, LockMode::Exclusive);
+    assert_eq!(rt;
+        held.entries().first().map(|entry| entry.mode),
+        Some(LockMode::Exclusive)
+    );
 }

@@ -1,15 +1,13 @@
 -- One note more, and its thread's log and row brought up to it.
-use Rattle.std.proofs.Common.{◌≡◌, ℕ, ◌<◌, ◌≤◌, true, false, List, [], ◌∷◌, ◌++◌, length, get_or, set, Vec, Global, None, Result, Ok, sym, subst, ◌∙◌, arith, inl, inr}
-use Rattle.std.specs.Prelude.{OnOk}
+use Rattle.std.proofs.Common.{◌≡◌, ℕ, ◌<◌, ◌≤◌, true, false, List, [], ◌∷◌, ◌++◌, length, get_or, set, Vec, Global, None, sym, subst, ◌∙◌, arith, inl, inr}
 use Rattle.std.proofs.lemmas.Bool.{cases_eq}
 use Rattle.std.proofs.lemmas.List.{get_or-set_same, get_or-set_other, length-set}
 use Rattle.gl_event.specs.Bounds.{Bounds}
 use Rattle.gl_event.specs.Lawful.{refusal, IsLawful}
 use Rattle.gl_event.specs.declared.events.Event.{Event}
-use Rattle.gl_event.specs.declared.events.Refusal.{Refusal}
 use Rattle.gl_event.specs.declared.notes.Note.{Note}
 use Rattle.gl_event.specs.declared.notes.Body.TheVariants.{Happened, Ended}
-use Rattle.gl_recorder.specs.Taking.{Taking, Tracks, event_note, answer_to}
+use Rattle.gl_recorder.specs.Taking.{Tracks, MayFollow}
 use Rattle.gl_intake.specs.Stream.{events_of, has_ended, IsNext}
 use Rattle.gl_intake.specs.Rows.{AreLogs, AreRows, IsKept}
 use Rattle.gl_intake.specs.declared.intake.Row.{Row}
@@ -65,31 +63,39 @@ module _ (limits : Bounds) (stream : List Note) (note : Note) (known : note.thre
   no_strangers : ((thread : ℕ) → limits.threads ≤ thread → has_ended thread stream ≡ false) → (thread : ℕ) → limits.threads ≤ thread → has_ended thread (stream ++ note ∷ []) ≡ false
   no_strangers none thread strange = ended_other stream note thread (λ e. omega arith) ∙ none thread strange
 
--- what a recorder that answers an event's note keeps
-taken_well : (limits : Bounds) (thread : ℕ) (es : List Event) (e : Event) (answer : Result Note Refusal) (after : Taking) → refusal limits thread es e ≡ None → answer ≡ answer_to limits thread es e
-    → OnOk answer (Tracks limits thread (es ++ e ∷ []) after) → Tracks limits thread (es ++ e ∷ []) after
-taken_well limits thread es e answer after allowed is h =
-    let ok : answer ≡ Ok (event_note thread es e) = rw allowed at is in
-    rw ok at h
+-- the recorder of a note's thread tracks the thread's events so far
+tracks_own : (limits : Bounds) (stream : List Note) (rows : List Row) → AreRows limits stream rows → (note : Note) → IsNext limits stream note → (row : Row) → row ≡ get_or rows note.thread row
+    → Tracks limits note.thread (events_of note.thread stream) row.taker
+tracks_own limits stream rows are note next row here = rw (← here) at (are.tracks note.thread row next.known)
+
+-- the event of the next note may be taken
+pub may_follow : (limits : Bounds) (stream : List Note) (rows : List Row) → AreRows limits stream rows → (note : Note) → IsNext limits stream note
+    → (e : Event) → note.body ≡ Happened e → (row : Row) → row ≡ get_or rows note.thread row → MayFollow row.taker e
+may_follow limits stream rows are note next e is row here =
+    let tracks = tracks_own limits stream rows are note next row here in
+    let allowed : refusal limits note.thread (events_of note.thread stream) e ≡ None = rw is at next.fits in
+    record {
+      es = events_of note.thread stream;
+      tracked = subst (λ (b : Bounds). Tracks b row.taker.thread (events_of note.thread stream) row.taker) (sym tracks.its_limits)
+          (subst (λ (t : ℕ). Tracks limits t (events_of note.thread stream) row.taker) (sym tracks.its_thread) tracks);
+      allowed = rw (tracks.its_limits, tracks.its_thread) allowed;
+    }
 
 -- an event's note more
 pub kept_event : (limits : Bounds) (stream : List Note) (logs : List (Vec Event Global)) (rows : List Row) → IsKept limits stream logs rows → (note : Note) → IsNext limits stream note
     → (e : Event) → note.body ≡ Happened e → (old new : Vec Event Global) → old ≡ get_or logs note.thread old → new.items ≡ old.items ++ e ∷ []
-    → (was now : Row) → was ≡ get_or rows note.thread was → now.has_ended ≡ was.has_ended → (answer : Result Note Refusal)
-    → ((b : Bounds) (t : ℕ) (es : List Event) → Tracks b t es was.taker → answer ≡ answer_to b t es e)
-    → ((b : Bounds) (t : ℕ) (es : List Event) → Tracks b t es was.taker → OnOk answer (Tracks b t (es ++ e ∷ []) now.taker))
+    → (was now : Row) → was ≡ get_or rows note.thread was → now.has_ended ≡ was.has_ended
+    → ((b : Bounds) (t : ℕ) (es : List Event) → Tracks b t es was.taker → Tracks b t (es ++ e ∷ []) now.taker)
     → IsKept limits (stream ++ note ∷ []) (set logs note.thread new) (set rows note.thread now)
-kept_event limits stream logs rows kept note next e is old new old_here more was now was_here same_end answer answers tracks =
-    let es = events_of note.thread stream in
-    let tracked : Tracks limits note.thread es was.taker = rw (← was_here) at (kept.rows_are.tracks note.thread was next.known) in
+kept_event limits stream logs rows kept note next e is old new old_here more was now was_here same_end tracks =
     let ended : was.has_ended ≡ has_ended note.thread stream = rw (← was_here) at (kept.rows_are.ended note.thread was next.known) in
-    let allowed : refusal limits note.thread es e ≡ None = rw is at next.fits in
-    let after = taken_well limits note.thread es e answer now.taker allowed (answers limits note.thread es tracked) (tracks limits note.thread es tracked) in
+    let after = tracks limits note.thread (events_of note.thread stream) (tracks_own limits stream rows kept.rows_are note next was was_here) in
     record {
       logs_are = logs_event limits stream note next.known logs kept.logs_are e is old new old_here more;
       rows_are = rows_push limits stream note next.known rows kept.rows_are now (rw (events_more stream note e is) after) (same_end ∙ ended ∙ sym (ended_event stream note note.thread e is));
       no_stranger = no_strangers limits stream note next.known kept.no_stranger;
       in_order = AreInOrder-push limits stream note kept.in_order next;
+      range = kept.range;
     }
 
 -- an end mark more
@@ -103,6 +109,31 @@ kept_end limits stream logs rows kept note next count is was now was_here same_t
       rows_are = rows_push limits stream note next.known rows kept.rows_are now (rw (events_ended stream note note.thread count is, same_taker) tracked) (ended ∙ sym (ended_now stream note count is));
       no_stranger = no_strangers limits stream note next.known kept.no_stranger;
       in_order = AreInOrder-push limits stream note kept.in_order next;
+      range = kept.range;
+    }
+
+-- a log that keeps its events, wherever they lie
+pub kept_room : (limits : Bounds) (stream : List Note) (logs : List (Vec Event Global)) (rows : List Row) → IsKept limits stream logs rows
+    → (at : ℕ) → at < limits.threads → (old new : Vec Event Global) → old ≡ get_or logs at old → new.items ≡ old.items → IsKept limits stream (set logs at new) rows
+kept_room limits stream logs rows kept at known old new here same =
+    let are = kept.logs_are in
+    let was : old.items ≡ events_of at stream = rw (← here) at (are.each at old known) in
+    let within_logs : at < length logs = omega (arith, are.count) in
+    record {
+      logs_are = record {
+        count = length-set logs at new ∙ are.count;
+        each = λ thread d within.
+            elim (cases_eq at thread) [
+              | inl is ↦
+                  let here_too : (get_or (set logs at new) at d).items ≡ events_of at stream = rw (get_or-set_same logs at new d within_logs) (same ∙ was) in
+                  subst (λ (t : ℕ). (get_or (set logs at new) t d).items ≡ events_of t stream) is here_too
+              | inr other ↦ rw (get_or-set_other logs at thread new d (λ e. other (sym e))) (are.each thread d within)
+            ];
+      };
+      rows_are = kept.rows_are;
+      no_stranger = kept.no_stranger;
+      in_order = kept.in_order;
+      range = kept.range;
     }
 
 -- the events of a known thread are a lawful list

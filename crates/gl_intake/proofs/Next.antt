@@ -1,5 +1,5 @@
 -- A note has no refusal exactly where it is its thread's next one.
-use Rattle.std.proofs.Common.{◌≡◌, ℕ, ◌<◌, ◌≤◌, Bool, true, false, cond, eqb, leb, List, length, get_or, Option, Some, None, refl, ◌∙◌}
+use Rattle.std.proofs.Common.{◌≡◌, ◌≢◌, ◌⊎◌, ℕ, ◌<◌, ◌≤◌, Bool, true, false, cond, eqb, leb, List, length, get_or, Option, Some, None, refl, sym, ap, ◌∙◌, inl, inr}
 use Rattle.std.proofs.lemmas.Bool.{eqb-true, eq-eqb, le-leb, lt-leb, leb-false}
 use Rattle.std.specs.Option.{option_map}
 use Rattle.gl_event.specs.Bounds.{Bounds}
@@ -10,11 +10,11 @@ use Rattle.gl_event.specs.declared.notes.Note.{Note}
 use Rattle.gl_event.specs.declared.notes.Body.{Body}
 use Rattle.gl_event.specs.declared.notes.Body.TheVariants.{Happened, Ended}
 use Rattle.gl_recorder.specs.Taking.{Tracks}
-use Rattle.gl_intake.specs.Stream.{events_of, has_ended, FitsAfter, IsNext, body_refusal, refusal_after, note_refusal}
+use Rattle.gl_intake.specs.Stream.{events_of, has_ended, FitsAfter, IsNext, IsRefusedFor, body_refusal, refusal_after, note_refusal}
 use Rattle.gl_intake.specs.Rows.{AreRows}
 use Rattle.gl_intake.specs.declared.intake.Row.{Row}
 use Rattle.gl_intake.specs.declared.notes.Refused.{Refused}
-use Rattle.gl_intake.specs.declared.notes.Refused.TheVariants.{Stranger, Unlawful}
+use Rattle.gl_intake.specs.declared.notes.Refused.TheVariants.{Stranger, Late, Unlawful, Memory}
 
 -- a test that refuses where it is true has been false
 passed : {X : Type 0} (b : Bool) (x : X) (rest : Option X) → cond b (Some x) rest ≡ None → (b ≡ false) × (rest ≡ None)
@@ -72,3 +72,42 @@ of_known limits stream note rows are known row here r says =
     let tracks = rw (← here) at (are.tracks note.thread row known) in
     let late : row.has_ended ≡ has_ended note.thread stream = rw (← here) at (are.ended note.thread row known) in
     says limits (events_of note.thread stream) tracks ∙ rw (lt-leb limits.threads note.thread known, late)
+
+-- ---- no refusal is for want of memory
+
+one_of : {X : Type 0} (b : Bool) (x y : Option X) (why : X) → cond b x y ≡ Some why → (x ≡ Some why) ⊎ (y ≡ Some why)
+one_of true x y why h = inl h
+one_of false x y why h = inr h
+
+mapped_never : (r : Option Refusal) → option_map Unlawful r ≡ Some Memory → ⊥
+mapped_never None h = cc
+mapped_never (Some x) h = cc
+
+body_never : (limits : Bounds) (thread : ℕ) (es : List Event) (body : Body) → body_refusal limits thread es body ≡ Some Memory → ⊥
+body_never limits thread es (Happened e) h = mapped_never (refusal limits thread es e) h
+body_never limits thread es (Ended count) h = elim (one_of (eqb count (length es)) None _ Memory h) [ inl e ↦ absurd (cc) | inr e ↦ absurd (cc) ]
+
+known_never : (limits : Bounds) (es : List Event) (late : Bool) (note : Note) → refusal_after limits es late note ≡ Some Memory → ⊥
+known_never limits es late note h =
+    elim (one_of late (Some Late) _ Memory h) [
+      | inl e ↦ absurd (cc)
+      | inr rest ↦
+          elim (one_of (eqb note.place (length es)) _ _ Memory rest) [
+            | inl body ↦ body_never limits note.thread es note.body body
+            | inr e ↦ absurd (cc)
+          ]
+    ]
+
+pub never_for_memory : (limits : Bounds) (stream : List Note) (note : Note) (why : Refused) → note_refusal limits stream note ≡ Some why → why ≢ Memory
+unfolding note_refusal
+never_for_memory limits stream note why h is =
+    let told : note_refusal limits stream note ≡ Some Memory = h ∙ ap (λ w. Some w) is in
+    elim (one_of (leb limits.threads note.thread) (Some Stranger) _ Memory told) [
+      | inl e ↦ absurd (cc)
+      | inr known ↦ known_never limits (events_of note.thread stream) (has_ended note.thread stream) note known
+    ]
+
+-- a note that may come next, and isn't refused for want of memory, isn't refused
+pub never_refused : (limits : Bounds) (stream : List Note) (note : Note) (why : Refused) → note_refusal limits stream note ≡ None → why ≢ Memory → IsRefusedFor limits stream note why → ⊥
+never_refused limits stream note why none enough (inl refused) = let both : None ≡ Some why = sym none ∙ refused in absurd (cc)
+never_refused limits stream note why none enough (inr short) = enough short.1

@@ -1,7 +1,8 @@
 -- What an intake keeps of each thread beside the stream.
-use Rattle.std.specs.Prelude.{◌≡◌, ℕ, ◌<◌, ◌≤◌, false, List, length, Vec, slice_index_or}
+use Rattle.std.specs.Prelude.{◌≡◌, ℕ, ◌<◌, ◌≤◌, ◌-◌, min, false, List, length, map, Vec, slice_index_or}
+use Rattle.std.specs.Vec.{vec_len, vec_capacity}
 use Rattle.std.specs.declared.alloc.Global.{Global}
-use Rattle.gl_event.specs.Bounds.{Bounds}
+use Rattle.gl_event.specs.Bounds.{Bounds, AreWithinRange}
 use Rattle.gl_event.specs.declared.events.Event.{Event}
 use Rattle.gl_event.specs.declared.notes.Note.{Note}
 use Rattle.gl_recorder.specs.Taking.{Tracks}
@@ -25,3 +26,12 @@ pub record IsKept (limits : Bounds) (stream : List Note) (logs : List (Vec Event
   pub rows_are : AreRows limits stream rows
   pub no_stranger : (thread : ℕ) → limits.threads ≤ thread → has_ended thread stream ≡ false
   pub in_order : AreInOrder limits stream
+  pub range : AreWithinRange limits
+
+-- how many elements more the list has memory for
+abbrev pub unused : {X : Type 0} → Vec X Global → ℕ
+unused v = vec_capacity v - vec_len v
+
+-- for each thread, how many of its notes there is memory for: in the stream, and in the thread's log
+abbrev pub spares : Vec Note Global → List (Vec Event Global) → List ℕ
+spares stream logs = map (λ log. min (unused stream) (unused log)) logs

@@ -1,5 +1,5 @@
 -- The stream of notes that a collector accepted, and which note may come next in it.
-use Rattle.std.specs.Prelude.{◌≡◌, ◌==◌, ◌&&◌, ℕ, ◌<◌, Bool, true, false, List, length, map, Option, Some, None, take, slice_get, nat_le, ◌↔◌, if◌then◌else◌}
+use Rattle.std.specs.Prelude.{◌≡◌, ◌≢◌, ◌⊎◌, ◌==◌, ◌&&◌, ℕ, ◌<◌, Bool, true, false, List, length, map, Option, Some, None, take, slice_get, slice_index_or, nat_le, ◌↔◌, if◌then◌else◌}
 use Rattle.std.specs.List.{filter_map, list_any, range_with_len}
 use Rattle.std.specs.Option.{option_map}
 use Rattle.gl_event.specs.Bounds.{Bounds}
@@ -9,7 +9,7 @@ use Rattle.gl_event.specs.declared.notes.Note.{Note}
 use Rattle.gl_event.specs.declared.notes.Body.{Body}
 use Rattle.gl_event.specs.declared.notes.Body.TheVariants.{Happened, Ended}
 use Rattle.gl_intake.specs.declared.notes.Refused.{Refused}
-use Rattle.gl_intake.specs.declared.notes.Refused.TheVariants.{Stranger, Late, Misplaced, WrongCount, Unlawful}
+use Rattle.gl_intake.specs.declared.notes.Refused.TheVariants.{Stranger, Late, Misplaced, WrongCount, Unlawful, Memory}
 use Rattle.gl_intake.specs.declared.notes.Accepted.{Accepted}
 use Rattle.gl_intake.specs.declared.notes.Accepted.TheVariants as accepted
 
@@ -73,16 +73,33 @@ note_refusal limits stream note =
     if nat_le limits.threads note.thread then Some Stranger
     else refusal_after limits (events_of note.thread stream) (has_ended note.thread stream) note
 
+-- the note may not come next, for this reason, and not for want of memory
+abbrev pub IsRefusal : Bounds → List Note → Note → Refused → Type 0
+IsRefusal limits stream note why = note_refusal limits stream note ≡ Some why
+
+-- what a note that isn't accepted is answered: why it may not come next, or that there is no memory for one that may
+abbrev pub IsRefusedFor : Bounds → List Note → Note → Refused → Type 0
+IsRefusedFor limits stream note why = IsRefusal limits stream note why ⊎ ((note_refusal limits stream note ≡ None) × (why ≡ Memory))
+
 -- what an accepted note of this place and body is answered
 abbrev pub accepted_as : ℕ → Body → Accepted
 accepted_as place (Happened e) = accepted.Event place
 accepted_as place (Ended count) = accepted.Ended count
 
--- the limits, and the notes accepted so far in the order of acceptance
+-- the limits, the notes accepted so far in the order of acceptance, and for each thread how many of its notes there is memory for
 pub record Collected : Type 0 where
   pub limits : Bounds
   pub stream : List Note
+  pub spare : List ℕ
+
+-- how many notes of this thread there is memory for
+abbrev pub spare_of : Collected → ℕ → ℕ
+spare_of collected thread = slice_index_or collected.spare thread 0
 
 -- a note has no refusal exactly where it is its thread's next one
 abbrev pub IsRefusedUnlessNext : Type 0
 IsRefusedUnlessNext = (limits : Bounds) (stream : List Note) (note : Note) → (note_refusal limits stream note ≡ None) ↔ IsNext limits stream note
+
+-- no note is refused for want of memory where it may not come next
+abbrev pub IsNeverForMemory : Type 0
+IsNeverForMemory = (limits : Bounds) (stream : List Note) (note : Note) (why : Refused) → IsRefusal limits stream note why → why ≢ Memory

@@ -1,18 +1,18 @@
 //! The stream of accepted notes, with a log for each thread.
-ghost use Rattle.std.specs.Prelude.{◌≡◌, ◌↔◌, ℕ, ◌<◌, Some, None, List, [], ◌∷◌, ◌++◌, map, IsTrue, IfOk, IfErr, OnOk, OnErr, ◌⊎◌, ◌==◌, is_ok, if◌then◌else◌};
+ghost use Rattle.std.specs.Prelude.{◌≡◌, ◌≢◌, ◌↔◌, ℕ, ◌<◌, ◌≤◌, Some, None, Err, List, [], ◌∷◌, ◌++◌, length, map, slice_get, IsTrue, IsOk, IfOk, IfErr, OnOk, OnErr, ◌==◌, if◌then◌else◌};
 ghost use Rattle.gl_intake.specs.Rows.{AreLogs, AreRows};
 ghost use Rattle.gl_intake.specs.declared.notes.Refused.TheVariants.{WrongCount, Memory};
 ghost use Rattle.gl_event.specs.declared.notes.Body.TheVariants.{Happened, Ended};
-ghost use Rattle.gl_event.specs.Bounds.{Bounds};
+ghost use Rattle.gl_event.specs.Bounds.{Bounds, greatest};
 ghost use Rattle.gl_event.specs.declared.events.Event.{Event};
 ghost use Rattle.gl_event.specs.Lawful.{IsLawful};
 ghost use Rattle.gl_recorder.specs.Taking.{Tracks};
-ghost use Rattle.gl_intake.specs.Stream.{events_of, has_ended, logs_of, AreInOrder, refusal_after, note_refusal, accepted_as};
+ghost use Rattle.gl_intake.specs.Stream.{events_of, has_ended, logs_of, AreInOrder, IsRefusedFor, refusal_after, note_refusal, accepted_as, spare_of};
 
 use crate::notes::{Accepted, Refused};
-use gl_event::{Body, Event, Limits, Note, ThreadId};
+use gl_event::{Body, Event, Limits, Memory, Note, ThreadId, append, append_both, make_room};
 use gl_recorder::Taker;
-use std::alloc::{AllocError, Global};
+use std::alloc::Global;
 use std::marker::Model;
 
 // What is known of a thread: its events so far, and whether it has ended.
@@ -24,7 +24,8 @@ struct Row {
 
 /// The notes accepted of all threads, in the order of acceptance, and the events of each thread.
 ///
-/// Contracts see the limits and the stream.
+/// Contracts see the limits, the stream, and for each thread how many of its notes there is memory
+/// for beforehand. What they say of an unchanged intake is said of the limits and the stream alone.
 #[derive(Drop, Debug)]
 pub struct Intake {
     limits: Limits,
@@ -35,11 +36,11 @@ pub struct Intake {
 
 impl Model for Intake {
     ghost use Rattle.gl_intake.specs.Stream.{Collected};
-    ghost use Rattle.gl_intake.specs.Rows.{IsKept};
+    ghost use Rattle.gl_intake.specs.Rows.{IsKept, spares};
 
     ghost Value = { Collected };
 
-    ghost view = { λ i. record { limits = i.limits; stream = i.stream.items } };
+    ghost view = { λ i. record { limits = i.limits; stream = i.stream.items; spare = spares i.stream i.logs.items } };
 
     ghost invariant = { λ i. IsKept i.limits i.stream.items i.logs.items i.rows.items };
 }
@@ -77,35 +78,8 @@ fn count_refusal(expected: u32, got: u32) -> Option<Refused>
     Some(Refused::WrongCount { expected, got })
 }
 
-// Appends x to xs.
-fn append<X: Copy>(xs: &mut Vec<X>, x: X) -> Result<(), AllocError>
-    ensures { xs.new.items ≡ (if is_ok result then xs.old.items ++ x ∷ [] else xs.old.items) }
-{
-    xs.push(x)?;
-    Ok(())
-}
-
-// Appends x to xs and y to ys, or changes neither.
-fn append_both<X: Copy, Y: Copy>(
-    xs: &mut Vec<X>,
-    ys: &mut Vec<Y>,
-    x: X,
-    y: Y,
-) -> Result<(), AllocError>
-    ensures first { xs.new.items ≡ (if is_ok result then xs.old.items ++ x ∷ [] else xs.old.items) }
-    ensures second { ys.new.items ≡ (if is_ok result then ys.old.items ++ y ∷ [] else ys.old.items) }
-{
-    xs.reserve(1)?;
-    ys.push(y)?;
-    match xs.push(x) {
-        Ok(()) => Ok(()),
-        // there is room for one more
-        Err(_) => unreachable!(),
-    }
-}
-
 // An empty log for each thread.
-fn empty_logs(alloc: Global, threads: u32) -> Result<Vec<Vec<Event>>, AllocError>
+fn empty_logs(alloc: Global, threads: u32) -> Result<Vec<Vec<Event>>, Memory>
     ensures { IfOk result (λ logs. AreLogs threads [] logs.items) }
 {
     let mut logs = Vec::new(alloc);
@@ -116,7 +90,7 @@ fn empty_logs(alloc: Global, threads: u32) -> Result<Vec<Vec<Event>>, AllocError
 }
 
 // A row for each thread, which has had no event.
-fn fresh_rows(alloc: Global, limits: &Limits) -> Result<Vec<Row>, AllocError>
+fn fresh_rows(alloc: Global, limits: &Limits) -> Result<Vec<Row>, Memory>
     ensures { IfOk result (λ rows. AreRows limits.now [] rows.items) }
 {
     let mut rows = Vec::new(alloc);
@@ -132,8 +106,9 @@ fn fresh_rows(alloc: Global, limits: &Limits) -> Result<Vec<Row>, AllocError>
 impl Intake {
     /// An intake that has accepted nothing yet, under these limits. It has memory for a row and a
     /// log of each thread.
-    pub fn new(alloc: Global, limits: &Limits) -> Result<Intake, gl_event::Memory>
-        ensures { IfOk result (λ intake. intake ≡ record { limits = limits.now; stream = [] }) }
+    pub fn new(alloc: Global, limits: &Limits) -> Result<Intake, Memory>
+        ensures limits { IfOk result (λ intake. intake.limits ≡ limits.now) }
+        ensures empty { IfOk result (λ intake. intake.stream ≡ []) }
     {
         let logs = empty_logs(alloc, limits.threads())?;
         let rows = fresh_rows(alloc, limits)?;
@@ -154,10 +129,13 @@ impl Intake {
         self.stream.as_slice()
     }
 
-    /// The events of each thread, in the order of thread numbers. Each list is lawful.
+    /// The events of each thread, in the order of thread numbers. They are at most 1,024 lists, and
+    /// each is lawful under the intake's limits and under the greatest.
     pub fn logs(&self) -> &[Vec<Event>]
         ensures value { map (λ log. log.items) result.now ≡ logs_of self.now.limits.threads self.now.stream }
         ensures lawful { (thread : ℕ) → thread < self.now.limits.threads → IsLawful self.now.limits thread (events_of thread self.now.stream) }
+        ensures few { length result.now ≤ 1024 }
+        ensures lawful_lists { (thread : ℕ) (es : List Event) → slice_get (map (λ log. log.items) result.now) thread ≡ Some es → IsLawful greatest thread es }
     {
         self.logs.as_slice()
     }
@@ -192,17 +170,38 @@ impl Intake {
         true
     }
 
+    /// Makes room for the note, where it is its thread's next one, and accepts nothing: an offer of
+    /// the note then takes no memory. An end mark has room made for it as an event has. Otherwise
+    /// the answer is the first reason why not, as that of `offer`.
+    ///
+    /// It looks through the at most 64 locks that the thread holds. Where two lists have to grow, each
+    /// is moved.
+    pub fn ready(&mut self, note: &Note) -> Result<(), Refused>
+        ensures next { OnOk result (note_refusal self.old.limits self.old.stream note.now ≡ None) }
+        ensures reserved { OnOk result (1 ≤ spare_of self.new note.now.thread) }
+        ensures refused { IfErr result (λ why. IsRefusedFor self.old.limits self.old.stream note.now why) }
+        ensures limits { self.new.limits ≡ self.old.limits }
+        ensures stream { self.new.stream ≡ self.old.stream }
+    {
+        if let Some(refused) = self.refusal(note) {
+            return Err(refused);
+        }
+        Ok(self.reserve(note.thread)?)
+    }
+
     /// Accepts the note where it is its thread's next one. Otherwise nothing changes, and the answer
     /// is the first reason why not, in the order in which `Refused` lists them; `Memory` only where
-    /// the stream or the thread's log had to grow for a note that is next, and could not.
+    /// the stream or the thread's log had to grow for a note that is next, and could not. Where there
+    /// is room for the note, as after `ready`, it takes no memory.
     ///
     /// It looks through the at most 64 locks that the thread holds, and appends to two lists.
     pub fn offer(&mut self, note: Note) -> Result<Accepted, Refused>
         ensures accepted { OnOk result (note_refusal self.old.limits self.old.stream note ≡ None) }
         ensures answer { IfOk result (λ answer. answer ≡ accepted_as note.place note.body) }
-        ensures grown { OnOk result (self.new ≡ record self.old { stream = self.old.stream ++ note ∷ [] }) }
-        ensures refused { IfErr result (λ why. (note_refusal self.old.limits self.old.stream note ≡ Some why) ⊎ ((note_refusal self.old.limits self.old.stream note ≡ None) × (why ≡ Memory))) }
-        ensures unchanged { OnErr result (self.new ≡ self.old) }
+        ensures grown { OnOk result (self.new.stream ≡ self.old.stream ++ note ∷ []) }
+        ensures refused { IfErr result (λ why. IsRefusedFor self.old.limits self.old.stream note why) }
+        ensures room { 1 ≤ spare_of self.old note.thread → result ≢ Err Memory }
+        ensures unchanged { OnErr result (self.new.stream ≡ self.old.stream) }
         ensures limits { self.new.limits ≡ self.old.limits }
     {
         if let Some(refused) = self.refusal(&note) {
@@ -222,12 +221,25 @@ impl Intake {
         row_refusal(&self.rows[index], note)
     }
 
+    // Makes room for a note of the thread.
+    fn reserve(&mut self, thread: ThreadId) -> Result<(), Memory>
+        requires { thread < self.old.limits.threads }
+        ensures reserved { OnOk result (1 ≤ spare_of self.new thread) }
+        ensures limits { self.new.limits ≡ self.old.limits }
+        ensures stream { self.new.stream ≡ self.old.stream }
+    {
+        let index = thread.number() as usize;
+        make_room(&mut self.logs[index], &mut self.stream)
+    }
+
     // Accepts the note, which may come next.
-    fn accept(&mut self, note: &Note) -> Result<Accepted, AllocError>
-        requires { note_refusal self.old.limits self.old.stream note.now ≡ None }
+    fn accept(&mut self, note: &Note) -> Result<Accepted, Memory>
+        requires next { note_refusal self.old.limits self.old.stream note.now ≡ None }
         ensures answer { IfOk result (λ answer. answer ≡ accepted_as note.now.place note.now.body) }
-        ensures grown { OnOk result (self.new ≡ record self.old { stream = self.old.stream ++ note.now ∷ [] }) }
-        ensures unchanged { OnErr result (self.new ≡ self.old) }
+        ensures grown { OnOk result (self.new.stream ≡ self.old.stream ++ note.now ∷ []) }
+        ensures room { 1 ≤ spare_of self.old note.now.thread → IsOk result }
+        ensures unchanged { OnErr result (self.new.stream ≡ self.old.stream) }
+        ensures limits { self.new.limits ≡ self.old.limits }
     {
         match note.body {
             Body::Happened(event) => {
@@ -242,25 +254,28 @@ impl Intake {
     }
 
     // Adds an event's note to the stream, and the event to its thread's log.
-    fn accept_event(&mut self, note: &Note, event: &Event) -> Result<(), AllocError>
+    fn accept_event(&mut self, note: &Note, event: &Event) -> Result<(), Memory>
         requires next { note_refusal self.old.limits self.old.stream note.now ≡ None }
         requires told { note.now.body ≡ Happened event.now }
-        ensures grown { OnOk result (self.new ≡ record self.old { stream = self.old.stream ++ note.now ∷ [] }) }
-        ensures unchanged { OnErr result (self.new ≡ self.old) }
+        ensures grown { OnOk result (self.new.stream ≡ self.old.stream ++ note.now ∷ []) }
+        ensures room { 1 ≤ spare_of self.old note.now.thread → IsOk result }
+        ensures unchanged { OnErr result (self.new.stream ≡ self.old.stream) }
+        ensures limits { self.new.limits ≡ self.old.limits }
     {
         let index = note.thread.number() as usize;
         append_both(&mut self.logs[index], &mut self.stream, *event, *note)?;
-        // the event is lawful next, so that it is taken
-        let _ = self.rows[index].taker.take(*event);
+        self.rows[index].taker.advance(*event);
         Ok(())
     }
 
     // Adds an end mark to the stream.
-    fn accept_end(&mut self, note: &Note, count: u32) -> Result<(), AllocError>
+    fn accept_end(&mut self, note: &Note, count: u32) -> Result<(), Memory>
         requires next { note_refusal self.old.limits self.old.stream note.now ≡ None }
         requires told { note.now.body ≡ Ended count }
-        ensures grown { OnOk result (self.new ≡ record self.old { stream = self.old.stream ++ note.now ∷ [] }) }
-        ensures unchanged { OnErr result (self.new ≡ self.old) }
+        ensures grown { OnOk result (self.new.stream ≡ self.old.stream ++ note.now ∷ []) }
+        ensures room { 1 ≤ spare_of self.old note.now.thread → IsOk result }
+        ensures unchanged { OnErr result (self.new.stream ≡ self.old.stream) }
+        ensures limits { self.new.limits ≡ self.old.limits }
     {
         let index = note.thread.number() as usize;
         append(&mut self.stream, *note)?;

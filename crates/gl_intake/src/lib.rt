@@ -9,6 +9,9 @@
 //! intake.offer(note)?;
 //! let events = intake.log(thread);
 //! ```
+//!
+//! A collector that must not lose a note asks [`Intake::ready`] first: it makes room for the note and
+//! accepts nothing, and the offer after it takes no memory.
 #![tactic(auto)]
 
 mod intake;
@@ -16,7 +19,7 @@ mod laws;
 mod notes;
 
 pub use intake::Intake;
-pub use laws::notes_are_refused_unless_next;
+pub use laws::{notes_are_refused_unless_next, refusals_are_never_for_memory};
 pub use notes::{Accepted, Refused};
 
 #[cfg(test)]

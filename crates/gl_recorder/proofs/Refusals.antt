@@ -1,5 +1,5 @@
 -- The refusal of an event, case by case.
-use Rattle.std.proofs.Common.{◌≡◌, ◌≢◌, ℕ, ◌<◌, ◌≤◌, true, false, cond, eqb, leb, List, length, Some, None, refl, ap, ◌∙◌, arith, get_or, inl, inr}
+use Rattle.std.proofs.Common.{◌≡◌, ℕ, ◌<◌, ◌≤◌, true, false, cond, eqb, leb, List, length, Some, None, refl, ap, ◌∙◌, arith, get_or, inl, inr}
 use Rattle.std.proofs.lemmas.Bool.{ne_eqb, eq-eqb, le-leb, lt-leb, cases_lt}
 use Rattle.gl_event.specs.Bounds.{Bounds}
 use Rattle.gl_event.specs.Events.{depth, entry_of, held_mode, partner}
@@ -25,7 +25,7 @@ entry_found es entries stands i h within here lock same =
     (own ∙ ap (entry_of es) same, rw same at is_held)
 
 module _ (es : List Event) (entries : List HeldEntry) (stands : StandsFor es entries) (lock : ℕ) (mode : LockMode) where
-  by_depth : acquire_refusal es lock mode
+  pub by_depth : acquire_refusal es lock mode
       ≡ cond (eqb (depth es lock) 0) (cond (leb 64 (length entries)) (Some HeldFull) None) (cond (leb 1000000 (depth es lock)) (Some DepthFull) (cond (is_upgrade (held_mode es lock) mode) (Some Upgrade) None))
   unfolding acquire_refusal
   by_depth = rw (length-held es entries stands)
@@ -43,7 +43,7 @@ module _ (es : List Event) (entries : List HeldEntry) (stands : StandsFor es ent
     as_held : h.mode ≡ held_mode es lock
     as_held = ap (λ x. x.mode) is ∙ entry_of-mode es lock
 
-    by_entry : acquire_refusal es lock mode ≡ cond (leb 1000000 h.depth) (Some DepthFull) (cond (is_upgrade h.mode mode) (Some Upgrade) None)
+    pub by_entry : acquire_refusal es lock mode ≡ cond (leb 1000000 h.depth) (Some DepthFull) (cond (is_upgrade h.mode mode) (Some Upgrade) None)
     by_entry = rw (by_depth, ne_eqb (depth es lock) 0 (λ e. omega arith), as_deep, as_held) refl
 
     pub too_deep : 1000000 ≤ h.depth → Some DepthFull ≡ acquire_refusal es lock mode

@@ -7,7 +7,7 @@ ghost use Rattle.gl_event.specs.Standing.{StandsFor, IsAcquireOf};
 ghost use Rattle.gl_event.specs.declared.events.Event.{Event};
 ghost use Rattle.gl_event.specs.declared.events.Event.TheVariants.{Release};
 ghost use Rattle.gl_event.specs.declared.events.LockMode.{LockMode};
-ghost use Rattle.gl_recorder.specs.Taking.{Tracks, end_note, answer_to, partner_refusal};
+ghost use Rattle.gl_recorder.specs.Taking.{Tracks, MayFollow, end_note, answer_to, partner_refusal};
 ghost use Rattle.gl_event.specs.declared.limits.TheConstants.{MAX_EVENTS};
 
 use gl_event::{
@@ -120,6 +120,27 @@ impl Taker {
         Ok(note)
     }
 
+    /// Takes the event, which has to be the thread's next one, without asking whether it may be: who
+    /// asked `check` before and found it lawful needs no second answer.
+    ///
+    /// It looks through the at most 64 held locks, and takes no memory.
+    pub fn advance(&mut self, event: Event)
+        requires { MayFollow self.old event }
+        ensures { (limits : Bounds) (thread : ℕ) (es : List Event) → Tracks limits thread es self.old → Tracks limits thread (es ++ event ∷ []) self.new }
+    {
+        let has_room = self.taken < self.limits.events();
+        prove!(has_room);
+        self.keep(&event);
+    }
+
+    /// The thread whose events are taken.
+    pub fn thread(&self) -> ThreadId
+        ensures value { result ≡ self.now.thread }
+        ensures own { (limits : Bounds) (thread : ℕ) (es : List Event) → Tracks limits thread es self.now → result ≡ thread }
+    {
+        self.thread
+    }
+
     /// How many events were taken.
     pub fn taken(&self) -> u32
         ensures value { result ≡ self.now.taken }
@@ -184,7 +205,7 @@ impl Taker {
         None
     }
 
-    // Counts the event, which may come next, and keeps what the thread holds after it.
+    // Counts the event, which has to be lawful next, and keeps what the thread holds after it.
     fn keep(&mut self, event: &Event)
         requires { self.old.taken < MAX_EVENTS }
         ensures { (limits : Bounds) (thread : ℕ) (es : List Event) → Tracks limits thread es self.old → refusal limits thread es event.now ≡ None → Tracks limits thread (es ++ event.now ∷ []) self.new }

@@ -64,6 +64,10 @@ fn limits_reached(rt: HostRuntime) -> Result<(), Fail> {
     assert_eq!(rt; taker.check(acquire(0)), Err(Refusal::PlaceFull));
     assert_eq!(rt; taker.take(acquire(0)), Err(Refusal::PlaceFull));
     assert_eq!(rt; taker.end(), note(1, Body::Ended { count: 1 }));
+    assert_eq!(rt;
+        Taker::new(ThreadId::new(3), &Limits::new(4, 1, 1, 1)?).thread(),
+        ThreadId::new(3)
+    );
 
     let mut alone = Taker::new(ThreadId::new(0), &Limits::new(1, 1, 100, 1)?);
     assert_eq!(rt; alone.take(fork(1)), Err(Refusal::NoSuchThread));

@@ -1,5 +1,7 @@
+use Rattle.std.proofs.Common.{arith}
 use Rattle.gl_intake.proofs.Kept.{lawful_events}
 use Rattle.gl_intake.proofs.Streams.{logs_listed}
+use Rattle.gl_intake.proofs.Lawful.{lists_lawful}
 use Rattle.gl_intake.proofs.intake.Intake.logs.Goals as goal
 
 pub returns-clause-value : goal.returns-clause-value
@@ -7,3 +9,11 @@ returns-clause-value c = rw (c.as_slice.ensures.value, ← c.self.view_is) (logs
 
 pub returns-clause-lawful : goal.returns-clause-lawful
 returns-clause-lawful c = rw (← c.self.view_is) (lawful_events _ _ _ c.self.invariant.rows_are)
+
+pub returns-clause-few : goal.returns-clause-few
+returns-clause-few c = rw c.as_slice.ensures.value (omega (arith, c.self.invariant.logs_are.count, c.self.invariant.range.threads_fit))
+
+pub returns-clause-lawful_lists : goal.returns-clause-lawful_lists
+returns-clause-lawful_lists c =
+    rw c.as_slice.ensures.value
+    (lists_lawful _ _ _ (logs_listed _ _ _ c.self.invariant.logs_are) c.self.invariant.range (lawful_events _ _ _ c.self.invariant.rows_are))

@@ -8,4 +8,5 @@ invariant_of-result c = rw c.new.ensures.items (record {
   rows_are = c.in_ok-rows.ensures;
   no_stranger = λ thread _. none_ended thread;
   in_order = AreInOrder-nil _;
+  range = c.threads.ensures.within;
 })

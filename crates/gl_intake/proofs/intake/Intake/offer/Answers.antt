@@ -1,0 +1,6 @@
+use Rattle.std.proofs.Common.{sym}
+use Rattle.gl_intake.proofs.Next.{never_for_memory}
+use Rattle.gl_intake.proofs.intake.Intake.offer.Goals as goal
+
+pub returns-in-Some-clause-room : goal.returns-in-Some-clause-room
+returns-in-Some-clause-room c = λ room same. never_for_memory c.args.self.now.limits c.args.self.now.stream c.args.note c.in-Some.refused (sym c.in-Some.ensures) (cc)
