@@ -10,7 +10,7 @@ ghost use Rattle.gl_world.specs.Keeping.{IsFrontOf, MayTake, with_body};
 
 use crate::steps::Did;
 use gl_edges::{Edge, Sample, Tracker};
-use gl_event::{Body, Event, Limits, Memory, Note, ThreadId};
+use gl_event::{Body, Event, Limits, Memory, Note, ThreadId, append, append_both};
 use gl_recorder::Taker;
 use std::alloc::{AllocError, Global};
 use std::marker::Model;
@@ -41,33 +41,6 @@ impl Model for Row {
     ghost view = { λ r. record { thread = r.thread; limits = r.limits; lane = record { wishes = r.wishes.items; used = r.used; pushed = r.pushed.items; popped = r.popped } } };
 
     ghost invariant = { λ r. IsKept r.limits r.thread r.pushed.items r.popped r.taken.items r.has_closed r.taker r.tracker };
-}
-
-// Appends x to xs.
-fn append<X: Copy>(xs: &mut Vec<X>, x: X) -> Result<(), AllocError>
-    ensures { xs.new.items ≡ (if is_ok result then xs.old.items ++ x ∷ [] else xs.old.items) }
-{
-    xs.push(x)?;
-    Ok(())
-}
-
-// Appends x to xs and y to ys, or changes neither.
-fn append_both<X: Copy, Y: Copy>(
-    xs: &mut Vec<X>,
-    ys: &mut Vec<Y>,
-    x: X,
-    y: Y,
-) -> Result<(), AllocError>
-    ensures first { xs.new.items ≡ (if is_ok result then xs.old.items ++ x ∷ [] else xs.old.items) }
-    ensures second { ys.new.items ≡ (if is_ok result then ys.old.items ++ y ∷ [] else ys.old.items) }
-{
-    xs.reserve(1)?;
-    ys.push(y)?;
-    match xs.push(x) {
-        Ok(()) => Ok(()),
-        // there is room for one more
-        Err(_) => unreachable!(),
-    }
 }
 
 // Takes the event of the body, if it has one.

@@ -25,13 +25,13 @@ returns-then-not-has_room-clause-answer c =
     rw (end_full c.args.self.now.limits c.args.self.now.thread c.args.self.now.lane running (sym c.has_room.ensures ∙ c.if-not-has_room.true))
 
 pub invariant_of-self-2 : goal.invariant_of-self-2
-invariant_of-self-2 c = rw (c.in_ok-append.ensures, c.end.ensures.mark _ _ _ c.self.invariant.tracks) (kept_end _ _ _ _ _ _ _ _ c.self.invariant _)
+invariant_of-self-2 c = rw (c.in_ok-append.ensures.items, c.end.ensures.mark _ _ _ c.self.invariant.tracks) (kept_end _ _ _ _ _ _ _ _ c.self.invariant _)
 
 pub returns-clause-moved : goal.returns-clause-moved
 returns-clause-moved c =
     let running : has_closed c.args.self.now.thread c.args.self.now.lane ≡ false = subst (λ (k : Keeper). has_closed k.thread k.lane ≡ false) c.self.view_is (sym c.self.invariant.known ∙ c.if-self.false) in
     let free = sym c.has_room.ensures ∙ c.if-not-has_room.false in
-    end_lane _ c.args.self.now c.self.view_is running free _ (c.in_ok-append.ensures) (c.end.ensures.mark _ _ _ c.self.invariant.tracks)
+    end_lane _ c.args.self.now c.self.view_is running free _ c.in_ok-append.ensures.items (c.end.ensures.mark _ _ _ c.self.invariant.tracks)
 
 pub returns-clause-answer : goal.returns-clause-answer
 returns-clause-answer c =

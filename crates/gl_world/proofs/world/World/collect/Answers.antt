@@ -37,7 +37,7 @@ invariant_of-self-in-Ok c =
     let found : slice_get c.args.self.now.lanes c.args.thread ≡ Some c.index_mut.result.now.lane = subst (λ (s : State). slice_get s.lanes c.args.thread ≡ Some c.index_mut.result.now.lane) c.self.view_is at_lane in
     let same = same_row c.self.inside.rows.items c.args.thread c.index.result.now c.index_mut.result.now known first here in
     let due = c.in_ok-edges.ensures ∙ ap (λ (k : Keeper). edges_due k.thread (taken_of k.thread k.lane) c.args.note.now.place c.args.note.now.body) same in
-    rw (c.number-index.ensures, c.in-Ok.ensures.grown, c.in_ok-add.ensures.added)
+    rw (c.number-index.ensures, c.in-Ok.ensures.grown, c.offer.ensures.limits, c.in_ok-add.ensures.added)
     (pull_world c.self.inside.limits c.self.inside.dispatcher c.self.inside.rows.items c.self.inside.intake.stream c.self.inside.intake.limits c.self.invariant c.args.thread c.index_mut.result.now known here
     c.args.note.now (c.requires.front c.index_mut.result.now.lane found) c.pop.new.self c.pop.ensures c.in_ok-edges.edges.items due)
 
@@ -66,4 +66,4 @@ only_memory-requires c =
 pub invariant_of-self-in-Err : goal.invariant_of-self-in-Err
 invariant_of-self-in-Err c =
     let back = taken_back c.self.inside.dispatcher c.add.new.self c.take_back.new.self c.in_ok-edges.edges.items c.count-made.result c.in_ok-add.ensures.added c.count-made.ensures c.take_back.ensures in
-    rw (back, c.in-Err.ensures.unchanged) c.self.invariant
+    rw (back, c.in-Err.ensures.unchanged, c.offer.ensures.limits) c.self.invariant

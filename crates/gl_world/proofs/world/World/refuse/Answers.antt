@@ -1,5 +1,6 @@
-use Rattle.std.proofs.Common.{◌≡◌, ◌⊎◌, Some, None, sym, ap, ◌∙◌, subst}
-use Rattle.gl_intake.specs.Stream.{Collected, note_refusal}
+use Rattle.std.proofs.Common.{◌≡◌, ◌⊎◌, List, Some, None, sym, ap, ◌∙◌, subst}
+use Rattle.gl_event.specs.declared.notes.Note.{Note}
+use Rattle.gl_intake.specs.Stream.{note_refusal}
 use Rattle.gl_intake.specs.declared.notes.Refused.TheVariants.{Memory}
 use Rattle.gl_world.specs.Machine.{State, Moved}
 use Rattle.gl_world.specs.Keeping.{IsSound}
@@ -19,7 +20,7 @@ pub returns-clause-moved : goal.returns-clause-moved
 returns-clause-moved c =
     let s = c.args.self.now in
     let sound : IsSound s = subst IsSound c.self.view_is c.self.invariant.sound in
-    let same = ap (λ (k : Collected). state_of c.self.inside.limits c.self.inside.dispatcher c.self.inside.rows.items k.stream) c.in-Err.ensures.unchanged ∙ c.self.view_is in
+    let same = ap (λ (s : List Note). state_of c.self.inside.limits c.self.inside.dispatcher c.self.inside.rows.items s) c.in-Err.ensures.unchanged ∙ c.self.view_is in
     let some = never_next s sound c.args.thread c.args.place c.args.note.now c.requires.known c.requires.other c.requires.there in
     let told = rw c.self.invariant.same_limits at c.in-Err.ensures.refused in
     let cause : (note_refusal s.limits s.stream c.args.note.now ≡ Some c.in-Err.why) ⊎ ((note_refusal s.limits s.stream c.args.note.now ≡ None) × (c.in-Err.why ≡ Memory)) =
