@@ -6,4 +6,3 @@ pub mod Stepping
 pub mod Clocking
 pub mod Ordering
 pub mod LawLemmas
-pub mod Trials

@@ -31,7 +31,7 @@ impl Model for Order {
 }
 
 impl Order {
-    ghost use Rattle.gl_segments.specs.Clocks.{is_before};
+    ghost use Rattle.gl_segments.specs.Clocks.{ahead, is_before, CountsBefore};
     ghost use Rattle.gl_segments.specs.Orders.{lists_of};
     ghost use Rattle.gl_event.specs.Bounds.{greatest};
     ghost use Rattle.gl_event.specs.Lawful.{IsLawful};
@@ -53,18 +53,35 @@ impl Order {
         Ok(Order { clocks })
     }
 
+    /// How many segments of the thread are before `a`, that is, lead to it by a chain of one or more
+    /// steps: they are its first ones. 0, where `a` isn't a segment of the lists or they don't have
+    /// the thread. Takes constant time.
+    pub fn ahead(&self, a: Segment, thread: ThreadId) -> u32
+        ensures value { result ≡ ahead self.now a thread }
+        ensures counts { (lists : List (List Event)) → OrdersBy lists self.now → CountsBefore lists a thread result }
+    {
+        self.count(a, thread)
+    }
+
+    // How many segments of the thread are before `a`, by the clocks.
+    fn count(&self, a: Segment, thread: ThreadId) -> u32
+        ensures { result ≡ ahead self.now a thread }
+    {
+        match self.clocks.get(a.thread.number() as usize) {
+            Some(row) => match row.get(a.index as usize) {
+                Some(clock) => clock.ahead(thread),
+                None => 0,
+            },
+            None => 0,
+        }
+    }
+
     /// Whether a chain of one or more steps leads from `a` to `b`: false where either isn't a
     /// segment of the lists. Takes constant time.
     pub fn before(&self, a: Segment, b: Segment) -> bool
         ensures { result ≡ is_before self.now a b }
     {
-        match self.clocks.get(b.thread.number() as usize) {
-            Some(row) => match row.get(b.index as usize) {
-                Some(clock) => a.index < clock.ahead(a.thread),
-                None => false,
-            },
-            None => false,
-        }
+        a.index < self.ahead(b, a.thread)
     }
 }
 

@@ -1,18 +1,30 @@
 //! Worked examples.
-ghost use Rattle.std.specs.Prelude.{◌≡◌, ◌≢◌, ℕ, ◌<◌, ◌≤◌, List, length, slice_get, None, Some, IsTrue};
+ghost use Rattle.std.specs.Prelude.{◌≡◌, ℕ, ◌<◌, ◌≤◌, List, length, slice_get, Some, IsTrue};
 ghost use Rattle.gl_event.specs.Bounds.{greatest};
-ghost use Rattle.gl_event.specs.Lawful.{IsLawful, refusal};
+ghost use Rattle.gl_event.specs.Lawful.{IsLawful};
 ghost use Rattle.gl_event.specs.declared.events.Event.{Event};
 ghost use Rattle.gl_segments.specs.Orders.{lists_of};
 
 use crate::faults::OrderFault;
 use crate::order::Order;
-use gl_event::{Event, LocId, LockId, MAX_THREADS, Segment, ThreadId};
+use gl_event::{
+    Event, Limits, LocId, LockId, MAX_EVENTS, MAX_NAMES, MAX_RING, MAX_THREADS, Segment, ThreadId,
+};
+use gl_recorder::Taker;
+use std::alloc::{AllocError, Global};
 use std::test::Fail;
 
 // An acquire.
 fn acq(lock: u32, loc: u32) -> Event {
     Event::Acquire {
+        lock: LockId::new(lock),
+        loc: LocId::new(loc),
+    }
+}
+
+// A release.
+fn rel(lock: u32, loc: u32) -> Event {
+    Event::Release {
         lock: LockId::new(lock),
         loc: LocId::new(loc),
     }
@@ -42,45 +54,25 @@ fn seg(thread: u32, index: u32) -> Segment {
     }
 }
 
-// Whether the thread may fork or join the other one.
-fn is_other(thread: ThreadId, other: ThreadId) -> bool
-    ensures known { IsTrue result → other < 1024 }
-    ensures apart { IsTrue result → other ≢ thread }
-{
-    if other.number() >= MAX_THREADS {
-        return false;
-    }
-    other.number() != thread.number()
-}
-
-// Whether the event may come next in a short list of the thread's.
-fn is_allowed(thread: ThreadId, event: Event) -> bool
-    ensures { IsTrue result → (es : List Event) → length es < 64 → refusal greatest thread es event ≡ None }
-{
-    match event {
-        Event::Acquire { .. } => true,
-        Event::Release { .. } => false,
-        Event::Fork { thread: other, .. } => is_other(thread, other),
-        Event::Join { thread: other, .. } => is_other(thread, other),
-    }
-}
-
-// Whether the list is short, releases nothing and is lawful under the greatest limits.
+// Whether the list is lawful under the greatest limits: whether a recorder takes it.
 fn is_lawful(thread: ThreadId, list: &[Event]) -> bool
+    requires { thread < 1024 }
     ensures { IsTrue result → IsLawful greatest thread list.now }
 {
-    if list.len() > 64 {
-        return false;
-    }
+    let limits = match Limits::new(MAX_THREADS, MAX_RING, MAX_EVENTS, MAX_NAMES) {
+        Ok(limits) => limits,
+        Err(_) => return false,
+    };
+    let mut taker = Taker::new(thread, &limits);
     for event in list {
-        if !is_allowed(thread, *event) {
+        if taker.take(*event).is_err() {
             return false;
         }
     }
     true
 }
 
-// Whether there are few enough lists, and each is short, releases nothing and is lawful.
+// Whether there are few enough lists, and each is lawful.
 fn are_lawful(lists: &[Vec<Event>]) -> bool
     ensures few { IsTrue result → length lists.now ≤ 1024 }
     ensures lawful { IsTrue result → (thread : ℕ) (es : List Event) → slice_get (lists_of lists.now) thread ≡ Some es → IsLawful greatest thread es }
@@ -150,6 +142,31 @@ fn joined_before(rt: HostRuntime) -> Result<(), Fail> {
     Ok(())
 }
 
+// M (thread 0) forks and joins T0 (thread 1), and then forks T1 (thread 2).
+#[test]
+fn counts_ahead(rt: HostRuntime) -> Result<(), Fail> {
+    let alloc = rt.alloc();
+    let lists = vec![in alloc;
+        vec![in alloc; fork(1, 1), join(1, 2), fork(2, 3)]?,
+        vec![in alloc; acq(0, 4), acq(1, 5), rel(1, 6), rel(0, 7)]?,
+        vec![in alloc; acq(1, 8), acq(0, 9)]?,
+    ]?;
+    assert!(rt; are_lawful(&lists));
+    let order = Order::of(alloc, &lists)?;
+    assert!(rt; order.ahead(seg(2, 0), ThreadId::new(0)) == 3);
+    assert!(rt; order.ahead(seg(2, 0), ThreadId::new(1)) == 1);
+    assert!(rt; order.ahead(seg(1, 0), ThreadId::new(0)) == 1);
+    assert!(rt; order.ahead(seg(1, 0), ThreadId::new(2)) == 0);
+    assert!(rt; order.ahead(seg(0, 3), ThreadId::new(2)) == 0);
+    assert!(rt; order.ahead(seg(0, 2), ThreadId::new(1)) == 1);
+    assert!(rt; order.ahead(seg(0, 1), ThreadId::new(1)) == 0);
+    assert!(rt; order.ahead(seg(0, 4), ThreadId::new(0)) == 0);
+    assert!(rt; order.ahead(seg(0, 3), ThreadId::new(0)) == 3);
+    assert!(rt; order.ahead(seg(3, 0), ThreadId::new(0)) == 0);
+    assert!(rt; order.ahead(seg(0, 3), ThreadId::new(3)) == 0);
+    Ok(())
+}
+
 // What a thread does after a fork isn't ordered with what the new thread does.
 #[test]
 fn fork_while_holding(rt: HostRuntime) -> Result<(), Fail> {
@@ -188,5 +205,61 @@ fn fork_join_fork(rt: HostRuntime) -> Result<(), Fail> {
     assert!(rt; are_lawful(&lists));
     let order = Order::of(alloc, &lists);
     assert!(rt; is_ring(&order, &[seg(0, 2), seg(1, 0)]));
+    Ok(())
+}
+
+// A thread forks three others, and each of these joins the next one round.
+#[test]
+fn three_join_round(rt: HostRuntime) -> Result<(), Fail> {
+    let alloc = rt.alloc();
+    let lists = vec![in alloc;
+        vec![in alloc; fork(1, 1), fork(2, 2), fork(3, 3)]?,
+        vec![in alloc; join(2, 4)]?,
+        vec![in alloc; join(3, 5)]?,
+        vec![in alloc; join(1, 6)]?,
+    ]?;
+    assert!(rt; are_lawful(&lists));
+    let order = Order::of(alloc, &lists);
+    assert!(rt; is_ring(&order, &[seg(1, 1), seg(3, 1), seg(2, 1)]));
+    Ok(())
+}
+
+// Thread 0, which forks the threads 1 to 200 and then joins them in order, and these.
+fn many_forks(alloc: Global) -> Result<Vec<Vec<Event>>, AllocError> {
+    let mut first = Vec::new(alloc);
+    for thread in 1..=200 {
+        first.push(fork(thread, thread))?;
+    }
+    for thread in 1..=200 {
+        first.push(join(thread, 200 + thread))?;
+    }
+    let mut lists = vec![in alloc; first]?;
+    for thread in 1..=200 {
+        lists.push(vec![in alloc; acq(thread, 400)]?)?;
+    }
+    Ok(lists)
+}
+
+// Whether one of the threads 1 to 200 is before this one.
+fn is_after_another(order: &Order, thread: u32) -> bool {
+    for other in 1..=200 {
+        if order.before(seg(other, 0), seg(thread, 0)) {
+            return true;
+        }
+    }
+    false
+}
+
+// A thread forks 200 others and then joins them.
+#[test]
+fn two_hundred_forks(rt: HostRuntime) -> Result<(), Fail> {
+    let alloc = rt.alloc();
+    let lists = many_forks(alloc)?;
+    assert!(rt; are_lawful(&lists));
+    let order = Order::of(alloc, &lists)?;
+    for thread in 1..=200 {
+        assert!(rt; !is_after_another(&order, thread));
+        assert!(rt; order.ahead(seg(thread, 0), ThreadId::new(0)) == thread);
+    }
     Ok(())
 }
