@@ -1,5 +1,6 @@
 pub mod Clocks
 pub mod Faults
+pub mod Histories
 pub mod Orders
 pub mod Search
 pub mod Segments

@@ -12,6 +12,7 @@
 
 mod clock;
 mod faults;
+mod history;
 mod laws;
 mod order;
 mod search;

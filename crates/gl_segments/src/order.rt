@@ -5,10 +5,10 @@ ghost use Rattle.gl_segments.specs.Orders.{IsFaultOf};
 ghost use Rattle.gl_segments.specs.Segments.{IsConsistent};
 ghost use Rattle.gl_segments.specs.Tables.{IsSound, ShowsSteps};
 ghost use Rattle.gl_segments.specs.Rows.{AreClocksOf, IsThreadFault};
-ghost use Rattle.std.specs.Prelude.{◌≡◌, ◌↔◌, ℕ, ◌<◌, ◌≤◌, List, length, map, slice_get, Some, MatchResult, IfOk, OnOk, IfErr};
+ghost use Rattle.std.specs.Prelude.{◌≡◌, ℕ, ◌<◌, ◌≤◌, List, length, slice_get, Some, IfOk, OnOk, IfErr};
 
-use crate::clock::Clock;
 use crate::faults::OrderFault;
+use crate::history::{Growing, History};
 use crate::search::Search;
 use crate::steps::Steps;
 use gl_event::{Event, Segment, ThreadId};
@@ -18,16 +18,15 @@ use std::marker::Model;
 /// The order of the segments of lists of events: which is before which.
 #[derive(Drop, Debug)]
 pub struct Order {
-    clocks: Vec<Vec<Clock>>,
+    histories: Vec<History>,
 }
 
 impl Model for Order {
-    ghost use Rattle.std.specs.Prelude.{map};
     ghost use Rattle.gl_segments.specs.Clocks.{Clocks};
 
     ghost Value = { Clocks };
 
-    ghost view = { λ o. map (λ row. row.items) o.clocks.items };
+    ghost view = { λ o. o.histories.items };
 }
 
 impl Order {
@@ -49,8 +48,8 @@ impl Order {
         ensures fault { IfErr result (λ fault. IsFaultOf (lists_of lists.now) fault) }
     {
         let steps = Steps::of(alloc, lists)?;
-        let clocks = all_clocks(alloc, &steps)?;
-        Ok(Order { clocks })
+        let histories = histories(alloc, &steps)?;
+        Ok(Order { histories })
     }
 
     /// How many segments of the thread are before `a`, that is, lead to it by a chain of one or more
@@ -67,11 +66,8 @@ impl Order {
     fn count(&self, a: Segment, thread: ThreadId) -> u32
         ensures { result ≡ ahead self.now a thread }
     {
-        match self.clocks.get(a.thread.number() as usize) {
-            Some(row) => match row.get(a.index as usize) {
-                Some(clock) => clock.ahead(thread),
-                None => 0,
-            },
+        match self.histories.get(a.thread.number() as usize) {
+            Some(history) => history.ahead(a.index, thread),
             None => 0,
         }
     }
@@ -86,29 +82,29 @@ impl Order {
 }
 
 // The clocks of all segments, or the least segment that is before itself, with a ring.
-fn all_clocks(alloc: Global, steps: &Steps) -> Result<Vec<Vec<Clock>>, OrderFault>
+fn histories(alloc: Global, steps: &Steps) -> Result<Vec<History>, OrderFault>
     requires { IsSound steps.now }
-    ensures ok { IfOk result (λ v. (lists : List (List Event)) → ShowsSteps lists steps.now → OrdersBy lists (map (λ row. row.items) v.items)) }
+    ensures ok { IfOk result (λ v. (lists : List (List Event)) → ShowsSteps lists steps.now → OrdersBy lists v.items) }
     ensures consistent { OnOk result ((lists : List (List Event)) → ShowsSteps lists steps.now → IsConsistent lists) }
     ensures fault { IfErr result (λ fault. (lists : List (List Event)) → ShowsSteps lists steps.now → IsFaultOf lists fault) }
 {
-    let mut clocks = Vec::new(alloc);
+    let mut histories = Vec::new(alloc);
     for thread in 0..steps.threads() {
-        clocks.push(clocks_of(alloc, steps, ThreadId::new(thread as u32))?)?;
+        histories.push(history(alloc, steps, ThreadId::new(thread as u32))?)?;
     }
-    Ok(clocks)
+    Ok(histories)
 }
 
 // The clocks of a thread's segments, or the first of them that is before itself, with a ring.
-fn clocks_of(alloc: Global, steps: &Steps, thread: ThreadId) -> Result<Vec<Clock>, OrderFault>
+fn history(alloc: Global, steps: &Steps, thread: ThreadId) -> Result<History, OrderFault>
     requires sound { IsSound steps.now }
     requires within { thread < length steps.now }
-    ensures ok { IfOk result (λ v. AreClocksOf steps.now thread v.items) }
+    ensures ok { IfOk result (λ h. AreClocksOf steps.now thread h) }
     ensures fault { IfErr result (λ fault. IsThreadFault steps.now thread fault) }
 {
     let first = Segment { thread, index: 0 };
     let mut search = Search::new(alloc, steps.threads(), first)?;
-    let mut clocks = Vec::new(alloc);
+    let mut growing = Growing::new(alloc, thread, steps.threads())?;
     for index in 0..steps.segments(thread) {
         let index = index as u32;
         let at = Segment { thread, index };
@@ -117,7 +113,7 @@ fn clocks_of(alloc: Global, steps: &Steps, thread: ThreadId) -> Result<Vec<Clock
             let ring = search.ring(alloc)?;
             return Err(OrderFault::Inconsistent { at, ring });
         }
-        clocks.push(search.clock.copy(alloc)?)?;
+        growing.push(alloc, &search.clock)?;
     }
-    Ok(clocks)
+    Ok(growing.finish()?)
 }
