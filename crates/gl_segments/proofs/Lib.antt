@@ -11,3 +11,4 @@ pub mod Noting
 pub mod Sorting
 pub mod Bisecting
 pub mod Along
+pub mod Unpacking

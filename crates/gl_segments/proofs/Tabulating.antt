@@ -35,3 +35,11 @@ first_ones xs f d (suc n) h same =
 
 pub tabulated_is : {A : Type 0} (xs : List A) (f : ℕ → A) (d : A) (n : ℕ) → length xs ≡ n → ((i : ℕ) → i < n → f i ≡ slice_index_or xs i d) → tabulated n f ≡ xs
 tabulated_is xs f d n size same = first_ones xs f d n (omega arith) same ∙ take_all n xs (omega arith)
+
+-- where f and g are the same, so is what is made of them
+pub tabulated_same : {A : Type 0} (n : ℕ) (f g : ℕ → A) → ((i : ℕ) → i < n → f i ≡ g i) → tabulated n f ≡ tabulated n g
+tabulated_same zero f g same = refl
+tabulated_same (suc n) f g same =
+    let front = tabulated_same n f g (λ i below. same i (omega arith)) in
+    let last = same n (omega arith) in
+    cc

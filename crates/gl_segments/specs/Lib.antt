@@ -6,4 +6,5 @@ pub mod Search
 pub mod Segments
 pub mod Tables
 pub mod Laws
+pub mod Packing
 pub mod Rows

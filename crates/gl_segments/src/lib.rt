@@ -15,6 +15,7 @@ mod faults;
 mod history;
 mod laws;
 mod order;
+mod packed;
 mod search;
 mod steps;
 #[cfg(test)]
