@@ -39,7 +39,9 @@ impl Order {
     ///
     /// It errs with [`OrderFault::Inconsistent`] exactly where some segment is before itself, and
     /// with [`OrderFault::Memory`] only where a growth was refused. It reads each event once;
-    /// otherwise it takes time and memory as there are segments, times the number of threads.
+    /// otherwise it takes time as there are segments, times the number of threads. It takes memory
+    /// as there are forks and joins, as there are pairs of threads, and as there are places along
+    /// threads from which more segments of another thread are before.
     pub fn of(alloc: Global, lists: &[Vec<Event>]) -> Result<Order, OrderFault>
         requires few { length lists.now ≤ 1024 }
         requires lawful { (thread : ℕ) (es : List Event) → slice_get (lists_of lists.now) thread ≡ Some es → IsLawful greatest thread es }
@@ -54,7 +56,7 @@ impl Order {
 
     /// How many segments of the thread are before `a`, that is, lead to it by a chain of one or more
     /// steps: they are its first ones. 0, where `a` isn't a segment of the lists or they don't have
-    /// the thread. Takes constant time.
+    /// the thread. Takes time as the logarithm of how often such numbers grow along a's thread.
     pub fn ahead(&self, a: Segment, thread: ThreadId) -> u32
         ensures value { result ≡ ahead self.now a thread }
         ensures counts { (lists : List (List Event)) → OrdersBy lists self.now → CountsBefore lists a thread result }
@@ -73,7 +75,7 @@ impl Order {
     }
 
     /// Whether a chain of one or more steps leads from `a` to `b`: false where either isn't a
-    /// segment of the lists. Takes constant time.
+    /// segment of the lists. Takes the time of `ahead`.
     pub fn before(&self, a: Segment, b: Segment) -> bool
         ensures { result ≡ is_before self.now a b }
     {
