@@ -1,17 +1,15 @@
 -- Growths sorted by thread count the same, and the last one up to a segment is found among them.
-use Rattle.std.proofs.Common.{◌≡◌, ◌≢◌, ℕ, zero, suc, ◌+◌, ◌-◌, ◌<◌, ◌≤◌, ◌⊎◌, Bool, true, false, cond, eqb, ltb, leb, not, ◌&&◌, ◌||◌, List, [], ◌∷◌, ◌++◌, length, take, drop, refl, sym, ap, subst, ◌∙◌, inl, inr, arith}
+use Rattle.std.proofs.Common.{◌≡◌, ◌≢◌, ℕ, ◌+◌, ◌<◌, ◌≤◌, Bool, true, false, cond, eqb, not, ◌&&◌, List, [], ◌∷◌, length, refl, sym, ap, ◌∙◌, inl, inr, arith}
 use Rattle.std.specs.Prelude.{filter, slice_index, slice_index_or}
 use Rattle.std.specs.Ordering.{nat_cmp, is_lt}
-use Rattle.std.specs.List.Sorted.{IsNonDecreasingBy, IsSortedByKey, IsStableByKey, IsPartitionedBy, IsPartitionPoint}
-use Rattle.std.proofs.lemmas.Bool.{cases_eq, cases_lt}
+use Rattle.std.specs.List.Sorted.{IsNonDecreasingBy, IsSortedByKey, IsStableByKey}
+use Rattle.std.proofs.lemmas.Bool.{cases_eq}
 use Rattle.std.proofs.lemmas.Bool.Decides.{nat_tests}
-use Rattle.std.proofs.lemmas.List.{append-nil}
-use Rattle.std.proofs.lemmas.List.Elements.{filter-append, filter_agree}
+use Rattle.std.proofs.lemmas.List.Elements.{filter_agree}
 use Rattle.std.proofs.lemmas.List.Sorted.{ties_still_rise, IsNonDecreasingBy-from_sort}
 use Rattle.gl_segments.specs.declared.history.Growth.{Growth}
-use Rattle.gl_segments.specs.Histories.{is_past, is_up_to, last_count, count_at, count_along, clocks_along, tabulated, IsAtMost, AreOrdered, Tells}
-use Rattle.gl_segments.proofs.Noting.{count_this}
-use Rattle.gl_segments.proofs.Tabulating.{tabulated_is, tabulated_at, tabulated_past}
+use Rattle.gl_segments.specs.Histories.{is_past, last_count, count_at, count_along, clocks_along, tabulated, AreOrdered, Tells}
+use Rattle.gl_segments.proofs.Tabulating.{tabulated_is}
 
 -- a filter of what a weaker one keeps
 one_filtered : (p q : Growth → Bool) (g : Growth) (gs : List Growth) (b k : Bool) → p g ≡ b → q g ≡ k → (b ≡ true → k ≡ true) → filter p (filter q gs) ≡ filter p gs

@@ -1,4 +1,4 @@
-use Rattle.std.proofs.Common.{sym, ap, ◌∙◌, length, refl, arith}
+use Rattle.std.proofs.Common.{ap, ◌∙◌, length, arith}
 use Rattle.std.proofs.lemmas.List.{length-set}
 use Rattle.gl_segments.proofs.Noting.{latest_more, same_when_all}
 use Rattle.gl_segments.proofs.history.Growing.note.Goals as goal

@@ -1,4 +1,3 @@
-use Rattle.std.proofs.Common.{refl}
 use Rattle.gl_segments.proofs.Noting.{tells_growth}
 use Rattle.gl_segments.proofs.history.Growing.note_count.Goals as goal
 
