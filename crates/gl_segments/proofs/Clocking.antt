@@ -41,7 +41,7 @@ may_start_next steps sound clock s t width is apart thread index has = record {
 }
 
 -- a clock of zeros counts nothing
-none_counted : (n t : ℕ) → slice_index (replicate n 0) t ≡ 0
+pub none_counted : (n t : ℕ) → slice_index (replicate n 0) t ≡ 0
 none_counted zero t = refl
 none_counted (suc n) zero = refl
 none_counted (suc n) (suc t) = none_counted n t
@@ -81,6 +81,17 @@ chain_of_links steps target found links (s ∷ rest) k l pos at h =
           let is : m.segment ≡ target = ap (λ y. y.segment) root ∙ links.begins.2 in
           ([], ap (λ y. y ∷ rest) starts ∙ ap (λ xs. l.segment ∷ xs) none, subst (LeadsTo steps l.segment) is link.1.2)
     ]
+
+-- exactly the earlier segments of the thread itself are before a segment that isn't before itself
+pub own_count : (steps : Sources) → IsSound steps → (clock : List ℕ) (thread index : ℕ) → Has steps (record { thread = thread; index = index }) → IsClockOf steps clock (record { thread = thread; index = index })
+    → (Counts clock (record { thread = thread; index = index }) → ⊥) → slice_index clock thread ≡ index
+own_count steps sound clock thread zero has is apart = omega (arith, apart)
+own_count steps sound clock thread (suc index) has is apart =
+    let earlier : Segment = record { thread = thread; index = index } in
+    let this : Segment = record { thread = thread; index = suc index } in
+    let step : LeadsTo steps earlier this = sound.next earlier this has refl (let one : suc index ≡ index + 1 = omega arith in one) in
+    let counted : Counts clock earlier = (is earlier).1 ([], step) in
+    omega (arith, apart)
 
 -- one more clock of a thread
 pub clocks_more : (steps : Sources) (thread : ℕ) (clocks : List (List ℕ)) (n : ℕ) (clock : List ℕ) → IsClockOf steps clock (record { thread = thread; index = n })

@@ -6,3 +6,9 @@ pub mod Stepping
 pub mod Clocking
 pub mod Ordering
 pub mod LawLemmas
+pub mod Tabulating
+pub mod Noting
+pub mod Sorting
+pub mod Bisecting
+pub mod Along
+pub mod Unpacking

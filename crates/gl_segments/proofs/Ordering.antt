@@ -6,7 +6,7 @@ use Rattle.std.proofs.lemmas.List.{length_push, get_or_append_left, get_or_push,
 use Rattle.gl_event.specs.declared.events.Event.{Event}
 use Rattle.gl_event.specs.declared.events.Segment.{Segment}
 use Rattle.gl_segments.specs.Segments.{IsStep, Before, IsRing, IsConsistent, IsLeastInRing}
-use Rattle.gl_segments.specs.Clocks.{Clocks, ahead, OrdersBy}
+use Rattle.gl_segments.specs.Clocks.{Clocks, ahead, OrdersBy, CountsBefore}
 use Rattle.gl_segments.specs.Orders.{IsFaultOf}
 use Rattle.gl_segments.specs.Tables.{Sources, Has, LeadsTo, Precedes, IsSound, ShowsSteps}
 use Rattle.gl_segments.specs.Search.{IsClockOf}
@@ -21,6 +21,12 @@ pub record AreClocksTo (steps : Sources) (clocks : Clocks) (n : ℕ) : Type 0 wh
   pub size : length clocks ≡ n
   -- each is its thread's
   pub each : (t : ℕ) → t < n → AreClocksOf steps t (slice_index_or clocks t [])
+
+-- clocks that order the lists count the segments that are before each
+pub counted : (lists : List (List Event)) (clocks : Clocks) (a : Segment) (thread : ℕ) → OrdersBy lists clocks → CountsBefore lists a thread (ahead clocks a thread)
+counted lists clocks a thread orders i =
+    let s : Segment = record { thread = thread; index = i } in
+    (λ below. (orders s a).0 (lt-ltb i (ahead clocks a thread) below), λ before. ltb-true i (ahead clocks a thread) ((orders s a).1 before))
 
 -- those of no threads
 pub clocks_none : (steps : Sources) → AreClocksTo steps [] 0

@@ -129,16 +129,16 @@ forks_all cuts thread forks n all so_far a =
     (λ h. (so_far.only a h).0, λ f. let r = cut_within (slice_get cuts a.thread) a.index _ f.1 in let w = slice_get_within cuts a.thread r.0 r.1 in so_far.all a f (omega arith))
 
 -- the row of a thread, for the first n of its forks and joins
-pub record RowBelow (cuts : List (List Event)) (thread : ℕ) (es : List Event) (built : List (Vec Segment)) (n : ℕ) : Type 0 where
+pub record RowBelow (cuts : List (List Event)) (thread : ℕ) (es : List Event) (built : List (List Segment)) (n : ℕ) : Type 0 where
   -- one more than forks and joins
   pub size : length built ≡ n + 1
   -- those of the first segment
-  pub first : (a : Segment) → Contains (slice_index_or (map (λ (s : Vec Segment). s.items) built) 0 []) a ↔ Forks cuts thread a
+  pub first : (a : Segment) → Contains (slice_index_or built 0 []) a ↔ Forks cuts thread a
   -- those of the later ones
-  pub later : (i : ℕ) (e : Event) → i < n → slice_get es i ≡ Some e → slice_index_or (map (λ (s : Vec Segment). s.items) built) (i + 1) [] ≡ record { thread = thread; index = i } ∷ joined_last cuts e
+  pub later : (i : ℕ) (e : Event) → i < n → slice_get es i ≡ Some e → slice_index_or built (i + 1) [] ≡ record { thread = thread; index = i } ∷ joined_last cuts e
 
 -- the row of the first segment
-pub row_begins : (cuts : List (List Event)) (thread : ℕ) (es : List Event) (none : List (Vec Segment)) (w : Vec Segment) → none ≡ [] → ((a : Segment) → Contains w.items a ↔ Forks cuts thread a) → RowBelow cuts thread es (none ++ w ∷ []) 0
+pub row_begins : (cuts : List (List Event)) (thread : ℕ) (es : List Event) (none : List (List Segment)) (w : List Segment) → none ≡ [] → ((a : Segment) → Contains w a ↔ Forks cuts thread a) → RowBelow cuts thread es (none ++ w ∷ []) 0
 row_begins cuts thread es none w empty forks = rw empty (record {
   size = omega arith;
   first = forks;
@@ -146,33 +146,30 @@ row_begins cuts thread es none w empty forks = rw empty (record {
 })
 
 -- one more segment's
-pub row_more : (cuts : List (List Event)) (thread : ℕ) (es : List Event) (built : List (Vec Segment)) (n : ℕ) (w : Vec Segment) (e : Event) → slice_get es n ≡ Some e → w.items ≡ record { thread = thread; index = n } ∷ joined_last cuts e
+pub row_more : (cuts : List (List Event)) (thread : ℕ) (es : List Event) (built : List (List Segment)) (n : ℕ) (w : List Segment) (e : Event) → slice_get es n ≡ Some e → w ≡ record { thread = thread; index = n } ∷ joined_last cuts e
     → RowBelow cuts thread es built n → RowBelow cuts thread es (built ++ w ∷ []) (n + 1)
 row_more cuts thread es built n w e at is so_far =
-    let f : Vec Segment → List Segment = λ s. s.items in
-    let pushed : map f (built ++ w ∷ []) ≡ map f built ++ w.items ∷ [] = map_push f built w in
-    let long : length (map f built) ≡ n + 1 = length-map built f ∙ so_far.size in
     record {
       size = length_push built w ∙ ap (λ k. k + 1) so_far.size;
       first = λ a.
-          let same : slice_index_or (map f (built ++ w ∷ [])) 0 [] ≡ slice_index_or (map f built) 0 [] = ap (λ xs. slice_index_or xs 0 []) pushed ∙ get_or_append_left (map f built) (w.items ∷ []) [] 0 (omega arith) in
+          let same : slice_index_or (built ++ w ∷ []) 0 [] ≡ slice_index_or built 0 [] = get_or_append_left built (w ∷ []) [] 0 (let size = so_far.size in omega arith) in
           subst (λ xs. Contains xs a ↔ Forks cuts thread a) (sym same) (so_far.first a);
       later = λ i d below here.
           elim (place_cases n i below) [
             | inl lower ↦
-                let same : slice_index_or (map f (built ++ w ∷ [])) (i + 1) [] ≡ slice_index_or (map f built) (i + 1) [] = ap (λ xs. slice_index_or xs (i + 1) []) pushed ∙ get_or_append_left (map f built) (w.items ∷ []) [] (i + 1) (omega arith) in
+                let same : slice_index_or (built ++ w ∷ []) (i + 1) [] ≡ slice_index_or built (i + 1) [] = get_or_append_left built (w ∷ []) [] (i + 1) (let size = so_far.size in omega arith) in
                 same ∙ so_far.later i d lower here
             | inr last ↦
-                let there : slice_index_or (map f (built ++ w ∷ [])) (i + 1) [] ≡ w.items = ap (λ xs. slice_index_or xs (i + 1) []) pushed ∙ get_or_push (map f built) w.items [] (i + 1) (omega arith) in
+                let there : slice_index_or (built ++ w ∷ []) (i + 1) [] ≡ w = get_or_push built w [] (i + 1) (let size = so_far.size in omega arith) in
                 let event : e ≡ d = same_Some e d (sym at ∙ ap (slice_get es) (sym last) ∙ here) in
                 there ∙ is ∙ ap (λ k. record { thread = thread; index = k } ∷ joined_last cuts e) (sym last) ∙ ap (λ y. record { thread = thread; index = i } ∷ joined_last cuts y) event
           ];
     }
 
 -- the whole row
-pub row_all : (cuts : List (List Event)) (thread : ℕ) (es : List Event) (built : List (Vec Segment)) (n : ℕ) → n ≡ length es → RowBelow cuts thread es built n → IsRowOf cuts thread es (map (λ (s : Vec Segment). s.items) built)
+pub row_all : (cuts : List (List Event)) (thread : ℕ) (es : List Event) (built : List (List Segment)) (n : ℕ) → n ≡ length es → RowBelow cuts thread es built n → IsRowOf cuts thread es built
 row_all cuts thread es built n all so_far = record {
-  size = length-map built (λ (s : Vec Segment). s.items) ∙ so_far.size ∙ ap (λ k. k + 1) all;
+  size = so_far.size ∙ ap (λ k. k + 1) all;
   first = so_far.first;
   later = λ i e here. let w = slice_get_within es i e here in so_far.later i e (omega arith) here;
 }

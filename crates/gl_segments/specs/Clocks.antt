@@ -1,5 +1,5 @@
 -- Clocks: of each thread, how many of its segments are before a segment.
-use Rattle.std.specs.Prelude.{◌↔◌, ℕ, Bool, IsTrue, List, [], nat_lt, slice_index_or}
+use Rattle.std.specs.Prelude.{◌↔◌, ℕ, ◌<◌, Bool, IsTrue, List, [], nat_lt, slice_index_or}
 use Rattle.gl_event.specs.declared.events.Event.{Event}
 use Rattle.gl_event.specs.declared.events.Segment.{Segment}
 use Rattle.gl_segments.specs.Segments.{Before}
@@ -19,3 +19,7 @@ is_before clocks a b = nat_lt a.index (ahead clocks b a.thread)
 -- the clocks decide which segment of the lists is before which
 abbrev pub OrdersBy : List (List Event) → Clocks → Type 0
 OrdersBy lists clocks = (a b : Segment) → IsTrue (is_before clocks a b) ↔ Before lists a b
+
+-- so many segments of the thread are before this one: its first ones are, and no others
+abbrev pub CountsBefore : List (List Event) → Segment → ℕ → ℕ → Type 0
+CountsBefore lists a thread n = (i : ℕ) → (i < n) ↔ Before lists (record { thread = thread; index = i }) a

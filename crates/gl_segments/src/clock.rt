@@ -1,5 +1,5 @@
 //! Clocks: of each thread, how many of its segments are before a segment.
-ghost use Rattle.std.specs.Prelude.{◌≡◌, ◌<◌, List, length, replicate, slice_index, slice_set, IfOk};
+ghost use Rattle.std.specs.Prelude.{◌≡◌, ℕ, ◌<◌, List, length, replicate, slice_index, slice_set, IfOk};
 
 use gl_event::ThreadId;
 use std::alloc::{AllocError, Global};
@@ -29,6 +29,13 @@ impl Clock {
         })
     }
 
+    /// How many threads there are.
+    pub fn threads(&self) -> usize
+        ensures { result ≡ length self.now }
+    {
+        self.ahead.len()
+    }
+
     /// How many segments of the thread are before the segment: 0, where the thread isn't known.
     pub fn ahead(&self, thread: ThreadId) -> u32
         ensures { result ≡ slice_index self.now thread }
@@ -54,5 +61,18 @@ impl Clock {
         Ok(Clock {
             ahead: Vec::from_slice(alloc, &self.ahead)?,
         })
+    }
+
+    /// The counts up to the last one that isn't 0.
+    pub fn front(&self, alloc: Global) -> Result<Vec<u32>, AllocError>
+        ensures { IfOk result (λ v. (thread : ℕ) → slice_index v.items thread ≡ slice_index self.now thread) }
+    {
+        let mut end = 0;
+        for (thread, count) in self.ahead.iter().enumerate() {
+            if *count > 0 {
+                end = thread + 1;
+            }
+        }
+        Vec::from_slice(alloc, &self.ahead[..end])
     }
 }

@@ -2,8 +2,9 @@
 //!
 //! Where a thread M forks T0, joins it and then forks T1, all that T0 does comes before all that T1
 //! does: T0's segment 0 is before T1's. [`Order`] answers such questions for the whole lists of
-//! events of all threads. It keeps for each segment, per thread, how many of that thread's segments
-//! are before it (a clock), so that an answer is one comparison.
+//! events of all threads. It answers by clocks: how many segments of each thread are before a segment.
+//! Along a thread these numbers only grow, and only at forks and joins that bring something new. So
+//! it keeps where they grow, and an answer is a search by halving.
 //!
 //! Forks and joins that can't have happened, as where two threads join each other, put a segment
 //! before itself. Such lists have no order: [`OrderFault::Inconsistent`] names the least such
@@ -12,8 +13,10 @@
 
 mod clock;
 mod faults;
+mod history;
 mod laws;
 mod order;
+mod packed;
 mod search;
 mod steps;
 #[cfg(test)]

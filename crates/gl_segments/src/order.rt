@@ -5,10 +5,10 @@ ghost use Rattle.gl_segments.specs.Orders.{IsFaultOf};
 ghost use Rattle.gl_segments.specs.Segments.{IsConsistent};
 ghost use Rattle.gl_segments.specs.Tables.{IsSound, ShowsSteps};
 ghost use Rattle.gl_segments.specs.Rows.{AreClocksOf, IsThreadFault};
-ghost use Rattle.std.specs.Prelude.{◌≡◌, ◌↔◌, ℕ, ◌<◌, ◌≤◌, List, length, map, slice_get, Some, MatchResult, IfOk, OnOk, IfErr};
+ghost use Rattle.std.specs.Prelude.{◌≡◌, ℕ, ◌<◌, ◌≤◌, List, length, slice_get, Some, IfOk, OnOk, IfErr};
 
-use crate::clock::Clock;
 use crate::faults::OrderFault;
+use crate::history::{Growing, History};
 use crate::search::Search;
 use crate::steps::Steps;
 use gl_event::{Event, Segment, ThreadId};
@@ -18,20 +18,19 @@ use std::marker::Model;
 /// The order of the segments of lists of events: which is before which.
 #[derive(Drop, Debug)]
 pub struct Order {
-    clocks: Vec<Vec<Clock>>,
+    histories: Vec<History>,
 }
 
 impl Model for Order {
-    ghost use Rattle.std.specs.Prelude.{map};
     ghost use Rattle.gl_segments.specs.Clocks.{Clocks};
 
     ghost Value = { Clocks };
 
-    ghost view = { λ o. map (λ row. row.items) o.clocks.items };
+    ghost view = { λ o. o.histories.items };
 }
 
 impl Order {
-    ghost use Rattle.gl_segments.specs.Clocks.{is_before};
+    ghost use Rattle.gl_segments.specs.Clocks.{ahead, is_before, CountsBefore};
     ghost use Rattle.gl_segments.specs.Orders.{lists_of};
     ghost use Rattle.gl_event.specs.Bounds.{greatest};
     ghost use Rattle.gl_event.specs.Lawful.{IsLawful};
@@ -40,7 +39,9 @@ impl Order {
     ///
     /// It errs with [`OrderFault::Inconsistent`] exactly where some segment is before itself, and
     /// with [`OrderFault::Memory`] only where a growth was refused. It reads each event once;
-    /// otherwise it takes time and memory as there are segments, times the number of threads.
+    /// otherwise it takes time as there are segments, times the number of threads. It takes memory
+    /// as there are forks and joins, as there are pairs of threads, and as there are places along
+    /// threads from which more segments of another thread are before.
     pub fn of(alloc: Global, lists: &[Vec<Event>]) -> Result<Order, OrderFault>
         requires few { length lists.now ≤ 1024 }
         requires lawful { (thread : ℕ) (es : List Event) → slice_get (lists_of lists.now) thread ≡ Some es → IsLawful greatest thread es }
@@ -49,49 +50,63 @@ impl Order {
         ensures fault { IfErr result (λ fault. IsFaultOf (lists_of lists.now) fault) }
     {
         let steps = Steps::of(alloc, lists)?;
-        let clocks = all_clocks(alloc, &steps)?;
-        Ok(Order { clocks })
+        let histories = histories(alloc, &steps)?;
+        Ok(Order { histories })
+    }
+
+    /// How many segments of the thread are before `a`, that is, lead to it by a chain of one or more
+    /// steps: they are its first ones. 0, where `a` isn't a segment of the lists or they don't have
+    /// the thread. Takes time as the logarithm of how often such numbers grow along a's thread.
+    pub fn ahead(&self, a: Segment, thread: ThreadId) -> u32
+        ensures value { result ≡ ahead self.now a thread }
+        ensures counts { (lists : List (List Event)) → OrdersBy lists self.now → CountsBefore lists a thread result }
+    {
+        self.count(a, thread)
+    }
+
+    // How many segments of the thread are before `a`, by the clocks.
+    fn count(&self, a: Segment, thread: ThreadId) -> u32
+        ensures { result ≡ ahead self.now a thread }
+    {
+        match self.histories.get(a.thread.number() as usize) {
+            Some(history) => history.ahead(a.index, thread),
+            None => 0,
+        }
     }
 
     /// Whether a chain of one or more steps leads from `a` to `b`: false where either isn't a
-    /// segment of the lists. Takes constant time.
+    /// segment of the lists. Takes the time of `ahead`.
     pub fn before(&self, a: Segment, b: Segment) -> bool
         ensures { result ≡ is_before self.now a b }
     {
-        match self.clocks.get(b.thread.number() as usize) {
-            Some(row) => match row.get(b.index as usize) {
-                Some(clock) => a.index < clock.ahead(a.thread),
-                None => false,
-            },
-            None => false,
-        }
+        a.index < self.ahead(b, a.thread)
     }
 }
 
 // The clocks of all segments, or the least segment that is before itself, with a ring.
-fn all_clocks(alloc: Global, steps: &Steps) -> Result<Vec<Vec<Clock>>, OrderFault>
+fn histories(alloc: Global, steps: &Steps) -> Result<Vec<History>, OrderFault>
     requires { IsSound steps.now }
-    ensures ok { IfOk result (λ v. (lists : List (List Event)) → ShowsSteps lists steps.now → OrdersBy lists (map (λ row. row.items) v.items)) }
+    ensures ok { IfOk result (λ v. (lists : List (List Event)) → ShowsSteps lists steps.now → OrdersBy lists v.items) }
     ensures consistent { OnOk result ((lists : List (List Event)) → ShowsSteps lists steps.now → IsConsistent lists) }
     ensures fault { IfErr result (λ fault. (lists : List (List Event)) → ShowsSteps lists steps.now → IsFaultOf lists fault) }
 {
-    let mut clocks = Vec::new(alloc);
+    let mut histories = Vec::new(alloc);
     for thread in 0..steps.threads() {
-        clocks.push(clocks_of(alloc, steps, ThreadId::new(thread as u32))?)?;
+        histories.push(history(alloc, steps, ThreadId::new(thread as u32))?)?;
     }
-    Ok(clocks)
+    Ok(histories)
 }
 
 // The clocks of a thread's segments, or the first of them that is before itself, with a ring.
-fn clocks_of(alloc: Global, steps: &Steps, thread: ThreadId) -> Result<Vec<Clock>, OrderFault>
+fn history(alloc: Global, steps: &Steps, thread: ThreadId) -> Result<History, OrderFault>
     requires sound { IsSound steps.now }
     requires within { thread < length steps.now }
-    ensures ok { IfOk result (λ v. AreClocksOf steps.now thread v.items) }
+    ensures ok { IfOk result (λ h. AreClocksOf steps.now thread h) }
     ensures fault { IfErr result (λ fault. IsThreadFault steps.now thread fault) }
 {
     let first = Segment { thread, index: 0 };
     let mut search = Search::new(alloc, steps.threads(), first)?;
-    let mut clocks = Vec::new(alloc);
+    let mut growing = Growing::new(alloc, thread, steps.threads())?;
     for index in 0..steps.segments(thread) {
         let index = index as u32;
         let at = Segment { thread, index };
@@ -100,7 +115,7 @@ fn clocks_of(alloc: Global, steps: &Steps, thread: ThreadId) -> Result<Vec<Clock
             let ring = search.ring(alloc)?;
             return Err(OrderFault::Inconsistent { at, ring });
         }
-        clocks.push(search.clock.copy(alloc)?)?;
+        growing.push(alloc, &search.clock)?;
     }
-    Ok(clocks)
+    Ok(growing.finish()?)
 }

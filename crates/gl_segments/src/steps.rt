@@ -1,9 +1,10 @@
 //! The steps between segments, by the segment to which they lead.
-ghost use Rattle.std.specs.Prelude.{◌≡◌, ◌↔◌, ◌⊎◌, ℕ, ◌+◌, ◌<◌, ◌^◌, List, ◌∷◌, map, filter, length, slice_get, Some, Contains, IsTrue, IfOk, OnOk};
+ghost use Rattle.std.specs.Prelude.{◌≡◌, ◌↔◌, ◌⊎◌, ℕ, ◌+◌, ◌<◌, ◌^◌, List, ◌∷◌, filter, length, slice_get, Some, Contains, IsTrue, IfOk, OnOk};
 ghost use Rattle.gl_event.specs.Events.{closes};
 ghost use Rattle.gl_segments.specs.Tables.{cuts_of, AreSmall, Forks, joined_last, IsRowOf, AddsForks};
 ghost use Rattle.gl_segments.specs.Orders.{lists_of};
 
+use crate::packed::Packed;
 use gl_event::{Event, Segment, ThreadId};
 use std::alloc::{AllocError, Global};
 use std::marker::Model;
@@ -11,16 +12,15 @@ use std::marker::Model;
 /// For each segment of each thread, the segments that are one step before it.
 #[derive(Drop, Debug)]
 pub struct Steps {
-    rows: Vec<Vec<Vec<Segment>>>,
+    rows: Vec<Packed>,
 }
 
 impl Model for Steps {
-    ghost use Rattle.std.specs.Prelude.{map};
     ghost use Rattle.gl_segments.specs.Tables.{Sources};
 
     ghost Value = { Sources };
 
-    ghost view = { λ s. map (λ row. map (λ sources. sources.items) row.items) s.rows.items };
+    ghost view = { λ s. s.rows.items };
 }
 
 impl Steps {
@@ -62,7 +62,7 @@ impl Steps {
         requires { Has self.now segment }
         ensures { result.now ≡ sources self.now segment }
     {
-        &self.rows[segment.thread.number() as usize][segment.index as usize]
+        self.rows[segment.thread.number() as usize].get(segment.index as usize)
     }
 }
 
@@ -95,23 +95,19 @@ fn is_closer(event: Event) -> bool
 }
 
 // What is one step before each segment of the thread.
-fn row(
-    alloc: Global,
-    cuts: &[Vec<Event>],
-    thread: ThreadId,
-) -> Result<Vec<Vec<Segment>>, AllocError>
+fn row(alloc: Global, cuts: &[Vec<Event>], thread: ThreadId) -> Result<Packed, AllocError>
     requires small { AreSmall (lists_of cuts.now) }
     requires within { thread < length cuts.now }
-    ensures { IfOk result (λ v. (es : List Event) → slice_get (lists_of cuts.now) thread ≡ Some es → IsRowOf (lists_of cuts.now) thread es (map (λ s. s.items) v.items)) }
+    ensures { IfOk result (λ v. (es : List Event) → slice_get (lists_of cuts.now) thread ≡ Some es → IsRowOf (lists_of cuts.now) thread es v) }
 {
-    let mut row = Vec::new(alloc);
-    row.push(forks(alloc, cuts, thread)?)?;
+    let mut row = Packed::new(alloc)?;
+    row.push(&forks(alloc, cuts, thread)?)?;
     for (index, cut) in cuts[thread.number() as usize].iter().enumerate() {
         let closed = Segment {
             thread,
             index: index as u32,
         };
-        row.push(after(alloc, cuts, closed, *cut)?)?;
+        row.push(&after(alloc, cuts, closed, *cut)?)?;
     }
     Ok(row)
 }

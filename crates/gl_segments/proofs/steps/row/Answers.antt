@@ -1,4 +1,4 @@
-use Rattle.std.proofs.Common.{◌≡◌, length, map, refl, sym, ap, subst, ◌∙◌, arith}
+use Rattle.std.proofs.Common.{◌≡◌, length, refl, sym, ap, subst, ◌∙◌, arith}
 use Rattle.std.specs.Prelude.{slice_get}
 use Rattle.std.proofs.lemmas.Option.{slice_get_read, same_Some}
 use Rattle.gl_segments.specs.Orders.{lists_of}
@@ -7,7 +7,9 @@ use Rattle.gl_segments.proofs.Tabling.{items_at, row_begins, row_more, row_all}
 use Rattle.gl_segments.proofs.steps.row.Goals as goal
 
 pub loop-index-init : goal.loop-index-init
-loop-index-init c = rw c.in_ok-push.ensures.items (row_begins _ _ _ _ _ c.new-row.ensures.items c.in_ok-forks.ensures)
+loop-index-init c =
+    rw (c.in_ok-push.ensures, c.deref.ensures.value)
+    (row_begins (lists_of c.args.cuts.now) c.args.thread c.deref-cut-items.result.now c.in_ok-row.row c.in_ok-forks.field-0.items c.in_ok-row.ensures c.in_ok-forks.ensures)
 
 pub overflow_cast-closed : goal.overflow_cast-closed
 overflow_cast-closed c =
@@ -20,8 +22,8 @@ overflow_cast-closed c =
 pub loop-index-preserved : goal.loop-index-preserved
 loop-index-preserved c =
     let items = c.deref-cut-items.result.now in
-    rw c.in_ok-push-2.ensures.items
-    (row_more (lists_of c.args.cuts.now) c.args.thread items c.loop-index.row.items c.loop-index.index c.in_ok-after.field-0 c.cut-item.result
+    rw (c.in_ok-push-2.ensures, c.deref-in-loop-index.ensures.value)
+    (row_more (lists_of c.args.cuts.now) c.args.thread items c.loop-index.row c.loop-index.index c.in_ok-after.field-0.items c.cut-item.result
     (slice_get_read items (length items) c.loop-index.index c.cut-item.result refl c.loop-index-test.true c.cut-item.is) c.in_ok-after.ensures c.loop-index.invariant)
 
 pub returns : goal.returns
@@ -30,5 +32,5 @@ returns c =
     let at = items_at c.args.cuts.now c.number.result c.index-cuts-number.result (rw number c.requires.within) c.index-cuts-number.is in
     λ es there.
     let same : c.deref-cut-items.result.now ≡ es = c.deref-cut-items.ensures.value ∙ same_Some _ es (sym at ∙ ap (slice_get (lists_of c.args.cuts.now)) number ∙ there) in
-    subst (λ xs. IsRowOf (lists_of c.args.cuts.now) c.args.thread xs (map (λ s. s.items) c.loop-index.row.items)) same
-    (row_all (lists_of c.args.cuts.now) c.args.thread c.deref-cut-items.result.now c.loop-index.row.items c.loop-index.index (omega arith) c.loop-index.invariant)
+    subst (λ xs. IsRowOf (lists_of c.args.cuts.now) c.args.thread xs c.loop-index.row) same
+    (row_all (lists_of c.args.cuts.now) c.args.thread c.deref-cut-items.result.now c.loop-index.row c.loop-index.index (omega arith) c.loop-index.invariant)

@@ -1,7 +1,7 @@
-use Rattle.std.proofs.Common.{◌≡◌, ℕ, ◌+◌, ◌<◌, length, map, List, Some, sym, ap, subst, ◌∙◌, arith, rules}
+use Rattle.std.proofs.Common.{◌≡◌, ℕ, ◌+◌, ◌<◌, length, List, Some, sym, ap, subst, ◌∙◌, arith, rules}
 use Rattle.std.specs.Prelude.{filter, slice_get}
 use Rattle.std.specs.Global.{Vec}
-use Rattle.std.proofs.lemmas.List.{length-map, length_push, map_push}
+use Rattle.std.proofs.lemmas.List.{length-map, length_push}
 use Rattle.std.proofs.lemmas.Option.{slice_get_within}
 use Rattle.gl_event.specs.Events.{closes}
 use Rattle.gl_event.specs.declared.events.Event.{Event}
@@ -12,9 +12,6 @@ use Rattle.gl_segments.proofs.Tabling.{rows_more}
 use Rattle.gl_segments.proofs.Stepping.{cuts_small, shows_steps, steps_sound}
 use Rattle.gl_segments.proofs.steps.Steps.of.Goals as goal
 
-abbrev view_row : Vec (Vec Segment) → List (List Segment)
-view_row r = map (λ s. s.items) r.items
-
 pub row-requires-clause-small : goal.row-requires-clause-small
 row-requires-clause-small c =
     let is = ap lists_of c.deref.ensures.value ∙ c.in_ok-cuts.ensures in
@@ -24,26 +21,25 @@ pub loop-thread-preserved : goal.loop-thread-preserved
 loop-thread-preserved c =
     let cuts : List (List Event) = lists_of c.in_ok-cuts.cuts.items in
     let old = c.loop-thread.rows.items in
-    let new : (es : List Event) → slice_get cuts c.loop-thread.thread ≡ Some es → IsRowOf cuts c.loop-thread.thread es (view_row c.in_ok-row.field-0)
+    let new : (es : List Event) → slice_get cuts c.loop-thread.thread ≡ Some es → IsRowOf cuts c.loop-thread.thread es c.in_ok-row.field-0
     = rw (c.deref.ensures.value, c.new.ensures) at c.in_ok-row.ensures in
     record {
       size = rw (c.in_ok-push.ensures.items, length_push) (ap (λ n. n + 1) c.loop-thread.invariant.size);
-      each = rw (c.in_ok-push.ensures.items, map_push) (rows_more cuts (map view_row old) c.loop-thread.thread (view_row c.in_ok-row.field-0) (length-map old view_row ∙ c.loop-thread.invariant.size) new c.loop-thread.invariant.each);
+      each = rw c.in_ok-push.ensures.items (rows_more cuts old c.loop-thread.thread c.in_ok-row.field-0 c.loop-thread.invariant.size new c.loop-thread.invariant.each);
     }
 
 -- the rows of all threads, for the lists' own forks and joins
-all_rows : (lists : List (List Event)) (cuts : List (Vec Event)) (rows : List (Vec (Vec Segment))) (n : ℕ) → lists_of cuts ≡ cuts_of lists → length rows ≡ n → n ≡ length cuts
-    → ((t : ℕ) (es : List Event) → t < n → slice_get (lists_of cuts) t ≡ Some es → IsRowOf (lists_of cuts) t es (row (map view_row rows) t))
-    → (length (map view_row rows) ≡ length lists) × ((t : ℕ) (es : List Event) → slice_get (cuts_of lists) t ≡ Some es → IsRowOf (cuts_of lists) t es (row (map view_row rows) t))
+all_rows : (lists : List (List Event)) (cuts : List (Vec Event)) (rows : List (List (List Segment))) (n : ℕ) → lists_of cuts ≡ cuts_of lists → length rows ≡ n → n ≡ length cuts
+    → ((t : ℕ) (es : List Event) → t < n → slice_get (lists_of cuts) t ≡ Some es → IsRowOf (lists_of cuts) t es (row rows t))
+    → (length rows ≡ length lists) × ((t : ℕ) (es : List Event) → slice_get (cuts_of lists) t ≡ Some es → IsRowOf (cuts_of lists) t es (row rows t))
 all_rows lists cuts rows n is size all each =
-    let made = length-map rows view_row in
     let listed = length-map cuts (λ (v : Vec Event). v.items) in
     let kept = length-map lists (filter closes) in
     let same = ap length is in (
       omega arith,
       λ t es at.
           let within = slice_get_within (cuts_of lists) t es at in
-          subst (λ k. IsRowOf k t es (row (map view_row rows) t)) is (each t es (omega arith) (ap (λ k. slice_get k t) is ∙ at)),
+          subst (λ k. IsRowOf k t es (row rows t)) is (each t es (omega arith) (ap (λ k. slice_get k t) is ∙ at)),
     )
 
 pub returns-clause-shows : goal.returns-clause-shows
@@ -51,11 +47,11 @@ returns-clause-shows c =
     let lists = lists_of c.args.lists.now in
     let all : c.loop-thread.thread ≡ length c.in_ok-cuts.cuts.items = search rules in
     let r = all_rows lists c.in_ok-cuts.cuts.items c.loop-thread.rows.items c.loop-thread.thread c.in_ok-cuts.ensures c.loop-thread.invariant.size all c.loop-thread.invariant.each in
-    shows_steps lists (map view_row c.loop-thread.rows.items) r.0 r.1
+    shows_steps lists c.loop-thread.rows.items r.0 r.1
 
 pub returns-clause-sound : goal.returns-clause-sound
 returns-clause-sound c =
     let lists = lists_of c.args.lists.now in
     let all : c.loop-thread.thread ≡ length c.in_ok-cuts.cuts.items = search rules in
     let r = all_rows lists c.in_ok-cuts.cuts.items c.loop-thread.rows.items c.loop-thread.thread c.in_ok-cuts.ensures c.loop-thread.invariant.size all c.loop-thread.invariant.each in
-    steps_sound lists (map view_row c.loop-thread.rows.items) r.0 r.1 c.requires
+    steps_sound lists c.loop-thread.rows.items r.0 r.1 c.requires

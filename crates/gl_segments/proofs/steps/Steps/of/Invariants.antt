@@ -1,4 +1,4 @@
-use Rattle.std.proofs.Common.{◌≡◌, ℕ, ◌<◌, map, List, length, Some}
+use Rattle.std.proofs.Common.{◌≡◌, ℕ, ◌<◌, List, length, Some}
 use Rattle.std.specs.Prelude.{slice_get}
 use Rattle.gl_event.specs.declared.events.Event.{Event}
 use Rattle.gl_segments.specs.Orders.{lists_of}
@@ -10,5 +10,5 @@ abbrev pub invariant-loop-thread : goal.invariant-loop-thread
 invariant-loop-thread l = record {
   size : length l.rows.items ≡ l.thread;
   each : (t : ℕ) (es : List Event) → t < l.thread → slice_get (lists_of l.cuts.items) t ≡ Some es
-      → IsRowOf (lists_of l.cuts.items) t es (row (map (λ r. map (λ s. s.items) r.items) l.rows.items) t);
+      → IsRowOf (lists_of l.cuts.items) t es (row l.rows.items t);
 }

@@ -1,0 +1,236 @@
+//! The clocks of one thread's segments, kept by where they grow.
+//!
+//! Along a thread, what is before its segments only grows, and most of its segments add nothing to
+//! it. So a clock is kept for the first segment alone, and then each growth: from which segment on
+//! how many segments of which thread are before.
+ghost use Rattle.std.specs.Prelude.{◌≡◌, ℕ, ◌+◌, ◌<◌, ◌≤◌, ◌^◌, List, [], ◌∷◌, ◌++◌, length, slice_index, slice_index_or, slice_set, IfOk, OnOk};
+ghost use Rattle.std.specs.List.Sorted.{IsNonDecreasingBy};
+ghost use Rattle.gl_segments.specs.Histories.{count_at, is_up_to, AreOrdered, IsNoted};
+
+use crate::clock::Clock;
+use gl_event::ThreadId;
+use std::alloc::{AllocError, Global};
+use std::marker::Model;
+
+/// From a segment of a thread on, so many segments of another thread are before its segments.
+#[derive(Clone, Copy, Debug)]
+pub struct Growth {
+    /// The other thread.
+    pub thread: ThreadId,
+    /// The index of the segment.
+    pub from: u32,
+    /// How many segments of the other thread are before it.
+    pub count: u32,
+}
+
+/// The clocks of the segments of one thread.
+#[derive(Drop, Debug)]
+pub struct History {
+    thread: ThreadId,
+    segments: u32,
+    threads: usize,
+    /// The first segment's clock, without the zeros at its end.
+    first: Vec<u32>,
+    /// Where other threads' counts change after that, by thread and then by segment.
+    growths: Vec<Growth>,
+}
+
+impl Model for History {
+    ghost use Rattle.std.specs.Prelude.{ℕ, List};
+    ghost use Rattle.gl_segments.specs.Histories.{clocks_along, AreOrdered};
+
+    ghost Value = { List (List ℕ) };
+
+    ghost view = { λ h. clocks_along h.thread h.segments h.threads h.first.items h.growths.items };
+
+    ghost invariant = { λ h. AreOrdered h.growths.items };
+}
+
+impl History {
+    /// How many segments of the other thread are before the segment of this index: 0, where either
+    /// isn't known. Takes time as the logarithm of how many growths there are.
+    pub fn ahead(&self, index: u32, thread: ThreadId) -> u32
+        ensures { result ≡ slice_index (slice_index_or self.now index []) thread }
+    {
+        if index >= self.segments {
+            return 0;
+        }
+        if thread.number() as usize >= self.threads {
+            return 0;
+        }
+        if thread.number() == self.thread.number() {
+            return index;
+        }
+        let first = count_of(&self.first, thread);
+        count_in(&self.growths, first, index, thread)
+    }
+}
+
+// The count of this thread: 0, where there is none.
+fn count_of(counts: &[u32], thread: ThreadId) -> u32
+    ensures { result ≡ slice_index counts.now thread }
+{
+    match counts.get(thread.number() as usize) {
+        Some(count) => *count,
+        None => 0,
+    }
+}
+
+// How many segments of the thread are before the segment of this index, where so many are before
+// the first segment.
+fn count_in(growths: &[Growth], first: u32, index: u32, thread: ThreadId) -> u32
+    requires { AreOrdered growths.now }
+    ensures { result ≡ count_at first growths.now index thread }
+{
+    let until = growths.partition_point(
+        |g: &Growth| -> bool
+            ensures { result ≡ is_up_to index thread g.now }
+        {
+            g.thread.number() < thread.number()
+                || (g.thread.number() == thread.number() && g.from <= index)
+        },
+    );
+    if until == 0 {
+        return first;
+    }
+    let last = growths[until - 1];
+    if last.thread.number() == thread.number() {
+        return last.count;
+    }
+    first
+}
+
+/// The clocks of the first segments of one thread, as they come.
+#[derive(Drop, Debug)]
+pub struct Growing {
+    pub thread: ThreadId,
+    /// How many clocks came.
+    pub segments: u32,
+    /// The first clock, without the zeros at its end.
+    pub first: Vec<u32>,
+    /// The last clock.
+    pub latest: Clock,
+    /// Where other threads' counts changed after the first clock, by segment.
+    pub growths: Vec<Growth>,
+}
+
+impl Growing {
+    /// No clocks, of a thread among these many.
+    pub fn new(alloc: Global, thread: ThreadId, threads: usize) -> Result<Growing, AllocError>
+        ensures thread { IfOk result (λ g. g.thread ≡ thread) }
+        ensures threads { IfOk result (λ g. length g.latest ≡ threads) }
+        ensures noted { IfOk result (λ g. IsNoted g []) }
+    {
+        Ok(Growing {
+            thread,
+            segments: 0,
+            first: Vec::new(alloc),
+            latest: Clock::new(alloc, threads)?,
+            growths: Vec::new(alloc),
+        })
+    }
+
+    /// Adds the clock of the thread's next segment.
+    pub fn push(&mut self, alloc: Global, clock: &Clock) -> Result<(), AllocError>
+        requires room { self.old.segments + 1 < 2 ^ 32 }
+        requires few { length clock.now ≤ 1024 }
+        requires width { length clock.now ≡ length self.old.latest }
+        ensures thread { self.new.thread ≡ self.old.thread }
+        ensures threads { OnOk result (length self.new.latest ≡ length self.old.latest) }
+        ensures segments { OnOk result (self.new.segments ≡ self.old.segments + 1) }
+        ensures noted { OnOk result ((clocks : List (List ℕ)) → IsNoted self.old clocks → slice_index clock.now self.old.thread ≡ length clocks → IsNoted self.new (clocks ++ clock.now ∷ [])) }
+    {
+        self.keep(alloc, clock)?;
+        self.segments += 1;
+        Ok(())
+    }
+
+    // Makes the next clock the latest one, and keeps what is new in it.
+    fn keep(&mut self, alloc: Global, clock: &Clock) -> Result<(), AllocError>
+        requires few { length clock.now ≤ 1024 }
+        requires width { length clock.now ≡ length self.old.latest }
+        ensures thread { self.new.thread ≡ self.old.thread }
+        ensures segments { self.new.segments ≡ self.old.segments }
+        ensures latest { OnOk result (self.new.latest ≡ clock.now) }
+        ensures noted { OnOk result ((clocks : List (List ℕ)) → IsNoted self.old clocks → IsNoted self.new clocks) }
+    {
+        if self.segments == 0 {
+            return self.begin(alloc, clock);
+        }
+        self.note(clock)
+    }
+
+    // Keeps the first clock.
+    fn begin(&mut self, alloc: Global, clock: &Clock) -> Result<(), AllocError>
+        ensures thread { self.new.thread ≡ self.old.thread }
+        ensures segments { self.new.segments ≡ self.old.segments }
+        ensures latest { OnOk result (self.new.latest ≡ clock.now) }
+        ensures noted { OnOk result ((clocks : List (List ℕ)) → length clocks ≡ 0 → IsNoted self.old clocks → IsNoted self.new clocks) }
+    {
+        self.first = clock.front(alloc)?;
+        self.latest = clock.copy(alloc)?;
+        Ok(())
+    }
+
+    // Notes where the next clock differs from the last one, which it becomes.
+    fn note(&mut self, clock: &Clock) -> Result<(), AllocError>
+        requires few { length clock.now ≤ 1024 }
+        requires width { length clock.now ≡ length self.old.latest }
+        ensures thread { self.new.thread ≡ self.old.thread }
+        ensures segments { self.new.segments ≡ self.old.segments }
+        ensures latest { OnOk result (self.new.latest ≡ clock.now) }
+        ensures noted { OnOk result ((clocks : List (List ℕ)) → 0 < length clocks → IsNoted self.old clocks → IsNoted self.new clocks) }
+    {
+        for number in 0..clock.threads() {
+            let thread = ThreadId::new(number as u32);
+            self.note_count(thread, clock.ahead(thread))?;
+        }
+        Ok(())
+    }
+
+    // Notes the next count of a thread.
+    fn note_count(&mut self, thread: ThreadId, count: u32) -> Result<(), AllocError>
+        requires { thread < length self.old.latest }
+        ensures thread { self.new.thread ≡ self.old.thread }
+        ensures segments { self.new.segments ≡ self.old.segments }
+        ensures latest { OnOk result (self.new.latest ≡ slice_set self.old.latest thread count) }
+        ensures noted { OnOk result ((clocks : List (List ℕ)) → 0 < length clocks → IsNoted self.old clocks → IsNoted self.new clocks) }
+    {
+        if self.latest.ahead(thread) == count {
+            return Ok(());
+        }
+        self.latest.set(thread, count);
+        if thread.number() == self.thread.number() {
+            return Ok(());
+        }
+        self.growths.push(Growth {
+            thread,
+            from: self.segments,
+            count,
+        })?;
+        Ok(())
+    }
+
+    /// The history that has these clocks.
+    pub fn finish(self) -> Result<History, AllocError>
+        requires rising { IsNonDecreasingBy (λ g. g.from) self.growths.items }
+        ensures { IfOk result (λ h. (clocks : List (List ℕ)) → IsNoted self clocks → h ≡ clocks) }
+    {
+        let Growing {
+            thread,
+            segments,
+            first,
+            latest,
+            mut growths,
+        } = self;
+        growths.sort_by_key(|g| g.thread.number())?;
+        growths.shrink_to_fit();
+        Ok(History {
+            thread,
+            segments,
+            threads: latest.threads(),
+            first,
+            growths,
+        })
+    }
+}
