@@ -26,12 +26,14 @@ SHAPES = {
     "many-cycles": dict(threads=40, locks=12, depth=2, sections=132, disorder=1.0, locations=500),
     # Always one order.
     "none": dict(threads=16, locks=200, depth=4, sections=100, disorder=0.0, locations=1_000),
+    # Locks that are mostly taken in shared mode, in any order.
+    "readers": dict(threads=16, locks=24, depth=3, sections=100, disorder=0.3, locations=1_000, shared=0.9),
     # Threads that are forked and joined in waves, so that segments are ordered.
     "forks": dict(threads=41, locks=24, depth=2, sections=30, disorder=1.0, locations=500, waves=10, rejoins=2_000),
 }
 GENERAL = dict(
     threads=8, locks=16, depth=2, sections=20, disorder=0.1, is_ring=False, locations=500, name_length=0,
-    waves=0, rejoins=0, others=0.3, strays=0.0005,
+    waves=0, rejoins=0, others=0.3, strays=0.0005, shared=0,
 )  # fmt: skip
 
 PACKAGE = "org.example.server.storage.internal.cache.partition.segment.writer."
@@ -59,14 +61,17 @@ class Maker:
         self.sections = [self.section(k) for k in range(options.sections)]
 
     def section(self, k):
-        """The locks of a piece of code, outermost first."""
+        """The locks of a piece of code, outermost first, each with the letter of its mode."""
         options = self.options
         if options.is_ring:
             start = k * (options.depth - 1)
-            return [(start + i) % options.locks for i in range(options.depth)]
-        size = self.random.randint(min(2, options.depth), min(options.depth, options.locks))
-        locks = self.random.sample(range(options.locks), size)
-        return locks if self.random.random() < options.disorder else sorted(locks)
+            locks = [(start + i) % options.locks for i in range(options.depth)]
+        else:
+            size = self.random.randint(min(2, options.depth), min(options.depth, options.locks))
+            locks = self.random.sample(range(options.locks), size)
+            locks = locks if self.random.random() < options.disorder else sorted(locks)
+        share = options.shared
+        return [(lock, "r" if share > 0 and self.random.random() < share else "") for lock in locks]
 
     def line(self, thread, call):
         return f"{thread}|{call}|{self.random.choice(self.locations)}{self.end}"
@@ -78,8 +83,9 @@ class Maker:
         """A thread's run through a piece of code: its text and how many lines it has."""
         share = self.options.others
         made = []
-        locks = [self.locks[i] for i in section]
-        for word, lock in [("acq", lock) for lock in locks] + [("rel", lock) for lock in reversed(locks)]:
+        locks = [(self.locks[i], mode) for i, mode in section]
+        acquires = [(f"{mode}acq", lock) for lock, mode in locks]
+        for word, lock in acquires + [(f"{mode}rel", lock) for lock, mode in reversed(locks)]:
             while share > 0 and self.random.random() < share:
                 made.append(self.other(thread))
             made.append(self.line(thread, f"{word}({lock})"))
@@ -139,6 +145,7 @@ def main():
     parser.add_argument("--depth", type=int, help="most locks of a block, at most 64")
     parser.add_argument("--sections", type=int, help="pieces of code, each with its locks")
     parser.add_argument("--disorder", type=float, help="share of the pieces that take locks in any order")
+    parser.add_argument("--shared", type=float, help="share of the locks of each piece that are taken in shared mode")
     parser.add_argument("--name-length", type=int, help="least bytes of each name")
     parser.add_argument("--locations", type=int)
     parser.add_argument("--others", type=float, help="chance of another operation before each line")
@@ -154,6 +161,7 @@ def main():
         ("events", 0, 10**9), ("threads", 2 if options.waves else 1, 1_024), ("locks", 1, 10**8), ("depth", 1, 64),
         ("sections", 1, 10**8), ("disorder", 0, 1), ("name_length", 0, 30_000), ("locations", 1, 10**8),
         ("others", 0, 0.95), ("strays", 0, 1), ("waves", 0, 1_023), ("rejoins", 0, 10**8),
+        ("shared", 0, 1),
     ]:  # fmt: skip
         if not least <= getattr(options, name) <= most:
             parser.error(f"--{name.replace('_', '-')} is from {least} to {most}")

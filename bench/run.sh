@@ -15,7 +15,7 @@ here=$(cd "$(dirname "$0")" && pwd)
 top=$(dirname "$here")
 folder=${BENCH_DIR:-/tmp/goodlock-bench}
 events=${EVENTS:-1000000}
-shapes=${SHAPES:-few-locks many-locks long-names deep-nesting many-cycles none forks}
+shapes=${SHAPES:-few-locks many-locks long-names deep-nesting many-cycles none readers forks}
 runs=${RUNS:-3}
 case ${STAGE:-full} in
     full) options="--mode full --len 4 --max 1000" ;;

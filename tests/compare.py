@@ -5,7 +5,8 @@
 
 Standard output, standard error and exit status must be equal byte for byte. Further arguments go to the
 program. `--mode`, `--len` and `--max` tell the reference another query than the stage's. A difference is
-shrunk by leaving out lines and written into a file; `--only K` runs case K of the seed alone.
+shrunk by leaving out lines and written into a file; `--only K` runs case K of the seed alone. The last line
+is `N passed, N failed`, with one for each trace.
 """
 
 import argparse
@@ -57,6 +58,130 @@ def cycle(number, *edges):
 
 def refused(line, text):
     return b"", f"goodlock: line {line}: {text}\n".encode(), 2
+
+
+def two_edges(*cycles):
+    """The answer that lists these cycles of two edges."""
+    text = b"".join(cycle(number, *edges) for number, edges in enumerate(cycles, 1))
+    return text + f"cycles: {len(cycles)}\n".encode(), b"", 1
+
+
+def worked_of_lock_modes():
+    """Name, text, answers by hand: one for all modes, or by mode. The cycles have two edges and no fork orders
+    any of them, so that the answers are those of both stages."""
+    upgrade = refused(2, "shared lock taken exclusively")
+    opposite = two_edges(("T0 a 1 b 2", "T1 b 3 a 4"))
+    gated = two_edges(("T0 a 2 b 3", "T1 b 5 a 6"))
+    by_gate = {"basic": gated, "guarded": NONE, "full": NONE}
+
+    def behind_gate(word, other_word):
+        first = [f"T0 {word} g @1", "T0 acq a @2", "T0 acq b @3"]
+        return lines(*first, f"T1 {other_word} g @4", "T1 acq b @5", "T1 acq a @6")
+
+    def opposite_by(*words):
+        acquires = zip(("T0", "T0", "T1", "T1"), words, ("a", "b", "b", "a"), (1, 2, 3, 4))
+        return lines(*[f"{thread} {word} {lock} @{at}" for thread, word, lock, at in acquires])
+
+    rest = ["T0 acq a @5", "T0 acq b @6", "T1 acq b @7", "T1 acq a @8"]
+    return [
+        # Readers let each other in; a writer meets a reader, and a reader a writer.
+        ("shared, both", opposite_by("racq", "acq", "acq", "racq"), NONE),
+        ("shared, both, of the first's wanted lock", opposite_by("acq", "racq", "racq", "acq"), NONE),
+        ("shared, the held one", opposite_by("racq", "acq", "acq", "acq"), opposite),
+        ("shared, the wanted one", opposite_by("acq", "acq", "acq", "racq"), opposite),
+        ("shared, both held ones", opposite_by("racq", "acq", "racq", "acq"), opposite),
+        ("shared, both wanted ones", opposite_by("acq", "racq", "acq", "racq"), opposite),
+        ("shared, both of one thread", opposite_by("racq", "racq", "acq", "acq"), opposite),
+        ("shared, all but one", opposite_by("racq", "racq", "acq", "racq"), NONE),
+        ("shared, all", opposite_by("racq", "racq", "racq", "racq"), NONE),
+        ("gate, shared by both", behind_gate("racq", "racq"), gated),
+        ("gate, shared by the first", behind_gate("racq", "acq"), by_gate),
+        ("gate, shared by the second", behind_gate("acq", "racq"), by_gate),
+        # What is taken again keeps the mode of its outermost acquire.
+        ("upgrade", lines("T0 racq a @1", "T0 acq a @2"), upgrade),
+        ("upgrade, tried", lines("T0 racq a @1", "T0 tryacq a @2"), upgrade),
+        ("upgrade, of a lock that was tried", lines("T0 tryracq a @1", "T0 acq a @2"), upgrade),
+        ("upgrade, below a second shared acquire", lines("T0 racq a @1", "T0 racq a @2", "T0 rrel a @3")
+         + lines("T0 acq a @4"), refused(4, "shared lock taken exclusively")),
+        ("upgrade, by another thread", lines("T0 racq a @1", "T1 acq a @2"), NONE),
+        ("upgrade, after the last release", lines("T0 racq a @1", "T0 rrel a @2", "T0 acq a @3"), NONE),
+        (
+            "shared below exclusive",
+            lines("T0 acq a @1", "T0 racq a @2", "T0 rrel a @3", "T0 acq b @4", "T1 acq b @5", "T1 racq a @6"),
+            two_edges(("T0 a 1 b 4", "T1 b 5 a 6")),
+        ),
+        ("exclusive below exclusive below shared", lines("T0 acq a @1", "T0 racq a @2", "T0 acq a @3"), NONE),
+        (
+            "exclusive before shared",
+            lines("T0 racq a @1", "T0 acq b @2", "T0 rel b @3", "T0 rrel a @4", *rest),
+            two_edges(("T0 a 5 b 6", "T1 b 7 a 8"), ("T0 a 1 b 2", "T1 b 7 a 8")),
+        ),
+        (
+            "wanted exclusive before wanted shared",
+            lines("T0 acq a @1", "T0 racq b @2", "T0 rrel b @3", "T0 rel a @4", *rest),
+            two_edges(("T0 a 5 b 6", "T1 b 7 a 8"), ("T0 a 1 b 2", "T1 b 7 a 8")),
+        ),
+        (
+            "held mode before segments",
+            lines("T0 racq a @1", "T0 acq b @2", "T0 rel b @3", "T0 rrel a @4", "T0 fork X @4", *rest),
+            two_edges(("T0 a 5 b 6", "T1 b 7 a 8"), ("T0 a 1 b 2", "T1 b 7 a 8")),
+        ),
+        (
+            "wanted mode before segments",
+            lines("T0 acq a @1", "T0 racq b @2", "T0 rrel b @3", "T0 rel a @4", "T0 fork X @4", *rest),
+            two_edges(("T0 a 5 b 6", "T1 b 7 a 8"), ("T0 a 1 b 2", "T1 b 7 a 8")),
+        ),
+        (
+            "held mode before wanted lock",
+            lines("T0 racq a @1", "T0 acq b @2", "T0 rel b @3", "T0 rrel a @4", "T0 acq a @5", "T0 acq c @6")
+            + lines("T1 acq b @7", "T1 acq a @8", "T1 rel a @9", "T1 rel b @10", "T1 acq c @11", "T1 acq a @12"),
+            two_edges(("T0 a 5 c 6", "T1 c 11 a 12"), ("T0 a 1 b 2", "T1 b 7 a 8")),
+        ),
+        (
+            "exclusive guard before shared guard",
+            lines("T0 racq g @1", "T0 acq a @2", "T0 acq b @3", "T0 rel b @4", "T0 rel a @5", "T0 rrel g @6")
+            + lines("T0 acq g @7", "T0 acq a @8", "T0 acq b @9", "T1 acq b @10", "T1 acq a @11"),
+            two_edges(("T0 a 8 b 9", "T1 b 10 a 11"), ("T0 a 2 b 3", "T1 b 10 a 11")),
+        ),
+        # Either word releases in whichever mode the lock is held.
+        ("release by either word", lines("T0 racq a @1", "T0 rel a @2", "T0 rrel a @3"), NONE),
+        ("release by rel", lines("T0 racq a @1", "T0 rel a @2", "T0 acq b @3", "T1 acq b @4", "T1 acq a @5"), NONE),
+        ("release by rrel", lines("T0 acq a @1", "T0 rrel a @2", "T0 acq b @3", "T1 acq b @4", "T1 acq a @5"), NONE),
+        ("release of the depth", lines("T0 acq a @1", "T0 racq a @2", "T0 rel a @3", "T0 acq b @4")
+         + lines("T1 acq b @5", "T1 acq a @6"), two_edges(("T0 a 1 b 4", "T1 b 5 a 6"))),
+        ("stray rrel", lines("T0 rrel a @1", "T0 acq b @2"), NONE),
+        # A lock that is tried isn't waited for, but is held from then on.
+        ("tried, the second lock", opposite_by("acq", "tryacq", "acq", "acq"), NONE),
+        ("tried, the second lock, shared", opposite_by("acq", "tryracq", "acq", "acq"), NONE),
+        ("tried, the first lock", opposite_by("tryacq", "acq", "acq", "acq"), opposite),
+        ("tried, the first lock, shared", opposite_by("tryracq", "acq", "acq", "acq"), opposite),
+        ("tried, the first lock, shared by both", opposite_by("tryracq", "acq", "acq", "racq"), NONE),
+        ("tried gate", behind_gate("tryacq", "acq"), by_gate),
+        ("tried gate, shared by both", behind_gate("tryracq", "racq"), gated),
+        (
+            "tried while held",
+            lines("T0 acq a @1", "T0 tryacq a @2", "T0 rel a @3", "T0 acq b @4", "T1 acq b @5", "T1 acq a @6"),
+            two_edges(("T0 a 1 b 4", "T1 b 5 a 6")),
+        ),
+        (
+            "waited for after it was tried",
+            lines("T0 acq a @1", "T0 tryacq b @2", "T0 rel b @3", "T0 acq b @4", "T1 acq b @5", "T1 acq a @6"),
+            two_edges(("T0 a 1 b 4", "T1 b 5 a 6")),
+        ),
+        # The words are read like the others, and what is like them is skipped.
+        ("tried, no closing parenthesis", b"T0|tryacq(|3", refused(1, "bad operand")),
+        ("shared, no parenthesis", b"T0|racq|3", refused(1, "bad operand")),
+        ("shared release, no operand", b"T0|rrel()|3", refused(1, "bad operand")),
+        ("tried and shared, no operand", b"T0|tryracq()|3", refused(1, "bad operand")),
+        ("words that are like these", b"".join(b"T0|%s(|1\n" % word for word in
+         [b"tryrel", b"tryrrel", b"rtryacq", b"rracq", b"wacq", b"tryacq ", b"Racq", b"try"]), NONE),
+        (
+            "shared, 65 locks held",
+            lines(*[f"T0 {word} l{i} @{i}" for i, word in enumerate(["racq", "acq", "tryacq", "tryracq"] * 16)])
+            + lines("T0 tryracq l64 @64"),
+            refused(65, "too many locks held"),
+        ),
+    ]  # fmt: skip
 
 
 def worked(stage):
@@ -163,6 +288,18 @@ def worked(stage):
             refused(1_000_001, "lock taken too often"),
             False,
         ),
+        (
+            "limits_reached, depth and one more, in shared mode",
+            lines("T0 racq a @1") * 1_000_000 + lines("T0 acq a @1"),
+            refused(1_000_001, "lock taken too often"),
+            False,
+        ),
+        (
+            "limits_reached, an upgrade and a depth below the limit",
+            lines("T0 racq a @1") * 999_999 + lines("T0 acq a @1"),
+            refused(1_000_000, "shared lock taken exclusively"),
+            False,
+        ),
         ("limits_reached, threads", lines(*[f"T{i} acq a @1" for i in range(1024)]), NONE, False),
         (
             "limits_reached, threads and one more",
@@ -192,6 +329,11 @@ PLAIN = ["T0", "T1", "T2", "T3", "T4", "T5"]
 ODD = ["T 0", "\u00e9", "main)", "(", "t\t", "T0 ", "acq(a)", "\x00", "\\", "x\ry"]
 
 
+ACQUIRES = [["acq", "racq"], ["tryacq", "tryracq"]]  # by whether it is tried, and whether shared
+RELEASES = ["rel", "rrel"]
+SKIPPED = ["r(x)", "w(y)", "begin", "end", "", "acquire(a)", "ACQ(a)", "acq ", "tryrel(a)", "rracq(a)", "try(a)"]
+
+
 class Maker:
     """Makes one random trace; what it keeps only makes likely what is worth testing."""
 
@@ -202,8 +344,11 @@ class Maker:
         self.threads = random_.sample(names, random_.randint(1, 5))
         locks = ["a", "b", "c", "d", "e", "g"] + (["a ", "a)", "(", "\u00fc", "\r"] if odd else [])
         self.locks = random_.sample(locks, random_.randint(1, 5))
-        self.stack = {}
+        self.stack = {}  # by thread, a lock and whether it is shared, once for each acquire
         self.made = []
+        self.shared = random_.choice([0, 0, 0.2, 0.5, 0.8])
+        self.tried = random_.choice([0, 0, 0.1, 0.4])
+        self.upgrades = random_.choice([0, 0, 0, 0.2])
         self.size = random_.randint(0, most_lines)
         self.odd = odd
 
@@ -212,11 +357,19 @@ class Maker:
         self.made.append(f"{thread}|{call}|{self.random.choice(places)}")
 
     def acquire(self, thread, lock):
-        self.line(thread, f"acq({lock})")
-        self.stack.setdefault(thread, []).append(lock)
+        random_ = self.random
+        stack = self.stack.setdefault(thread, [])
+        held = [is_shared for held, is_shared in stack if held == lock]
+        is_shared = random_.random() < self.shared
+        if held and held[0] and random_.random() >= self.upgrades:
+            is_shared = True
+        self.line(thread, f"{ACQUIRES[random_.random() < self.tried][is_shared]}({lock})")
+        stack.append((lock, held[0] if held else is_shared))
 
     def release(self, thread, at):
-        self.line(thread, f"rel({self.stack[thread].pop(at)})")
+        lock, is_shared = self.stack[thread].pop(at)
+        word = RELEASES[is_shared] if self.random.random() < 0.85 else self.random.choice(RELEASES)
+        self.line(thread, f"{word}({lock})")
 
     def block(self):
         """Nested sections of one thread, mostly released in order."""
@@ -239,9 +392,9 @@ class Maker:
         elif kind < 0.75 and held:
             self.release(thread, random_.choice([-1, -1, random_.randrange(len(held))]))
         elif kind < 0.8:
-            self.line(thread, f"rel({random_.choice(self.locks)})")
+            self.line(thread, f"{random_.choice(RELEASES)}({random_.choice(self.locks)})")
         elif kind < 0.9:
-            self.line(thread, random_.choice(["r(x)", "w(y)", "begin", "end", "", "acquire(a)", "ACQ(a)", "acq "]))
+            self.line(thread, random_.choice(SKIPPED))
         else:
             self.link()
 
@@ -306,6 +459,8 @@ def joined(random_, made):
 def damaged(random_, text):
     """Bytes changed, left out or put in; lines cut, doubled or moved."""
     odd = [b"|", b"(", b")", b"\r", b"\n", b"\x00", b"\xff", b" ", b"a", b"T0", b"acq(", b"fork(T0)", b"||", b"\r\n"]
+    odd += [b"|r", b"|try", b"rrel(", b"tryracq("]
+    words = [b"acq", b"racq", b"tryacq", b"tryracq", b"rel", b"rrel", b"fork", b"join"]
     for _ in range(random_.choice([1, 1, 1, 2, 3, 8])):
         at = random_.randint(0, len(text))
         kind = random_.random()
@@ -313,8 +468,15 @@ def damaged(random_, text):
             text = text[:at] + random_.choice(odd) + text[at + 1 :]
         elif kind < 0.55:
             text = text[:at] + random_.choice(odd) + text[at:]
-        elif kind < 0.75:
+        elif kind < 0.65:
             text = text[:at] + text[at + random_.randint(1, 3) :]
+        elif kind < 0.75:
+            parts = text.split(b"|")
+            places = [i for i, part in enumerate(parts) if part.split(b"(")[0] in words]
+            if places:
+                i = random_.choice(places)
+                parts[i] = random_.choice(words) + parts[i][len(parts[i].split(b"(")[0]) :]
+            text = b"|".join(parts)
         elif kind < 0.8:
             text = text[:at]
         elif kind < 0.9:
@@ -330,7 +492,8 @@ def damaged(random_, text):
 def huge(random_, made):
     """One line of about the greatest length, somewhere among the others."""
     size = 65_536 + random_.choice([-2, -1, 0, 0, 0, 1, 1, 2, 300])
-    shape = random_.choice(["T0|acq(a)|{}", "T0|acq({})|1", "{}|acq(a)|1", "T0|r({})|1", "{}", "T0|{}", "|{}|", "T0|rel({})|9"])
+    shapes = ["T0|acq(a)|{}", "T0|acq({})|1", "{}|acq(a)|1", "T0|r({})|1", "{}", "T0|{}", "|{}|", "T0|rel({})|9"]
+    shape = random_.choice(shapes + ["T0|racq({})|1", "T0|tryacq(a)|{}", "T0|tryracq({})|1", "T0|rrel({})|9"])
     fill = size - len(shape) + 2
     line = shape.format(random_.choice("xxx|(") * fill).encode()
     text = joined(random_, made)
@@ -406,21 +569,35 @@ def main():
         options.mode or stage.mode, options.length or stage.length, options.most or stage.most, stage.with_forks
     )
     command = [os.path.abspath(options.program)] + [a for a in options.arguments if a != "--"]
-    wrong = 0
+    tried = wrong = 0
     seen = {}
+
+    def compare(name, answers):
+        nonlocal tried, wrong
+        tried += 1
+        if any(answer != answers[0][1] for _, answer in answers):
+            wrong += 1
+            print(f"{name}: answers differ")
+            for who, answer in answers:
+                print(f"    {who}: {show(answer)}")
 
     if options.only is None:
         for name, text, by_hand, is_quick in worked(options.stage):
-            answers = [("by hand", None if is_other else by_hand), ("program", run(command, text))]
+            answers = [("program", run(command, text))]
             if is_quick:
                 answers.append(("reference", reference.predict(text, query)))
-            answers = [pair for pair in answers if pair[1] is not None]
-            if any(answer != answers[0][1] for _, answer in answers):
-                wrong += 1
-                print(f"{name}: answers differ")
-                for who, answer in answers:
-                    print(f"    {who}: {show(answer)}")
+            if by_hand is not None and not is_other:
+                answers.insert(0, ("by hand", by_hand))
+            compare(name, answers)
+        for name, text, by_hand in worked_of_lock_modes():
+            in_modes = by_hand if isinstance(by_hand, dict) else dict.fromkeys(["basic", "guarded", "full"], by_hand)
+            for mode, answer in in_modes.items():
+                answers = [("by hand", answer), ("reference", reference.predict(text, reference.Query(mode)))]
+                if mode == query.mode and (options.most or stage.most) > 1:
+                    answers.append(("program", run(command, text)))
+                compare(f"{name}, mode {mode}", answers)
         for name, expected, got in unreadable(command):
+            tried += 1
             if got != expected:
                 wrong += 1
                 print(f"{name}: expected {show(expected)}\n    got {show(got)}")
@@ -433,6 +610,7 @@ def main():
         sort = expected[1].split(b": ", 2)[-1].strip().decode("latin-1") or f"status {expected[2]}"
         sort = "inconsistent" if "precedes" in sort else sort
         seen[sort] = seen.get(sort, 0) + 1
+        tried += 1
         if got != expected:
             wrong += 1
             small = shrunk(text, lambda t: reference.predict(t, query) != run(command, t))
@@ -444,9 +622,10 @@ def main():
             if wrong >= 10:
                 print("stopped at 10 differences")
                 break
-    print(f"{len(numbers)} random cases: " + ", ".join(f"{kind} {count}" for kind, count in sorted(seen.items())))
-    print("all equal" if wrong == 0 else f"{wrong} differ")
-    return 1 if wrong else 0
+    made = sum(seen.values())
+    print(f"{made} random cases: " + ", ".join(f"{kind} {count}" for kind, count in sorted(seen.items())))
+    print(f"{tried - wrong} passed, {wrong} failed")
+    return 1 if wrong or tried == 0 else 0
 
 
 if __name__ == "__main__":

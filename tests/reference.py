@@ -11,11 +11,19 @@ Stage `first` is mode basic, length 2, and forks and joins are skipped like any 
 """
 
 import sys
+import typing
 
 LINE_LIMIT = 65_536
 HELD_LIMIT = 64
 DEPTH_LIMIT = 1_000_000
 THREAD_LIMIT = 1_024
+
+EXCLUSIVE, SHARED = 0, 1  # in the order in which edges are listed
+MODES = {"acq": EXCLUSIVE, "racq": SHARED, "tryacq": EXCLUSIVE, "tryracq": SHARED}
+ACQUIRES = tuple(MODES)
+WAITING = ("acq", "racq")  # an acquire that was tried could not have waited
+RELEASES = ("rel", "rrel")
+LINKS = ("fork", "join")
 
 
 class Query:
@@ -49,20 +57,32 @@ def lines_of(text):
 
 def depth(events, lock):
     """Acquires less releases of the lock among these events of one thread."""
-    acquires = sum(1 for e in events if e[0] == "acq" and e[1] == lock)
-    releases = sum(1 for e in events if e[0] == "rel" and e[1] == lock)
+    acquires = sum(1 for e in events if e[0] in ACQUIRES and e[1] == lock)
+    releases = sum(1 for e in events if e[0] in RELEASES and e[1] == lock)
     return acquires - releases
 
 
 def held(events):
-    return {e[1] for e in events if e[0] == "acq" and depth(events, e[1]) > 0}
+    return {e[1] for e in events if e[0] in ACQUIRES and depth(events, e[1]) > 0}
+
+
+def opened(events, lock):
+    """The last place at which the lock was acquired at depth 0."""
+    return max(
+        q for q, e in enumerate(events) if e[0] in ACQUIRES and e[1] == lock and depth(events[:q], lock) == 0
+    )
+
+
+def held_mode(events, lock):
+    """The mode of a held lock is that of its outermost acquire."""
+    return MODES[events[opened(events, lock)][0]]
 
 
 def threads_of(kept):
     """Names of threads by first mention: the acting thread comes before an operand that is one."""
     names = []
     for thread, (word, operand, _) in kept:
-        for name in [thread] + ([operand] if word in ("fork", "join") else []):
+        for name in [thread] + ([operand] if word in LINKS else []):
             if name not in names:
                 names.append(name)
     return names
@@ -71,7 +91,7 @@ def threads_of(kept):
 def locks_of(kept):
     names = []
     for _, (word, operand, _) in kept:
-        if word in ("acq", "rel") and operand not in names:
+        if word in ACQUIRES + RELEASES and operand not in names:
             names.append(operand)
     return names
 
@@ -90,25 +110,26 @@ def judge(line, kept, query):
     thread, call, location = fields
     if thread == b"":
         raise ValueError("no thread")
-    word = call.split(b"(", 1)[0]
-    words = [b"acq", b"rel"] + ([b"fork", b"join"] if query.with_forks else [])
-    if word not in words:
+    word = call.split(b"(", 1)[0].decode("latin-1")
+    if word not in ACQUIRES + RELEASES + (LINKS if query.with_forks else ()):
         return None
     if b"(" not in call or not call.endswith(b")"):
         raise ValueError("bad operand")
     operand = call.split(b"(", 1)[1][:-1]
     if operand == b"":
         raise ValueError("bad operand")
-    word = word.decode()
-    if word in ("fork", "join") and operand == thread:
+    if word in LINKS and operand == thread:
         raise ValueError("thread forks or joins itself")
     before = [event for acting, event in kept if acting == thread]
-    if word == "rel" and depth(before, operand) == 0:
+    if word in RELEASES and depth(before, operand) == 0:
         return None
-    if word == "acq" and depth(before, operand) == 0 and len(held(before)) == HELD_LIMIT:
-        raise ValueError("too many locks held")
-    if word == "acq" and depth(before, operand) == DEPTH_LIMIT:
-        raise ValueError("lock taken too often")
+    if word in ACQUIRES:
+        if depth(before, operand) == 0 and len(held(before)) == HELD_LIMIT:
+            raise ValueError("too many locks held")
+        if depth(before, operand) == DEPTH_LIMIT:
+            raise ValueError("lock taken too often")
+        if depth(before, operand) > 0 and held_mode(before, operand) == SHARED and MODES[word] == EXCLUSIVE:
+            raise ValueError("shared lock taken exclusively")
     event = (thread, (word, operand, location))
     if len(threads_of(kept + [event])) > THREAD_LIMIT:
         raise ValueError("too many threads")
@@ -133,7 +154,7 @@ def trace_of(text, query):
 
 def segment(events):
     """Forks and joins among these events of one thread."""
-    return sum(1 for e in events if e[0] in ("fork", "join"))
+    return sum(1 for e in events if e[0] in LINKS)
 
 
 def segments_of(lists):
@@ -171,24 +192,30 @@ def before_relation(lists):
 # --- Edges ------------------------------------------------------------------------------------------
 
 
-def opened(events, lock):
-    """The last place at which the lock was acquired at depth 0."""
-    return max(
-        q for q, e in enumerate(events) if e[0] == "acq" and e[1] == lock and depth(events[:q], lock) == 0
-    )
+class Edge(typing.NamedTuple):
+    """Edges are ordered by these fields, in this order."""
+
+    thread: int
+    held: int
+    held_mode: int
+    wanted: int
+    wanted_mode: int
+    first: int  # the segment in which the held lock was opened
+    second: int  # the segment of the acquire
+    guards: tuple  # pairs of a held lock and its mode, ascending
 
 
 def edges_at(t, events, p):
     """Pairs of an edge and its sample that the event at place p makes."""
     word, wanted, location = events[p]
     earlier = events[:p]
-    if word != "acq" or depth(earlier, wanted) > 0:
+    if word not in WAITING or depth(earlier, wanted) > 0:
         return []
-    guards = tuple(sorted(held(earlier)))
+    guards = tuple((lock, held_mode(earlier, lock)) for lock in sorted(held(earlier)))
     made = []
-    for lock in guards:
+    for lock, mode in guards:
         q = opened(earlier, lock)
-        edge = (t, lock, wanted, segment(events[:q]), segment(earlier), guards)
+        edge = Edge(t, lock, mode, wanted, MODES[word], segment(events[:q]), segment(earlier), guards)
         made.append((edge, (p, events[q][2], location)))
     return made
 
@@ -207,36 +234,49 @@ def edges_of(lists):
 # --- Cycles -----------------------------------------------------------------------------------------
 
 
+def waits_for(edge, other):
+    """Whether the edge wants the lock that the other one holds, and not both share it."""
+    return edge.wanted == other.held and not (edge.wanted_mode == SHARED and other.held_mode == SHARED)
+
+
+def have_clashing_guards(edge, other):
+    """Whether a common guard is held exclusively by one of them."""
+    return any(
+        lock == other_lock and not (mode == SHARED and other_mode == SHARED)
+        for lock, mode in edge.guards
+        for other_lock, other_mode in other.guards
+    )
+
+
 def linked_lists(edges, size):
-    """All lists of this many edges, of distinct held locks, in which each wanted lock is the next edge's
-    held lock."""
+    """All lists of this many edges, of distinct held locks, in which each edge waits for the next one."""
     if size == 1:
         return [[e] for e in edges]
     return [
         front + [e]
         for front in linked_lists(edges, size - 1)
         for e in edges
-        if front[-1][2] == e[1] and e[1] not in [f[1] for f in front]
+        if waits_for(front[-1], e) and e.held not in [f.held for f in front]
     ]
 
 
 def is_cycle(cycle, before, mode):
-    threads = [e[0] for e in cycle]
-    helds = [e[1] for e in cycle]
+    threads = [e.thread for e in cycle]
+    helds = [e.held for e in cycle]
     if len(cycle) < 2:
         return False
-    if any(cycle[i][2] != cycle[(i + 1) % len(cycle)][1] for i in range(len(cycle))):
+    if not all(waits_for(cycle[i], cycle[(i + 1) % len(cycle)]) for i in range(len(cycle))):
         return False
     if len(set(threads)) < len(threads) or len(set(helds)) < len(helds):
         return False
     if threads[0] != min(threads):
         return False
     pairs = [(e, f) for i, e in enumerate(cycle) for f in cycle[i + 1 :]]
-    if mode in ("guarded", "full") and any(set(e[5]) & set(f[5]) for e, f in pairs):
+    if mode in ("guarded", "full") and any(have_clashing_guards(e, f) for e, f in pairs):
         return False
 
     def precedes(e, f):
-        return ((e[0], e[4]), (f[0], f[3])) in before
+        return ((e.thread, e.second), (f.thread, f.first)) in before
 
     if mode == "full" and any(precedes(e, f) or precedes(f, e) for e, f in pairs):
         return False
@@ -261,7 +301,7 @@ def predict(text, query):
 
     def numbered(event):
         word, operand, location = event
-        return word, (threads if word in ("fork", "join") else locks).index(operand), location
+        return word, (threads if word in LINKS else locks).index(operand), location
 
     lists = [[numbered(event) for acting, event in kept if acting == name] for name in threads]
     before = before_relation(lists)
@@ -276,7 +316,7 @@ def predict(text, query):
         report += b"cycle %d: %d edges\n" % (number, len(cycle))
         for edge in cycle:
             _, held_location, wanted_location = table[edge]
-            names = (threads[edge[0]], locks[edge[1]], held_location, locks[edge[2]], wanted_location)
+            names = (threads[edge.thread], locks[edge.held], held_location, locks[edge.wanted], wanted_location)
             report += b"  %s holds %s since %s wants %s at %s\n" % names
     more = b" (more)" if len(cycles) > len(listed) else b""
     report += b"cycles: %d%s\n" % (len(listed), more)

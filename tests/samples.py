@@ -3,7 +3,9 @@
 
     samples.py [PROGRAM [ARGUMENT..]]
 
-The program must have the default query: mode full, cycles of at most 4 edges.
+The program must have the default query: mode full, cycles of at most 4 edges. An output that the page shows for
+another mode or length is compared with the reference's alone. The last line is `N passed, N failed`, with one
+for each answer that was compared.
 """
 
 import pathlib
@@ -20,26 +22,35 @@ SAMPLES = pathlib.Path(__file__).resolve().parent.parent / "samples"
 def main():
     page = (SAMPLES / "README.md").read_text()
     parts = dict(re.findall(r"^## (\S+\.std)\n(.*?)(?=^## |\Z)", page, re.M | re.S))
-    wrong = [name for name in {path.name for path in SAMPLES.glob("*.std")} ^ set(parts)]
-    for name in wrong:
+    files = {path.name for path in SAMPLES.glob("*.std")}
+    passed, failed = 0, len(files ^ set(parts))
+    for name in sorted(files ^ set(parts)):
         print(f"{name}: a file without a part of the page, or a part without a file")
-    for name, part in parts.items():
+    for name in sorted(files & set(parts)):
+        part = parts[name]
         text = (SAMPLES / name).read_bytes()
-        status = int(re.search(r"status(?:\s+is)?\s+(\d)", part, re.I)[1])
-        for before, shown in re.findall(r"(.*?)```\n(.*?)```", part, re.S):
+        statuses = [int(status) for status in re.findall(r"status(?:\s+is)?\s+(\d)", part, re.I)]
+        blocks = re.findall(r"(.*?)```\n(.*?)```", part, re.S)
+        if len(statuses) != len(blocks) or not blocks:
+            failed += 1
+            print(f"{name}: {len(blocks)} outputs with {len(statuses)} statuses")
+            continue
+        for (before, shown), status in zip(blocks, statuses):
             length = re.search(r"--len (\d+)", before)
-            query = reference.Query(length=int(length[1])) if length else reference.STAGES["full"]
+            mode = re.search(r"--mode (\w+)", before)
+            query = reference.Query(mode[1] if mode else "full", int(length[1]) if length else 4)
             answers = [("reference", reference.predict(text, query))]
-            if len(sys.argv) > 1 and not length:
+            if len(sys.argv) > 1 and not (length or mode):
                 done = subprocess.run(sys.argv[1:], input=text, capture_output=True)
                 answers.append(("program", (done.stdout, done.stderr, done.returncode)))
             for who, (output, errors, got) in answers:
-                expected = 1 if length else status
-                if (output + errors).decode() != shown or got != expected:
-                    wrong.append(name)
+                if (output + errors).decode() == shown and got == status:
+                    passed += 1
+                else:
+                    failed += 1
                     print(f"{name}: the {who} has status {got} and\n{(output + errors).decode()}")
-    print("all equal" if not wrong else f"{len(wrong)} differ")
-    return 1 if wrong else 0
+    print(f"{passed} passed, {failed} failed")
+    return 1 if failed or passed == 0 else 0
 
 
 if __name__ == "__main__":

@@ -32,6 +32,7 @@ enum Fault {
     OnItself,
     HeldFull,
     DepthFull,
+    Upgrade,
     TooManyThreads,
     TooManyEvents,
     TooManyNames,
@@ -48,6 +49,7 @@ impl Fault {
             Fault::OnItself => "thread forks or joins itself",
             Fault::HeldFull => "too many locks held",
             Fault::DepthFull => "lock taken too often",
+            Fault::Upgrade => "shared lock taken exclusively",
             Fault::TooManyThreads => "too many threads",
             Fault::TooManyEvents => "too many events",
             Fault::TooManyNames => "too many names",
@@ -55,9 +57,19 @@ impl Fault {
     }
 }
 
+#[derive(Clone, Copy, PartialEq, Eq, PartialOrd, Ord)]
+enum LockMode {
+    Exclusive,
+    Shared,
+}
+
 #[derive(Clone, Copy, PartialEq)]
 enum Operation {
-    Acquire,
+    /// `is_tried` where it couldn't have waited.
+    Acquire {
+        mode: LockMode,
+        is_tried: bool,
+    },
     Release,
     Fork,
     Join,
@@ -86,10 +98,14 @@ fn parse(line: &[u8], with_forks: bool) -> Result<Option<Call<'_>>, Fault> {
     if thread.is_empty() {
         return Err(Fault::NoThread);
     }
+    let acquire = |mode, is_tried| Operation::Acquire { mode, is_tried };
     let mut parts = call.splitn(2, |&byte| byte == b'(');
     let operation = match parts.next().unwrap_or_default() {
-        b"acq" => Operation::Acquire,
-        b"rel" => Operation::Release,
+        b"acq" => acquire(LockMode::Exclusive, false),
+        b"racq" => acquire(LockMode::Shared, false),
+        b"tryacq" => acquire(LockMode::Exclusive, true),
+        b"tryracq" => acquire(LockMode::Shared, true),
+        b"rel" | b"rrel" => Operation::Release,
         b"fork" if with_forks => Operation::Fork,
         b"join" if with_forks => Operation::Join,
         _ => return Ok(None),
@@ -156,8 +172,16 @@ struct Trace<'a> {
     locks: Names<'a>,
     locations: Names<'a>,
     events: Vec<Vec<Event>>,
-    /// By thread, the locks that it holds and how often it has acquired each.
-    held: Vec<Vec<(u32, u32)>>,
+    /// By thread, the locks that it holds.
+    held: Vec<Vec<HeldLock>>,
+}
+
+struct HeldLock {
+    lock: u32,
+    /// The mode of the outermost acquire.
+    mode: LockMode,
+    /// How often the thread has acquired it.
+    depth: u32,
 }
 
 impl<'a> Trace<'a> {
@@ -191,16 +215,18 @@ impl<'a> Trace<'a> {
         let location = self.locations.find(call.location);
 
         let held = thread.map_or(&[][..], |thread| &self.held[thread as usize]);
-        let depth = held
-            .iter()
-            .find(|&&(lock, _)| Some(lock) == operand)
-            .map_or(0, |&(_, depth)| depth);
-        match call.operation {
-            Operation::Release if depth == 0 => return Ok(()),
-            Operation::Acquire if depth == 0 && held.len() >= MAX_HELD => {
+        let entry = held.iter().find(|entry| Some(entry.lock) == operand);
+        match (call.operation, entry) {
+            (Operation::Release, None) => return Ok(()),
+            (Operation::Acquire { .. }, None) if held.len() >= MAX_HELD => {
                 return Err(Fault::HeldFull)
             }
-            Operation::Acquire if depth >= MAX_DEPTH => return Err(Fault::DepthFull),
+            (Operation::Acquire { .. }, Some(entry)) if entry.depth >= MAX_DEPTH => {
+                return Err(Fault::DepthFull)
+            }
+            (Operation::Acquire { mode, .. }, Some(entry)) if mode < entry.mode => {
+                return Err(Fault::Upgrade)
+            }
             _ => {}
         }
         let is_new = |number: Option<u32>| usize::from(number.is_none());
@@ -245,11 +271,15 @@ impl<'a> Trace<'a> {
 
     fn keep_held(&mut self, thread: u32, operation: Operation, lock: u32) {
         let held = &mut self.held[thread as usize];
-        let place = held.iter().position(|entry| entry.0 == lock);
+        let place = held.iter().position(|entry| entry.lock == lock);
         match (operation, place) {
-            (Operation::Acquire, Some(place)) => held[place].1 += 1,
-            (Operation::Acquire, None) => held.push((lock, 1)),
-            (Operation::Release, Some(place)) if held[place].1 > 1 => held[place].1 -= 1,
+            (Operation::Acquire { .. }, Some(place)) => held[place].depth += 1,
+            (Operation::Acquire { mode, .. }, None) => held.push(HeldLock {
+                lock,
+                mode,
+                depth: 1,
+            }),
+            (Operation::Release, Some(place)) if held[place].depth > 1 => held[place].depth -= 1,
             (Operation::Release, Some(place)) => {
                 held.remove(place);
             }
@@ -378,13 +408,37 @@ fn least_looped(steps: &[Vec<Vec<Segment>>]) -> Segment {
 struct Edge {
     thread: u32,
     held: u32,
+    held_mode: LockMode,
     wanted: u32,
+    wanted_mode: LockMode,
     /// The segment in which the held lock was acquired.
     first: u32,
     /// The segment in which the wanted lock is acquired.
     second: u32,
-    /// All locks that the thread holds, ascending.
-    guards: Vec<u32>,
+    /// All locks that the thread holds with their modes, ascending.
+    guards: Vec<(u32, LockMode)>,
+}
+
+impl Edge {
+    /// Whether its thread waits while the other edge's one holds what it holds.
+    fn waits_for(&self, other: &Edge) -> bool {
+        self.wanted == other.held && clash(self.wanted_mode, other.held_mode)
+    }
+
+    /// Whether the threads can't hold their locks at the same time.
+    fn excludes(&self, other: &Edge) -> bool {
+        self.guards.iter().any(|&(lock, mode)| {
+            other
+                .guards
+                .binary_search_by_key(&lock, |guard| guard.0)
+                .is_ok_and(|at| clash(mode, other.guards[at].1))
+        })
+    }
+}
+
+/// Whether two threads can't have one lock in these modes.
+fn clash(mode: LockMode, other: LockMode) -> bool {
+    mode == LockMode::Exclusive || other == LockMode::Exclusive
 }
 
 /// Where an edge was first seen.
@@ -396,6 +450,7 @@ struct Sample {
 /// A lock that a thread holds, with the facts of its outermost acquire.
 struct Held {
     lock: u32,
+    mode: LockMode,
     depth: u32,
     segment: u32,
     location: u32,
@@ -411,11 +466,14 @@ fn edges_of(events: &[Vec<Event>]) -> BTreeMap<Edge, Sample> {
             let lock = event.operand;
             let place = held.iter().position(|entry| entry.lock == lock);
             match (event.operation, place) {
-                (Operation::Acquire, Some(place)) => held[place].depth += 1,
-                (Operation::Acquire, None) => {
-                    add_edges(&mut edges, thread as u32, &held, segment, event);
+                (Operation::Acquire { .. }, Some(place)) => held[place].depth += 1,
+                (Operation::Acquire { mode, is_tried }, None) => {
+                    if !is_tried {
+                        add_edges(&mut edges, thread as u32, &held, segment, event, mode);
+                    }
                     held.push(Held {
                         lock,
+                        mode,
                         depth: 1,
                         segment,
                         location: event.location,
@@ -441,14 +499,17 @@ fn add_edges(
     held: &[Held],
     segment: u32,
     acquire: &Event,
+    wanted_mode: LockMode,
 ) {
-    let mut guards: Vec<u32> = held.iter().map(|entry| entry.lock).collect();
+    let mut guards: Vec<_> = held.iter().map(|entry| (entry.lock, entry.mode)).collect();
     guards.sort_unstable();
     for entry in held {
         let edge = Edge {
             thread,
             held: entry.lock,
+            held_mode: entry.mode,
             wanted: acquire.operand,
+            wanted_mode,
             first: entry.segment,
             second: segment,
             guards: guards.clone(),
@@ -504,15 +565,16 @@ impl Search<'_> {
     fn grow(&mut self) {
         let edges = self.edges;
         let root = edges[self.path[0]];
-        let wanted = edges[self.path[self.path.len() - 1]].wanted as usize;
+        let last = edges[self.path[self.path.len() - 1]];
+        let wanted = last.wanted as usize;
         for i in 0..self.followers[wanted].len() {
             let at = self.followers[wanted][i];
             let edge = edges[at];
-            if edge.thread <= root.thread || !self.fits(edge) {
+            if edge.thread <= root.thread || !last.waits_for(edge) || !self.fits(edge) {
                 continue;
             }
             self.path.push(at);
-            if edge.wanted == root.held {
+            if edge.waits_for(root) {
                 self.list();
             } else if self.path.len() < self.query.len {
                 self.grow();
@@ -527,13 +589,9 @@ impl Search<'_> {
     /// Whether the edge can stand in a cycle with each edge of the path.
     fn fits(&self, edge: &Edge) -> bool {
         self.path.iter().map(|&at| self.edges[at]).all(|other| {
-            let have_common_guard = || {
-                let is_common = |guard| edge.guards.binary_search(guard).is_ok();
-                other.guards.iter().any(is_common)
-            };
             other.thread != edge.thread
                 && other.held != edge.held
-                && (self.query.mode < Mode::Guarded || !have_common_guard())
+                && (self.query.mode < Mode::Guarded || !other.excludes(edge))
                 && (self.query.mode < Mode::Full || !self.order.orders(other, edge))
         })
     }

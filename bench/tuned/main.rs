@@ -6,8 +6,8 @@
 //!     rustc -O main.rs && ./main --mode full --len 4 --max 1000 < trace.std
 //!
 //! How it works: lines are judged and edges are made in one pass over the text. Names borrow from the
-//! text. What a thread holds is a node of a tree (one child for each lock and segment that was acquired
-//! on top), so that an acquire seen before costs one look-up and makes no edge. Edges outside the
+//! text. What a thread holds is a node of a tree (one child for each lock, mode and segment that was
+//! acquired on top), so that an acquire seen before costs one look-up and makes no edge. Edges outside the
 //! strongly connected parts of the lock-order graph are dropped before they are sorted.
 
 use std::cmp::Ordering;
@@ -63,6 +63,10 @@ impl Hasher for QuickHasher {
         self.mix(u64::from(value));
     }
     #[inline]
+    fn write_u64(&mut self, value: u64) {
+        self.mix(value);
+    }
+    #[inline]
     fn write_usize(&mut self, value: usize) {
         self.mix(value as u64 ^ 0xA076_1D64_78BD_642F);
     }
@@ -113,6 +117,7 @@ enum Fault {
     OnItself,
     HeldFull,
     DepthFull,
+    Upgrade,
     TooManyThreads,
     TooManyEvents,
     TooManyNames,
@@ -129,6 +134,7 @@ impl Fault {
             Fault::OnItself => "thread forks or joins itself",
             Fault::HeldFull => "too many locks held",
             Fault::DepthFull => "lock taken too often",
+            Fault::Upgrade => "shared lock taken exclusively",
             Fault::TooManyThreads => "too many threads",
             Fault::TooManyEvents => "too many events",
             Fault::TooManyNames => "too many names",
@@ -136,9 +142,27 @@ impl Fault {
     }
 }
 
+#[derive(Clone, Copy, PartialEq, Eq, PartialOrd, Ord)]
+enum LockMode {
+    Exclusive,
+    Shared,
+}
+
+use LockMode::{Exclusive, Shared};
+
+/// Whether two threads can't have one lock in these modes.
+#[inline]
+fn clash(mode: LockMode, other: LockMode) -> bool {
+    mode == Exclusive || other == Exclusive
+}
+
 #[derive(Clone, Copy, PartialEq)]
 enum Operation {
-    Acquire,
+    /// `is_tried` where it couldn't have waited.
+    Acquire {
+        mode: LockMode,
+        is_tried: bool,
+    },
     Release,
     Fork,
     Join,
@@ -147,6 +171,7 @@ enum Operation {
 /// A lock that a thread holds, with the facts of its outermost acquire.
 struct Held<'a> {
     lock: u32,
+    mode: LockMode,
     depth: u32,
     segment: u32,
     location: &'a [u8],
@@ -170,18 +195,21 @@ struct Link {
 /// A sequence of held locks of one thread: the parent's, then one more lock.
 struct Node {
     parent: u32,
-    /// Whether an acquire led here (else a release out of order did), so that its edges are made.
-    was_acquired: bool,
+    /// Whether an acquire that could wait led here (else one that was tried or a release out of order
+    /// did), so that its edges are made.
+    was_awaited: bool,
 }
 
 #[derive(Clone)]
 struct Edge<'a> {
     thread: u32,
     held: u32,
+    held_mode: LockMode,
     wanted: u32,
+    wanted_mode: LockMode,
     first: u32,
     second: u32,
-    /// Where the ascending guard set stands in the store of guards.
+    /// Where the guard set, ascending by locks, stands in the store of guards.
     guards: (usize, usize),
     place: u32,
     held_location: &'a [u8],
@@ -198,10 +226,13 @@ struct Reader<'a> {
     states: Vec<Thread<'a>>,
     last_thread: Option<(&'a [u8], u32)>,
     nodes: Vec<Node>,
-    children: HashMap<(u32, u32, u32), u32, Quick>,
+    children: HashMap<(u32, u64, u32), u32, Quick>,
     edges: Vec<Edge<'a>>,
-    guards: Vec<u32>,
+    guards: Vec<Guard>,
 }
+
+/// A lock that is held, and in which mode.
+type Guard = (u32, LockMode);
 
 /// The position of the first `byte`, eight bytes at a time.
 #[inline]
@@ -271,10 +302,14 @@ impl<'a> Reader<'a> {
         if thread.is_empty() {
             return Err(Fault::NoThread);
         }
+        let acquire = |mode, is_tried| Operation::Acquire { mode, is_tried };
         let open = find(b'(', call);
         let operation = match &call[..open.unwrap_or(call.len())] {
-            b"acq" => Operation::Acquire,
-            b"rel" => Operation::Release,
+            b"acq" => acquire(Exclusive, false),
+            b"rel" | b"rrel" => Operation::Release,
+            b"racq" => acquire(Shared, false),
+            b"tryacq" => acquire(Exclusive, true),
+            b"tryracq" => acquire(Shared, true),
             b"fork" if self.with_forks => Operation::Fork,
             b"join" if self.with_forks => Operation::Join,
             _ => return Ok(()),
@@ -286,7 +321,9 @@ impl<'a> Reader<'a> {
             _ => return Err(Fault::BadOperand),
         };
         match operation {
-            Operation::Acquire => self.acquire(thread, operand, location),
+            Operation::Acquire { mode, is_tried } => {
+                self.acquire(thread, operand, mode, is_tried, location)
+            }
             Operation::Release => self.release(thread, operand, location),
             Operation::Fork => self.link(thread, operand, location, true),
             Operation::Join => self.link(thread, operand, location, false),
@@ -309,7 +346,7 @@ impl<'a> Reader<'a> {
         let node = self.nodes.len() as u32;
         self.nodes.push(Node {
             parent: node,
-            was_acquired: false,
+            was_awaited: false,
         });
         self.states.push(Thread {
             held: Vec::new(),
@@ -352,6 +389,8 @@ impl<'a> Reader<'a> {
         &mut self,
         thread: &'a [u8],
         lock: &'a [u8],
+        mode: LockMode,
+        is_tried: bool,
         location: &'a [u8],
     ) -> Result<(), Fault> {
         let thread_number = self.find_thread(thread);
@@ -363,6 +402,9 @@ impl<'a> Reader<'a> {
             match again {
                 None if held.len() >= MAX_HELD => return Err(Fault::HeldFull),
                 Some(at) if held[at].depth >= MAX_DEPTH => return Err(Fault::DepthFull),
+                Some(at) if mode == Exclusive && held[at].mode == Shared => {
+                    return Err(Fault::Upgrade)
+                }
                 _ => {}
             }
         }
@@ -372,56 +414,67 @@ impl<'a> Reader<'a> {
         let lock = lock_number.unwrap_or_else(|| self.locks.add(lock));
         match again {
             Some(at) => self.states[t as usize].held[at].depth += 1,
-            None => self.acquire_outermost(t, lock, location),
+            None => self.acquire_outermost(t, (lock, mode), is_tried, location),
         }
         self.states[t as usize].events += 1;
         Ok(())
     }
 
     #[inline]
-    fn child(&mut self, node: u32, lock: u32, segment: u32) -> u32 {
+    fn child(&mut self, node: u32, (lock, mode): Guard, segment: u32) -> u32 {
         let nodes = &mut self.nodes;
+        let lock = u64::from(lock) << 1 | mode as u64;
         *self
             .children
             .entry((node, lock, segment))
             .or_insert_with(|| {
                 nodes.push(Node {
                     parent: node,
-                    was_acquired: false,
+                    was_awaited: false,
                 });
                 (nodes.len() - 1) as u32
             })
     }
 
     #[inline]
-    fn acquire_outermost(&mut self, thread: u32, lock: u32, location: &'a [u8]) {
+    fn acquire_outermost(
+        &mut self,
+        thread: u32,
+        wanted: Guard,
+        is_tried: bool,
+        location: &'a [u8],
+    ) {
         let state = &self.states[thread as usize];
         let segment = state.links.len() as u32;
-        let node = self.child(state.node, lock, segment);
-        if !std::mem::replace(&mut self.nodes[node as usize].was_acquired, true) {
-            self.make_edges(thread, lock, segment, location);
+        let node = self.child(state.node, wanted, segment);
+        if !is_tried && !std::mem::replace(&mut self.nodes[node as usize].was_awaited, true) {
+            self.make_edges(thread, wanted, segment, location);
         }
         let state = &mut self.states[thread as usize];
         state.node = node;
+        let (lock, mode) = wanted;
         state.held.push(Held {
             lock,
+            mode,
             depth: 1,
             segment,
             location,
         });
     }
 
-    fn make_edges(&mut self, thread: u32, wanted: u32, second: u32, location: &'a [u8]) {
+    fn make_edges(&mut self, thread: u32, wanted: Guard, second: u32, location: &'a [u8]) {
         let state = &self.states[thread as usize];
         let start = self.guards.len();
         self.guards
-            .extend(state.held.iter().map(|entry| entry.lock));
+            .extend(state.held.iter().map(|entry| (entry.lock, entry.mode)));
         self.guards[start..].sort_unstable();
         let guards = (start, self.guards.len());
         self.edges.extend(state.held.iter().map(|entry| Edge {
             thread,
             held: entry.lock,
-            wanted,
+            held_mode: entry.mode,
+            wanted: wanted.0,
+            wanted_mode: wanted.1,
             first: entry.segment,
             second,
             guards,
@@ -461,8 +514,13 @@ impl<'a> Reader<'a> {
         }
         state.held.remove(at);
         for above in at..self.states[t as usize].held.len() {
-            let Held { lock, segment, .. } = self.states[t as usize].held[above];
-            node = self.child(node, lock, segment);
+            let Held {
+                lock,
+                mode,
+                segment,
+                ..
+            } = self.states[t as usize].held[above];
+            node = self.child(node, (lock, mode), segment);
         }
         self.states[t as usize].node = node;
         Ok(())
@@ -724,7 +782,7 @@ struct Search<'s, 'a> {
     query: &'s Query,
     order: Option<&'s Order>,
     edges: &'s [Edge<'a>],
-    guards: &'s [u32],
+    guards: &'s [Guard],
     threads: &'s Names<'a>,
     locks: &'s Names<'a>,
     /// Positions of edges by held lock, ascending.
@@ -737,15 +795,19 @@ struct Search<'s, 'a> {
     report: Vec<u8>,
 }
 
-fn compare_edges(guards: &[u32], e: &Edge, f: &Edge) -> Ordering {
-    let key = |edge: &Edge| (edge.thread, edge.held, edge.wanted, edge.first, edge.second);
+fn compare_edges(guards: &[Guard], e: &Edge, f: &Edge) -> Ordering {
+    let key = |edge: &Edge| {
+        let held = (edge.held, edge.held_mode);
+        let wanted = (edge.wanted, edge.wanted_mode);
+        (edge.thread, held, wanted, edge.first, edge.second)
+    };
     key(e)
         .cmp(&key(f))
         .then_with(|| guards[e.guards.0..e.guards.1].cmp(&guards[f.guards.0..f.guards.1]))
 }
 
 /// The edges that can stand in a cycle, strictly ascending, each with its sample of least place.
-fn table<'a>(mut edges: Vec<Edge<'a>>, guards: &[u32], locks: usize) -> Vec<Edge<'a>> {
+fn table<'a>(mut edges: Vec<Edge<'a>>, guards: &[Guard], locks: usize) -> Vec<Edge<'a>> {
     let mut steps: Vec<(u32, u32)> = edges.iter().map(|edge| (edge.held, edge.wanted)).collect();
     steps.sort_unstable();
     steps.dedup();
@@ -756,11 +818,13 @@ fn table<'a>(mut edges: Vec<Edge<'a>>, guards: &[u32], locks: usize) -> Vec<Edge
     edges
 }
 
-fn are_disjoint(a: &[u32], b: &[u32]) -> bool {
+/// Whether each lock that both have is shared in both.
+fn are_apart(a: &[Guard], b: &[Guard]) -> bool {
     let (mut i, mut j) = (0, 0);
     while i < a.len() && j < b.len() {
-        match a[i].cmp(&b[j]) {
-            Ordering::Equal => return false,
+        match a[i].0.cmp(&b[j].0) {
+            Ordering::Equal if clash(a[i].1, b[j].1) => return false,
+            Ordering::Equal => (i, j) = (i + 1, j + 1),
             Ordering::Less => i += 1,
             Ordering::Greater => j += 1,
         }
@@ -820,7 +884,7 @@ impl<'s, 'a> Search<'s, 'a> {
         (self.report, listed)
     }
 
-    /// Whether the edge may follow in the path: one more thread, guard set and held lock.
+    /// Whether the edge may stand in the path: one more thread, guard set and held lock.
     #[inline]
     fn fits(&self, edge: &Edge) -> bool {
         self.path.iter().all(|&at| {
@@ -828,7 +892,7 @@ impl<'s, 'a> Search<'s, 'a> {
             other.thread != edge.thread
                 && other.held != edge.held
                 && (self.query.mode < Mode::Guarded
-                    || are_disjoint(
+                    || are_apart(
                         &self.guards[other.guards.0..other.guards.1],
                         &self.guards[edge.guards.0..edge.guards.1],
                     ))
@@ -857,12 +921,15 @@ impl<'s, 'a> Search<'s, 'a> {
                 self.ranked[i]
             };
             let edge = &edges[at as usize];
-            if edge.thread <= root.thread || !self.fits(edge) {
+            if edge.thread <= root.thread
+                || !clash(last.wanted_mode, edge.held_mode)
+                || !self.fits(edge)
+            {
                 continue;
             }
             self.path.push(at);
             let is_enough = if edge.wanted == root.held {
-                self.list()
+                clash(edge.wanted_mode, root.held_mode) && self.list()
             } else {
                 self.grow()
             };

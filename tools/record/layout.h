@@ -1,0 +1,120 @@
+/*
+ * The files that a recorded process leaves behind. `convert.py` reads the same layout.
+ *
+ * A process writes extents: files `PID.IMAGE.0`, `PID.IMAGE.1`, .. in the directory that the launcher
+ * named. IMAGE counts the programs that the process ran one after the other (by exec). Extents are
+ * mapped shared, so that what is stored is in the file at once, however the process ends.
+ *
+ * An extent is a row of chunks, each a multiple of CHUNK_UNIT bytes. A chunk holds either words of one
+ * thread's events or records of the tables. All numbers have the machine's byte order.
+ */
+#ifndef GOODLOCK_LAYOUT_H
+#define GOODLOCK_LAYOUT_H
+
+#include <stdint.h>
+
+#define LAYOUT_VERSION 1
+#define CHUNK_UNIT 4096u
+#define EXTENT_BYTES (64u << 20)
+
+#define CHUNK_EVENTS 0x676c6576u
+#define CHUNK_TABLE 0x676c7462u
+
+struct chunk {
+    uint32_t magic;
+    uint32_t thread; /* whose events these are; 0 in a chunk of the tables */
+    uint32_t order;  /* counts the chunks of this thread, or of the tables */
+    uint32_t bytes;  /* size of the chunk, this head included */
+    uint64_t used;   /* how many words are in use */
+    uint64_t reserved;
+    uint64_t words[];
+};
+
+/* An event is one word: kind in bits 0-4, site in bits 5-31, lock (or thread) in bits 32-63. A word of
+ * zero stands for no event. */
+#define SITE_SHIFT 5
+#define OBJECT_SHIFT 32
+#define SITE_LIMIT (1u << 27)
+
+enum event_kind {
+    EVENT_ACQUIRE = 1,
+    EVENT_RELEASE = 2,
+    EVENT_SHARED_ACQUIRE = 3,
+    EVENT_SHARED_RELEASE = 4,
+    EVENT_TRY_ACQUIRE = 5,
+    EVENT_TRY_SHARED_ACQUIRE = 6,
+    EVENT_FORK = 7,
+    EVENT_JOIN = 8,
+    EVENT_UPGRADE = 9, /* exclusive acquire of a lock that the thread holds shared */
+    EVENT_BEYOND = 10, /* acquire by a thread that holds HELD_LIMIT locks */
+};
+
+/* A record begins with a word: its kind in bits 0-31, its size in words (this one included) above. */
+enum record_kind {
+    RECORD_PROCESS = 1,
+    RECORD_MODULE = 2,
+    RECORD_SITE = 3,
+    RECORD_LOCK = 4,
+    RECORD_THREAD = 5,
+};
+
+struct process_record {
+    uint64_t head;
+    uint64_t version;
+    uint64_t pid;
+    uint64_t image;
+    uint64_t parent_pid; /* of the recorded process that forked this one; 0: there is none */
+    uint64_t parent_image;
+    uint64_t first_lock; /* locks below this number are the parent's */
+    uint64_t first_site;
+    uint64_t frames;
+    uint64_t forks; /* how often it was about to fork: so many children name it as their parent */
+    char command[]; /* ended by a zero byte */
+};
+
+struct module_record {
+    uint64_t head;
+    uint64_t bias; /* address in memory less address in the module's file */
+    uint64_t start;
+    uint64_t end;
+    char path[];
+};
+
+struct site_record {
+    uint64_t head;
+    uint64_t site;
+    uint64_t callers[]; /* return addresses, the innermost first */
+};
+
+enum lock_class { LOCK_MUTEX = 1, LOCK_RWLOCK = 2, LOCK_SPIN = 3 };
+enum lock_origin { LOCK_MADE = 1, LOCK_FOUND = 2 };
+
+struct lock_record {
+    uint64_t head;
+    uint64_t lock;
+    uint64_t class_and_origin; /* class in bits 0-31, origin above */
+    uint64_t address;
+    uint64_t site;             /* of the call that made it */
+    uint64_t thread_and_order; /* who made it in bits 0-31; how many locks that thread had made before */
+};
+
+#define THREAD_FOREIGN 0xffffffffu
+#define OBJECT_WORDS 8
+
+struct thread_record {
+    uint64_t head;
+    uint64_t thread;
+    uint64_t parent; /* THREAD_FOREIGN: not made by a recorded call; the first thread names itself */
+    uint64_t child;  /* which child of its parent it is, from 1 */
+    uint64_t routine;
+    uint64_t unmade;   /* 1: the call that should have made it failed */
+    uint64_t chunks;   /* how many chunks of events it has */
+    uint64_t children; /* how many threads it has made */
+    uint64_t made;     /* how many locks it has made */
+    uint64_t left_out; /* events of repeated stretches */
+    uint64_t lost;     /* events for which there was no room */
+    uint64_t others;   /* calls that make no event */
+    uint64_t object[OBJECT_WORDS]; /* the front of the C++ object that the thread runs; zeros if there is none */
+};
+
+#endif

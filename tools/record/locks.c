@@ -1,0 +1,207 @@
+/* Numbers of locks, what a thread holds, and what is known already. */
+#define _GNU_SOURCE
+#include <string.h>
+#include <sys/mman.h>
+
+#include "process.h"
+
+/* --- Locks ---------------------------------------------------------------------------------------------- */
+
+uint32_t lock_number_new(struct thread *thread, const void *address, enum lock_class class, enum lock_origin origin,
+                         uint32_t site)
+{
+    struct slow_state state;
+    slow_enter(&state);
+    uint64_t number = 0;
+    struct slot *slot = table_place(&process.locks, (uint64_t)(uintptr_t)address);
+    if (slot && slot->value && origin == LOCK_FOUND) {
+        number = slot->value; /* another thread was faster */
+    } else {
+        struct lock_record *record = slot ? record_new(RECORD_LOCK, sizeof *record) : NULL;
+        if (record) {
+            number = process.next_lock++;
+            record->lock = number;
+            record->class_and_origin = (uint64_t)class | (uint64_t)origin << 32;
+            record->address = (uint64_t)(uintptr_t)address;
+            record->site = site;
+            record->thread_and_order = thread->number | thread->record->made << 32;
+            if (origin == LOCK_MADE)
+                thread->record->made++;
+            record_done(record);
+            __atomic_store_n(&slot->value, number, __ATOMIC_RELEASE);
+            if (origin == LOCK_MADE)
+                __atomic_fetch_add(&process.generation, 1, __ATOMIC_RELEASE);
+        }
+    }
+    slow_leave(&state);
+    return (uint32_t)number;
+}
+
+uint64_t call_word_slow(struct thread *thread, const void *address, enum lock_class class, uintptr_t return_address,
+                        uintptr_t stack)
+{
+    uint64_t generation = __atomic_load_n(&process.generation, __ATOMIC_ACQUIRE);
+    uint32_t lock = lock_number(thread, address, class);
+    uint64_t word = event_word(0, site_number(return_address, stack), lock);
+    uint64_t key = (uint64_t)(uintptr_t)address;
+    struct slot *slot = table_find(&process.sites, return_address);
+    int plain = slot && (slot->value & SITE_PLAIN); /* else the return address doesn't tell the site */
+    if (lock != 0 && plain && !thread->changing) {
+        thread->changing = 1;
+        __atomic_signal_fence(__ATOMIC_SEQ_CST);
+        thread->known_calls[mix(key + return_address) >> (64 - KNOWN_CALL_BITS)] =
+            (struct known_call){key, return_address, word, generation};
+        __atomic_signal_fence(__ATOMIC_SEQ_CST);
+        thread->changing = 0;
+    }
+    return word;
+}
+
+/* --- Held locks ----------------------------------------------------------------------------------------- */
+
+/* This lock has an event: what lies in the levels above isn't left out by itself. */
+static void keep_above(struct thread *thread, const struct held *held)
+{
+    for (uint32_t level = (uint32_t)(held - thread->held) + 1; level < thread->held_count; level++)
+        thread->levels[level].place = NULL;
+}
+
+uint64_t *acquire_write_further(struct thread *thread, uint64_t word, struct held *held)
+{
+    uint64_t call = word - word_kind(word);
+    uint64_t context = thread->held[thread->held_count - 1].context;
+    if (!held)
+        word = call | EVENT_BEYOND;
+    else if (is_shared(held->word) && !is_shared(word))
+        word = call | EVENT_UPGRADE;
+    else
+        held->depth++;
+    if (held)
+        keep_above(thread, held);
+    thread->news += (uint64_t)key_is_news(thread, key_of(context, word));
+    return word_store(thread, word);
+}
+
+/* Takes a lock out of the list of those held. If it wasn't acquired last, the later ones have new contexts. */
+static void held_remove(struct thread *thread, struct held *held)
+{
+    struct held *end = thread->held + thread->held_count - 1;
+    keep_above(thread, held);
+    memmove(held, held + 1, (size_t)(end - held) * sizeof *held);
+    thread->held_count--;
+    for (; held < end; held++)
+        held->context = key_of(held > thread->held ? held[-1].context : 0, held->identity);
+}
+
+/* Its key isn't known after all. */
+static void key_take_away(struct thread *thread, uint64_t key)
+{
+    for (uint32_t place = key >> 8 & thread->key_mask; thread->keys[place]; place = (place + 1) & thread->key_mask)
+        if (thread->keys[place] == key)
+            thread->keys[place] = KEY_GONE;
+}
+
+void acquire_take_back(struct thread *thread, uint64_t *place)
+{
+    unsigned kind = word_kind(*place);
+    struct held *held = held_find(thread, word_object(*place));
+    if (kind == EVENT_UPGRADE || kind == EVENT_BEYOND)
+        held = NULL;
+    if (held && held->depth > 1) {
+        held->depth--;
+    } else if (held) {
+        if (thread->levels[held - thread->held].news != thread->news)
+            key_take_away(thread, held->context);
+        held_remove(thread, held);
+    }
+    word_take_back(thread, place);
+    count_other(thread);
+}
+
+void release_write_further(struct thread *thread, uint64_t call)
+{
+    struct held *held = held_find(thread, word_object(call));
+    uint64_t word = call | (held && is_shared(held->word) ? EVENT_SHARED_RELEASE : EVENT_RELEASE);
+    if (!held && !key_is_news(thread, key_of(0, word))) {
+        thread->record->left_out++; /* a stray release that is known */
+        return;
+    }
+    word_store(thread, word);
+    if (held && --held->depth == 0)
+        held_remove(thread, held);
+    else if (held)
+        keep_above(thread, held);
+}
+
+/* --- Keys ----------------------------------------------------------------------------------------------- */
+
+static void key_insert(struct thread *thread, uint64_t key)
+{
+    uint32_t place = key >> 8 & thread->key_mask;
+    while (thread->keys[place])
+        place = (place + 1) & thread->key_mask;
+    thread->keys[place] = key;
+    thread->key_count++;
+}
+
+static void keys_grow(struct thread *thread)
+{
+    uint64_t *old = thread->keys;
+    uint32_t size = thread->key_mask + 1;
+    uint64_t *larger = size < KEYS_LIMIT ? pages_new(2 * (size_t)size * sizeof *larger) : NULL;
+    if (!larger)
+        return;
+    thread->keys = larger;
+    thread->key_mask = 2 * size - 1;
+    thread->key_count = 0;
+    for (uint32_t i = 0; i < size; i++)
+        if (old[i] > KEY_GONE)
+            key_insert(thread, old[i]);
+    if (old != thread->first_keys)
+        munmap(old, size * sizeof *old);
+}
+
+int key_is_news_further(struct thread *thread, uint64_t key)
+{
+    if (thread->changing || process.all)
+        return 1;
+    for (uint32_t place = key >> 8 & thread->key_mask; thread->keys[place]; place = (place + 1) & thread->key_mask)
+        if (thread->keys[place] == key)
+            return 0;
+    thread->changing = 1;
+    __atomic_signal_fence(__ATOMIC_SEQ_CST);
+    if (2 * thread->key_count > thread->key_mask)
+        keys_grow(thread);
+    if (2 * thread->key_count <= thread->key_mask)
+        key_insert(thread, key);
+    __atomic_signal_fence(__ATOMIC_SEQ_CST);
+    thread->changing = 0;
+    return 1;
+}
+
+/* Locks that stay held were acquired in an earlier segment: they get other identities than the same locks
+ * acquired from now on. */
+void segment_end(struct thread *thread)
+{
+    thread->segments++;
+    uint64_t context = 0;
+    for (uint32_t i = 0; i < thread->held_count; i++) {
+        struct held *held = &thread->held[i];
+        thread->levels[i].place = NULL;
+        held->identity = key_of(held->identity, thread->segments);
+        context = held->context = key_of(context, held->identity);
+    }
+    if (thread->key_count == 0)
+        return;
+    thread->changing = 1;
+    __atomic_signal_fence(__ATOMIC_SEQ_CST);
+    if (thread->keys != thread->first_keys) {
+        munmap(thread->keys, sizeof *thread->keys * (thread->key_mask + 1));
+        thread->keys = thread->first_keys;
+        thread->key_mask = KEYS_FIRST - 1;
+    }
+    memset(thread->first_keys, 0, sizeof thread->first_keys);
+    thread->key_count = 0;
+    __atomic_signal_fence(__ATOMIC_SEQ_CST);
+    thread->changing = 0;
+}

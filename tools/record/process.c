@@ -1,0 +1,364 @@
+/* A process's files, the way into the slow parts, and what a fork does. */
+#define _GNU_SOURCE
+#include <errno.h>
+#include <fcntl.h>
+#include <sched.h>
+#include <signal.h>
+#include <stdio.h>
+#include <stdlib.h>
+#include <string.h>
+#include <sys/mman.h>
+#include <sys/syscall.h>
+#include <unistd.h>
+
+#include "process.h"
+#include "real.h"
+
+#ifndef MADV_POPULATE_WRITE
+#define MADV_POPULATE_WRITE 23
+#endif
+
+#define TABLE_CHUNK_BYTES (16 * CHUNK_UNIT)
+
+struct process process;
+struct thread thread_none;
+__thread struct thread *current_thread = &thread_none;
+static __thread int in_slow_part;
+
+/* --- Slow parts ----------------------------------------------------------------------------------------- */
+
+static void signals_set(int how, const uint64_t *set, uint64_t *old)
+{
+    syscall(SYS_rt_sigprocmask, how, set, old, sizeof *set);
+}
+
+/* While a thread is in a slow part it has no current thread: a lock that a library takes on the
+ * recorder's behalf isn't recorded. */
+void slow_enter(struct slow_state *state)
+{
+    uint64_t every = ~0ull;
+    state->error = errno;
+    signals_set(SIG_BLOCK, &every, &state->signals);
+    while (__atomic_exchange_n(&process.slow_lock, 1, __ATOMIC_ACQUIRE))
+        sched_yield();
+    state->thread = current_thread;
+    current_thread = &thread_none;
+    in_slow_part = 1;
+}
+
+void slow_leave(struct slow_state *state)
+{
+    current_thread = state->thread;
+    in_slow_part = 0;
+    __atomic_store_n(&process.slow_lock, 0, __ATOMIC_RELEASE);
+    signals_set(SIG_SETMASK, &state->signals, NULL);
+    errno = state->error;
+}
+
+int slow_inside(void)
+{
+    return in_slow_part;
+}
+
+/* --- Memory and files ----------------------------------------------------------------------------------- */
+
+void *pages_new(size_t bytes)
+{
+    void *pages = mmap(NULL, bytes, PROT_READ | PROT_WRITE, MAP_PRIVATE | MAP_ANONYMOUS, -1, 0);
+    return pages == MAP_FAILED ? NULL : pages;
+}
+
+/* Makes pages zero in a forked child. A kernel before 4.14 can't; the handlers of a fork don't need it. */
+static void wipe_on_fork(void *pages, size_t bytes)
+{
+#ifdef MADV_WIPEONFORK
+    madvise(pages, bytes, MADV_WIPEONFORK);
+#else
+    (void)pages, (void)bytes;
+#endif
+}
+
+void *pages_new_wiped(size_t bytes)
+{
+    void *pages = pages_new(bytes);
+    if (pages)
+        wipe_on_fork(pages, bytes);
+    return pages;
+}
+
+/* Creates the extent's file and maps it; NULL if that fails, with EEXIST in errno if there is such a file. */
+static char *extent_map(uint64_t image, uint64_t number)
+{
+    char path[4096];
+    snprintf(path, sizeof path, "%s/%llu.%llu.%llu", process.directory, (unsigned long long)process.pid,
+             (unsigned long long)image, (unsigned long long)number);
+    int file = open(path, O_RDWR | O_CREAT | O_EXCL | O_CLOEXEC | O_NOFOLLOW, 0600);
+    if (file < 0)
+        return NULL;
+    void *pages = MAP_FAILED;
+    if (ftruncate(file, EXTENT_BYTES) == 0)
+        pages = mmap(NULL, EXTENT_BYTES, PROT_READ | PROT_WRITE, MAP_SHARED, file, 0);
+    close(file);
+    return pages == MAP_FAILED ? NULL : pages;
+}
+
+/* Gets the pages now: on a full disk a later store would end the program with SIGBUS. An old kernel
+ * doesn't know the request; then the pages come one by one. */
+static int populate(void *start, size_t bytes)
+{
+    return madvise(start, bytes, MADV_POPULATE_WRITE) == 0 || errno == EINVAL;
+}
+
+struct chunk *chunk_new(uint32_t magic, uint32_t thread, uint32_t order, uint32_t bytes)
+{
+    if (!process.extent || process.extent_used + bytes > EXTENT_BYTES) {
+        char *extent = extent_map(process.image, process.extents);
+        if (!extent)
+            return NULL;
+        process.extent = extent;
+        process.extent_used = 0;
+        process.extents++;
+    }
+    struct chunk *chunk = (struct chunk *)(process.extent + process.extent_used);
+    if (!populate(chunk, bytes))
+        return NULL;
+    process.extent_used += bytes;
+    chunk->thread = thread;
+    chunk->order = order;
+    chunk->bytes = bytes;
+    __atomic_store_n(&chunk->magic, magic, __ATOMIC_RELEASE);
+    return chunk;
+}
+
+void *record_new(enum record_kind kind, size_t bytes)
+{
+    uint64_t words = (bytes + 7) / 8;
+    struct chunk *chunk = process.table_chunk;
+    if (!chunk || chunk->used + words > process.table_room) {
+        chunk = chunk_new(CHUNK_TABLE, 0, (uint32_t)process.table_chunks, TABLE_CHUNK_BYTES);
+        if (!chunk)
+            return NULL;
+        process.table_chunks++;
+        process.table_chunk = chunk;
+        process.table_room = (TABLE_CHUNK_BYTES - sizeof *chunk) / 8;
+    }
+    uint64_t *record = &chunk->words[chunk->used];
+    record[0] = (uint64_t)kind | words << 32;
+    return record;
+}
+
+void record_done(void *record)
+{
+    uint64_t words = *(uint64_t *)record >> 32;
+    struct chunk *chunk = process.table_chunk;
+    __atomic_store_n(&chunk->used, chunk->used + words, __ATOMIC_RELEASE);
+}
+
+/* --- Tables --------------------------------------------------------------------------------------------- */
+
+struct slot *table_find_further(struct address_table *table, uint64_t key)
+{
+    for (unsigned level = 0; level < TABLE_LEVELS; level++) {
+        struct slot *slots = __atomic_load_n(&table->levels[level], __ATOMIC_ACQUIRE);
+        if (!slots)
+            return NULL;
+        unsigned bits = TABLE_FIRST_BITS + 2 * level;
+        uint64_t place = mix(key) >> (64 - bits);
+        for (unsigned i = 0; i < TABLE_WINDOW; i++) {
+            struct slot *slot = &slots[(place + i) & ((1u << bits) - 1)];
+            uint64_t present = __atomic_load_n(&slot->key, __ATOMIC_ACQUIRE);
+            if (present == key)
+                return slot;
+            if (!present)
+                return NULL;
+        }
+    }
+    return NULL;
+}
+
+struct slot *table_place(struct address_table *table, uint64_t key)
+{
+    for (unsigned level = 0; level < TABLE_LEVELS; level++) {
+        unsigned bits = TABLE_FIRST_BITS + 2 * level;
+        if (!table->levels[level]) {
+            void *pages = pages_new(sizeof(struct slot) << bits);
+            if (!pages)
+                return NULL;
+            __atomic_store_n(&table->levels[level], pages, __ATOMIC_RELEASE);
+        }
+        uint64_t place = mix(key) >> (64 - bits);
+        for (unsigned i = 0; i < TABLE_WINDOW; i++) {
+            struct slot *slot = &table->levels[level][(place + i) & ((1u << bits) - 1)];
+            if (!slot->key)
+                __atomic_store_n(&slot->key, key, __ATOMIC_RELEASE);
+            if (slot->key == key)
+                return slot;
+        }
+    }
+    return NULL;
+}
+
+/* --- Start ---------------------------------------------------------------------------------------------- */
+
+static void command_read(char *command, size_t size)
+{
+    int file = open("/proc/self/cmdline", O_RDONLY | O_CLOEXEC);
+    ssize_t length = file < 0 ? 0 : read(file, command, size - 1);
+    if (file >= 0)
+        close(file);
+    if (length < 0)
+        length = 0;
+    for (ssize_t i = 0; i + 1 < length; i++)
+        if (command[i] == 0)
+            command[i] = ' ';
+    command[length] = 0;
+}
+
+static int process_describe(const struct process *parent)
+{
+    char command[512];
+    command_read(command, sizeof command);
+    struct process_record *record = record_new(RECORD_PROCESS, sizeof *record + strlen(command) + 1);
+    if (!record)
+        return 0;
+    record->version = LAYOUT_VERSION;
+    record->pid = process.pid;
+    record->image = process.image;
+    record->parent_pid = parent ? parent->pid : 0;
+    record->parent_image = parent ? parent->image : 0;
+    record->first_lock = process.next_lock;
+    record->first_site = process.next_site;
+    record->frames = process.frames;
+    strcpy(record->command, command);
+    record_done(record);
+    process.record = record;
+    return 1;
+}
+
+/* Opens the first extent under the first image number that is free. */
+static int process_open(void)
+{
+    for (uint64_t image = 0; image < 100000; image++) {
+        process.extent = extent_map(image, 0);
+        if (process.extent) {
+            process.image = image;
+            process.extents = 1;
+            return 1;
+        }
+        if (errno != EEXIST)
+            return 0;
+    }
+    return 0;
+}
+
+static void process_settings(void)
+{
+    const char *directory = getenv("GOODLOCK_RECORD_DIRECTORY");
+    const char *frames = getenv("GOODLOCK_RECORD_FRAMES");
+    process.all = getenv("GOODLOCK_RECORD_ALL") != NULL;
+    if (directory && strlen(directory) < sizeof process.directory)
+        strcpy(process.directory, directory);
+    process.frames = frames ? (unsigned)atoi(frames) : 1;
+    if (process.frames < 1)
+        process.frames = 1;
+    if (process.frames > FRAMES_LIMIT)
+        process.frames = FRAMES_LIMIT;
+}
+
+/* Begins the files of this process. A forked child keeps its parent's numbers of locks and sites. */
+static void process_start(const struct process *parent)
+{
+    wipe_on_fork(&process, sizeof process);
+    process.pid = (uint64_t)getpid();
+    process.next_lock = parent ? parent->next_lock : 1;
+    process.next_site = parent ? parent->next_site : 1;
+    if (parent) {
+        process.locks = parent->locks;
+        process.sites = parent->sites;
+        process.frames = parent->frames;
+        process.all = parent->all;
+        strcpy(process.directory, parent->directory);
+    } else {
+        process_settings();
+    }
+    int opened = process.directory[0] && process_open() && process_describe(parent);
+    process.state = opened ? PROCESS_RECORDED : PROCESS_OFF;
+}
+
+/* --- Fork ----------------------------------------------------------------------------------------------- */
+
+/* What the child needs of its parent, kept where a fork doesn't wipe it. */
+static struct process parent_process;
+static struct held parent_held[HELD_LIMIT];
+static uint32_t parent_held_count;
+static struct slow_state fork_state;
+
+static void fork_prepare(void)
+{
+    struct thread *thread = process.state == PROCESS_RECORDED ? recording_thread() : NULL;
+    slow_enter(&fork_state);
+    if (process.record)
+        process.record->forks++;
+    parent_process = process;
+    parent_held_count = thread ? thread->held_count : 0;
+    if (thread)
+        memcpy(parent_held, thread->held, sizeof parent_held);
+}
+
+static void fork_in_parent(void)
+{
+    struct slow_state state = fork_state;
+    slow_leave(&state);
+}
+
+/* The child has one thread. It holds what the forking thread held, and never asked for it. */
+static void fork_in_child(void)
+{
+    struct slow_state state = fork_state;
+    if (parent_process.state == PROCESS_RECORDED) {
+        memset(&process, 0, sizeof process); /* done by the kernel, if it is not an old one */
+        process_start(&parent_process);
+    }
+    thread_forget();
+    state.thread = &thread_none;
+    slow_leave(&state);
+    struct thread *thread = process.state == PROCESS_RECORDED ? recording_thread() : NULL;
+    for (uint32_t i = 0; thread && i < parent_held_count; i++) {
+        struct held *held = &parent_held[i];
+        enum event_kind kind = is_shared(held->word) ? EVENT_TRY_SHARED_ACQUIRE : EVENT_TRY_ACQUIRE;
+        for (uint64_t depth = 0; depth < held->depth; depth++)
+            acquire_write(thread, kind, held->word - word_kind(held->word));
+    }
+}
+
+/* At the first call of all, so that the handlers of allocators come later: then these take their locks before the
+ * recorder shuts other threads out, and give them back after it has let them in again. */
+static void fork_handlers_set(void)
+{
+    static int set;
+    if (!set && process.state == PROCESS_RECORDED)
+        set = pthread_atfork(fork_prepare, fork_in_parent, fork_in_child) == 0;
+}
+
+/* --- The way in ----------------------------------------------------------------------------------------- */
+
+int process_ready(void)
+{
+    if (unlikely(process.state == PROCESS_NEW)) {
+        int error = errno;
+        if (!real_find())
+            return 0;
+        in_slow_part = 1;
+        process_start(NULL);
+        fork_handlers_set();
+        in_slow_part = 0;
+        errno = error;
+    }
+    return process.state == PROCESS_RECORDED;
+}
+
+__attribute__((constructor(101))) static void recorder_start(void)
+{
+    if (process_ready())
+        recording_thread();
+}

@@ -1,0 +1,71 @@
+/* The functions that the recorder stands before: one name of each, and how they are found. */
+#ifndef GOODLOCK_REAL_H
+#define GOODLOCK_REAL_H
+
+#include <pthread.h>
+#include <threads.h>
+#include <time.h>
+
+typedef const struct timespec *deadline_t;
+
+/* X(result, name, parameters) for each function. */
+#define REAL_FUNCTIONS(X)                                                                        \
+    X(int, pthread_mutex_init, (pthread_mutex_t *, const pthread_mutexattr_t *))                 \
+    X(int, pthread_mutex_destroy, (pthread_mutex_t *))                                           \
+    X(int, pthread_mutex_lock, (pthread_mutex_t *))                                              \
+    X(int, pthread_mutex_trylock, (pthread_mutex_t *))                                           \
+    X(int, pthread_mutex_timedlock, (pthread_mutex_t *, deadline_t))                             \
+    X(int, pthread_mutex_clocklock, (pthread_mutex_t *, clockid_t, deadline_t))                  \
+    X(int, pthread_mutex_unlock, (pthread_mutex_t *))                                            \
+    X(int, pthread_rwlock_init, (pthread_rwlock_t *, const pthread_rwlockattr_t *))              \
+    X(int, pthread_rwlock_destroy, (pthread_rwlock_t *))                                         \
+    X(int, pthread_rwlock_rdlock, (pthread_rwlock_t *))                                          \
+    X(int, pthread_rwlock_tryrdlock, (pthread_rwlock_t *))                                       \
+    X(int, pthread_rwlock_timedrdlock, (pthread_rwlock_t *, deadline_t))                         \
+    X(int, pthread_rwlock_clockrdlock, (pthread_rwlock_t *, clockid_t, deadline_t))              \
+    X(int, pthread_rwlock_wrlock, (pthread_rwlock_t *))                                          \
+    X(int, pthread_rwlock_trywrlock, (pthread_rwlock_t *))                                       \
+    X(int, pthread_rwlock_timedwrlock, (pthread_rwlock_t *, deadline_t))                         \
+    X(int, pthread_rwlock_clockwrlock, (pthread_rwlock_t *, clockid_t, deadline_t))              \
+    X(int, pthread_rwlock_unlock, (pthread_rwlock_t *))                                          \
+    X(int, pthread_spin_init, (pthread_spinlock_t *, int))                                       \
+    X(int, pthread_spin_destroy, (pthread_spinlock_t *))                                         \
+    X(int, pthread_spin_lock, (pthread_spinlock_t *))                                            \
+    X(int, pthread_spin_trylock, (pthread_spinlock_t *))                                         \
+    X(int, pthread_spin_unlock, (pthread_spinlock_t *))                                          \
+    X(int, pthread_cond_wait, (pthread_cond_t *, pthread_mutex_t *))                             \
+    X(int, pthread_cond_timedwait, (pthread_cond_t *, pthread_mutex_t *, deadline_t))            \
+    X(int, pthread_cond_clockwait, (pthread_cond_t *, pthread_mutex_t *, clockid_t, deadline_t)) \
+    X(int, pthread_create, (pthread_t *, const pthread_attr_t *, void *(*)(void *), void *))     \
+    X(int, pthread_join, (pthread_t, void **))                                                   \
+    X(int, pthread_tryjoin_np, (pthread_t, void **))                                             \
+    X(int, pthread_timedjoin_np, (pthread_t, void **, deadline_t))                               \
+    X(int, pthread_clockjoin_np, (pthread_t, void **, clockid_t, deadline_t))                    \
+    X(int, mtx_init, (mtx_t *, int))                                                             \
+    X(int, mtx_lock, (mtx_t *))                                                                  \
+    X(int, mtx_trylock, (mtx_t *))                                                               \
+    X(int, mtx_timedlock, (mtx_t *, deadline_t))                                                 \
+    X(int, mtx_unlock, (mtx_t *))                                                                \
+    X(void, mtx_destroy, (mtx_t *))                                                              \
+    X(int, cnd_wait, (cnd_t *, mtx_t *))                                                         \
+    X(int, cnd_timedwait, (cnd_t *, mtx_t *, deadline_t))                                        \
+    X(int, thrd_create, (thrd_t *, thrd_start_t, void *))                                        \
+    X(int, thrd_join, (thrd_t, int *))
+
+#pragma GCC visibility push(hidden)
+
+struct real_functions {
+#define REAL_MEMBER(result, name, parameters) result(*name) parameters;
+    REAL_FUNCTIONS(REAL_MEMBER)
+#undef REAL_MEMBER
+};
+
+extern struct real_functions real;
+
+/* Finds the functions, the first time; whether they are found. Until then, and where there is none, a stand-in
+ * is called that does nothing. */
+int real_find(void);
+
+#pragma GCC visibility pop
+
+#endif

@@ -1,0 +1,438 @@
+/*
+ * The recorder's state, and the short path of an event.
+ *
+ * Everything that happens at each lock call is in this header and takes no lock, makes no system call and
+ * allocates nothing: find the lock's number, find the call's number, store a word. What happens once per
+ * lock, call or thread is in the .c files and runs between slow_enter and slow_leave, which shut out
+ * other threads and signal handlers.
+ */
+#ifndef GOODLOCK_RECORDER_H
+#define GOODLOCK_RECORDER_H
+
+#include <pthread.h>
+#include <stddef.h>
+#include <stdint.h>
+
+#include "layout.h"
+
+#pragma GCC visibility push(hidden)
+
+#define likely(x) __builtin_expect(!!(x), 1)
+#define unlikely(x) __builtin_expect(!!(x), 0)
+#define EXPORTED __attribute__((visibility("default")))
+
+/* --- Tables from addresses to numbers --------------------------------------------------------------- */
+
+/* A table is a row of levels, each four times as large as the one before. A key stands in the first level
+ * whose window for it has room; keys are never taken out, so a window that was full stays full, and reading
+ * needs no lock. Only slow code writes keys. */
+#define TABLE_LEVELS 12
+#define TABLE_FIRST_BITS 14
+#define TABLE_WINDOW 8
+
+struct slot {
+    uint64_t key;
+    uint64_t value;
+};
+
+struct address_table {
+    struct slot *levels[TABLE_LEVELS];
+};
+
+static inline uint64_t mix(uint64_t value)
+{
+    return value * 0x9e3779b97f4a7c15u;
+}
+
+struct slot *table_find_further(struct address_table *table, uint64_t key);
+
+/* The key's slot, or NULL. Most keys stand where they are looked for first. */
+static inline struct slot *table_find(struct address_table *table, uint64_t key)
+{
+    struct slot *slots = __atomic_load_n(&table->levels[0], __ATOMIC_ACQUIRE);
+    if (likely(slots != NULL)) {
+        struct slot *slot = &slots[mix(key) >> (64 - TABLE_FIRST_BITS)];
+        if (likely(__atomic_load_n(&slot->key, __ATOMIC_ACQUIRE) == key))
+            return slot;
+    }
+    return table_find_further(table, key);
+}
+
+/* Slow: the key's slot, made if need be; NULL if memory was refused. */
+struct slot *table_place(struct address_table *table, uint64_t key);
+
+/* --- The process -------------------------------------------------------------------------------------- */
+
+enum process_state { PROCESS_NEW = 0, PROCESS_RECORDED = 1, PROCESS_OFF = 2 };
+
+/* Is zero in a forked child, so that no child writes into its parent's files; the handlers of a fork fill it anew. */
+struct process {
+    int state;
+    int slow_lock;
+    uint64_t pid, image;
+    struct address_table locks;   /* address of a lock: its number, 0 after it was destroyed */
+    struct address_table sites;   /* return address: its site or step to the caller, see sites.c */
+    struct address_table threads; /* pthread_t: number of the thread, plus one */
+    uint64_t generation; /* counts locks made and destroyed: then an address may stand for another lock */
+    uint64_t next_lock, next_site, next_thread;
+    char *extent;
+    uint64_t extent_used, extents;
+    struct chunk *table_chunk;
+    uint64_t table_room, table_chunks;
+    uint64_t modules;
+    char *thread_slab;
+    uint64_t thread_slab_used;
+    struct thread *free_threads;
+    int full; /* there is no room for more events */
+    int all;  /* nothing is to be left out */
+    unsigned frames;
+    struct process_record *record;
+    char directory[3000];
+} __attribute__((aligned(4096))); /* on pages of its own, which the kernel empties in a forked child */
+
+extern struct process process;
+
+struct slow_state {
+    struct thread *thread;
+    int error;
+    uint64_t signals;
+};
+
+/* Shuts out signal handlers and other threads' slow parts; keeps errno. */
+void slow_enter(struct slow_state *state);
+void slow_leave(struct slow_state *state);
+
+/* The rest of this section is called between slow_enter and slow_leave. */
+
+/* Room in the files, or NULL. */
+struct chunk *chunk_new(uint32_t magic, uint32_t thread, uint32_t order, uint32_t bytes);
+/* A record of this kind and size in bytes, all zero after its head; it is in the file after record_done. NULL: no
+ * room. */
+void *record_new(enum record_kind kind, size_t bytes);
+void record_done(void *record);
+void *pages_new(size_t bytes);
+
+/* --- Threads -------------------------------------------------------------------------------------------- */
+
+#define HELD_LIMIT 64
+
+struct held {
+    uint64_t word;     /* of the acquire that opened it */
+    uint64_t identity; /* that word, mixed with the number of each segment that it was held at the start of */
+    uint64_t context;  /* the key of all identities up to this one */
+    uint64_t depth;
+};
+
+/* Where the number of held locks last became one more than this level's index. */
+struct level {
+    uint64_t *place; /* of the acquire; NULL: a lock of a lower level had an event since */
+    uint64_t news;   /* the thread's news before the acquire */
+};
+
+/* What is known of a call of a lock function: its site and lock, as parts of a word. */
+struct known_call {
+    uint64_t address; /* of the lock; 0: nothing is known */
+    uint64_t return_address;
+    uint64_t word;
+    uint64_t generation;
+};
+
+#define KNOWN_CALL_BITS 9
+
+#define KEYS_FIRST 256u
+#define KEYS_LIMIT (1u << 22)
+
+struct thread {
+    struct chunk *chunk; /* NULL: not ready */
+    uint64_t room;       /* words that the chunk holds */
+    uint64_t news;       /* counts acquires that were not known in this segment */
+    uint64_t segments;   /* counts forks and joins */
+    uint64_t *keys;      /* the known acquires of this segment, see key_of */
+    uint32_t key_mask, key_count;
+    uint32_t changing; /* a table of this thread's is being changed: a signal handler leaves it alone */
+    uint32_t held_count;
+    struct thread_record *record;
+    uint32_t number;
+    uint32_t exit_rounds;
+    struct thread *next_free;
+    uint64_t sink; /* takes what there is no room for */
+    struct held held[HELD_LIMIT];
+    struct level levels[HELD_LIMIT];
+    struct known_call known_calls[1 << KNOWN_CALL_BITS];
+    uint64_t first_keys[KEYS_FIRST];
+};
+
+/* Stands for a thread that isn't ready, or is in a slow part: it has no chunk. */
+extern struct thread thread_none;
+
+extern __thread struct thread *current_thread;
+
+/* The present thread made ready to record; NULL if its calls aren't recorded. */
+struct thread *thread_enter(void);
+
+static inline struct thread *recording_thread(void)
+{
+    struct thread *thread = current_thread;
+    if (likely(thread->chunk != NULL))
+        return thread;
+    return thread_enter();
+}
+
+/* --- Words of events ------------------------------------------------------------------------------------ */
+
+/* `used` of a chunk is changed by its thread alone, but a signal handler may come between any two
+ * instructions. These two are one instruction each. */
+static inline uint64_t used_take(uint64_t *used)
+{
+#ifdef __x86_64__
+    uint64_t one = 1;
+    __asm__ volatile("xaddq %0, %1" : "+r"(one), "+m"(*used) : : "memory", "cc");
+    return one;
+#else
+    return __atomic_fetch_add(used, 1, __ATOMIC_RELAXED);
+#endif
+}
+
+static inline void used_set_back(uint64_t *used, uint64_t from, uint64_t to)
+{
+#ifdef __x86_64__
+    __asm__ volatile("cmpxchgq %2, %1" : "+a"(from), "+m"(*used) : "r"(to) : "memory", "cc");
+#else
+    __atomic_compare_exchange_n(used, &from, to, 0, __ATOMIC_RELAXED, __ATOMIC_RELAXED);
+#endif
+}
+
+static inline uint64_t event_word(enum event_kind kind, uint32_t site, uint32_t object)
+{
+    return (uint64_t)kind | (uint64_t)site << SITE_SHIFT | (uint64_t)object << OBJECT_SHIFT;
+}
+
+/* Stores a word where the chunk is full. */
+uint64_t *word_store_slow(struct thread *thread, uint64_t word);
+
+static inline uint64_t *word_store(struct thread *thread, uint64_t word)
+{
+    struct chunk *chunk = thread->chunk;
+    uint64_t place = used_take(&chunk->used);
+    if (unlikely(place >= thread->room))
+        return word_store_slow(thread, word);
+    chunk->words[place] = word;
+    return &chunk->words[place];
+}
+
+/* Takes a stored word back: its call failed. Words that a signal handler stored behind it stay. */
+static inline void word_take_back(struct thread *thread, uint64_t *place)
+{
+    struct chunk *chunk = thread->chunk;
+    *place = 0;
+    if (place >= chunk->words && place < chunk->words + thread->room) {
+        uint64_t index = (uint64_t)(place - chunk->words);
+        used_set_back(&chunk->used, index + 1, index);
+    }
+}
+
+static inline int word_is_in_chunk(struct thread *thread, const uint64_t *place)
+{
+    return place >= thread->chunk->words && place < thread->chunk->words + thread->chunk->used;
+}
+
+/* Takes the words from here on away. Zero first: should the process be killed in between, zeros stand for no
+ * events. */
+static inline void words_leave_out(struct thread *thread, uint64_t *start)
+{
+    struct chunk *chunk = thread->chunk;
+    uint64_t used = chunk->used;
+    uint64_t first = (uint64_t)(start - chunk->words);
+    uint64_t place = first;
+    do
+        *(volatile uint64_t *)&chunk->words[place] = 0;
+    while (unlikely(++place < used));
+    used_set_back(&chunk->used, used, first);
+    thread->record->left_out += used - first;
+}
+
+static inline unsigned word_kind(uint64_t word)
+{
+    return word & ((1u << SITE_SHIFT) - 1);
+}
+
+static inline uint32_t word_object(uint64_t word)
+{
+    return (uint32_t)(word >> OBJECT_SHIFT);
+}
+
+/* --- What is known already --------------------------------------------------------------------------------- */
+
+/*
+ * An acquire tells goodlock something new only if it is the first one in its segment (between forks and joins of its
+ * thread) of this lock at this place while these locks are held, each acquired at its place. A key stands for all that; the
+ * thread keeps the keys of its segment. When the thread holds as many locks again as before an acquire, all since then is left
+ * out, if there was no news and no event of a lock that was held before.
+ */
+static inline uint64_t key_of(uint64_t context, uint64_t word)
+{
+    uint64_t key = context + word;
+    key = (key ^ key >> 32) * 0xd6e8feb86659fd93u;
+    key = (key ^ key >> 32) * 0xd6e8feb86659fd93u;
+    return (key ^ key >> 32) | 2; /* never 0 or 1 */
+}
+
+/* A key that was taken away. */
+#define KEY_GONE 1
+
+/* Whether it isn't among the keys of this segment; it is afterwards. Where nothing is to be left out, all is news. */
+int key_is_news_further(struct thread *thread, uint64_t key);
+
+static inline int key_is_news(struct thread *thread, uint64_t key)
+{
+    if (likely(thread->keys[key >> 8 & thread->key_mask] == key))
+        return 0;
+    return key_is_news_further(thread, key);
+}
+
+/* A fork or join: what comes after it is another segment. */
+void segment_end(struct thread *thread);
+
+/* --- Locks ---------------------------------------------------------------------------------------------- */
+
+/* Slow inside: a number for a lock that is made here, or that is met for the first time. */
+uint32_t lock_number_new(struct thread *thread, const void *address, enum lock_class class, enum lock_origin origin,
+                         uint32_t site);
+
+static inline uint32_t lock_number(struct thread *thread, const void *address, enum lock_class class)
+{
+    struct slot *slot = table_find(&process.locks, (uint64_t)(uintptr_t)address);
+    if (likely(slot != NULL)) {
+        uint64_t number = __atomic_load_n(&slot->value, __ATOMIC_ACQUIRE);
+        if (likely(number != 0))
+            return (uint32_t)number;
+    }
+    return lock_number_new(thread, address, class, LOCK_FOUND, 0);
+}
+
+static inline void lock_forget(const void *address)
+{
+    struct slot *slot = table_find(&process.locks, (uint64_t)(uintptr_t)address);
+    if (slot)
+        __atomic_store_n(&slot->value, 0, __ATOMIC_RELEASE);
+    __atomic_fetch_add(&process.generation, 1, __ATOMIC_RELEASE);
+}
+
+/* --- Sites ---------------------------------------------------------------------------------------------- */
+
+/* A value in the table of sites is either SITE_PLAIN + the site's number, or, for a call inside a wrapper of the C++
+ * library, the distance from the stack pointer at the call to that at the call of the wrapper. */
+#define SITE_PLAIN (1ull << 62)
+
+uint32_t site_slow(uintptr_t return_address, uintptr_t stack);
+
+/* `stack`: the stack pointer just before the call pushed `return_address`. */
+static inline uint32_t site_number(uintptr_t return_address, uintptr_t stack)
+{
+    struct slot *slot = table_find(&process.sites, return_address);
+    if (likely(slot && (slot->value & SITE_PLAIN)))
+        return (uint32_t)slot->value;
+    return site_slow(return_address, stack);
+}
+
+#define CALLER (uintptr_t)__builtin_return_address(0), (uintptr_t)__builtin_dwarf_cfa()
+#define CALLER_SITE() site_number(CALLER)
+
+uint64_t call_word_slow(struct thread *thread, const void *address, enum lock_class class, uintptr_t return_address,
+                        uintptr_t stack);
+
+/* Site and lock of a call, as parts of a word. */
+static inline __attribute__((always_inline)) uint64_t call_word(struct thread *thread, const void *address, enum lock_class class,
+                                 uintptr_t return_address, uintptr_t stack)
+{
+    uint64_t lock = (uint64_t)(uintptr_t)address;
+    struct known_call *known = &thread->known_calls[mix(lock + return_address) >> (64 - KNOWN_CALL_BITS)];
+    if (likely(known->address == lock && known->return_address == return_address &&
+               known->generation == __atomic_load_n(&process.generation, __ATOMIC_ACQUIRE)))
+        return known->word;
+    return call_word_slow(thread, address, class, return_address, stack);
+}
+
+/* --- Acquires and releases ------------------------------------------------------------------------------ */
+
+static inline struct held *held_find(struct thread *thread, uint32_t lock)
+{
+    for (struct held *held = thread->held + thread->held_count; held-- > thread->held;)
+        if (word_object(held->word) == lock)
+            return held;
+    return NULL;
+}
+
+static inline int is_shared(uint64_t word)
+{
+    return word_kind(word) == EVENT_SHARED_ACQUIRE || word_kind(word) == EVENT_TRY_SHARED_ACQUIRE;
+}
+
+/* Acquires of a lock that is held already, or where too many are held. */
+uint64_t *acquire_write_further(struct thread *thread, uint64_t word, struct held *held);
+
+/* Adds a held lock. A signal handler that comes before the count is raised puts a lock of its own there. */
+static inline void held_add(struct thread *thread, uint32_t count, uint64_t word, uint64_t context)
+{
+    struct held *held = &thread->held[count];
+    do {
+        held->word = word;
+        held->identity = word;
+        held->context = context;
+        held->depth = 1;
+        __atomic_signal_fence(__ATOMIC_SEQ_CST);
+        thread->held_count = count + 1;
+        __atomic_signal_fence(__ATOMIC_SEQ_CST);
+    } while (unlikely(held->word != word));
+}
+
+/* Writes an acquire; gives its place. `call` has site and lock, `kind` is one of the four acquires. The lock
+ * counts as held before the word is stored, so that a signal handler's events lie between its acquire and release. */
+static inline __attribute__((always_inline)) uint64_t *acquire_write(struct thread *thread, enum event_kind kind, uint64_t call)
+{
+    uint64_t word = call | kind;
+    uint64_t context = 0;
+    uint32_t count = thread->held_count;
+    if (count > 0) {
+        struct held *held = held_find(thread, word_object(word));
+        if (unlikely(held != NULL || count == HELD_LIMIT))
+            return acquire_write_further(thread, word, held);
+        context = thread->held[count - 1].context;
+    }
+    context = key_of(context, word);
+    held_add(thread, count, word, context);
+    thread->levels[count] = (struct level){NULL, thread->news};
+    thread->news += (uint64_t)key_is_news(thread, context);
+    return thread->levels[count].place = word_store(thread, word);
+}
+
+/* Takes the acquire at this place back: its call failed. */
+void acquire_take_back(struct thread *thread, uint64_t *place);
+
+/* Releases of other locks than the last one held, or where nothing is left out. */
+void release_write_further(struct thread *thread, uint64_t call);
+
+/* Writes a release, after it was done; or leaves it out, with all since the thread last held as many locks as
+ * afterwards. */
+static inline __attribute__((always_inline)) void release_write(struct thread *thread, uint64_t call)
+{
+    uint32_t last = thread->held_count - 1;
+    if (likely(thread->held_count > 0 && word_object(thread->held[last].word) == word_object(call) &&
+               thread->held[last].depth == 1 && thread->levels[last].news == thread->news &&
+               word_is_in_chunk(thread, thread->levels[last].place))) {
+        words_leave_out(thread, thread->levels[last].place);
+        thread->record->left_out++;
+        thread->held_count = last;
+    } else {
+        release_write_further(thread, call);
+    }
+}
+
+static inline void count_other(struct thread *thread)
+{
+    thread->record->others++;
+}
+
+#pragma GCC visibility pop
+
+#endif

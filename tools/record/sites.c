@@ -1,0 +1,400 @@
+/*
+ * Sites: where calls come from.
+ *
+ * A site is a return address. A call from inside a wrapper of the C++ library (std::mutex::lock, lock_guard, ..)
+ * stands for the call of the wrapper, so the recorder walks up the stack past wrappers. Wrappers are known by
+ * the names of their functions. How far up the stack the next return address lies is the same at each visit of
+ * one return address, as wrappers have frames of fixed sizes: it is found once by unwinding and kept.
+ */
+#define _GNU_SOURCE
+#include <elf.h>
+#include <fcntl.h>
+#include <link.h>
+#include <stdio.h>
+#include <string.h>
+#include <sys/mman.h>
+#include <sys/stat.h>
+#include <unistd.h>
+#include <unwind.h>
+
+#include "process.h"
+
+#define WALK_LIMIT 24
+
+/* --- Modules -------------------------------------------------------------------------------------------- */
+
+struct range {
+    uintptr_t start, end;
+};
+
+struct module {
+    uintptr_t bias, start, end;
+    int all_wrappers; /* the C++ library itself */
+    struct range *wrappers;
+    size_t wrapper_count;
+    char path[1024];
+};
+
+/* Kept over forks: a child has the same modules. `modules_described` counts those in this process's file. */
+#define MODULE_LIMIT 2048
+static struct module *modules[MODULE_LIMIT];
+static size_t module_count;
+
+static struct module *module_of(uintptr_t address)
+{
+    for (size_t i = module_count; i-- > 0;) /* the newest first: an older one may have been unloaded */
+        if (address >= modules[i]->start && address < modules[i]->end)
+            return modules[i];
+    return NULL;
+}
+
+/* --- Wrappers by name ------------------------------------------------------------------------------------- */
+
+static int contains(const char *name, size_t length, const char *part)
+{
+    return memmem(name, length, part, strlen(part)) != NULL;
+}
+
+/* One part of a mangled name: its length in decimal, then the name. Gives the end of the part, or NULL. */
+static const char *name_part(const char *at, const char **name, size_t *length)
+{
+    size_t value = 0;
+    const char *digit = at;
+    while (*digit >= '0' && *digit <= '9' && value < 10000)
+        value = 10 * value + (size_t)(*digit++ - '0');
+    if (digit == at || strnlen(digit, value) < value)
+        return NULL;
+    *name = digit;
+    *length = value;
+    return digit + value;
+}
+
+static int is_inner_namespace(const char *name, size_t length)
+{
+    return (length == 3 && memcmp(name, "_V2", 3) == 0) || (length == 3 && memcmp(name, "__1", 3) == 0) ||
+           (length == 8 && memcmp(name, "__detail", 8) == 0);
+}
+
+/* Of std::thread only what makes or joins threads is a wrapper: the rest runs the program's functions. */
+static int is_thread_wrapper(const char *rest)
+{
+    return strncmp(rest, "C1", 2) == 0 || strncmp(rest, "C2", 2) == 0 || strncmp(rest, "4join", 5) == 0 ||
+           strncmp(rest, "15_M_start_thread", 17) == 0;
+}
+
+static int is_wrapper_name(const char *symbol)
+{
+    if (strncmp(symbol, "_ZL", 3) == 0 && strstr(symbol, "__gthread_"))
+        return 1;
+    const char *at = symbol;
+    if (strncmp(at, "_ZN", 3) == 0)
+        at += at[3] == 'K' ? 4 : 3;
+    else if (strncmp(at, "_Z", 2) == 0)
+        at += 2;
+    else
+        return 0;
+    if (strncmp(at, "St", 2) != 0)
+        return 0;
+    at += at[2] == 'L' ? 3 : 2; /* L: not visible to other modules */
+    const char *name;
+    size_t length;
+    do {
+        at = name_part(at, &name, &length);
+    } while (at && is_inner_namespace(name, length));
+    if (!at)
+        return 0;
+    if (length == 6 && memcmp(name, "thread", 6) == 0)
+        return is_thread_wrapper(at);
+    return contains(name, length, "mutex") || contains(name, length, "lock") ||
+           contains(name, length, "condition_variable") || (length == 7 && memcmp(name, "jthread", 7) == 0);
+}
+
+/* --- Wrappers of a module --------------------------------------------------------------------------------- */
+
+/* Collects the wrappers among the symbols of one table; counts them only where `ranges` is NULL. */
+static size_t wrappers_among(const char *file, size_t size, const ElfW(Shdr) *table, const ElfW(Shdr) *strings,
+                             uintptr_t bias, struct range *ranges)
+{
+    if (table->sh_offset + table->sh_size > size || strings->sh_offset + strings->sh_size > size ||
+        strings->sh_size == 0 || file[strings->sh_offset + strings->sh_size - 1] != 0)
+        return 0;
+    const ElfW(Sym) *symbols = (const ElfW(Sym) *)(file + table->sh_offset);
+    size_t found = 0;
+    for (size_t i = 0; i < table->sh_size / sizeof *symbols; i++) {
+        const ElfW(Sym) *symbol = &symbols[i];
+        if (ELF64_ST_TYPE(symbol->st_info) != STT_FUNC || symbol->st_size == 0 ||
+            symbol->st_name >= strings->sh_size || !is_wrapper_name(file + strings->sh_offset + symbol->st_name))
+            continue;
+        if (ranges)
+            ranges[found] = (struct range){bias + symbol->st_value, bias + symbol->st_value + symbol->st_size};
+        found++;
+    }
+    return found;
+}
+
+static const ElfW(Shdr) *symbol_table(const char *file, size_t size)
+{
+    const ElfW(Ehdr) *head = (const ElfW(Ehdr) *)file;
+    if (size < sizeof *head || memcmp(head->e_ident, ELFMAG, SELFMAG) != 0 ||
+        head->e_shentsize != sizeof(ElfW(Shdr)) || head->e_shoff + head->e_shnum * sizeof(ElfW(Shdr)) > size)
+        return NULL;
+    const ElfW(Shdr) *sections = (const ElfW(Shdr) *)(file + head->e_shoff);
+    for (unsigned i = 0; i < head->e_shnum; i++)
+        if (sections[i].sh_type == SHT_SYMTAB && sections[i].sh_link < head->e_shnum)
+            return &sections[i];
+    return NULL;
+}
+
+static void module_find_wrappers(struct module *module)
+{
+    int file = open(module->path, O_RDONLY | O_CLOEXEC);
+    struct stat status;
+    if (file < 0)
+        return;
+    const char *bytes = MAP_FAILED;
+    if (fstat(file, &status) == 0 && S_ISREG(status.st_mode) && status.st_size > 0)
+        bytes = mmap(NULL, (size_t)status.st_size, PROT_READ, MAP_PRIVATE, file, 0);
+    close(file);
+    if (bytes == MAP_FAILED)
+        return;
+    size_t size = (size_t)status.st_size;
+    const ElfW(Shdr) *table = symbol_table(bytes, size);
+    if (table) {
+        const ElfW(Shdr) *strings = (const ElfW(Shdr) *)(bytes + ((const ElfW(Ehdr) *)bytes)->e_shoff) + table->sh_link;
+        size_t count = wrappers_among(bytes, size, table, strings, module->bias, NULL);
+        struct range *ranges = count ? pages_new(count * sizeof *ranges) : NULL;
+        if (ranges) {
+            wrappers_among(bytes, size, table, strings, module->bias, ranges);
+            module->wrappers = ranges;
+            module->wrapper_count = count;
+        }
+    }
+    munmap((void *)bytes, size);
+}
+
+static int is_wrapper(uintptr_t return_address)
+{
+    uintptr_t address = return_address - 1;
+    struct module *module = module_of(address);
+    if (!module)
+        return 0;
+    if (module->all_wrappers)
+        return 1;
+    for (size_t i = 0; i < module->wrapper_count; i++)
+        if (address >= module->wrappers[i].start && address < module->wrappers[i].end)
+            return 1;
+    return 0;
+}
+
+/* --- Finding modules -------------------------------------------------------------------------------------- */
+
+static int module_describe(const struct module *module)
+{
+    struct module_record *record = record_new(RECORD_MODULE, sizeof *record + strlen(module->path) + 1);
+    if (!record)
+        return 0;
+    record->bias = module->bias;
+    record->start = module->start;
+    record->end = module->end;
+    strcpy(record->path, module->path);
+    record_done(record);
+    return 1;
+}
+
+static void module_add(struct dl_phdr_info *info, uintptr_t start, uintptr_t end)
+{
+    struct module *module = pages_new(sizeof *module);
+    if (!module || module_count == MODULE_LIMIT)
+        return;
+    module->bias = info->dlpi_addr;
+    module->start = start;
+    module->end = end;
+    if (info->dlpi_name && info->dlpi_name[0]) {
+        snprintf(module->path, sizeof module->path, "%s", info->dlpi_name);
+    } else {
+        ssize_t length = readlink("/proc/self/exe", module->path, sizeof module->path - 1);
+        module->path[length > 0 ? length : 0] = 0;
+    }
+    const char *base = strrchr(module->path, '/');
+    base = base ? base + 1 : module->path;
+    module->all_wrappers = strncmp(base, "libstdc++.so", 12) == 0 || strncmp(base, "libc++.so", 9) == 0;
+    if (!module->all_wrappers)
+        module_find_wrappers(module);
+    modules[module_count++] = module;
+}
+
+static int module_visit(struct dl_phdr_info *info, size_t size, void *unused)
+{
+    (void)size, (void)unused;
+    uintptr_t start = UINTPTR_MAX, end = 0;
+    for (unsigned i = 0; i < info->dlpi_phnum; i++) {
+        const ElfW(Phdr) *part = &info->dlpi_phdr[i];
+        if (part->p_type != PT_LOAD)
+            continue;
+        uintptr_t from = info->dlpi_addr + part->p_vaddr;
+        if (from < start)
+            start = from;
+        if (from + part->p_memsz > end)
+            end = from + part->p_memsz;
+    }
+    if (end == 0)
+        return 0;
+    struct module *known = module_of(start);
+    if (!known || known->start != start || known->end != end || known->bias != info->dlpi_addr)
+        module_add(info, start, end);
+    return 0;
+}
+
+/* Makes the module that holds an address known, and all modules written to this process's file. */
+static struct module *module_known(uintptr_t address)
+{
+    struct module *module = module_of(address);
+    if (!module) {
+        dl_iterate_phdr(module_visit, NULL);
+        module = module_of(address);
+    }
+    while (process.modules < module_count && module_describe(modules[process.modules]))
+        process.modules++;
+    return module;
+}
+
+int in_wrapper_module(uint64_t address)
+{
+    struct module *module = module_known(address);
+    return module && module->all_wrappers;
+}
+
+/* --- Walking ---------------------------------------------------------------------------------------------- */
+
+struct walk {
+    uintptr_t wanted; /* the frame that returns here is the first one asked for */
+    size_t count;
+    uintptr_t addresses[WALK_LIMIT];
+    uintptr_t stacks[WALK_LIMIT];
+};
+
+static _Unwind_Reason_Code walk_step(struct _Unwind_Context *context, void *value)
+{
+    struct walk *walk = value;
+    uintptr_t address = _Unwind_GetIP(context);
+    if (walk->count == 0 && address != walk->wanted)
+        return _URC_NO_REASON;
+    if (walk->count == WALK_LIMIT || address == 0)
+        return _URC_END_OF_STACK;
+    walk->addresses[walk->count] = address;
+    walk->stacks[walk->count] = _Unwind_GetCFA(context);
+    walk->count++;
+    return _URC_NO_REASON;
+}
+
+static void walk_from(struct walk *walk, uintptr_t return_address)
+{
+    walk->wanted = return_address;
+    walk->count = 0;
+    _Unwind_Backtrace(walk_step, walk);
+}
+
+/* --- Sites ------------------------------------------------------------------------------------------------ */
+
+static uint32_t site_new(struct slot *slot, const uintptr_t *callers, size_t count)
+{
+    if (process.next_site == SITE_LIMIT)
+        return 0;
+    struct site_record *record = record_new(RECORD_SITE, sizeof *record + count * sizeof callers[0]);
+    if (!record)
+        return 0;
+    record->site = process.next_site++;
+    for (size_t i = 0; i < count; i++) {
+        module_known(callers[i]);
+        record->callers[i] = callers[i];
+    }
+    record_done(record);
+    __atomic_store_n(&slot->value, SITE_PLAIN | record->site, __ATOMIC_RELEASE);
+    return (uint32_t)record->site;
+}
+
+#ifdef __x86_64__
+/* The distance to the caller's stack pointer if this is a call inside a wrapper, else 0. */
+static uint64_t step_of(uintptr_t return_address, uintptr_t stack)
+{
+    struct walk walk;
+    if (!module_known(return_address) || !is_wrapper(return_address))
+        return 0;
+    walk_from(&walk, return_address);
+    if (walk.count < 2 || walk.stacks[0] != stack || walk.stacks[1] <= stack ||
+        ((uintptr_t *)walk.stacks[1])[-1] != walk.addresses[1])
+        return 0;
+    return walk.stacks[1] - stack;
+}
+
+static uint64_t site_value_new(uintptr_t return_address, uintptr_t stack)
+{
+    struct slow_state state;
+    slow_enter(&state);
+    struct slot *slot = table_place(&process.sites, return_address);
+    uint64_t value = slot ? slot->value : SITE_PLAIN;
+    if (value == 0) {
+        value = step_of(return_address, stack);
+        if (value)
+            __atomic_store_n(&slot->value, value, __ATOMIC_RELEASE);
+        else
+            value = SITE_PLAIN | site_new(slot, &return_address, 1);
+    }
+    slow_leave(&state);
+    return value;
+}
+
+static uint32_t site_single(uintptr_t return_address, uintptr_t stack)
+{
+    for (unsigned i = 0; i < WALK_LIMIT; i++) {
+        struct slot *slot = table_find(&process.sites, return_address);
+        uint64_t value = slot ? __atomic_load_n(&slot->value, __ATOMIC_ACQUIRE) : 0;
+        if (value == 0)
+            value = site_value_new(return_address, stack);
+        if (value & SITE_PLAIN)
+            return (uint32_t)value;
+        stack += value;
+        return_address = ((uintptr_t *)stack)[-1];
+    }
+    return 0;
+}
+#endif
+
+/* Sites of several callers, and of machines where return addresses don't lie at the ends of frames: the
+ * stack is unwound at each visit. The site's key is a mix of its addresses, told from a single address by its top bit. */
+static uint32_t site_of_walk(uintptr_t return_address)
+{
+    struct slow_state state;
+    struct walk walk;
+    slow_enter(&state);
+    walk_from(&walk, return_address);
+    size_t first = 0;
+    while (first < walk.count && module_known(walk.addresses[first]) && is_wrapper(walk.addresses[first]))
+        first++;
+    if (first == walk.count) {
+        first = 0;
+        walk.count = 1;
+        walk.addresses[0] = return_address;
+    }
+    size_t count = 0;
+    uint64_t key = 0;
+    for (; count < process.frames && first + count < walk.count; count++)
+        key = mix(key + walk.addresses[first + count]);
+    struct slot *slot = table_place(&process.sites, key | 1ull << 63);
+    uint32_t site = 0;
+    if (slot)
+        site = slot->value ? (uint32_t)slot->value : site_new(slot, &walk.addresses[first], count);
+    slow_leave(&state);
+    return site;
+}
+
+uint32_t site_slow(uintptr_t return_address, uintptr_t stack)
+{
+#ifdef __x86_64__
+    if (process.frames == 1)
+        return site_single(return_address, stack);
+#else
+    (void)stack;
+#endif
+    return site_of_walk(return_address);
+}

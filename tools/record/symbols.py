@@ -1,0 +1,170 @@
+"""Names of addresses: symbols and source lines of the modules (program and libraries) of a process."""
+
+import bisect
+import os
+import re
+import struct
+
+from tool import run_tool
+
+STT_OBJECT, STT_FUNC, STT_TLS = 1, 2, 6
+SHT_SYMTAB, SHT_NOTE, SHT_DYNSYM = 2, 7, 11
+NT_GNU_BUILD_ID = 3
+
+# Sources of the C++ library: what is inlined from them isn't the program's own line.
+WRAPPER_SOURCE = re.compile(r"/c\+\+/(v1|\d+(\.\d+)*)/|libstdc\+\+-v3/|/gthr-[a-z]+\.h$")
+DISCRIMINATOR = re.compile(r" \(discriminator \d+\)$")
+
+
+class Symbol:
+    def __init__(self, start, size, name):
+        self.start = start
+        self.size = size
+        self.name = name
+
+
+def read_sections(data):
+    """(type, offset, size, link) of each section of a 64-bit ELF file of this machine's byte order; [] for others."""
+    if len(data) < 64 or data[:5] != b"\x7fELF\x02":
+        return []
+    offset = struct.unpack_from("=Q", data, 40)[0]
+    size, count = struct.unpack_from("=HH", data, 58)
+    if size != 64 or offset + size * count > len(data):
+        return []
+    sections = []
+    for i in range(count):
+        kind = struct.unpack_from("=I", data, offset + 64 * i + 4)[0]
+        place, length = struct.unpack_from("=QQ", data, offset + 64 * i + 24)
+        link = struct.unpack_from("=I", data, offset + 64 * i + 40)[0]
+        sections.append((kind, place, length, link))
+    return sections
+
+
+def read_symbols(data, sections, wanted):
+    """Symbols of the sections of one kind."""
+    found = []
+    for kind, place, length, link in sections:
+        if kind != wanted or link >= len(sections):
+            continue
+        _, strings, strings_size, _ = sections[link]
+        text = data[strings : strings + strings_size]
+        for name, info, _, section, start, size in struct.iter_unpack("=IBBHQQ", data[place : place + length // 24 * 24]):
+            if section == 0 or (info & 15) not in (STT_OBJECT, STT_FUNC) or name >= len(text):
+                continue
+            found.append(Symbol(start, size, text[name : text.index(b"\0", name)].decode("utf-8", "backslashreplace")))
+    return found
+
+
+def build_id(data, sections):
+    for kind, place, length, _ in sections:
+        if kind != SHT_NOTE or length < 16:
+            continue
+        name_size, size, note = struct.unpack_from("=III", data, place)
+        if note == NT_GNU_BUILD_ID and data[place + 12 : place + 16] == b"GNU\0":
+            return data[place + 16 : place + 16 + size].hex()
+    return None
+
+
+def demangled(names):
+    """A dictionary from mangled names to readable ones, without parameters."""
+    mangled = sorted({n for n in names if n.startswith("_Z")})
+    output = run_tool("c++filt", ["-p"], mangled) if mangled else None
+    return dict(zip(mangled, output.split("\n"))) if output else {}
+
+
+class Module:
+    """A program or library file. Addresses are those of the file: address in memory less bias."""
+
+    def __init__(self, path):
+        self.path = path
+        self.name = os.path.basename(path) or "?"
+        self.symbols = None
+        self.starts = None
+
+    def load(self):
+        """Reads the symbols: those of the file itself, else those of its separate debug file, else the exported ones."""
+        if self.symbols is not None:
+            return
+        self.symbols = []
+        try:
+            with open(self.path, "rb") as file:
+                data = file.read()
+            sections = read_sections(data)
+            symbols = read_symbols(data, sections, SHT_SYMTAB)
+            if not symbols:
+                symbols = self.debug_symbols(build_id(data, sections)) or read_symbols(data, sections, SHT_DYNSYM)
+        except (OSError, struct.error, ValueError):
+            symbols = []
+        self.symbols = sorted((s for s in symbols if s.name), key=lambda s: (s.start, -s.size, s.name))
+        self.starts = [s.start for s in self.symbols]
+
+    def debug_symbols(self, identity):
+        if not identity:
+            return []
+        path = "/usr/lib/debug/.build-id/%s/%s.debug" % (identity[:2], identity[2:])
+        try:
+            with open(path, "rb") as file:
+                data = file.read()
+        except OSError:
+            return []
+        return read_symbols(data, read_sections(data), SHT_SYMTAB)
+
+    def symbol_at(self, address):
+        """The symbol that an address lies in, or None. Of several that begin alike, the first by name."""
+        self.load()
+        place = bisect.bisect_right(self.starts, address)
+        best = None
+        while place > 0 and (best is None or self.starts[place - 1] == best.start):
+            place -= 1
+            symbol = self.symbols[place]
+            if symbol.start <= address < symbol.start + max(symbol.size, 1):
+                best = symbol
+            elif best is None and symbol.start + symbol.size <= address and symbol.start < address:
+                break
+        return best
+
+    def lines_of(self, addresses):
+        """For each address the list of (function, path, line) of the calls inlined there, the innermost first."""
+        if not os.path.isfile(self.path):
+            return {}
+        asked = ["0x%x" % address for address in sorted(set(addresses))]
+        output = run_tool("addr2line", ["-e", self.path, "-i", "-f", "-a"], asked)
+        found = {}
+        frames = None
+        function = None
+        for line in (output or "").split("\n"):
+            if function is None and line.startswith("0x"):
+                frames = found.setdefault(int(line, 16), [])
+            elif function is None:
+                function = line
+            else:
+                path, _, number = DISCRIMINATOR.sub("", line).rpartition(":")
+                if path and path != "??" and number.isdigit() and number != "0":
+                    frames.append((function, path, int(number)))
+                function = None
+        return found
+
+
+def is_wrapper_source(path):
+    return WRAPPER_SOURCE.search(path) is not None
+
+
+def short_paths(paths):
+    """A short name for each path: its last part, with as many parts before it as tell it from the others."""
+    parts = {path: [p for p in path.split("/") if p not in ("", ".")] for path in paths}
+    short = {}
+    waiting = sorted(parts)
+    length = 1
+    while waiting:
+        groups = {}
+        for path in waiting:
+            groups.setdefault("/".join(parts[path][-length:]), []).append(path)
+        waiting = []
+        for name, group in groups.items():
+            if len(group) == 1 or all(len(parts[p]) <= length for p in group):
+                for path in group:
+                    short[path] = name
+            else:
+                waiting.extend(group)
+        length += 1
+    return short

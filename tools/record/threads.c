@@ -1,0 +1,399 @@
+/* Threads: their state, how they begin and end, and the calls that make and join them. */
+#define _GNU_SOURCE
+#include <errno.h>
+#include <limits.h>
+#include <string.h>
+#include <sys/mman.h>
+#include <sys/syscall.h>
+#include <unistd.h>
+
+#include "process.h"
+#include "real.h"
+
+#define SLAB_BYTES (1u << 20)
+#define CHUNK_DOUBLINGS 8
+
+/* The thread's record stays after its state is given back: calls that come later still, from the
+ * destructors of other keys, are recorded under the same number. */
+static __thread struct thread_record *own_record;
+
+static pthread_key_t exit_key;
+static int exit_key_made;
+
+/* --- State of a thread ---------------------------------------------------------------------------------- */
+
+static struct thread *thread_pages(void)
+{
+    struct thread *thread = process.free_threads;
+    if (thread) {
+        process.free_threads = thread->next_free;
+        memset(thread, 0, sizeof *thread);
+        return thread;
+    }
+    size_t bytes = (sizeof *thread + 63) & ~(size_t)63;
+    if (!process.thread_slab || process.thread_slab_used + bytes > SLAB_BYTES) {
+        process.thread_slab = pages_new_wiped(SLAB_BYTES);
+        process.thread_slab_used = 0;
+    }
+    if (!process.thread_slab)
+        return NULL;
+    thread = (struct thread *)(process.thread_slab + process.thread_slab_used);
+    process.thread_slab_used += bytes;
+    return thread;
+}
+
+static int thread_chunk(struct thread *thread)
+{
+    uint64_t order = thread->record->chunks;
+    uint32_t bytes = CHUNK_UNIT << (order < CHUNK_DOUBLINGS ? order : CHUNK_DOUBLINGS);
+    struct chunk *chunk = chunk_new(CHUNK_EVENTS, thread->number, (uint32_t)order, bytes);
+    if (!chunk)
+        return 0;
+    thread->record->chunks++;
+    thread->room = (bytes - sizeof *chunk) / 8;
+    thread->chunk = chunk;
+    return 1;
+}
+
+/* The C++ library runs an object whose class, and perhaps a function pointer in it, tell what the thread
+ * runs. Its size isn't known; reading on to the end of its page does no harm. */
+static void object_copy(uint64_t *words, const void *object)
+{
+    uintptr_t start = (uintptr_t)object;
+    size_t room = (CHUNK_UNIT - start % CHUNK_UNIT) / sizeof(uint64_t);
+    if (start % sizeof(uint64_t) == 0)
+        for (size_t i = 0; i < OBJECT_WORDS && i < room; i++)
+            words[i] = ((const uint64_t *)object)[i];
+}
+
+static struct thread_record *thread_record_new(uint64_t parent, uint64_t child, uint64_t routine, void *argument)
+{
+    struct thread_record *record = record_new(RECORD_THREAD, sizeof *record);
+    if (!record)
+        return NULL;
+    record->thread = process.next_thread++;
+    record->parent = parent;
+    record->child = child;
+    record->routine = routine;
+    if (argument && in_wrapper_module(routine))
+        object_copy(record->object, argument);
+    record_done(record);
+    return record;
+}
+
+static void thread_map(pthread_t handle, uint64_t number)
+{
+    struct slot *slot = table_place(&process.threads, (uint64_t)handle);
+    if (slot)
+        __atomic_store_n(&slot->value, number + 1, __ATOMIC_RELEASE);
+}
+
+/* A thread that no recorded call made: the first one, or one that a library made by itself. */
+static struct thread_record *thread_record_found(void)
+{
+    int first = process.next_thread == 0 && syscall(SYS_gettid) == getpid();
+    if (process.next_thread == 0 && !first)
+        process.next_thread = 1; /* 0 is kept for the first thread */
+    struct thread_record *record = thread_record_new(first ? 0 : THREAD_FOREIGN, 0, 0, NULL);
+    if (record)
+        thread_map(pthread_self(), record->thread);
+    return record;
+}
+
+static struct thread *thread_start(void)
+{
+    if (!own_record)
+        own_record = thread_record_found();
+    struct thread *thread = own_record ? thread_pages() : NULL;
+    if (!thread)
+        return NULL;
+    thread->record = own_record;
+    thread->number = (uint32_t)own_record->thread;
+    thread->keys = thread->first_keys;
+    thread->key_mask = KEYS_FIRST - 1;
+    return thread_chunk(thread) ? thread : NULL;
+}
+
+struct thread *thread_enter(void)
+{
+    if (slow_inside())
+        return NULL;
+    if (current_thread != &thread_none)
+        thread_forget(); /* wiped by a fork that went past the handlers */
+    if (!process_ready())
+        return NULL;
+    if (process.full) {
+        if (own_record)
+            own_record->lost++;
+        return NULL;
+    }
+    struct slow_state state;
+    slow_enter(&state);
+    struct thread *thread = thread_start();
+    process.full = thread == NULL;
+    state.thread = thread ? thread : &thread_none;
+    slow_leave(&state);
+    if (thread && exit_key_made)
+        pthread_setspecific(exit_key, thread);
+    return thread;
+}
+
+void thread_forget(void)
+{
+    current_thread = &thread_none;
+    own_record = NULL;
+}
+
+/* Runs when the thread ends, with the destructors of other keys, which may still take locks: so it asks to
+ * be called again as often as the system allows, and gives the state back in the last round. */
+static void thread_exit(void *value)
+{
+    struct thread *thread = value;
+    if (thread != current_thread || thread->held_count > 0)
+        return;
+    if (++thread->exit_rounds < PTHREAD_DESTRUCTOR_ITERATIONS) {
+        pthread_setspecific(exit_key, thread);
+        return;
+    }
+    struct slow_state state;
+    slow_enter(&state);
+    if (thread->keys != thread->first_keys)
+        munmap(thread->keys, sizeof *thread->keys * (thread->key_mask + 1));
+    thread->next_free = process.free_threads;
+    process.free_threads = thread;
+    state.thread = &thread_none;
+    slow_leave(&state);
+}
+
+__attribute__((constructor(102))) static void exit_key_start(void)
+{
+    exit_key_made = pthread_key_create(&exit_key, thread_exit) == 0;
+}
+
+/* --- Words where the chunk is full ------------------------------------------------------------------------ */
+
+uint64_t *word_store_slow(struct thread *thread, uint64_t word)
+{
+    struct slow_state state;
+    slow_enter(&state);
+    thread->chunk->used = thread->room;
+    int room = !process.full && thread_chunk(thread);
+    process.full = !room;
+    slow_leave(&state);
+    if (room)
+        return word_store(thread, word);
+    thread->record->lost++;
+    thread->sink = word;
+    return &thread->sink;
+}
+
+/* --- Making threads --------------------------------------------------------------------------------------- */
+
+/* What the new thread needs to begin. Its handle is entered by whoever comes first, the maker or the
+ * thread itself: the maker may be so late that the handle belongs to another thread already. */
+struct beginning {
+    void *(*routine)(void *);
+    thrd_start_t c11_routine;
+    void *argument;
+    struct thread_record *record;
+    int mapped;
+    int users;
+    struct beginning *next_free;
+};
+
+static struct beginning *free_beginnings;
+
+static struct beginning *beginning_new(void)
+{
+    if (!free_beginnings) {
+        struct beginning *pages = pages_new(CHUNK_UNIT);
+        if (!pages)
+            return NULL;
+        for (size_t i = 0; i < CHUNK_UNIT / sizeof *pages; i++) {
+            pages[i].next_free = free_beginnings;
+            free_beginnings = &pages[i];
+        }
+    }
+    struct beginning *beginning = free_beginnings;
+    free_beginnings = beginning->next_free;
+    memset(beginning, 0, sizeof *beginning);
+    beginning->users = 2;
+    return beginning;
+}
+
+static void beginning_drop(struct beginning *beginning)
+{
+    if (--beginning->users == 0) {
+        beginning->next_free = free_beginnings;
+        free_beginnings = beginning;
+    }
+}
+
+static void beginning_map(struct beginning *beginning, pthread_t handle)
+{
+    struct slow_state state;
+    slow_enter(&state);
+    if (!beginning->mapped)
+        thread_map(handle, beginning->record->thread);
+    beginning->mapped = 1;
+    beginning_drop(beginning);
+    slow_leave(&state);
+}
+
+static struct beginning *beginning_plan(struct thread *thread, uint64_t routine, void *argument)
+{
+    struct slow_state state;
+    slow_enter(&state);
+    struct beginning *beginning = beginning_new();
+    if (beginning) {
+        beginning->argument = argument;
+        beginning->record = thread_record_new(thread->number, thread->record->children + 1, routine,
+                                              argument);
+    }
+    if (beginning && !beginning->record) {
+        beginning->users = 1;
+        beginning_drop(beginning);
+        beginning = NULL;
+    }
+    if (beginning)
+        thread->record->children++;
+    slow_leave(&state);
+    return beginning;
+}
+
+/* The thread wasn't made: its number is void, and the next one made is that child of its parent. */
+static void beginning_undo(struct thread *thread, struct beginning *beginning, uint64_t *place)
+{
+    struct slow_state state;
+    slow_enter(&state);
+    word_take_back(thread, place);
+    beginning->record->unmade = 1;
+    thread->record->children--;
+    beginning->users = 1;
+    beginning_drop(beginning);
+    slow_leave(&state);
+    count_other(thread);
+}
+
+static void thread_adopt(struct beginning *beginning)
+{
+    own_record = beginning->record;
+    beginning_map(beginning, pthread_self());
+    recording_thread();
+}
+
+static void *thread_begin(void *value)
+{
+    struct beginning *beginning = value;
+    void *(*routine)(void *) = beginning->routine;
+    void *argument = beginning->argument;
+    thread_adopt(beginning);
+    return routine(argument);
+}
+
+static int thread_begin_c11(void *value)
+{
+    struct beginning *beginning = value;
+    thrd_start_t routine = beginning->c11_routine;
+    void *argument = beginning->argument;
+    thread_adopt(beginning);
+    return routine(argument);
+}
+
+static uint64_t *fork_write(struct thread *thread, struct beginning *beginning, uint32_t site)
+{
+    segment_end(thread);
+    return word_store(thread, event_word(EVENT_FORK, site, (uint32_t)beginning->record->thread));
+}
+
+EXPORTED int pthread_create(pthread_t *handle, const pthread_attr_t *attributes, void *(*routine)(void *),
+                            void *argument)
+{
+    struct thread *thread = recording_thread();
+    uint32_t site = thread ? CALLER_SITE() : 0;
+    struct beginning *beginning =
+        thread ? beginning_plan(thread, (uint64_t)(uintptr_t)routine, argument) : NULL;
+    if (!beginning)
+        return real.pthread_create(handle, attributes, routine, argument);
+    beginning->routine = routine;
+    uint64_t *place = fork_write(thread, beginning, site);
+    int result = real.pthread_create(handle, attributes, thread_begin, beginning);
+    if (result == 0)
+        beginning_map(beginning, *handle);
+    else
+        beginning_undo(thread, beginning, place);
+    return result;
+}
+
+EXPORTED int thrd_create(thrd_t *handle, thrd_start_t routine, void *argument)
+{
+    struct thread *thread = recording_thread();
+    uint32_t site = thread ? CALLER_SITE() : 0;
+    struct beginning *beginning =
+        thread ? beginning_plan(thread, (uint64_t)(uintptr_t)routine, argument) : NULL;
+    if (!beginning)
+        return real.thrd_create(handle, routine, argument);
+    beginning->c11_routine = routine;
+    uint64_t *place = fork_write(thread, beginning, site);
+    int result = real.thrd_create(handle, thread_begin_c11, beginning);
+    if (result == thrd_success)
+        beginning_map(beginning, (pthread_t)*handle);
+    else
+        beginning_undo(thread, beginning, place);
+    return result;
+}
+
+/* --- Joining threads -------------------------------------------------------------------------------------- */
+
+/* The number of the thread, plus one; 0 if it isn't known. Asked before the join: afterwards the handle may belong
+ * to another thread. */
+static uint64_t joined_number(pthread_t handle)
+{
+    struct slot *slot = table_find(&process.threads, (uint64_t)handle);
+    return slot ? __atomic_load_n(&slot->value, __ATOMIC_ACQUIRE) : 0;
+}
+
+static void join_write(struct thread *thread, uint64_t number, uint32_t site, int joined)
+{
+    if (!joined || number == 0) {
+        count_other(thread);
+        return;
+    }
+    segment_end(thread);
+    word_store(thread, event_word(EVENT_JOIN, site, (uint32_t)(number - 1)));
+}
+
+#define JOIN(handle, success, call)                                  \
+    struct thread *thread = recording_thread();                      \
+    if (!thread)                                                     \
+        return call;                                                 \
+    uint32_t site = CALLER_SITE();                                   \
+    uint64_t number = joined_number((pthread_t)(handle));            \
+    int result = call;                                               \
+    join_write(thread, number, site, result == (success));           \
+    return result
+
+EXPORTED int pthread_join(pthread_t handle, void **value)
+{
+    JOIN(handle, 0, real.pthread_join(handle, value));
+}
+
+EXPORTED int pthread_tryjoin_np(pthread_t handle, void **value)
+{
+    JOIN(handle, 0, real.pthread_tryjoin_np(handle, value));
+}
+
+EXPORTED int pthread_timedjoin_np(pthread_t handle, void **value, deadline_t deadline)
+{
+    JOIN(handle, 0, real.pthread_timedjoin_np(handle, value, deadline));
+}
+
+EXPORTED int pthread_clockjoin_np(pthread_t handle, void **value, clockid_t clock, deadline_t deadline)
+{
+    JOIN(handle, 0, real.pthread_clockjoin_np(handle, value, clock, deadline));
+}
+
+EXPORTED int thrd_join(thrd_t handle, int *value)
+{
+    JOIN(handle, thrd_success, real.thrd_join(handle, value));
+}

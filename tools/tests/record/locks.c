@@ -1,0 +1,716 @@
+/* Programs for the recorder's tests: the first argument names one. A mark as in `@name` in a comment stands for its
+ * line in the expected traces of run_record.py. */
+#define _GNU_SOURCE
+#include <errno.h>
+#include <pthread.h>
+#include <semaphore.h>
+#include <signal.h>
+#include <stdint.h>
+#include <stdio.h>
+#include <stdlib.h>
+#include <string.h>
+#include <sys/syscall.h>
+#include <sys/time.h>
+#include <sys/wait.h>
+#include <threads.h>
+#include <time.h>
+#include <unistd.h>
+
+/* A failed expectation is a status that no test waits for. */
+#define MUST(condition)                                                        \
+    do {                                                                       \
+        if (!(condition)) {                                                    \
+            fprintf(stderr, "locks.c:%d: not so: %s\n", __LINE__, #condition); \
+            _exit(99);                                                         \
+        }                                                                      \
+    } while (0)
+
+static pthread_mutex_t a = PTHREAD_MUTEX_INITIALIZER;
+static pthread_mutex_t b = PTHREAD_MUTEX_INITIALIZER;
+static pthread_mutex_t checked = PTHREAD_ERRORCHECK_MUTEX_INITIALIZER_NP;
+static pthread_mutex_t again = PTHREAD_RECURSIVE_MUTEX_INITIALIZER_NP;
+static pthread_mutex_t left;
+static pthread_mutex_t fixed = PTHREAD_MUTEX_INITIALIZER;
+static pthread_mutex_t many[70];
+static pthread_rwlock_t rw = PTHREAD_RWLOCK_INITIALIZER;
+static sem_t step, other_step;
+
+static struct timespec after(clockid_t clock, long milliseconds)
+{
+    struct timespec time;
+    clock_gettime(clock, &time);
+    time.tv_nsec += milliseconds * 1000000;
+    time.tv_sec += time.tv_nsec / 1000000000;
+    time.tv_nsec %= 1000000000;
+    return time;
+}
+
+static void mutexes(void)
+{
+    struct timespec real_time = after(CLOCK_REALTIME, 1000), monotonic = after(CLOCK_MONOTONIC, 1000);
+    struct timespec past = {0, 0};
+    pthread_mutex_lock(&a);                                                    /* @mutex_lock */
+    MUST(pthread_mutex_trylock(&b) == 0);                                      /* @mutex_try */
+    MUST(pthread_mutex_trylock(&b) == EBUSY);
+    MUST(pthread_mutex_timedlock(&b, &past) == ETIMEDOUT);
+    MUST(pthread_mutex_clocklock(&b, CLOCK_MONOTONIC, &past) == ETIMEDOUT);
+    pthread_mutex_unlock(&b);                                                  /* @mutex_unlock_b */
+    MUST(pthread_mutex_timedlock(&b, &real_time) == 0);                        /* @mutex_timed */
+    pthread_mutex_unlock(&b);                                                  /* @mutex_unlock_b2 */
+    MUST(pthread_mutex_clocklock(&b, CLOCK_MONOTONIC, &monotonic) == 0);       /* @mutex_clock */
+    pthread_mutex_unlock(&a);                                                  /* @mutex_unlock_a */
+    pthread_mutex_unlock(&b);                                                  /* @mutex_unlock_b3 */
+}
+
+static void failing(void)
+{
+    MUST(pthread_mutex_unlock(&checked) == EPERM);
+    pthread_mutex_lock(&checked);                                              /* @failing_lock */
+    MUST(pthread_mutex_lock(&checked) == EDEADLK);
+    pthread_mutex_lock(&a);                                                    /* @failing_a */
+    pthread_mutex_unlock(&a);                                                  /* @failing_a_end */
+    pthread_mutex_unlock(&checked);                                            /* @failing_unlock */
+}
+
+static void recursive(void)
+{
+    pthread_mutex_lock(&again);                                                /* @recursive_1 */
+    pthread_mutex_lock(&again);                                                /* @recursive_2 */
+    pthread_mutex_unlock(&again);                                              /* @recursive_3 */
+    pthread_mutex_lock(&a);                                                    /* @recursive_4 */
+    pthread_mutex_unlock(&a);                                                  /* @recursive_5 */
+    pthread_mutex_unlock(&again);                                              /* @recursive_6 */
+}
+
+static void robust(void)
+{
+    pthread_mutexattr_t attributes;
+    pthread_mutex_t lock;
+    pthread_mutexattr_init(&attributes);
+    pthread_mutexattr_setrobust(&attributes, PTHREAD_MUTEX_ROBUST);
+    pthread_mutexattr_setpshared(&attributes, PTHREAD_PROCESS_PRIVATE);
+    pthread_mutex_init(&lock, &attributes);                                    /* @robust_made */
+    pthread_mutex_lock(&lock);                                                 /* @robust_lock */
+    pthread_mutex_unlock(&lock);                                               /* @robust_unlock */
+}
+
+static void *dies_holding(void *lock)
+{
+    pthread_mutex_lock(lock);                                                  /* @dead_lock */
+    return NULL;
+}
+
+static void owner_died(void)
+{
+    pthread_mutexattr_t attributes;
+    pthread_t thread;
+    pthread_mutexattr_init(&attributes);
+    pthread_mutexattr_setrobust(&attributes, PTHREAD_MUTEX_ROBUST);
+    pthread_mutex_init(&left, &attributes);
+    pthread_create(&thread, NULL, dies_holding, &left);                        /* @dead_fork */
+    pthread_join(thread, NULL);                                                /* @dead_join */
+    MUST(pthread_mutex_lock(&left) == EOWNERDEAD);                             /* @dead_next */
+    pthread_mutex_consistent(&left);
+    pthread_mutex_unlock(&left);                                               /* @dead_unlock */
+}
+
+static pthread_mutex_t *make(void)
+{
+    pthread_mutex_t *lock = malloc(sizeof *lock);
+    pthread_mutex_init(lock, NULL);                                            /* @make */
+    return lock;
+}
+
+/* A lock that is destroyed and made again at its address is another one. */
+static void made_again(void)
+{
+    pthread_mutex_t *one = make(), *two = make();
+    pthread_mutex_lock(two);                                                   /* @made_two */
+    pthread_mutex_lock(one);                                                   /* @made_one */
+    pthread_mutex_unlock(one);                                                 /* @made_one_end */
+    pthread_mutex_unlock(two);                                                 /* @made_two_end */
+    pthread_mutex_destroy(one);
+    pthread_mutex_init(one, NULL);                                             /* @made_again */
+    pthread_mutex_lock(one);                                                   /* @made_third */
+    pthread_mutex_unlock(one);                                                 /* @made_third_end */
+    pthread_mutex_lock(&fixed);                                                /* @made_fixed */
+    pthread_mutex_unlock(&fixed);                                              /* @made_fixed_end */
+    pthread_mutex_destroy(&fixed);
+    pthread_mutex_init(&fixed, NULL);
+    pthread_mutex_lock(&fixed);                                                /* @made_fixed_2 */
+    pthread_mutex_unlock(&fixed);                                              /* @made_fixed_2_end */
+}
+
+static void rwlocks(void)
+{
+    struct timespec real_time = after(CLOCK_REALTIME, 1000), monotonic = after(CLOCK_MONOTONIC, 1000);
+    struct timespec past = {0, 0};
+    pthread_rwlock_t *made = malloc(sizeof *made);
+    pthread_rwlock_init(made, NULL);                                           /* @rw_made */
+    pthread_rwlock_rdlock(&rw);                                                /* @rw_read */
+    pthread_rwlock_rdlock(&rw);                                                /* @rw_read_2 */
+    MUST(pthread_rwlock_trywrlock(&rw) == EBUSY);
+    MUST(pthread_rwlock_timedwrlock(&rw, &past) == ETIMEDOUT);
+    MUST(pthread_rwlock_clockwrlock(&rw, CLOCK_MONOTONIC, &past) == ETIMEDOUT);
+    pthread_rwlock_unlock(&rw);                                                /* @rw_read_2_end */
+    pthread_rwlock_wrlock(made);                                               /* @rw_write */
+    MUST(pthread_rwlock_rdlock(made) == EDEADLK);
+    MUST(pthread_rwlock_tryrdlock(made) == EBUSY);
+    pthread_rwlock_unlock(made);                                               /* @rw_write_end */
+    pthread_rwlock_unlock(&rw);                                                /* @rw_read_end */
+    MUST(pthread_rwlock_tryrdlock(&rw) == 0);                                  /* @rw_tryread */
+    pthread_rwlock_unlock(&rw);                                                /* @rw_tryread_end */
+    MUST(pthread_rwlock_timedrdlock(&rw, &real_time) == 0);                    /* @rw_timedread */
+    pthread_rwlock_unlock(&rw);                                                /* @rw_timedread_end */
+    MUST(pthread_rwlock_clockrdlock(&rw, CLOCK_MONOTONIC, &monotonic) == 0);   /* @rw_clockread */
+    pthread_rwlock_unlock(&rw);                                                /* @rw_clockread_end */
+    MUST(pthread_rwlock_trywrlock(&rw) == 0);                                  /* @rw_trywrite */
+    pthread_rwlock_unlock(&rw);                                                /* @rw_trywrite_end */
+    MUST(pthread_rwlock_timedwrlock(&rw, &real_time) == 0);                    /* @rw_timedwrite */
+    pthread_rwlock_unlock(&rw);                                                /* @rw_timedwrite_end */
+    MUST(pthread_rwlock_clockwrlock(&rw, CLOCK_MONOTONIC, &monotonic) == 0);   /* @rw_clockwrite */
+    pthread_rwlock_unlock(&rw);                                                /* @rw_clockwrite_end */
+    pthread_rwlock_destroy(made);
+    pthread_rwlock_init(made, NULL);                                           /* @rw_made_2 */
+    pthread_rwlock_wrlock(made);                                               /* @rw_write_2 */
+    pthread_rwlock_unlock(made);                                               /* @rw_write_2_end */
+}
+
+static void spins(void)
+{
+    pthread_spinlock_t *spin = malloc(64);
+    pthread_spin_init(spin, PTHREAD_PROCESS_PRIVATE);                          /* @spin_made */
+    pthread_spin_lock(spin);                                                   /* @spin_lock */
+    MUST(pthread_spin_trylock(spin) == EBUSY);
+    pthread_spin_unlock(spin);                                                 /* @spin_unlock */
+    MUST(pthread_spin_trylock(spin) == 0);                                     /* @spin_try */
+    pthread_spin_unlock(spin);                                                 /* @spin_unlock_2 */
+    pthread_spin_destroy(spin);
+    pthread_spin_init(spin, PTHREAD_PROCESS_PRIVATE);                          /* @spin_made_2 */
+    pthread_spin_lock(spin);                                                   /* @spin_lock_2 */
+    pthread_spin_unlock(spin);                                                 /* @spin_unlock_3 */
+}
+
+/* --- C11 ------------------------------------------------------------------------------------------------ */
+
+static mtx_t plain;
+static cnd_t condition11;
+static int ready11;
+
+static int c11_worker(void *unused)
+{
+    (void)unused;
+    mtx_lock(&plain);                                                          /* @c11_worker_lock */
+    ready11 = 1;
+    cnd_signal(&condition11);
+    mtx_unlock(&plain);                                                        /* @c11_worker_unlock */
+    return 7;
+}
+
+static void c11(void)
+{
+    struct timespec soon = after(CLOCK_REALTIME, 20), later = after(CLOCK_REALTIME, 1000);
+    thrd_t thread;
+    mtx_t timed;
+    int value;
+    mtx_init(&plain, mtx_plain);
+    mtx_init(&timed, mtx_timed);                                               /* @c11_made */
+    cnd_init(&condition11);
+    MUST(mtx_trylock(&timed) == thrd_success);                                 /* @c11_try */
+    MUST(mtx_trylock(&timed) == thrd_busy);
+    mtx_unlock(&timed);                                                        /* @c11_unlock */
+    MUST(mtx_timedlock(&timed, &later) == thrd_success);                       /* @c11_timed */
+    mtx_unlock(&timed);                                                        /* @c11_unlock_2 */
+    mtx_destroy(&timed);
+    mtx_init(&timed, mtx_plain);                                               /* @c11_made_2 */
+    mtx_lock(&timed);                                                          /* @c11_lock_2 */
+    mtx_unlock(&timed);                                                        /* @c11_unlock_3 */
+    mtx_lock(&plain);                                                          /* @c11_lock */
+    MUST(cnd_timedwait(&condition11, &plain, &soon) == thrd_timedout);         /* @c11_timedwait */
+    thrd_create(&thread, c11_worker, NULL);                                    /* @c11_create */
+    while (!ready11)
+        cnd_wait(&condition11, &plain);                                        /* @c11_wait */
+    mtx_unlock(&plain);                                                        /* @c11_unlock_4 */
+    thrd_join(thread, &value);                                                 /* @c11_join */
+    MUST(value == 7);
+}
+
+/* --- Conditions ----------------------------------------------------------------------------------------- */
+
+static pthread_cond_t condition = PTHREAD_COND_INITIALIZER;
+static int ready;
+
+static void *signaller(void *unused)
+{
+    pthread_mutex_lock(&a);                                                    /* @signaller_lock */
+    ready = 1;
+    pthread_cond_signal(&condition);
+    pthread_mutex_unlock(&a);                                                  /* @signaller_unlock */
+    return unused;
+}
+
+static void conditions(void)
+{
+    pthread_t thread;
+    struct timespec real_time = after(CLOCK_REALTIME, 20), monotonic = after(CLOCK_MONOTONIC, 20);
+    struct timespec wrong = {real_time.tv_sec, 1000000000};
+    pthread_mutex_lock(&a);                                                    /* @cond_lock */
+    MUST(pthread_cond_timedwait(&condition, &a, &wrong) == EINVAL);
+    MUST(pthread_cond_timedwait(&condition, &a, &real_time) == ETIMEDOUT);     /* @cond_timed */
+    MUST(pthread_cond_clockwait(&condition, &a, CLOCK_MONOTONIC, &monotonic) == ETIMEDOUT); /* @cond_clock */
+    pthread_create(&thread, NULL, signaller, NULL);                            /* @cond_create */
+    while (!ready)
+        pthread_cond_wait(&condition, &a);                                     /* @cond_wait */
+    pthread_mutex_unlock(&a);                                                  /* @cond_unlock */
+    pthread_join(thread, NULL);                                                /* @cond_join */
+}
+
+static void unlock_b(void *unused)
+{
+    (void)unused;
+    pthread_mutex_unlock(&b);                                                  /* @cancel_unlock */
+}
+
+static void *cancelled(void *unused)
+{
+    pthread_mutex_lock(&b);                                                    /* @cancel_lock */
+    pthread_cleanup_push(unlock_b, NULL);
+    sem_post(&step);
+    for (;;)
+        pthread_cond_wait(&condition, &b);                                     /* @cancel_wait */
+    pthread_cleanup_pop(0);
+    return unused;
+}
+
+static void cancel(void)
+{
+    pthread_t thread;
+    void *value;
+    pthread_create(&thread, NULL, cancelled, NULL);                            /* @cancel_create */
+    sem_wait(&step);
+    usleep(20000);
+    pthread_cancel(thread);
+    pthread_join(thread, &value);                                              /* @cancel_join */
+    MUST(value == PTHREAD_CANCELED);
+}
+
+/* --- Threads -------------------------------------------------------------------------------------------- */
+
+static void *quick(void *unused)
+{
+    return unused;
+}
+
+static void *leaves(void *unused)
+{
+    (void)unused;
+    pthread_mutex_lock(&a);                                                    /* @leaves_lock */
+    pthread_mutex_unlock(&a);                                                  /* @leaves_unlock */
+    pthread_exit((void *)3);
+}
+
+static void *parent(void *unused)
+{
+    pthread_t child;
+    pthread_create(&child, NULL, leaves, NULL);                                /* @parent_create */
+    pthread_join(child, NULL);                                                 /* @parent_join */
+    return unused;
+}
+
+static void *detached(void *unused)
+{
+    pthread_mutex_lock(&b);                                                    /* @detached_lock */
+    pthread_mutex_unlock(&b);                                                  /* @detached_unlock */
+    sem_post(&step);
+    return unused;
+}
+
+static void threads(void)
+{
+    struct timespec later = after(CLOCK_REALTIME, 5000), monotonic = after(CLOCK_MONOTONIC, 5000), past = {0, 0};
+    pthread_t first, second, third, fourth, fifth;
+    pthread_attr_t attributes;
+    pthread_attr_init(&attributes);
+    MUST(pthread_attr_setstacksize(&attributes, (size_t)1 << 46) == 0);
+    MUST(pthread_create(&first, &attributes, quick, NULL) != 0);
+    pthread_create(&first, NULL, parent, NULL);                                /* @threads_1 */
+    pthread_create(&second, NULL, quick, NULL);                                /* @threads_2 */
+    pthread_join(first, NULL);                                                 /* @threads_3 */
+    while (pthread_tryjoin_np(second, NULL) != 0)                              /* @threads_4 */
+        usleep(1000);
+    pthread_create(&third, NULL, (void *(*)(void *))(uintptr_t)sem_wait, &other_step); /* @threads_5 */
+    MUST(pthread_timedjoin_np(third, NULL, &past) == ETIMEDOUT);
+    sem_post(&other_step);
+    MUST(pthread_timedjoin_np(third, NULL, &later) == 0);                      /* @threads_6 */
+    pthread_create(&fourth, NULL, quick, NULL);                                /* @threads_7 */
+    MUST(pthread_clockjoin_np(fourth, NULL, CLOCK_MONOTONIC, &monotonic) == 0); /* @threads_8 */
+    pthread_attr_init(&attributes);
+    pthread_attr_setdetachstate(&attributes, PTHREAD_CREATE_DETACHED);
+    pthread_create(&fifth, &attributes, detached, NULL);                       /* @threads_9 */
+    sem_wait(&step);
+}
+
+static void *maker(void *unused)
+{
+    pthread_t children[20];
+    for (int i = 0; i < 20; i++)
+        pthread_create(&children[i], NULL, quick, NULL);                       /* @maker_create */
+    for (int i = 0; i < 20; i++)
+        pthread_join(children[i], NULL);                                       /* @maker_join */
+    return unused;
+}
+
+static void two_makers(void)
+{
+    pthread_t first, second;
+    pthread_create(&first, NULL, maker, NULL);                                 /* @makers_1 */
+    pthread_create(&second, NULL, maker, NULL);                                /* @makers_2 */
+    pthread_join(first, NULL);                                                 /* @makers_3 */
+    pthread_join(second, NULL);                                                /* @makers_4 */
+}
+
+/* Locks in fresh memory that nobody made, used by racing threads. */
+struct node {
+    pthread_mutex_t lock;
+    struct node *next;
+};
+static struct node *nodes;
+
+static void *walker(void *unused)
+{
+    sem_wait(&step);
+    for (struct node *node = nodes; node; node = node->next) {
+        pthread_mutex_lock(&node->lock);                                       /* @walker_lock */
+        pthread_mutex_unlock(&node->lock);                                     /* @walker_unlock */
+    }
+    return unused;
+}
+
+static void racing(void)
+{
+    pthread_t first, second;
+    for (int i = 0; i < 3; i++) {
+        struct node *node = calloc(1, sizeof *node);
+        node->next = nodes;
+        nodes = node;
+    }
+    pthread_create(&first, NULL, walker, NULL);                                /* @racing_1 */
+    pthread_create(&second, NULL, walker, NULL);                               /* @racing_2 */
+    sem_post(&step);
+    sem_post(&step);
+    pthread_join(first, NULL);                                                 /* @racing_3 */
+    pthread_join(second, NULL);                                                /* @racing_4 */
+}
+
+/* --- Endings -------------------------------------------------------------------------------------------- */
+
+static void *other_way(void *unused)
+{
+    pthread_mutex_lock(&b);                                                    /* @dead_b */
+    sem_post(&step);
+    sem_wait(&other_step);
+    pthread_mutex_lock(&a);                                                    /* @dead_ba */
+    return unused;
+}
+
+/* Hangs: the test kills it. */
+static void deadlock(void)
+{
+    pthread_t thread;
+    pthread_create(&thread, NULL, other_way, NULL);                            /* @dead_create */
+    pthread_mutex_lock(&a);                                                    /* @dead_a */
+    sem_wait(&step);
+    sem_post(&other_step);
+    puts("ready");
+    fflush(stdout);
+    pthread_mutex_lock(&b);                                                    /* @dead_ab */
+}
+
+static void one_pair(void)
+{
+    pthread_mutex_lock(&a);                                                    /* @pair_lock */
+    pthread_mutex_unlock(&a);                                                  /* @pair_unlock */
+}
+
+static void aborts(void)
+{
+    one_pair();
+    abort();
+}
+
+static void leaves_at_once(void)
+{
+    one_pair();
+    _exit(5);
+}
+
+static void upgrade(void)
+{
+    pthread_mutex_lock(&a);                                                    /* @upgrade_a */
+    pthread_rwlock_rdlock(&rw);                                                /* @upgrade_read */
+    alarm(1);
+    pthread_rwlock_wrlock(&rw);                                                /* @upgrade_write */
+}
+
+static void beyond(void)
+{
+    for (int i = 0; i < 66; i++)
+        pthread_mutex_lock(&many[i]);                                          /* @beyond_lock */
+    for (int i = 66; i-- > 0;)
+        pthread_mutex_unlock(&many[i]);                                        /* @beyond_unlock */
+    one_pair();
+}
+
+static void stray(void)
+{
+    pthread_mutex_unlock(&a);                                                  /* @stray */
+    one_pair();
+}
+
+/* --- Late and early events ------------------------------------------------------------------------------ */
+
+static pthread_key_t key;
+
+static void key_end(void *value)
+{
+    pthread_mutex_lock(&b);                                                    /* @key_lock */
+    pthread_mutex_unlock(&b);                                                  /* @key_unlock */
+    if ((intptr_t)value > 1)
+        pthread_setspecific(key, (void *)((intptr_t)value - 1));
+}
+
+static void *uses_key(void *unused)
+{
+    pthread_setspecific(key, (void *)1);
+    return unused;
+}
+
+/* Its destructor runs in every round that there is. */
+static void *uses_key_long(void *unused)
+{
+    pthread_setspecific(key, (void *)100);
+    return unused;
+}
+
+static void keys(void)
+{
+    pthread_t thread;
+    pthread_key_create(&key, key_end);
+    pthread_create(&thread, NULL, uses_key, NULL);                             /* @keys_1 */
+    pthread_join(thread, NULL);                                                /* @keys_2 */
+    pthread_create(&thread, NULL, uses_key_long, NULL);                        /* @keys_3 */
+    pthread_join(thread, NULL);                                                /* @keys_4 */
+}
+
+static void on_signal(int number)
+{
+    (void)number;
+    pthread_mutex_lock(&b);                                                    /* @signal_lock */
+    pthread_mutex_unlock(&b);                                                  /* @signal_unlock */
+}
+
+static void signals(void)
+{
+    signal(SIGUSR1, on_signal);
+    pthread_mutex_lock(&a);                                                    /* @signals_lock */
+    raise(SIGUSR1);
+    pthread_mutex_unlock(&a);                                                  /* @signals_unlock */
+}
+
+/* Signals come at any instruction of the recorder's. */
+static void signal_storm(void)
+{
+    struct itimerval often = {{0, 200}, {0, 200}};
+    signal(SIGALRM, on_signal);
+    setitimer(ITIMER_REAL, &often, NULL);
+    for (long i = 0; i < 2000000; i++) {
+        pthread_mutex_lock(&a);
+        pthread_mutex_lock(&many[0]);
+        pthread_mutex_unlock(&many[0]);
+        pthread_mutex_unlock(&a);
+    }
+}
+
+/* --- Repeats -------------------------------------------------------------------------------------------- */
+
+static void both(void)
+{
+    pthread_mutex_lock(&a);                                                    /* @both_a */
+    pthread_mutex_lock(&b);                                                    /* @both_b */
+    pthread_mutex_unlock(&b);                                                  /* @both_b_end */
+    pthread_mutex_unlock(&a);                                                  /* @both_a_end */
+}
+
+static void repeats(void)
+{
+    pthread_t thread;
+    for (int i = 0; i < 5; i++) {
+        both();
+        one_pair();
+    }
+    pthread_create(&thread, NULL, quick, NULL);                                /* @repeats_1 */
+    for (int i = 0; i < 3; i++)
+        both();
+    pthread_join(thread, NULL);                                                /* @repeats_2 */
+    both();
+}
+
+/* 200,000 events, no two stretches of one pass alike: 50,000 nested pairs of locks, twice. */
+static void volume(void)
+{
+    enum { SIDE = 224 };
+    pthread_mutex_t *outer = calloc(SIDE, sizeof *outer), *inner = calloc(SIDE, sizeof *inner);
+    for (int pass = 0; pass < 2; pass++)
+        for (int i = 0; i < SIDE * SIDE; i++) {
+            pthread_mutex_lock(&outer[i / SIDE]);
+            pthread_mutex_lock(&inner[i % SIDE]);
+            pthread_mutex_unlock(&inner[i % SIDE]);
+            pthread_mutex_unlock(&outer[i / SIDE]);
+        }
+}
+
+static void many_threads(void)
+{
+    for (int i = 0; i < 1100; i++) {
+        pthread_t thread;
+        pthread_create(&thread, NULL, quick, NULL);
+        pthread_join(thread, NULL);
+    }
+    one_pair();
+}
+
+/* --- Processes ------------------------------------------------------------------------------------------ */
+
+static void *child_thread(void *unused)
+{
+    one_pair();
+    return unused;
+}
+
+static void forks(void)
+{
+    pthread_mutex_t *made = make();
+    pthread_mutex_lock(made);                                                  /* @forks_made */
+    pid_t child = fork();
+    if (child == 0) {
+        pthread_t thread;
+        pthread_mutex_lock(&b);                                                /* @forks_child_b */
+        pthread_mutex_unlock(&b);                                              /* @forks_child_b_end */
+        pthread_mutex_unlock(made);                                            /* @forks_child_made */
+        pthread_create(&thread, NULL, child_thread, NULL);                     /* @forks_child_1 */
+        pthread_join(thread, NULL);                                            /* @forks_child_2 */
+        _exit(0);
+    }
+    printf("%d\n", child);
+    waitpid(child, NULL, 0);
+    pthread_mutex_unlock(made);                                                /* @forks_made_end */
+}
+
+/* A child that no handler of a fork sees. */
+static void raw_fork(void)
+{
+    pthread_mutex_lock(&a);                                                    /* @raw_lock */
+    pid_t child = (pid_t)syscall(SYS_fork);
+    if (child == 0) {
+        pthread_mutex_lock(&b);                                                /* @raw_child */
+        pthread_mutex_unlock(&b);                                              /* @raw_child_end */
+        _exit(0);
+    }
+    printf("%d\n", child);
+    waitpid(child, NULL, 0);
+    pthread_mutex_unlock(&a);                                                  /* @raw_unlock */
+}
+
+static char *program;
+
+static void executes(void)
+{
+    one_pair();
+    printf("%d\n", getpid());
+    fflush(stdout);
+    execl(program, program, "mutexes", (char *)NULL);
+}
+
+static void clears_environment(void)
+{
+    clearenv();
+    one_pair();
+}
+
+static void goes_to_background(void)
+{
+    one_pair();
+    if (fork() == 0) {
+        setsid();
+        usleep(300000);
+        both();
+        _exit(0);
+    }
+    _exit(0);
+}
+
+static void waits_for_signal(void)
+{
+    one_pair();
+    puts("ready");
+    fflush(stdout);
+    pause();
+}
+
+/* Takes a lock under four functions, for the callers. */
+static __attribute__((noinline)) void inner(void)
+{
+    pthread_mutex_lock(&a);                                                    /* @frames_lock */
+    __asm__ volatile("");
+}
+
+static __attribute__((noinline)) void outer(int way)
+{
+    if (way == 1)
+        inner();                                                               /* @frames_1 */
+    else
+        inner();                                                               /* @frames_2 */
+    pthread_mutex_unlock(&a);                                                  /* @frames_unlock */
+}
+
+static void frames(void)
+{
+    outer(1);                                                                  /* @frames_outer_1 */
+    outer(2);                                                                  /* @frames_outer_2 */
+}
+
+static void table(void)
+{
+    pthread_mutex_lock(&many[3]);                                              /* @table */
+    pthread_mutex_unlock(&many[3]);                                            /* @table_end */
+}
+
+static void nothing(void)
+{
+}
+
+static const struct {
+    const char *name;
+    void (*run)(void);
+} programs[] = {
+    {"mutexes", mutexes}, {"failing", failing}, {"recursive", recursive}, {"robust", robust},
+    {"owner_died", owner_died}, {"made_again", made_again}, {"rwlocks", rwlocks}, {"spins", spins}, {"c11", c11},
+    {"conditions", conditions}, {"cancel", cancel}, {"threads", threads}, {"two_makers", two_makers},
+    {"racing", racing}, {"deadlock", deadlock}, {"aborts", aborts}, {"leaves_at_once", leaves_at_once},
+    {"upgrade", upgrade}, {"beyond", beyond}, {"stray", stray}, {"keys", keys}, {"signals", signals}, {"signal_storm", signal_storm},
+    {"repeats", repeats}, {"volume", volume}, {"many_threads", many_threads}, {"forks", forks},
+    {"raw_fork", raw_fork}, {"executes", executes}, {"clears_environment", clears_environment},
+    {"goes_to_background", goes_to_background}, {"waits_for_signal", waits_for_signal}, {"frames", frames},
+    {"table", table}, {"nothing", nothing},
+};
+
+int main(int count, char **arguments)
+{
+    program = arguments[0];
+    for (size_t i = 0; count > 1 && i < sizeof programs / sizeof programs[0]; i++)
+        if (strcmp(programs[i].name, arguments[1]) == 0) {
+            programs[i].run();
+            return 0;
+        }
+    return 98;
+}
