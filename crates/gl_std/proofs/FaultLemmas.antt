@@ -1,17 +1,17 @@
 -- The fault of a text is that of its first line at fault.
-use Rattle.std.proofs.Common.{◌≡◌, ◌⊎◌, ℕ, ◌+◌, ◌<◌, ◌≤◌, Bool, true, false, cond, nat_lt, List, [], ◌∷◌, ◌++◌, length, position, is_none, Option, Some, None, Result, Ok, Err, refl, sym, ap, subst, ◌∙◌, inl, inr, arith}
+use Rattle.std.proofs.Common.{◌≡◌, ◌⊎◌, ℕ, ◌+◌, ◌<◌, ◌≤◌, Bool, true, false, cond, nat_lt, List, [], ◌∷◌, ◌++◌, length, position, Option, Some, None, Result, Ok, Err, refl, sym, ap, subst, ◌∙◌, inl, inr, arith}
 use Rattle.std.specs.Prelude.{nat_le}
 use Rattle.std.specs.Str.{bytes_eq}
 use Rattle.std.proofs.lemmas.Bool.Decides.{nat_tests}
 use Rattle.gl_event.specs.Bounds.{Bounds}
 use Rattle.gl_event.specs.declared.events.Refusal.{Refusal}
 use Rattle.gl_event.specs.declared.events.Refusal.TheVariants.{PlaceFull, NoSuchThread, OnItself, NotHeld, HeldFull as NoRoom, DepthFull as TooDeep, Upgrade as IsUpgrade}
-use Rattle.gl_std.specs.Laws.{mention, refusal_of_call, IsFaultAfter, IsFirstFault, FaultsComeFirst}
+use Rattle.gl_std.specs.Laws.{mention, refusal_of_call, IsFaultAfter, FaultsComeFirst}
 use Rattle.gl_std.specs.Laws.IsFaultAfter.{alone, held_full, too_deep, upgrade, many_threads, many_events, many_names}
 use Rattle.gl_std.specs.Line.{Shape, shape_of}
 use Rattle.gl_std.specs.Line.Shape.{Blank, Bad, Other, Call}
 use Rattle.gl_std.specs.Lines.{lines}
-use Rattle.gl_std.specs.Trace.{found_in, with_name, if_new, threads_after, locks_after, events_of, limit_fault, verdict_of, after_verdict, after_shape, after_line, and_then, read_from, nothing, trace_of}
+use Rattle.gl_std.specs.Trace.{found_in, if_new, threads_after, locks_after, events_of, limit_fault, verdict_of, after_verdict, after_shape, after_line, and_then, read_from, nothing, trace_of}
 use Rattle.gl_std.specs.declared.faults.ReadFault.{ReadFault}
 use Rattle.gl_std.specs.declared.faults.ReadFault.TheVariants.{Line}
 use Rattle.gl_std.specs.declared.faults.StdKind.{StdKind}

@@ -1,5 +1,5 @@
 -- A line that is written of an event says the event.
-use Rattle.std.proofs.Common.{◌≡◌, ◌≢◌, ℕ, ◌≤◌, Bool, true, false, ◌&&◌, ◌||◌, cond, eqb, List, [], ◌∷◌, ◌++◌, length, Contains, Some, refl, sym, ap, subst, ◌∙◌, append_assoc}
+use Rattle.std.proofs.Common.{◌≡◌, ℕ, ◌≤◌, Bool, true, false, ◌&&◌, ◌||◌, cond, eqb, List, [], ◌∷◌, ◌++◌, length, Contains, Some, refl, sym, ap, subst, ◌∙◌, append_assoc}
 use Rattle.std.specs.Str.{bytes_eq}
 use Rattle.std.proofs.lemmas.List.Folds.{list_any-append}
 use Rattle.std.proofs.lemmas.Slice.Eq.{bytes_eq-Decides}
@@ -7,16 +7,16 @@ use Rattle.gl_event.specs.Events.{location}
 use Rattle.gl_event.specs.declared.events.Event.{Event}
 use Rattle.gl_event.specs.declared.events.Event.TheVariants.{Acquire, Release, TryAcquire, Fork, Join}
 use Rattle.gl_event.specs.declared.events.LockMode.TheVariants.{Exclusive, Shared}
-use Rattle.gl_std.specs.Line.{Shape, shape_of, operation_of}
+use Rattle.gl_std.specs.Line.{shape_of, operation_of}
 use Rattle.gl_std.specs.Line.Shape.{Call}
 use Rattle.gl_std.specs.Line.Says.{fields}
 use Rattle.gl_std.specs.Line.FieldsSay.{call}
 use Rattle.gl_std.specs.Lines.{LF, CR, is_empty, lines, without_cr}
 use Rattle.gl_std.specs.Names.{NameLists}
-use Rattle.gl_std.specs.Written.{name_at, word_of, operand_name, line_end, event_line, written_event, operation_in, said, CanBeTold, WrittenLinesSayEvents}
+use Rattle.gl_std.specs.Written.{name_at, word_of, operand_name, event_line, written_event, operation_in, said, CanBeTold, WrittenLinesSayEvents}
 use Rattle.gl_std.specs.declared.line.TheConstants.{MAX_LINE, BAR, OPEN, CLOSE}
 use Rattle.gl_std.proofs.CutLemmas.{holds}
-use Rattle.gl_std.proofs.LinesLemmas.{holds_lf, lines-first, no_lf, holds_lf-cr, without_cr-append}
+use Rattle.gl_std.proofs.LinesLemmas.{lines-first, no_lf, holds_lf-cr, without_cr-append}
 use Rattle.gl_std.proofs.ShapeLemmas.{holds-none, free_of, says_shape}
 
 -- ---- words

@@ -1,18 +1,16 @@
 -- What is written of a trace that was read says its lists again.
-use Rattle.std.proofs.Common.{◌≡◌, ◌≢◌, ℕ, zero, suc, ◌+◌, ◌<◌, ◌≤◌, Bool, true, false, ◌||◌, cond, eqb, codes, ◌⊎◌, inl, inr, ⊎_elim, List, [], ◌∷◌, ◌++◌, length, map, filter, position, get_or, unwrap_or, All, Contains, Option, Some, None, Result, Ok, Err, refl, sym, ap, subst, ◌∙◌, append_assoc, arith}
+use Rattle.std.proofs.Common.{◌≡◌, ◌≢◌, ℕ, zero, suc, ◌+◌, ◌≤◌, Bool, true, false, ◌||◌, cond, eqb, codes, ◌⊎◌, inl, inr, ⊎_elim, List, [], ◌∷◌, ◌++◌, length, map, filter, position, get_or, unwrap_or, All, Contains, Option, Some, None, Result, Ok, Err, refl, sym, ap, subst, ◌∙◌, append_assoc, arith}
 use Rattle.std.specs.Prelude.{IsTrue, slice_get}
 use Rattle.std.specs.List.{flat_map, zip}
 use Rattle.std.specs.Option.{option_map}
 use Rattle.std.specs.Str.{bytes_eq}
 use Rattle.std.proofs.lemmas.List.Folds.{list_any-append}
-use Rattle.std.proofs.lemmas.List.{map-append}
 use Rattle.std.proofs.lemmas.List.Elements.{All-append, All-push, All-map}
 use Rattle.std.proofs.lemmas.Option.{get_or_from_slice_get}
 use Rattle.std.proofs.lemmas.Slice.Eq.{bytes_eq-Decides}
 use Rattle.gl_event.specs.Bounds.{Bounds}
 use Rattle.gl_event.specs.Events.{location}
 use Rattle.gl_event.specs.declared.events.Event.{Event}
-use Rattle.gl_event.specs.declared.events.LockMode.{LockMode}
 use Rattle.gl_event.specs.declared.events.LockMode.TheVariants.{Exclusive, Shared}
 use Rattle.gl_std.specs.Laws.{KeptLine, IsNumbered, operands, kept_in, kept_from, if_told, is_stray}
 use Rattle.gl_std.specs.Line.{Shape, Says, FieldsSay, shape_of, operation_of, is_on_thread}
@@ -22,8 +20,8 @@ use Rattle.gl_std.specs.Line.FieldsSay.{no_thread, other_word, no_operand, other
 use Rattle.gl_std.specs.Lines.{LF, HasLines, lines}
 use Rattle.gl_std.specs.Lines.HasLines.{no_line, last_line, ended_by_lf, ended_by_cr_lf}
 use Rattle.gl_std.specs.Names.{NameLists}
-use Rattle.gl_std.specs.Trace.{found_in, events_of, event_of, event_told, after_line, nothing, trace_of, IsTraceOver}
-use Rattle.gl_std.specs.Written.{name_at, word_of, operand_name, event_line, written_event, written_list, written, operation_in, said, CanBeTold, WrittenTextsSayTraces}
+use Rattle.gl_std.specs.Trace.{found_in, events_of, event_of, event_told, after_line, nothing}
+use Rattle.gl_std.specs.Written.{name_at, word_of, operand_name, event_line, written_event, written_list, operation_in, said, CanBeTold, WrittenTextsSayTraces}
 use Rattle.gl_std.specs.declared.faults.ReadFault.{ReadFault}
 use Rattle.gl_std.specs.declared.line.Operation.{Operation}
 use Rattle.gl_std.specs.declared.line.Operation.TheVariants.{Acquire as AcquireOf, Release as ReleaseOf, TryAcquire as TryAcquireOf, Fork as ForkOf, Join as JoinOf}
@@ -101,7 +99,6 @@ record ComesOfLine (kept : KeptLine) : Type 0 where
   line : List ℕ
   one_line : ¬ Contains line LF
   is : IsCallLine line kept.operation kept.thread kept.operand kept.loc
-
 
 or_left : (a b : Bool) → (a || b) ≡ false → a ≡ false
 or_left true b h = h

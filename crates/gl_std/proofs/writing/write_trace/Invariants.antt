@@ -1,4 +1,4 @@
-use Rattle.std.proofs.Common.{◌≡◌, ◌≤◌, map, take}
+use Rattle.std.proofs.Common.{◌≡◌, take}
 use Rattle.std.specs.List.{flat_map, zip}
 use Rattle.gl_std.specs.Written.{written_list}
 use Rattle.gl_std.proofs.writing.write_trace.Given as goal
