@@ -8,6 +8,7 @@ use gl_edges::{Edge, EdgeList, Guard, Guards, Sample};
 use gl_event::{Limits, LocId, LockId, LockMode, Memory, ThreadId};
 use gl_filters::{Mode, Query};
 use gl_std::{Names, read_trace};
+use serde_json::Value;
 use std::alloc::Global;
 use std::cmp::Ordering;
 use std::process::Abort;
@@ -228,12 +229,11 @@ fn json_of_opposite_order(rt: HostRuntime) -> Result<(), Fail> {
 #[test]
 fn odd_names_are_escaped(rt: HostRuntime) -> Result<(), Fail> {
     let alloc = rt.alloc();
-    let accent = escaped_name(alloc, b"\xc3\xa9")?;
-    assert_eq!(rt; accent.as_bytes(), b"\\xc3\\xa9");
     let ends = escaped_name(alloc, b"\x1f ~\x7f\\\"")?;
-    assert_eq!(rt; ends.as_bytes(), b"\\x1f ~\\x7f\\x5c\"");
-    let value = serde_json::json!(in alloc; accent)?;
-    let quoted = value.to_string(alloc)?;
-    assert_eq!(rt; quoted.as_bytes(), b"\"\\\\xc3\\\\xa9\"");
+    assert!(rt; ends.as_str() == "\\x1f ~\\x7f\\x5c\"");
+    let accent = escaped_name(alloc, b"\xc3\xa9")?;
+    assert!(rt; accent.as_str() == "\\xc3\\xa9");
+    let quoted = Value::from(accent).to_string(alloc)?;
+    assert!(rt; quoted.as_str() == "\"\\\\xc3\\\\xa9\"");
     Ok(())
 }
