@@ -12,7 +12,7 @@ use itoa::Buffer;
 use std::alloc::Global;
 
 // The thread's name, or nothing where the number has none.
-fn thread_name(names: &Names, thread: ThreadId) -> &[u8]
+pub(crate) fn thread_name(names: &Names, thread: ThreadId) -> &[u8]
     ensures { result.now ≡ name_of names.now.threads thread }
 {
     if thread.number() < names.threads() {
@@ -22,7 +22,7 @@ fn thread_name(names: &Names, thread: ThreadId) -> &[u8]
 }
 
 // The lock's name, or nothing where the number has none.
-fn lock_name(names: &Names, lock: LockId) -> &[u8]
+pub(crate) fn lock_name(names: &Names, lock: LockId) -> &[u8]
     ensures { result.now ≡ name_of names.now.locks lock }
 {
     if lock.number() < names.locks() {
@@ -32,7 +32,7 @@ fn lock_name(names: &Names, lock: LockId) -> &[u8]
 }
 
 // The location's name, or nothing where the number has none.
-fn loc_name(names: &Names, loc: LocId) -> &[u8]
+pub(crate) fn loc_name(names: &Names, loc: LocId) -> &[u8]
     ensures { result.now ≡ name_of names.now.locs loc }
 {
     if loc.number() < names.locs() {

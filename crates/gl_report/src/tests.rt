@@ -2,12 +2,13 @@
 ghost use Rattle.std.specs.Prelude.{IsTrue};
 ghost use Rattle.gl_edges.specs.Order.{IsAboveLast};
 
-use crate::text;
+use crate::{escaped_name, json_text, text};
 use gl_cycles::{Cycles, Found, Report};
 use gl_edges::{Edge, EdgeList, Guard, Guards, Sample};
 use gl_event::{Limits, LocId, LockId, LockMode, Memory, ThreadId};
 use gl_filters::{Mode, Query};
 use gl_std::{Names, read_trace};
+use serde_json::Value;
 use std::alloc::Global;
 use std::cmp::Ordering;
 use std::process::Abort;
@@ -75,6 +76,44 @@ fn add(alloc: Global, list: &mut EdgeList, row: &EdgeRow) -> Result<bool, Memory
     Ok(true)
 }
 
+// The report of these edges and these cycles.
+fn report_of(
+    rt: &impl Abort,
+    alloc: Global,
+    rows: &[EdgeRow],
+    cycles: Vec<Vec<usize>>,
+    more: bool,
+) -> Result<Report, Fail> {
+    let mut edges = EdgeList::new(alloc);
+    for row in rows {
+        assert!(rt; add(alloc, &mut edges, row)?);
+    }
+    Ok(Report {
+        query: Query::new(Mode::Full, 4, 1_000)?,
+        edges,
+        found: Found {
+            cycles: Cycles::from_vec(cycles),
+            more,
+        },
+    })
+}
+
+// The report of these edges and these cycles has this JSON.
+fn expect_json(
+    rt: &impl Abort,
+    alloc: Global,
+    lines: &[u8],
+    rows: &[EdgeRow],
+    cycles: Vec<Vec<usize>>,
+    want: &[u8],
+) -> Result<(), Fail> {
+    let names = names_of(alloc, lines)?;
+    let report = report_of(rt, alloc, rows, cycles, false)?;
+    let printed = json_text(alloc, &names, &report)?;
+    assert_eq!(rt; printed.as_slice(), want);
+    Ok(())
+}
+
 // The report of these edges and these cycles has this text.
 fn expect_text(
     rt: &impl Abort,
@@ -86,18 +125,7 @@ fn expect_text(
     want: &[u8],
 ) -> Result<(), Fail> {
     let names = names_of(alloc, lines)?;
-    let mut edges = EdgeList::new(alloc);
-    for row in rows {
-        assert!(rt; add(alloc, &mut edges, row)?);
-    }
-    let report = Report {
-        query: Query::new(Mode::Full, 4, 1_000)?,
-        edges,
-        found: Found {
-            cycles: Cycles::from_vec(cycles),
-            more,
-        },
-    };
+    let report = report_of(rt, alloc, rows, cycles, more)?;
     let printed = text(alloc, &names, &report)?;
     assert_eq!(rt; printed.as_slice(), want);
     Ok(())
@@ -168,4 +196,44 @@ fn first_of_two_cycles(rt: HostRuntime) -> Result<(), Fail> {
         false,
         b"cycle 1: 2 edges\n  T0 holds a since 1 wants b at 2\n  T1 holds b since 9 wants a at 10\ncycle 2: 2 edges\n  T0 holds c since 5 wants d at 6\n  T1 holds d since 13 wants c at 14\ncycles: 2\n",
     )
+}
+
+#[test]
+fn json_of_empty_input(rt: HostRuntime) -> Result<(), Fail> {
+    let alloc = rt.alloc();
+    expect_json(
+        &rt,
+        alloc,
+        b"",
+        &[],
+        Vec::new(alloc),
+        b"{\"cycles\":[],\"format\":1,\"len\":4,\"max\":1000,\"mode\":\"full\",\"more\":false}\n",
+    )
+}
+
+#[test]
+fn json_of_opposite_order(rt: HostRuntime) -> Result<(), Fail> {
+    let alloc = rt.alloc();
+    expect_json(
+        &rt,
+        alloc,
+        b"T0|acq(a)|1\nT0|acq(b)|2\nT0|rel(b)|3\nT0|rel(a)|4\nT1|acq(b)|5\nT1|acq(a)|6\n",
+        &[row(0, 0, 1, 0, 1), row(1, 1, 0, 4, 5)],
+        vec![in alloc; vec![in alloc; 0, 1]?]?,
+        b"{\"cycles\":[[{\"first\":0,\"guards\":[\"a\"],\"held\":\"a\",\"held_at\":\"1\",\"place\":1,\"second\":0,\"thread\":\"T0\",\"wanted\":\"b\",\"wanted_at\":\"2\"},{\"first\":0,\"guards\":[\"b\"],\"held\":\"b\",\"held_at\":\"5\",\"place\":1,\"second\":0,\"thread\":\"T1\",\"wanted\":\"a\",\"wanted_at\":\"6\"}]],\"format\":1,\"len\":4,\"max\":1000,\"mode\":\"full\",\"more\":false}\n",
+    )
+}
+
+// The ends of the printable range, the bytes beyond them, a backslash and a quote. JSON escapes the
+// backslash once more.
+#[test]
+fn odd_names_are_escaped(rt: HostRuntime) -> Result<(), Fail> {
+    let alloc = rt.alloc();
+    let ends = escaped_name(alloc, b"\x1f ~\x7f\\\"")?;
+    assert!(rt; ends.as_str() == "\\x1f ~\\x7f\\x5c\"");
+    let accent = escaped_name(alloc, b"\xc3\xa9")?;
+    assert!(rt; accent.as_str() == "\\xc3\\xa9");
+    let quoted = Value::from(accent).to_string(alloc)?;
+    assert!(rt; quoted.as_str() == "\"\\\\xc3\\\\xa9\"");
+    Ok(())
 }
