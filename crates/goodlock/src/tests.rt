@@ -351,11 +351,17 @@ fn writer_and_reader_fail(rt: HostRuntime) -> Result<(), Fail> {
     Ok(())
 }
 
+// The command predicts by this query.
+fn asks_for(command: &Command, wanted: &Query) -> bool {
+    let Command::Predict { query } = command;
+    query == wanted
+}
+
 // The words ask for this query.
 fn expect_query<R: Abort + AllocGlobal>(rt: &R, words: &[&str], wanted: &Query) {
     match parse(rt.alloc(), words) {
-        Ok(Command::Predict { query }) => assert!(rt; query == *wanted),
-        other => assert!(rt; false, "{other:?}"),
+        Ok(command) => assert!(rt; asks_for(&command, wanted)),
+        Err(usage) => assert!(rt; false, "{usage:?}"),
     }
 }
 

@@ -1,11 +1,7 @@
-use Rattle.std.proofs.Common.{◌≡◌, ◌∙◌, ◌⊎◌, ap, sym, subst, rules, List, ℕ, [], Some, None, codes, map, option_map, inl, inr, refl, true}
-use Rattle.std.specs.Box.{box_value}
-use Rattle.clap.specs.Kinds.{FailsBy, HasKind}
-use Rattle.clap.specs.Words.{App, app_of, fault_of, found_of, is_simple, is_simple_and_free, kind_of, rows_of, subcommand_of, subcommand_rows_of}
-use Rattle.clap.specs.declared.parser.matches.ArgMatches.TheViews.{out-ArgMatches, out-SubCommand}
-use Rattle.goodlock.specs.Options.{Asks, AsksIn, AsksToPredict, goodlock}
-use Rattle.goodlock.specs.declared.options.Command.{Command}
-use Rattle.goodlock.specs.declared.options.Command.TheVariants.{Predict}
+use Rattle.std.proofs.Common.{◌≡◌, ◌∙◌, ap, sym, subst, [], codes, map, refl}
+use Rattle.clap.specs.Kinds.{HasKind}
+use Rattle.clap.specs.Words.{App, app_of, fault_of, found_of, is_simple, is_simple_and_free, kind_of, rows_of, subcommand_of}
+use Rattle.goodlock.specs.Options.{goodlock}
 use Rattle.goodlock.proofs.Reading.{entered_as, failed_parse, is_read, is_simple_line, refused_value, unentered, unread}
 use Rattle.goodlock.proofs.options.parse.Goals as goal
 
