@@ -1,5 +1,6 @@
 pub mod Answer
 pub mod Ending
 pub mod Lines
+pub mod Options
 pub mod Said
 pub mod Stops

@@ -1,7 +1,12 @@
--- What the program says of how a prediction ended: its line on standard error, and its exit status.
-use Rattle.std.specs.Prelude.{ℕ, List, [], codes}
+-- What the program says of how a prediction ended, or of words that ask for nothing to be done: what goes to standard output
+-- and to standard error, and its exit status.
+use Rattle.std.specs.Prelude.{ℕ, List, [], codes, string_bytes}
 use Rattle.goodlock.specs.declared.ended.Ended.{Ended}
 use Rattle.goodlock.specs.declared.ended.Ended.TheVariants.{Clean, Cycles, Refused, Memory, ReadFailed, WriteFailed}
+use Rattle.goodlock.specs.declared.options.Usage.{Usage}
+use Rattle.goodlock.specs.declared.options.Usage.TheVariants as usage
+
+-- ---- of a prediction
 
 -- the line for standard error
 abbrev pub line_of : Ended → List ℕ
@@ -20,3 +25,23 @@ status_of (Refused line) = 2
 status_of Memory = 3
 status_of ReadFailed = 4
 status_of (WriteFailed written) = 4
+
+-- ---- of words that ask for nothing to be done
+
+-- the text for standard output
+abbrev pub shown_text : Usage → List ℕ
+shown_text (usage.Shown text) = string_bytes text
+shown_text (usage.Refused text) = []
+shown_text usage.Memory = []
+
+-- the text for standard error
+abbrev pub refused_text : Usage → List ℕ
+refused_text (usage.Shown text) = []
+refused_text (usage.Refused text) = string_bytes text
+refused_text usage.Memory = codes "goodlock: out of memory\n"
+
+-- the exit status
+abbrev pub usage_status : Usage → ℕ
+usage_status (usage.Shown text) = 0
+usage_status (usage.Refused text) = 2
+usage_status usage.Memory = 3

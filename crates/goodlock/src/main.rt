@@ -3,20 +3,21 @@
 #![tactic(auto)]
 
 ghost use Rattle.std.specs.Prelude.{◌≡◌};
-ghost use Rattle.gl_filters.specs.declared.query.Mode.TheVariants.{Full};
-ghost use Rattle.goodlock.specs.Said.{line_of, status_of};
+ghost use Rattle.goodlock.specs.Said.{line_of, status_of, shown_text, refused_text, usage_status};
 
 use ended::{Ended, Form};
-use gl_filters::{Mode, Query};
 use gl_io::FromStd;
+use options::{Command, Usage, parse};
 use prediction::predict;
-use std::io::Write;
+use std::env;
+use std::io::{ErrorKind, Write};
 use std::process::ExitCode;
 
 mod answer;
 mod ended;
 mod laws;
 mod lines;
+mod options;
 mod prediction;
 #[cfg(test)]
 mod tests;
@@ -24,15 +25,8 @@ mod tests;
 // The most reads of standard input.
 const TURNS: u64 = 1_000_000_000;
 
-// What is asked: all modes' conditions, at most four edges, at most a thousand cycles.
-fn full_query() -> Query
-    ensures { result ≡ record { mode = Full; len = 4; max = 1000 } }
-{
-    match Query::new(Mode::Full, 4, 1_000) {
-        Ok(query) => query,
-        Err(_) => unreachable!(),
-    }
-}
+// What is said of words that are no text.
+const NOT_TEXT: &str = "error: the words of the command line are no UTF-8 text\n";
 
 // The line for standard error and the exit status.
 fn said(ended: &Ended) -> (&[u8], u8)
@@ -49,18 +43,59 @@ fn said(ended: &Ended) -> (&[u8], u8)
     }
 }
 
-fn main(rt: HostRuntime) -> ExitCode {
+// What standard output and standard error get of words that ask for nothing to be done, and the
+// exit status.
+fn said_of_usage(usage: &Usage) -> (&[u8], &[u8], u8)
+    ensures shown { result.0.now ≡ shown_text usage.now }
+    ensures refused { result.1.now ≡ refused_text usage.now }
+    ensures status { result.2 ≡ usage_status usage.now }
+{
+    match usage {
+        Usage::Shown(text) => (text.as_bytes(), b"", 0),
+        Usage::Refused(text) => (b"", text.as_bytes(), 2),
+        Usage::Memory => (b"", b"goodlock: out of memory\n", 3),
+    }
+}
+
+// The words of the command line.
+fn words(rt: &HostRuntime) -> Result<Vec<String>, Usage> {
+    match env::args(rt) {
+        Ok(args) => Ok(args.collect(rt.alloc())?),
+        Err(error) if error.kind() == ErrorKind::OutOfMemory => Err(Usage::Memory),
+        Err(_) => Err(Usage::Refused(String::from_str(rt.alloc(), NOT_TEXT)?)),
+    }
+}
+
+// Does what the words ask for, from standard input to standard output.
+fn run(rt: &HostRuntime, command: &Command) -> ExitCode {
+    let Command::Predict { query } = command;
     let mut input = FromStd::new(rt.stdin());
     let mut output = FromStd::new(rt.stdout());
-    let ended = predict(
-        &rt,
-        &mut input,
-        &mut output,
-        TURNS,
-        &full_query(),
-        Form::Text,
-    );
+    let ended = predict(rt, &mut input, &mut output, TURNS, query, Form::Text);
     let (line, status) = said(&ended);
     let _ = rt.stderr().write_all(line);
     ExitCode::from(status)
+}
+
+// Tells why the words ask for nothing to be done.
+fn tell(rt: &HostRuntime, usage: &Usage) -> ExitCode {
+    let (shown, refused, status) = said_of_usage(usage);
+    if rt.stdout().write_all(shown).is_err() {
+        let (line, status) = said(&Ended::WriteFailed { written: 0 });
+        let _ = rt.stderr().write_all(line);
+        return ExitCode::from(status);
+    }
+    let _ = rt.stderr().write_all(refused);
+    ExitCode::from(status)
+}
+
+fn main(rt: HostRuntime) -> ExitCode {
+    let words = match words(&rt) {
+        Ok(words) => words,
+        Err(usage) => return tell(&rt, &usage),
+    };
+    match parse(rt.alloc(), words.as_slice()) {
+        Ok(command) => run(&rt, &command),
+        Err(usage) => tell(&rt, &usage),
+    }
 }

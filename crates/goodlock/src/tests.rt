@@ -2,6 +2,7 @@
 ghost use Rattle.std.specs.Prelude.{◌≡◌, None, false};
 
 use crate::ended::{Ended, Form};
+use crate::options::{Command, Usage, parse};
 use crate::prediction::predict;
 use gl_filters::{Mode, Query};
 use gl_io::{Failed, FromStd, Source};
@@ -348,4 +349,52 @@ fn writer_and_reader_fail(rt: HostRuntime) -> Result<(), Fail> {
         assert!(rt; output.into_inner().is_empty());
     }
     Ok(())
+}
+
+// The command predicts by this query.
+fn asks_for(command: &Command, wanted: &Query) -> bool {
+    let Command::Predict { query } = command;
+    query == wanted
+}
+
+// The words ask for this query.
+fn expect_query<R: Abort + AllocGlobal>(rt: &R, words: &[&str], wanted: &Query) {
+    match parse(rt.alloc(), words) {
+        Ok(command) => assert!(rt; asks_for(&command, wanted)),
+        Err(usage) => assert!(rt; false, "{usage:?}"),
+    }
+}
+
+// The words are refused, or answered with a text.
+fn expect_usage<R: Abort + AllocGlobal>(rt: &R, words: &[&str], is_shown: bool) {
+    match parse(rt.alloc(), words) {
+        Err(Usage::Shown(_)) => assert!(rt; is_shown),
+        Err(Usage::Refused(_)) => assert!(rt; !is_shown),
+        other => assert!(rt; false, "{other:?}"),
+    }
+}
+
+#[test]
+fn options_and_defaults(rt: HostRuntime) -> Result<(), Fail> {
+    expect_query(&rt, &["goodlock", "predict"], &full()?);
+    let words = ["goodlock", "predict", "--mode", "guarded"];
+    expect_query(&rt, &words, &query(Mode::Guarded, 4, 1_000)?);
+    let words = ["goodlock", "predict", "--len=16", "--mode=basic", "--max=1"];
+    expect_query(&rt, &words, &query(Mode::Basic, 16, 1)?);
+    let words = ["goodlock", "predict", "--max", "100000", "--len", "2"];
+    expect_query(&rt, &words, &query(Mode::Full, 2, 100_000)?);
+    Ok(())
+}
+
+#[test]
+fn usage_faults(rt: HostRuntime) {
+    expect_usage(&rt, &["goodlock"], false);
+    expect_usage(&rt, &["goodlock", "check"], false);
+    expect_usage(&rt, &["goodlock", "--json"], false);
+    expect_usage(&rt, &["goodlock", "predict", "trace.std"], false);
+    expect_usage(&rt, &["goodlock", "predict", "--len", "17"], false);
+    expect_usage(&rt, &["goodlock", "predict", "--max", "0"], false);
+    expect_usage(&rt, &["goodlock", "predict", "--mode", "Full"], false);
+    expect_usage(&rt, &["goodlock", "--help"], true);
+    expect_usage(&rt, &["goodlock", "predict", "--help"], true);
 }

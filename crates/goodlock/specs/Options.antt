@@ -1,0 +1,104 @@
+-- The command line: its commands and options, and what words ask for.
+use Rattle.std.specs.Prelude.{◌≡◌, ◌≢◌, ◌⊎◌, ⊤, ◌++◌, ℕ, Bool, true, false, List, [], ◌∷◌, Option, Some, None, codes, pos, if◌then◌else◌, option_and_then}
+use Rattle.std.specs.Str.{bytes_eq}
+use Rattle.std.specs.Str.Parse.{IsNumeral, digits_value, without_leading_plus}
+use Rattle.clap.specs.Words.{App, IsAmong, Row, Rule, Shape, Text, fault_of, first_of, new_app, new_rule, one_of, subcommand_of, with_rule, with_subcommand}
+use Rattle.clap.specs.declared.builder.value_parser.ValueParser.TheVariants as takes
+use Rattle.clap.specs.declared.error.kind.ErrorKind.{ErrorKind}
+use Rattle.clap.specs.declared.error.kind.ErrorKind.TheVariants as kind
+use Rattle.gl_filters.specs.Asked.{Asked, IsInRange}
+use Rattle.gl_filters.specs.declared.query.Mode.{Mode}
+use Rattle.gl_filters.specs.declared.query.Mode.TheVariants.{Basic, Guarded, Full}
+use Rattle.goodlock.specs.declared.options.Command.{Command}
+use Rattle.goodlock.specs.declared.options.Command.TheVariants.{Predict}
+use Rattle.goodlock.specs.declared.options.Usage.{Usage}
+use Rattle.goodlock.specs.declared.options.Usage.TheVariants.{Shown, Refused, Memory}
+
+-- ---- the command line
+
+-- an option with a value, and its default
+abbrev pub option_rule : Text → Text → Rule
+option_rule name default = record (new_rule name) {
+  long = Some name;
+  value_names = 1;
+  defaults = default ∷ [];
+}
+
+abbrev pub mode_rule : Rule
+mode_rule = option_rule (codes "mode") (codes "full")
+
+-- whole numbers from 2 to 16
+abbrev pub len_rule : Rule
+len_rule = record (option_rule (codes "len") (codes "4")) { parser = Some (takes.Signed (pos 2) (pos 16)) }
+
+-- whole numbers from 1 to 100,000
+abbrev pub max_rule : Rule
+max_rule = record (option_rule (codes "max") (codes "1000")) { parser = Some (takes.Signed (pos 1) (pos 100000)) }
+
+abbrev pub predict : App
+predict = with_rule (with_rule (with_rule (new_app (codes "predict")) mode_rule) len_rule) max_rule
+
+-- the program: a subcommand is required, and `predict` is the one that there is
+abbrev pub goodlock : App
+goodlock = with_subcommand (record {
+  top = record (new_app (codes "goodlock")).top {
+    has_version = true;
+    subcommand_required = true;
+    disable_help_subcommand = true;
+  };
+  subs = [];
+}) predict.top
+
+-- ---- what words ask for
+
+-- the mode of this name
+abbrev pub mode_named : Text → Option Mode
+mode_named name =
+    if bytes_eq name (codes "basic") then Some Basic
+    else (if bytes_eq name (codes "guarded") then Some Guarded
+    else (if bytes_eq name (codes "full") then Some Full else None))
+
+-- the option's value is this number, in decimal digits
+abbrev pub IsNumberAt : List Row → Text → ℕ → Type 0
+IsNumberAt rows id number =
+    (text : Text) × (one_of id rows ≡ Some text) × IsNumeral 10 (without_leading_plus text)
+    × (number ≡ digits_value 10 (without_leading_plus text))
+
+-- the options' values are this query, and it is within the ranges
+pub record AsksIn (rows : List Row) (asked : Asked) : Type 0 where
+  pub mode : option_and_then mode_named (first_of (codes "mode") rows) ≡ Some asked.mode
+  pub len : IsNumberAt rows (codes "len") asked.len
+  pub max : IsNumberAt rows (codes "max") asked.max
+  pub range : IsInRange asked
+
+-- the words fit the command line, and ask for this query
+pub record AsksToPredict (words : List Text) (asked : Asked) : Type 0 where
+  pub fits : fault_of goodlock words ≡ []
+  pub rows : List Row
+  pub command : subcommand_of goodlock words ≡ Some (codes "predict", rows)
+  pub options : AsksIn rows asked
+
+-- the words ask for this
+abbrev pub Asks : List Text → Command → Type 0
+Asks words (Predict query) = AsksToPredict words query
+
+-- ---- what is answered to other words
+
+-- an answer that is shown and no mistake
+abbrev pub shows : ErrorKind → Bool
+shows kind.DisplayHelp = true
+shows kind.DisplayVersion = true
+shows _ = false
+
+-- what becomes of a parse that failed so
+abbrev pub IsUsageFor : ErrorKind → Usage → Type 0
+IsUsageFor failed (Shown text) = shows failed ≡ true
+IsUsageFor failed (Refused text) = (shows failed ≡ false) × (failed ≢ kind.OutOfMemory)
+IsUsageFor failed Memory = ⊤
+
+-- a text is shown where the words ask for help or the version; they are refused where they hold a mistake, or a value that no option takes
+abbrev pub IsUsageOf : List Text → Usage → Type 0
+IsUsageOf words (Shown text) = (found : ErrorKind) × IsAmong found (fault_of goodlock words) × (shows found ≡ true)
+IsUsageOf words (Refused text) = ((c : Command) → Asks words c → ⊥)
+    × ((fault_of goodlock words ≡ []) ⊎ ((found : ErrorKind) × IsAmong found (fault_of goodlock words) × (shows found ≡ false)))
+IsUsageOf words Memory = ⊤

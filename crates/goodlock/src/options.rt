@@ -1,0 +1,214 @@
+//! What the words of the command line ask for.
+ghost use Rattle.std.specs.Prelude.{◌≡◌, ◌<◌, ◌^◌, ℕ, false, map, Some, None, codes, option_and_then, IfOk, IfErr, IfSome};
+ghost use Rattle.clap.specs.declared.error.kind.ErrorKind.TheVariants.{InvalidValue};
+ghost use Rattle.clap.specs.Words.{app_of, first_of, found_of, kind_of, rows_of, rule_of};
+ghost use Rattle.clap.specs.declared.builder.command.Command.TheViews.{out-Command as fields_of};
+ghost use Rattle.gl_filters.specs.Asked.{Asked};
+ghost use Rattle.goodlock.specs.Options.{goodlock, predict, mode_rule, len_rule, max_rule};
+ghost use Rattle.goodlock.specs.Options.{Asks, AsksIn, IsNumberAt, IsUsageFor, IsUsageOf, mode_named};
+
+use clap::error::ErrorKind;
+use clap::{Arg, ArgMatches, Error, value_parser};
+use gl_filters::{Mode, Query};
+use std::alloc::{AllocError, Global};
+use std::convert::AsStr;
+
+// What is said of a value that no option takes.
+const REFUSED: &str =
+    "error: --mode takes basic, guarded or full\n\nFor more information, try 'goodlock predict --help'.\n";
+
+/// What the program is to do.
+#[derive(Clone, Copy, Debug, PartialEq, Eq)]
+pub enum Command {
+    /// Read a trace and print the cycles that this query asks for.
+    Predict { query: Query },
+}
+
+/// Why words ask for nothing that is to be done.
+#[derive(Drop, Debug)]
+pub enum Usage {
+    /// They ask for help or the version: this text for standard output.
+    Shown(String),
+    /// They are refused: this text for standard error says why.
+    Refused(String),
+    /// Memory was refused.
+    Memory,
+}
+
+impl From<AllocError> for Usage {
+    ghost use Rattle.goodlock.specs.declared.options.Usage.TheVariants.{Memory};
+
+    ghost from_gives = { λ _ u. u ≡ Memory };
+
+    fn from(_e: AllocError) -> Usage {
+        Usage::Memory
+    }
+}
+
+// Which cycles count.
+fn mode_option<'a>(alloc: Global) -> Arg<'a>
+    ensures rule { rule_of result ≡ mode_rule }
+    ensures local { result.global ≡ false }
+{
+    Arg::new(alloc, "mode")
+        .long("mode")
+        .value_name("MODE")
+        .default_value("full")
+        .help(
+            "Which cycles count: basic, guarded (no guard lock in common), or full (and not ordered by forks and joins)",
+        )
+}
+
+// The greatest length of a cycle.
+fn len_option<'a>(alloc: Global) -> Arg<'a>
+    ensures rule { rule_of result ≡ len_rule }
+    ensures local { result.global ≡ false }
+{
+    Arg::new(alloc, "len")
+        .long("len")
+        .value_name("EDGES")
+        .value_parser(value_parser!(u32).range(2..=16))
+        .default_value("4")
+        .help("The most edges that a cycle may have, 2 to 16")
+}
+
+// The greatest number of cycles.
+fn max_option<'a>(alloc: Global) -> Arg<'a>
+    ensures rule { rule_of result ≡ max_rule }
+    ensures local { result.global ≡ false }
+{
+    Arg::new(alloc, "max")
+        .long("max")
+        .value_name("CYCLES")
+        .value_parser(value_parser!(u32).range(1..=100_000))
+        .default_value("1000")
+        .help("The most cycles that are listed, 1 to 100000")
+}
+
+// The command that predicts.
+fn predict_command<'a>(alloc: Global) -> Result<clap::Command<'a>, AllocError>
+    ensures shape { IfOk result (λ c. app_of c ≡ predict) }
+    ensures local { IfOk result (λ c. (fields_of c).has_globals ≡ false) }
+{
+    clap::Command::new(alloc, "predict")
+        .about("Reads a trace from standard input and prints the deadlocks that it predicts")
+        .after_help(
+            "Examples:\n  goodlock predict < trace.std\n  goodlock predict --mode guarded --len 3 --max 10 < trace.std",
+        )
+        .arg(mode_option(alloc))?
+        .arg(len_option(alloc))?
+        .arg(max_option(alloc))
+}
+
+// The whole command line.
+fn command_line<'a>(alloc: Global) -> Result<clap::Command<'a>, AllocError>
+    ensures { IfOk result (λ c. app_of c ≡ goodlock) }
+{
+    clap::Command::new(alloc, "goodlock")
+        .about("Predicts deadlocks from a trace of lock events")
+        .version("0.1.0")
+        .after_help(
+            "Examples:\n  goodlock predict < trace.std\n  goodlock predict --mode guarded --len 3 --max 10 < trace.std",
+        )
+        .subcommand_required(true)
+        .disable_help_subcommand(true)
+        .subcommand(predict_command(alloc)?)
+}
+
+// The mode of this name.
+fn mode_named(name: &str) -> Option<Mode>
+    ensures { result ≡ mode_named name.now }
+{
+    if name == "basic" {
+        return Some(Mode::Basic);
+    }
+    if name == "guarded" {
+        return Some(Mode::Guarded);
+    }
+    if name == "full" {
+        return Some(Mode::Full);
+    }
+    None
+}
+
+// The number that was read for an option.
+fn number_at(matches: &ArgMatches<'_>, id: &str) -> Option<u32>
+    ensures some { IfSome result (λ n. IsNumberAt (rows_of (found_of matches.now)) id.now n) }
+    ensures none { result ≡ None → (n : ℕ) → n < 2 ^ 32 → IsNumberAt (rows_of (found_of matches.now)) id.now n → ⊥ }
+{
+    matches.get_one::<u32>(id)
+}
+
+// The mode that was read.
+fn mode_in(matches: &ArgMatches<'_>) -> Option<Mode>
+    ensures { result ≡ option_and_then mode_named (first_of (codes "mode") (rows_of (found_of matches.now))) }
+{
+    match matches.get_str("mode") {
+        Some(name) => mode_named(name),
+        None => None,
+    }
+}
+
+// The query that was read, where its options have values in their ranges.
+fn query_in(matches: &ArgMatches<'_>) -> Option<Query>
+    ensures some { IfSome result (λ q. AsksIn (rows_of (found_of matches.now)) q) }
+    ensures none { result ≡ None → (q : Asked) → AsksIn (rows_of (found_of matches.now)) q → ⊥ }
+{
+    let mode = mode_in(matches)?;
+    let len = number_at(matches, "len")?;
+    let max = number_at(matches, "max")?;
+    match Query::new(mode, len, max) {
+        Ok(query) => Some(query),
+        Err(_) => None,
+    }
+}
+
+// What becomes of a parse that fails.
+fn usage_of(alloc: Global, error: &Error) -> Usage
+    ensures { IsUsageFor (kind_of error.now) result }
+{
+    if matches!(error.kind(), ErrorKind::OutOfMemory) {
+        return Usage::Memory;
+    }
+    let Ok(text) = error.to_string(alloc) else {
+        return Usage::Memory;
+    };
+    if error.use_stderr() {
+        Usage::Refused(text)
+    } else {
+        Usage::Shown(text)
+    }
+}
+
+// A value that no option takes.
+fn refused(alloc: Global) -> Usage
+    ensures { IsUsageFor InvalidValue result }
+{
+    match String::from_str(alloc, REFUSED) {
+        Ok(text) => Usage::Refused(text),
+        Err(_) => Usage::Memory,
+    }
+}
+
+/// What these words ask for, of which the first is the program's name, or why they ask for nothing.
+///
+/// The words are `goodlock predict`, then any of `--mode` with `basic`, `guarded` or `full` (the
+/// default), `--len` with a number from 2 to 16 (4), and `--max` with one from 1 to 100,000
+/// (1,000), each once at the most. `--help`, of the program or of the command, and `--version` ask
+/// for a text.
+pub fn parse<'a, S: AsStr>(alloc: Global, words: &'a [S]) -> Result<Command, Usage>
+    ensures asks { IfOk result (Asks (map S.text words.entry.now)) }
+    ensures usage { IfErr result (IsUsageOf (map S.text words.entry.now)) }
+{
+    let matches = match command_line(alloc)?.try_get_matches_from(words) {
+        Ok(matches) => matches,
+        Err(error) => return Err(usage_of(alloc, &error)),
+    };
+    let Some(options) = matches.subcommand_matches("predict") else {
+        return Err(refused(alloc));
+    };
+    match query_in(options) {
+        Some(query) => Ok(Command::Predict { query }),
+        None => Err(refused(alloc)),
+    }
+}
