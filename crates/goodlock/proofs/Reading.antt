@@ -69,12 +69,12 @@ entered_as m name rows named had = both_parts (subcommand_rows_of m) name rows (
 -- words that enter no `predict` ask for nothing
 pub unentered : (m : ArgMatches) (words : List Text) → subcommand_rows_of m ≡ subcommand_of goodlock words
     → (subcommand_name_of m ≡ Some (codes "predict") → ⊥) → (c : Command) → Asks words c → ⊥
-unentered m words entered none (Predict q) asks = none (name_of_rows m ∙ ap (option_map (λ p. p.0)) (entered ∙ asks.command))
+unentered m words entered none (Predict q form) asks = none (name_of_rows m ∙ ap (option_map (λ p. p.0)) (entered ∙ asks.command))
 
 -- and so do words whose options give no query
 pub unread : (m : ArgMatches) (words : List Text) (rows : List Row) → subcommand_rows_of m ≡ subcommand_of goodlock words
     → option_map (λ p. p.1) (subcommand_rows_of m) ≡ Some rows → ((q : Asked) → AsksIn rows q → ⊥) → (c : Command) → Asks words c → ⊥
-unread m words rows entered had none (Predict q) asks =
+unread m words rows entered had none (Predict q form) asks =
     let second : option_map (λ p. p.1) (subcommand_rows_of m) ≡ Some asks.rows = ap (option_map (λ p. p.1)) (entered ∙ asks.command) in
     let same : asks.rows ≡ rows = ap (λ o. unwrap_or o rows) (sym second ∙ had) in
     none q (subst (λ r. AsksIn r q) same asks.options)
@@ -87,7 +87,7 @@ refused_value words (Refused t) says none fits = (none, inl fits)
 refused_value words Memory says none fits = tt
 
 no_fault : (words : List Text) (k : ErrorKind) → IsAmong k (fault_of goodlock words) → (c : Command) → Asks words c → ⊥
-no_fault words k among (Predict query) asks = subst (λ ks. IsAmong k ks) asks.fits among
+no_fault words k among (Predict query form) asks = subst (λ ks. IsAmong k ks) asks.fits among
 
 -- a parse that failed
 pub failed_parse : (words : List Text) (k : ErrorKind) (u : Usage) → IsUsageFor k u

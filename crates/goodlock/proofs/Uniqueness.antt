@@ -15,6 +15,7 @@ use Rattle.gl_cycles.proofs.Uniqueness.{same_segment}
 use Rattle.goodlock.specs.Answer.{IsLeastBeforeItself, AnswersAreUnique, report_of}
 use Rattle.goodlock.specs.Answer.Answer.{Refusal}
 use Rattle.goodlock.specs.Answer.IsAnswer.{bad_line, no_order, reported}
+use Rattle.goodlock.specs.declared.ended.Form.{Form}
 use Rattle.goodlock.specs.Lines.{fault_line, inconsistent_line}
 
 abbrev trace_in : Trace → Result Trace ReadFault → Trace
@@ -37,21 +38,21 @@ loops_agree s t a b e of_a of_b =
     let same : a ≡ b = same_least s.lists a b of_a (subst (λ (u : Trace). IsLeastBeforeItself u.lists b) (sym e) of_b) in
     (λ i. inconsistent_line (e i).names (same i))
 
-reports_agree : (asked : Asked) (s t : Trace) (p q : Segment → Segment → Bool) → s ≡ t → DecidesBefore s.lists p → DecidesBefore t.lists q → report_of asked p s ≡ report_of asked q t
-reports_agree asked s t p q e of_p of_q =
+reports_agree : (asked : Asked) (form : Form) (s t : Trace) (p q : Segment → Segment → Bool) → s ≡ t → DecidesBefore s.lists p → DecidesBefore t.lists q → report_of asked form p s ≡ report_of asked form q t
+reports_agree asked form s t p q e of_p of_q =
     let here = subst (λ (u : Trace). DecidesBefore u.lists q) (sym e) of_q in
-    (λ i. report_of asked (λ a b. agree s.lists p q of_p here a b i) (e i))
+    (λ i. report_of asked form (λ a b. agree s.lists p q of_p here a b i) (e i))
 
 pub unique : AnswersAreUnique
-unique asked text _ _ (bad_line l k p) (bad_line m n q) = ap Refusal (ap said_of (sym p ∙ q))
-unique asked text _ _ (bad_line l k p) (no_order t at q least) = cc
-unique asked text _ _ (bad_line l k p) (reported t before q fine decides) = cc
-unique asked text _ _ (no_order s at p least) (bad_line m n q) = cc
-unique asked text _ _ (no_order s at p least) (no_order t there q lowest) = ap Refusal (loops_agree s t at there (same_trace (trace_of greatest text) s t p q) least lowest)
-unique asked text _ _ (no_order s at p least) (reported t before q fine decides) =
+unique asked form text _ _ (bad_line l k p) (bad_line m n q) = ap Refusal (ap said_of (sym p ∙ q))
+unique asked form text _ _ (bad_line l k p) (no_order t at q least) = cc
+unique asked form text _ _ (bad_line l k p) (reported t before q fine decides) = cc
+unique asked form text _ _ (no_order s at p least) (bad_line m n q) = cc
+unique asked form text _ _ (no_order s at p least) (no_order t there q lowest) = ap Refusal (loops_agree s t at there (same_trace (trace_of greatest text) s t p q) least lowest)
+unique asked form text _ _ (no_order s at p least) (reported t before q fine decides) =
     absurd (fine.each at (subst (λ (u : Trace). Before u.lists at at) (same_trace (trace_of greatest text) s t p q) least.loops))
-unique asked text _ _ (reported s before p fine decides) (bad_line m n q) = cc
-unique asked text _ _ (reported s before p fine decides) (no_order t at q least) =
+unique asked form text _ _ (reported s before p fine decides) (bad_line m n q) = cc
+unique asked form text _ _ (reported s before p fine decides) (no_order t at q least) =
     absurd (fine.each at (subst (λ (u : Trace). Before u.lists at at) (sym (same_trace (trace_of greatest text) s t p q)) least.loops))
-unique asked text _ _ (reported s before p fine decides) (reported t other q sound settles) =
-    reports_agree asked s t before other (same_trace (trace_of greatest text) s t p q) decides settles
+unique asked form text _ _ (reported s before p fine decides) (reported t other q sound settles) =
+    reports_agree asked form s t before other (same_trace (trace_of greatest text) s t p q) decides settles

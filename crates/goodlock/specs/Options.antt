@@ -9,6 +9,9 @@ use Rattle.clap.specs.declared.error.kind.ErrorKind.TheVariants as kind
 use Rattle.gl_filters.specs.Asked.{Asked, IsInRange}
 use Rattle.gl_filters.specs.declared.query.Mode.{Mode}
 use Rattle.gl_filters.specs.declared.query.Mode.TheVariants.{Basic, Guarded, Full}
+use Rattle.clap.specs.declared.builder.action.ArgAction.TheVariants.{SetTrue}
+use Rattle.goodlock.specs.declared.ended.Form.{Form}
+use Rattle.goodlock.specs.declared.ended.Form.TheVariants.{Text as Plain, Json}
 use Rattle.goodlock.specs.declared.options.Command.{Command}
 use Rattle.goodlock.specs.declared.options.Command.TheVariants.{Predict}
 use Rattle.goodlock.specs.declared.options.Usage.{Usage}
@@ -35,8 +38,12 @@ len_rule = record (option_rule (codes "len") (codes "4")) { parser = Some (takes
 abbrev pub max_rule : Rule
 max_rule = record (option_rule (codes "max") (codes "1000")) { parser = Some (takes.Signed (pos 1) (pos 100000)) }
 
+-- a flag
+abbrev pub json_rule : Rule
+json_rule = record (new_rule (codes "json")) { long = Some (codes "json"); action = Some SetTrue }
+
 abbrev pub predict : App
-predict = with_rule (with_rule (with_rule (new_app (codes "predict")) mode_rule) len_rule) max_rule
+predict = with_rule (with_rule (with_rule (with_rule (new_app (codes "predict")) mode_rule) len_rule) max_rule) json_rule
 
 -- the program: a subcommand is required, and `predict` is the one that there is
 abbrev pub goodlock : App
@@ -71,16 +78,22 @@ pub record AsksIn (rows : List Row) (asked : Asked) : Type 0 where
   pub max : IsNumberAt rows (codes "max") asked.max
   pub range : IsInRange asked
 
--- the words fit the command line, and ask for this query
-pub record AsksToPredict (words : List Text) (asked : Asked) : Type 0 where
+-- the flag asks for this form
+pub record IsFormIn (rows : List Row) (form : Form) : Type 0 where
+  pub given : one_of (codes "json") rows ≡ Some (codes "true") → form ≡ Json
+  pub left_out : one_of (codes "json") rows ≡ Some (codes "false") → form ≡ Plain
+
+-- the words fit the command line, and ask for this query in this form
+pub record AsksToPredict (words : List Text) (asked : Asked) (form : Form) : Type 0 where
   pub fits : fault_of goodlock words ≡ []
   pub rows : List Row
   pub command : subcommand_of goodlock words ≡ Some (codes "predict", rows)
   pub options : AsksIn rows asked
+  pub form_in : IsFormIn rows form
 
 -- the words ask for this
 abbrev pub Asks : List Text → Command → Type 0
-Asks words (Predict query) = AsksToPredict words query
+Asks words (Predict query form) = AsksToPredict words query form
 
 -- ---- what is answered to other words
 

@@ -4,20 +4,21 @@ ghost use Rattle.gl_event.specs.Bounds.{greatest};
 ghost use Rattle.gl_std.specs.Trace.{trace_of, IsTraceOver};
 ghost use Rattle.gl_segments.specs.Clocks.{is_before, OrdersBy};
 ghost use Rattle.gl_segments.specs.Segments.{IsConsistent};
-ghost use Rattle.goodlock.specs.Answer.{IsAnswer, report_of};
+ghost use Rattle.goodlock.specs.Answer.{IsAnswer, printed_report, report_of};
 ghost use Rattle.goodlock.specs.Answer.Answer.{Report as Reports, Refusal};
 ghost use Rattle.goodlock.specs.Stops.{IfRefused, IsFaultIn, IsLoopOf};
 ghost use Rattle.gl_std.specs.declared.faults.StdKind.{StdKind};
 ghost use Rattle.gl_std.specs.declared.faults.ReadFault.TheVariants.{Line};
 
+use crate::ended::Form;
 use crate::lines::{fault_line, inconsistent_line};
 use gl_cycles::{Report, search};
 use gl_edges::edges_of;
 use gl_event::{Limits, MAX_EVENTS, MAX_NAMES, MAX_RING, MAX_THREADS, Memory};
 use gl_filters::Query;
-use gl_report::text;
+use gl_report::{json_text, text};
 use gl_segments::{Order, OrderFault};
-use gl_std::{ReadFault, Trace};
+use gl_std::{Names, ReadFault, Trace};
 use std::alloc::{AllocError, Global};
 
 /// What is printed of a text.
@@ -90,15 +91,26 @@ fn order_or_line(alloc: Global, trace: &Trace) -> Result<Order, Stop>
     }
 }
 
-// The report of a trace whose segments have this order.
+// The report in this form.
+fn print(alloc: Global, form: Form, names: &Names, report: &Report) -> Result<Vec<u8>, Memory>
+    ensures { IfOk result (λ t. t.items ≡ printed_report form names.now report.now) }
+{
+    match form {
+        Form::Text => text(alloc, names, report),
+        Form::Json => json_text(alloc, names, report),
+    }
+}
+
+// The report, in this form, of a trace whose segments have this order.
 fn print_report(
     alloc: Global,
     trace: &Trace,
     order: &Order,
     query: &Query,
+    form: Form,
 ) -> Result<Printed, Memory>
     requires { IsTraceOver greatest trace.now }
-    ensures { IfOk result (λ p. Reports p.text.items p.lists_cycle ≡ report_of query.now (is_before order.now) trace.now) }
+    ensures { IfOk result (λ p. Reports p.text.items p.lists_cycle ≡ report_of query.now form (is_before order.now) trace.now) }
 {
     let edges = edges_of(alloc, trace.lists.as_slice())?;
     let found = search(alloc, &edges, order, query)?;
@@ -108,7 +120,7 @@ fn print_report(
         edges,
         found,
     };
-    let text = text(alloc, &trace.names, &report)?;
+    let text = print(alloc, form, &trace.names, &report)?;
     Ok(Printed { text, lists_cycle })
 }
 
@@ -117,14 +129,15 @@ pub(crate) fn answer(
     alloc: Global,
     read: Result<Trace, ReadFault>,
     query: &Query,
+    form: Form,
 ) -> Result<Printed, Stop>
     requires { IfOk read (IsTraceOver greatest) }
-    ensures printed { IfOk result (λ p. (text : List ℕ) → trace_of greatest text ≡ read → IsAnswer query.now text (Reports p.text.items p.lists_cycle)) }
-    ensures refused { IfErr result (λ stop. IfRefused stop (λ line. (text : List ℕ) → trace_of greatest text ≡ read → IsAnswer query.now text (Refusal line))) }
+    ensures printed { IfOk result (λ p. (text : List ℕ) → trace_of greatest text ≡ read → IsAnswer query.now form text (Reports p.text.items p.lists_cycle)) }
+    ensures refused { IfErr result (λ stop. IfRefused stop (λ line. (text : List ℕ) → trace_of greatest text ≡ read → IsAnswer query.now form text (Refusal line))) }
 {
     let trace = trace_or_line(alloc, read)?;
     let order = order_or_line(alloc, &trace)?;
-    let report = print_report(alloc, &trace, &order, query)?;
+    let report = print_report(alloc, &trace, &order, query, form)?;
     Ok(report)
 }
 

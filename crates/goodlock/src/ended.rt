@@ -24,4 +24,6 @@ pub enum Ended {
 pub enum Form {
     /// Lines of text.
     Text,
+    /// One JSON object on a line.
+    Json,
 }

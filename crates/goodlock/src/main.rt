@@ -5,7 +5,7 @@
 ghost use Rattle.std.specs.Prelude.{◌≡◌};
 ghost use Rattle.goodlock.specs.Said.{line_of, status_of, shown_text, refused_text, usage_status};
 
-use ended::{Ended, Form};
+use ended::Ended;
 use gl_io::FromStd;
 use options::{Command, Usage, parse};
 use prediction::predict;
@@ -68,10 +68,10 @@ fn words(rt: &HostRuntime) -> Result<Vec<String>, Usage> {
 
 // Does what the words ask for, from standard input to standard output.
 fn run(rt: &HostRuntime, command: &Command) -> ExitCode {
-    let Command::Predict { query } = command;
+    let Command::Predict { query, form } = command;
     let mut input = FromStd::new(rt.stdin());
     let mut output = FromStd::new(rt.stdout());
-    let ended = predict(rt, &mut input, &mut output, TURNS, query, Form::Text);
+    let ended = predict(rt, &mut input, &mut output, TURNS, query, *form);
     let (line, status) = said(&ended);
     let _ = rt.stderr().write_all(line);
     ExitCode::from(status)

@@ -4,11 +4,12 @@ ghost use Rattle.clap.specs.declared.error.kind.ErrorKind.TheVariants.{InvalidVa
 ghost use Rattle.clap.specs.Words.{app_of, first_of, found_of, kind_of, rows_of, rule_of};
 ghost use Rattle.clap.specs.declared.builder.command.Command.TheViews.{out-Command as fields_of};
 ghost use Rattle.gl_filters.specs.Asked.{Asked};
-ghost use Rattle.goodlock.specs.Options.{goodlock, predict, mode_rule, len_rule, max_rule};
-ghost use Rattle.goodlock.specs.Options.{Asks, AsksIn, IsNumberAt, IsUsageFor, IsUsageOf, mode_named};
+ghost use Rattle.goodlock.specs.Options.{goodlock, predict, mode_rule, len_rule, max_rule, json_rule};
+ghost use Rattle.goodlock.specs.Options.{Asks, AsksIn, IsFormIn, IsNumberAt, IsUsageFor, IsUsageOf, mode_named};
 
+use crate::ended::Form;
 use clap::error::ErrorKind;
-use clap::{Arg, ArgMatches, Error, value_parser};
+use clap::{Arg, ArgAction, ArgMatches, Error, value_parser};
 use gl_filters::{Mode, Query};
 use std::alloc::{AllocError, Global};
 use std::convert::AsStr;
@@ -20,8 +21,8 @@ const REFUSED: &str =
 /// What the program is to do.
 #[derive(Clone, Copy, Debug, PartialEq, Eq)]
 pub enum Command {
-    /// Read a trace and print the cycles that this query asks for.
-    Predict { query: Query },
+    /// Read a trace and print the cycles that this query asks for, in this form.
+    Predict { query: Query, form: Form },
 }
 
 /// Why words ask for nothing that is to be done.
@@ -85,6 +86,17 @@ fn max_option<'a>(alloc: Global) -> Arg<'a>
         .help("The most cycles that are listed, 1 to 100000")
 }
 
+// The form of the report.
+fn json_option<'a>(alloc: Global) -> Arg<'a>
+    ensures rule { rule_of result ≡ json_rule }
+    ensures local { result.global ≡ false }
+{
+    Arg::new(alloc, "json")
+        .long("json")
+        .action(ArgAction::SetTrue)
+        .help("Prints the report as JSON, one object on a line")
+}
+
 // The command that predicts.
 fn predict_command<'a>(alloc: Global) -> Result<clap::Command<'a>, AllocError>
     ensures shape { IfOk result (λ c. app_of c ≡ predict) }
@@ -93,11 +105,12 @@ fn predict_command<'a>(alloc: Global) -> Result<clap::Command<'a>, AllocError>
     clap::Command::new(alloc, "predict")
         .about("Reads a trace from standard input and prints the deadlocks that it predicts")
         .after_help(
-            "Examples:\n  goodlock predict < trace.std\n  goodlock predict --mode guarded --len 3 --max 10 < trace.std",
+            "Examples:\n  goodlock predict < trace.std\n  goodlock predict --mode guarded --len 3 --json < trace.std",
         )
         .arg(mode_option(alloc))?
         .arg(len_option(alloc))?
-        .arg(max_option(alloc))
+        .arg(max_option(alloc))?
+        .arg(json_option(alloc))
 }
 
 // The whole command line.
@@ -108,7 +121,7 @@ fn command_line<'a>(alloc: Global) -> Result<clap::Command<'a>, AllocError>
         .about("Predicts deadlocks from a trace of lock events")
         .version("0.1.0")
         .after_help(
-            "Examples:\n  goodlock predict < trace.std\n  goodlock predict --mode guarded --len 3 --max 10 < trace.std",
+            "Examples:\n  goodlock predict < trace.std\n  goodlock predict --mode guarded --len 3 --json < trace.std",
         )
         .subcommand_required(true)
         .disable_help_subcommand(true)
@@ -163,6 +176,16 @@ fn query_in(matches: &ArgMatches<'_>) -> Option<Query>
     }
 }
 
+// The form that was read.
+fn form_in(matches: &ArgMatches<'_>) -> Form
+    ensures { IsFormIn (rows_of (found_of matches.now)) result }
+{
+    if matches.get_flag("json") {
+        return Form::Json;
+    }
+    Form::Text
+}
+
 // What becomes of a parse that fails.
 fn usage_of(alloc: Global, error: &Error) -> Usage
     ensures { IsUsageFor (kind_of error.now) result }
@@ -194,7 +217,7 @@ fn refused(alloc: Global) -> Usage
 ///
 /// The words are `goodlock predict`, then any of `--mode` with `basic`, `guarded` or `full` (the
 /// default), `--len` with a number from 2 to 16 (4), and `--max` with one from 1 to 100,000
-/// (1,000), each once at the most. `--help`, of the program or of the command, and `--version` ask
+/// (1,000), and `--json`, each once at the most. `--help`, of the program or of the command, and `--version` ask
 /// for a text.
 pub fn parse<'a, S: AsStr>(alloc: Global, words: &'a [S]) -> Result<Command, Usage>
     ensures asks { IfOk result (Asks (map S.text words.entry.now)) }
@@ -208,7 +231,10 @@ pub fn parse<'a, S: AsStr>(alloc: Global, words: &'a [S]) -> Result<Command, Usa
         return Err(refused(alloc));
     };
     match query_in(options) {
-        Some(query) => Ok(Command::Predict { query }),
+        Some(query) => Ok(Command::Predict {
+            query,
+            form: form_in(options),
+        }),
         None => Err(refused(alloc)),
     }
 }

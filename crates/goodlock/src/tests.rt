@@ -352,15 +352,15 @@ fn writer_and_reader_fail(rt: HostRuntime) -> Result<(), Fail> {
 }
 
 // The command predicts by this query.
-fn asks_for(command: &Command, wanted: &Query) -> bool {
-    let Command::Predict { query } = command;
-    query == wanted
+fn asks_for(command: &Command, wanted: &Query, wanted_form: Form) -> bool {
+    let Command::Predict { query, form } = command;
+    query == wanted && *form == wanted_form
 }
 
-// The words ask for this query.
-fn expect_query<R: Abort + AllocGlobal>(rt: &R, words: &[&str], wanted: &Query) {
+// The words ask for this query in this form.
+fn expect_query<R: Abort + AllocGlobal>(rt: &R, words: &[&str], wanted: &Query, form: Form) {
     match parse(rt.alloc(), words) {
-        Ok(command) => assert!(rt; asks_for(&command, wanted)),
+        Ok(command) => assert!(rt; asks_for(&command, wanted, form)),
         Err(usage) => assert!(rt; false, "{usage:?}"),
     }
 }
@@ -374,15 +374,31 @@ fn expect_usage<R: Abort + AllocGlobal>(rt: &R, words: &[&str], is_shown: bool) 
     }
 }
 
+// A trace without events, as JSON.
+#[test]
+fn empty_input_as_json(rt: HostRuntime) -> Result<(), Fail> {
+    let none: &[u8] = b"";
+    let mut input = FromStd::new(none);
+    let mut output = FromStd::new(Vec::new(rt.alloc()));
+    let ended = predict(&rt, &mut input, &mut output, TURNS, &full()?, Form::Json);
+    assert!(rt; matches!(ended, Ended::Clean));
+    let said =
+        b"{\"cycles\":[],\"format\":1,\"len\":4,\"max\":1000,\"mode\":\"full\",\"more\":false}\n";
+    assert_eq!(rt; output.into_inner().as_slice(), said);
+    Ok(())
+}
+
 #[test]
 fn options_and_defaults(rt: HostRuntime) -> Result<(), Fail> {
-    expect_query(&rt, &["goodlock", "predict"], &full()?);
+    expect_query(&rt, &["goodlock", "predict"], &full()?, Form::Text);
     let words = ["goodlock", "predict", "--mode", "guarded"];
-    expect_query(&rt, &words, &query(Mode::Guarded, 4, 1_000)?);
+    expect_query(&rt, &words, &query(Mode::Guarded, 4, 1_000)?, Form::Text);
     let words = ["goodlock", "predict", "--len=16", "--mode=basic", "--max=1"];
-    expect_query(&rt, &words, &query(Mode::Basic, 16, 1)?);
-    let words = ["goodlock", "predict", "--max", "100000", "--len", "2"];
-    expect_query(&rt, &words, &query(Mode::Full, 2, 100_000)?);
+    expect_query(&rt, &words, &query(Mode::Basic, 16, 1)?, Form::Text);
+    let words = [
+        "goodlock", "predict", "--max", "100000", "--json", "--len", "2",
+    ];
+    expect_query(&rt, &words, &query(Mode::Full, 2, 100_000)?, Form::Json);
     Ok(())
 }
 

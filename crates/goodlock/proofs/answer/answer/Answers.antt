@@ -19,18 +19,18 @@ refused_then Memory P Q then said = tt
 pub returns-in_err-trace-clause-refused : goal.returns-in_err-trace-clause-refused
 returns-in_err-trace-clause-refused c =
     let p = err_from_is_err_and c.from_residual.result c.from_residual.ensures.1 in
-    rw (p.1, p.2) (refused_then c.in_err-trace.field-0.0 (IsFaultIn c.args.read) (λ line. (text : List ℕ) → trace_of greatest text ≡ c.args.read → IsAnswer c.args.query.now text (Refusal line))
-    (λ line fault text is. subst (λ l. IsAnswer c.args.query.now text (Refusal l)) (sym fault.said) (bad_line fault.number fault.kind (is ∙ fault.first))) c.in_err-trace.ensures.refused)
+    rw (p.1, p.2) (refused_then c.in_err-trace.field-0.0 (IsFaultIn c.args.read) (λ line. (text : List ℕ) → trace_of greatest text ≡ c.args.read → IsAnswer c.args.query.now c.args.form text (Refusal line))
+    (λ line fault text is. subst (λ l. IsAnswer c.args.query.now c.args.form text (Refusal l)) (sym fault.said) (bad_line fault.number fault.kind (is ∙ fault.first))) c.in_err-trace.ensures.refused)
 
 pub returns-in_err-order-clause-refused : goal.returns-in_err-order-clause-refused
 returns-in_err-order-clause-refused c =
     let p = err_from_is_err_and c.from_residual-in_err-order.result c.from_residual-in_err-order.ensures.1 in
-    rw (p.1, p.2) (refused_then c.in_err-order.field-0.0 (IsLoopOf c.in_ok-trace.trace) (λ line. (text : List ℕ) → trace_of greatest text ≡ c.args.read → IsAnswer c.args.query.now text (Refusal line))
-    (λ line loop text is. subst (λ l. IsAnswer c.args.query.now text (Refusal l)) (sym loop.said) (no_order c.in_ok-trace.trace loop.at (is ∙ c.in_ok-trace.ensures.trace) loop.least)) c.in_err-order.ensures.refused)
+    rw (p.1, p.2) (refused_then c.in_err-order.field-0.0 (IsLoopOf c.in_ok-trace.trace) (λ line. (text : List ℕ) → trace_of greatest text ≡ c.args.read → IsAnswer c.args.query.now c.args.form text (Refusal line))
+    (λ line loop text is. subst (λ l. IsAnswer c.args.query.now c.args.form text (Refusal l)) (sym loop.said) (no_order c.in_ok-trace.trace loop.at (is ∙ c.in_ok-trace.ensures.trace) loop.least)) c.in_err-order.ensures.refused)
 
 pub returns-clause-printed : goal.returns-clause-printed
 returns-clause-printed c = λ text is.
-    subst (IsAnswer c.args.query.now text) (sym c.in_ok-report.ensures)
+    subst (IsAnswer c.args.query.now c.args.form text) (sym c.in_ok-report.ensures)
     (reported c.in_ok-trace.trace (is_before c.in_ok-order.order) (is ∙ c.in_ok-trace.ensures.trace) c.in_ok-order.ensures.consistent c.in_ok-order.ensures.order)
 
 pub returns-in_err-report-clause-refused : goal.returns-in_err-report-clause-refused

@@ -34,6 +34,7 @@ returns-in-Some-query_in-clause-asks g c =
       rows = rows_of (found_of c.in-Some.options.now);
       command = sym entered ∙ entered_as c.in-Ok.matches (codes "predict") (rows_of (found_of c.in-Some.options.now)) (c.in-Some.ensures.found.0 refl) c.in-Some.ensures.rows;
       options = c.in-Some-query_in.ensures.some;
+      form_in = c.form_in.ensures;
     }
 
 pub returns-clause-usage : goal.returns-clause-usage

@@ -16,7 +16,7 @@ pub returns-then-heard : goal.returns-then-heard
 returns-then-heard g c =
     let heard = c.in-Ok.heard in
     let was = c.in-Ok.ensures.heard in
-    let ends = λ (whole : Bool). EndsAs c.args.query.now was.text whole (g.O.Sink.contents c.args.output.now) (g.O.Sink.contents c.end_whole.new.output) (g.O.Sink.failed c.end_whole.new.output) c.end_whole.result in
+    let ends = λ (whole : Bool). EndsAs c.args.query.now c.args.form was.text whole (g.O.Sink.contents c.args.output.now) (g.O.Sink.contents c.end_whole.new.output) (g.O.Sink.failed c.end_whole.new.output) c.end_whole.result in
     let trace : trace_of greatest was.text ≡ heard.trace =
     ap (λ limits. trace_of limits was.text) (sym c.greatest_limits.ensures) ∙ ap (λ whole. trace_of c.greatest_limits.result (judged whole was.text)) (sym c.if-heard.true) ∙ was.trace in
     ended_so was.text heard.is_whole _ was.read (subst ends (sym c.if-heard.true) (c.end_whole.ensures was.text trace))
@@ -28,8 +28,8 @@ returns g c =
     let was = c.in-Ok.ensures.heard in
     let held = g.O.Sink.contents c.args.output.now in
     let failed = g.O.Sink.failed c.args.output.now in
-    let ends = λ (whole : Bool). EndsAs c.args.query.now was.text whole held held failed c.end_early.result in
-    let sound = λ (failed : Bool). EndsAs c.args.query.now was.text false held held failed c.end_early.result in
+    let ends = λ (whole : Bool). EndsAs c.args.query.now c.args.form was.text whole held held failed c.end_early.result in
+    let sound = λ (failed : Bool). EndsAs c.args.query.now c.args.form was.text false held held failed c.end_early.result in
     let trace : trace_of greatest (ended_lines was.text) ≡ heard.trace =
     ap (λ limits. trace_of limits (ended_lines was.text)) (sym c.greatest_limits.ensures) ∙ ap (λ whole. trace_of c.greatest_limits.result (judged whole was.text)) (sym c.if-heard.false) ∙ was.trace in
-    ended_so was.text heard.is_whole _ was.read (subst ends (sym c.if-heard.false) (subst sound (sym c.requires.writable) (c.end_early.ensures c.args.query.now was.text held trace)))
+    ended_so was.text heard.is_whole _ was.read (subst ends (sym c.if-heard.false) (subst sound (sym c.requires.writable) (c.end_early.ensures c.args.query.now c.args.form was.text held trace)))
