@@ -4,9 +4,8 @@ ghost use Rattle.std.specs.Cmp.{nat_cmp_total, nat_eq_equiv, on_equiv, on_per, o
 ghost use Rattle.std.specs.Ordering.{as_partial_cmp, on};
 ghost use Rattle.gl_event.specs.Modes.{rank, mode_cmp};
 
-use std::cmp::Ordering;
-
 use crate::ids::{LocId, LockId, ThreadId};
+use std::cmp::Ordering;
 
 /// How a lock is held: by one thread alone, or by readers together. The two are ordered as they
 /// stand here.
