@@ -42,8 +42,13 @@ max_rule = record (option_rule (codes "max") (codes "1000")) { parser = Some (ta
 abbrev pub json_rule : Rule
 json_rule = record (new_rule (codes "json")) { long = Some (codes "json"); action = Some SetTrue }
 
+-- the options of a query
+abbrev pub query_app : App
+query_app = with_rule (with_rule (with_rule (new_app (codes "predict")) mode_rule) len_rule) max_rule
+
+-- and the form of the report
 abbrev pub predict : App
-predict = with_rule (with_rule (with_rule (with_rule (new_app (codes "predict")) mode_rule) len_rule) max_rule) json_rule
+predict = with_rule query_app json_rule
 
 -- the program: a subcommand is required, and `predict` is the one that there is
 abbrev pub goodlock : App

@@ -4,7 +4,7 @@ ghost use Rattle.clap.specs.declared.error.kind.ErrorKind.TheVariants.{InvalidVa
 ghost use Rattle.clap.specs.Words.{app_of, first_of, found_of, kind_of, rows_of, rule_of};
 ghost use Rattle.clap.specs.declared.builder.command.Command.TheViews.{out-Command as fields_of};
 ghost use Rattle.gl_filters.specs.Asked.{Asked};
-ghost use Rattle.goodlock.specs.Options.{goodlock, predict, mode_rule, len_rule, max_rule, json_rule};
+ghost use Rattle.goodlock.specs.Options.{goodlock, predict, query_app, mode_rule, len_rule, max_rule, json_rule};
 ghost use Rattle.goodlock.specs.Options.{Asks, AsksIn, IsFormIn, IsNumberAt, IsUsageFor, IsUsageOf, mode_named};
 
 use crate::ended::Form;
@@ -97,9 +97,9 @@ fn json_option<'a>(alloc: Global) -> Arg<'a>
         .help("Prints the report as JSON, one object on a line")
 }
 
-// The command that predicts.
-fn predict_command<'a>(alloc: Global) -> Result<clap::Command<'a>, AllocError>
-    ensures shape { IfOk result (λ c. app_of c ≡ predict) }
+// The command that predicts, with the options of its query.
+fn query_command<'a>(alloc: Global) -> Result<clap::Command<'a>, AllocError>
+    ensures shape { IfOk result (λ c. app_of c ≡ query_app) }
     ensures local { IfOk result (λ c. (fields_of c).has_globals ≡ false) }
 {
     clap::Command::new(alloc, "predict")
@@ -109,8 +109,15 @@ fn predict_command<'a>(alloc: Global) -> Result<clap::Command<'a>, AllocError>
         )
         .arg(mode_option(alloc))?
         .arg(len_option(alloc))?
-        .arg(max_option(alloc))?
-        .arg(json_option(alloc))
+        .arg(max_option(alloc))
+}
+
+// The command that predicts.
+fn predict_command<'a>(alloc: Global) -> Result<clap::Command<'a>, AllocError>
+    ensures shape { IfOk result (λ c. app_of c ≡ predict) }
+    ensures local { IfOk result (λ c. (fields_of c).has_globals ≡ false) }
+{
+    query_command(alloc)?.arg(json_option(alloc))
 }
 
 // The whole command line.
