@@ -3,7 +3,7 @@
 #
 #     bench/run.sh [PROGRAM [ARGUMENT..]]
 #
-# PROGRAM is goodlock's (crates/goodlock/out/goodlock unless given); ARGUMENTs go to it.
+# PROGRAM is goodlock's (crates/goodlock/out/goodlock with `predict` unless given); ARGUMENTs go to it.
 # BENCH_DIR   folder for the two Rust programs and the traces   (/tmp/goodlock-bench)
 # EVENTS      about how many lines a trace has              (1000000)
 # SHAPES      which shapes of bench/make_trace.py           (all)
@@ -23,7 +23,7 @@ case ${STAGE:-full} in
     *) echo "run.sh: STAGE is first or full" >&2; exit 2 ;;
 esac
 program=${1:-$top/crates/goodlock/out/goodlock}
-if [ $# -gt 0 ]; then shift; fi
+if [ $# -gt 0 ]; then shift; else set -- predict; fi
 
 if [ ! -x "$program" ]; then
     echo "run.sh: there is no program at $program" >&2
