@@ -72,6 +72,48 @@ fn query_refused(rt: HostRuntime) -> Result<(), Fail> {
     Ok(())
 }
 
+// The query for these.
+fn asked(mode: Mode, len: u32, max: u32) -> Result<Query, BadQuery> {
+    Query::new(mode, len, max)
+}
+
+// Whether the two queries are the same one.
+fn are_same(a: Result<Query, BadQuery>, b: Result<Query, BadQuery>) -> bool {
+    match (a, b) {
+        (Ok(a), Ok(b)) => a == b,
+        _ => false,
+    }
+}
+
+// Queries are the same only where all three of their parts are.
+#[test]
+fn queries_differ(rt: HostRuntime) {
+    assert!(rt; are_same(asked(Mode::Full, 4, 9), asked(Mode::Full, 4, 9)));
+    assert!(rt; !are_same(asked(Mode::Full, 4, 9), asked(Mode::Guarded, 4, 9)));
+    assert!(rt; !are_same(asked(Mode::Full, 4, 9), asked(Mode::Full, 5, 9)));
+    assert!(rt; !are_same(asked(Mode::Full, 4, 9), asked(Mode::Full, 4, 8)));
+}
+
+// Each mode asks more than the one before.
+#[test]
+fn modes_ascend(rt: HostRuntime) {
+    assert!(rt; Mode::Basic < Mode::Guarded);
+    assert!(rt; Mode::Guarded < Mode::Full);
+    assert!(rt; Mode::Basic != Mode::Full);
+}
+
+// Verdicts are the same only where the fault and its places are.
+#[test]
+fn verdicts_differ(rt: HostRuntime) {
+    let lock = LockId::new(5);
+    assert!(rt; Verdict::SharedGuard(0, 1, lock) == Verdict::SharedGuard(0, 1, lock));
+    assert!(rt; Verdict::SharedGuard(0, 1, lock) != Verdict::SharedGuard(0, 1, LockId::new(6)));
+    assert!(rt; Verdict::SameLock(0, 1) != Verdict::SameThread(0, 1));
+    assert!(rt; Verdict::Ordered(0, 1) != Verdict::Ordered(0, 2));
+    assert!(rt; Verdict::NotClosed(1) != Verdict::NotLeast(1));
+    assert!(rt; Verdict::TooShort != Verdict::Valid);
+}
+
 // M (thread 0) joins T0 (thread 1) before it forks T1 (thread 2), and these take two locks in
 // opposite orders: only Full sees that they never wait for each other.
 #[test]
