@@ -1,6 +1,5 @@
 -- The least gate of two guard sets.
-use Rattle.std.proofs.Common.{◌≡◌, ℕ, suc, ◌<◌, ◌≤◌, true, false, List, leb, length, get_or, arith, refl, sym, subst, ap, ◌∙◌, inl, inr}
-use Rattle.std.specs.Prelude.{Contains}
+use Rattle.std.proofs.Common.{◌≡◌, ℕ, suc, ◌<◌, ◌≤◌, true, false, List, leb, length, get_or, arith, refl, sym, ap, ◌∙◌, inl, inr}
 use Rattle.std.specs.List.{list_any}
 use Rattle.std.specs.List.Sorted.{IsStrictlySortedBy}
 use Rattle.std.specs.Ordering.{nat_cmp, ordering_then, MatchOrdering}
@@ -32,7 +31,7 @@ lock_up : (a b : Guard) → guard_cmp a b ≡ Less → a.lock ≤ b.lock
 lock_up a b less = by_lock a.lock b.lock (nat_cmp a.lock b.lock) (mode_cmp a.mode b.mode) (ranked a.lock b.lock _ refl) less
 
 -- later guards have no lesser locks
-not_below : (gs : List Guard) → IsStrictlySortedBy guard_cmp gs → (i k : ℕ) (d : Guard) → i ≤ k → k < length gs → (get_or gs i d).lock ≤ (get_or gs k d).lock
+pub not_below : (gs : List Guard) → IsStrictlySortedBy guard_cmp gs → (i k : ℕ) (d : Guard) → i ≤ k → k < length gs → (get_or gs i d).lock ≤ (get_or gs k d).lock
 not_below gs sorted i k d lower within =
     elim (cases_Bool (leb (suc i) k)) [
       | inl below ↦ lock_up (get_or gs i d) (get_or gs k d) (Less-from_sorted guard_cmp gs i k d sorted (leb-true (suc i) k below) within)

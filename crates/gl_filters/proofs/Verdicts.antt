@@ -1,12 +1,11 @@
 -- A list of edges has one verdict.
-use Rattle.std.proofs.Common.{◌≡◌, ◌≢◌, ℕ, zero, suc, ◌+◌, ◌<◌, ◌≤◌, ◌⊎◌, inl, inr, Bool, true, false, List, length, refl, sym, ap, ◌∙◌, subst, arith}
+use Rattle.std.proofs.Common.{◌≡◌, ℕ, zero, suc, ◌<◌, ◌≤◌, inl, inr, Bool, List, length, refl, sym, ◌∙◌, subst, arith}
 use Rattle.std.specs.Prelude.{slice_get, Some}
 use Rattle.std.proofs.lemmas.Bool.{cases_lt, false≢true}
 use Rattle.std.proofs.lemmas.Option.{slice_get_within}
 use Rattle.gl_event.specs.declared.events.Segment.{Segment}
 use Rattle.gl_edges.specs.declared.edge.Edge.{Edge}
 use Rattle.gl_filters.specs.Asked.{Asked}
-use Rattle.gl_filters.specs.Cycle.{asks_guards, asks_order}
 use Rattle.gl_filters.specs.Judging.{clashes, IsFree, IsFirstAfter, IsFirstPair, IsFirstOpen, IsFirstLesser, IsLeastShared, IsVerdict, HasLength, IsClosed, HasLocks, HasThreads, IsLeast, IsApart, IsUnordered}
 use Rattle.gl_filters.specs.declared.verdict.Clash.TheVariants.{SameHeld, SameThreads, Shared, InOrder}
 use Rattle.gl_filters.specs.declared.verdict.Verdict.{Verdict}

@@ -3,3 +3,4 @@ pub mod Cycle
 pub mod Test
 pub mod Judging
 pub mod Faults
+pub mod Merging

@@ -1,5 +1,5 @@
 -- The test of a cycle: what of a list of edges is looked at, in the order in which it grows.
-use Rattle.std.specs.Prelude.{ℕ, Bool, true, false, not, ◌&&◌, List, [], ◌∷◌, length, ◌==◌, nat_le}
+use Rattle.std.specs.Prelude.{Bool, true, false, not, ◌&&◌, List, [], ◌∷◌, length, ◌==◌, nat_le}
 use Rattle.std.specs.List.{list_any, list_all}
 use Rattle.gl_event.specs.declared.events.Segment.{Segment}
 use Rattle.gl_event.specs.Modes.{conflict}

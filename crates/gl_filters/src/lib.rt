@@ -1,6 +1,7 @@
 //! Which lists of edges are cycles: the modes of the analysis, what is asked of it, and the tests.
 #![tactic(auto)]
 
+mod gate_locks;
 mod laws;
 mod pairs;
 mod query;

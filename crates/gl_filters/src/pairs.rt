@@ -1,38 +1,14 @@
 //! Which two edges may stand in one cycle.
 ghost use Rattle.std.specs.Prelude.{◌≡◌};
-ghost use Rattle.std.specs.List.{list_any};
 ghost use Rattle.gl_segments.specs.Clocks.{is_before};
 ghost use Rattle.gl_filters.specs.Cycle.{asks_guards, asks_order, is_ordered};
-ghost use Rattle.gl_filters.specs.Test.{clash_on, guards_clash, leads_to, is_clear, goes_with, is_compatible};
+ghost use Rattle.gl_filters.specs.Test.{leads_to, is_clear, goes_with, is_compatible};
 
+use crate::gate_locks::have_gate;
 use crate::query::Mode;
-use gl_edges::{Edge, Guard, Guards};
+use gl_edges::Edge;
 use gl_event::Segment;
 use gl_segments::Order;
-
-// Whether the guards are of one lock, and not both shared.
-fn do_clash(g: &Guard, h: &Guard) -> bool
-    ensures { result ≡ clash_on g.now h.now }
-{
-    g.lock == h.lock && g.mode.conflicts_with(h.mode)
-}
-
-// Whether the guard clashes with one of these.
-pub(crate) fn clashes_with_any(guard: &Guard, others: &[Guard]) -> bool
-    ensures { result ≡ list_any (clash_on guard.now) others.now }
-{
-    others.iter().any(|other| do_clash(guard, other))
-}
-
-// Whether guards of the two sets clash: there is a gate lock. Sets are small, at most 64 locks.
-pub(crate) fn have_gate(a: &Guards, b: &Guards) -> bool
-    ensures { result ≡ guards_clash a.now b.now }
-{
-    let others = b.as_slice();
-    a.as_slice()
-        .iter()
-        .any(|guard| clashes_with_any(guard, others))
-}
 
 /// Whether the first edge leads on to the second: it wants the lock that the second one holds, and
 /// not both as readers. A reader doesn't wait for a reader.

@@ -9,7 +9,8 @@ ghost use Rattle.gl_filters.specs.Test.{guards_clash};
 ghost use Rattle.std.specs.List.Sorted.{IsStrictlySortedBy};
 ghost use Rattle.gl_edges.specs.Guards.{guard_cmp};
 
-use crate::pairs::{are_ordered, clashes_with_any, have_gate, leads_on};
+use crate::gate_locks::{clashes_with_any, have_gate};
+use crate::pairs::{are_ordered, leads_on};
 use crate::query::Query;
 use gl_edges::{Edge, EdgeList, Guard, Sample};
 use gl_event::LockId;

@@ -1,8 +1,7 @@
-use Rattle.std.proofs.Common.{◌≡◌, Some, below_more, arith, rules, ap, sym, subst, ◌∙◌}
+use Rattle.std.proofs.Common.{◌≡◌, Some, below_more, arith, ap, sym, subst, ◌∙◌}
 use Rattle.std.specs.Prelude.{slice_get}
 use Rattle.std.proofs.lemmas.Option.{same_Some}
 use Rattle.gl_filters.specs.Judging.{picked, following, IsClosedAt}
-use Rattle.gl_edges.specs.declared.edge.Edge.{Edge}
 use Rattle.std.proofs.lemmas.Bool.{false≢true}
 use Rattle.gl_filters.specs.Cycle.{LeadsOn}
 use Rattle.gl_filters.proofs.Cycling.{leads_tells, leads_from}

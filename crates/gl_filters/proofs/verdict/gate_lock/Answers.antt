@@ -1,4 +1,4 @@
-use Rattle.std.proofs.Common.{◌≡◌, false, get_or, below_more, arith, sym, ap, ◌∙◌}
+use Rattle.std.proofs.Common.{◌≡◌, false, get_or, below_more, sym, ap, ◌∙◌}
 use Rattle.std.specs.List.{list_any}
 use Rattle.std.proofs.lemmas.List.{get_or_default}
 use Rattle.gl_edges.specs.declared.guards.Guard.{Guard}
