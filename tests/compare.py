@@ -576,7 +576,7 @@ def huge(random_, made):
 
 
 def asked(random_, commands):
-    """The words of a command with a query of its own, and the reference's answer to a text."""
+    """A command, its words with a query of its own, and the reference's answer to a text."""
     command = random_.choice(commands)
     word, *form = command.split()
     query = reference.Query()
@@ -587,7 +587,7 @@ def asked(random_, commands):
         query.most = random_.choice([1, 2, 3, 1000, 100_000])
         words = ["--mode", query.mode, "--len", str(query.length), "--max", str(query.most)]
         words = [w for pair in random_.sample(list(zip(words[::2], words[1::2])), 3) for w in pair]
-    return [word, *form, *words], lambda text: reference.answer(word, text, query, "--json" in form)
+    return command, [word, *form, *words], lambda text: reference.answer(word, text, query, "--json" in form)
 
 
 def case(seed, number, most_lines=34):
@@ -726,16 +726,16 @@ def main():
         sort = "inconsistent" if "precedes" in sort else sort
         seen[sort] = seen.get(sort, 0) + 1
         if commands:
-            words, by_reference = asked(random.Random(f"{options.seed}/{number}/command"), commands)
+            drawn, words, by_reference = asked(random.Random(f"{options.seed}/{number}/command"), commands)
             compare_case(number, text, command[:1] + words, by_reference)
-            by_command[words[0]] = by_command.get(words[0], 0) + 1
+            by_command[drawn] = by_command.get(drawn, 0) + 1
         if wrong >= 10:
             print("stopped at 10 differences")
             break
     made = sum(seen.values())
     print(f"{made} random cases: " + ", ".join(f"{kind} {count}" for kind, count in sorted(seen.items())))
     if commands:
-        print("by command: " + ", ".join(f"{word} {count}" for word, count in sorted(by_command.items())))
+        print("by command: " + ", ".join(f"{words} {count}" for words, count in sorted(by_command.items())))
     print(f"{tried - wrong} passed, {wrong} failed")
     return 1 if wrong or tried == 0 else 0
 

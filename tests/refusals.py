@@ -159,7 +159,7 @@ class Tests:
             self.check(f"{words}, {name}, thread call {number}", [ample, UNCONFIRMED, OUT_OF_MEMORY], run)
 
     def reads(self, words, name, text, ample):
-        """A failed read is told, unless a line that was ended before has a fault. An interrupted one is a failed one."""
+        """A failed read is told, unless a line that was ended before has a fault. An interrupted read has failed."""
         self.check(f"{words}, {name}, short", [ample], self.runner.run(words, text, is_short=True))
         for how, is_short in (("once", False), ("onwards", False), ("interrupted", False), ("once", True)):
             count = 0
@@ -167,7 +167,8 @@ class Tests:
                 read = text[: number - 1] if is_short else text if number > 1 else b""
                 right = ample if ample == BAD_LINE and read.count(b"\n") >= 2 else READ_FAILED
                 self.check(f"{words}, {name}, read {how}{' short' * is_short} call {number}", [right], run)
-                self.check_that(f"{words}, {name}, read call {number}", set(run.refused) == {"0"}, "not of standard input")
+                is_input = set(run.refused) == {"0"}
+                self.check_that(f"{words}, {name}, read call {number}", is_input, "not of standard input")
                 count += 1
             # Each byte, and the end.
             least = len(text) + 1 if is_short else 2

@@ -180,6 +180,11 @@ OPEN ssize_t write(int file, const void *bytes, size_t size)
     return syscall(SYS_write, file, bytes, is_short && size > 1 ? 1 : size);
 }
 
+OPEN ssize_t __write(int file, const void *bytes, size_t size)
+{
+    return write(file, bytes, size);
+}
+
 OPEN ssize_t readv(int file, const struct iovec *parts, int count)
 {
     ssize_t answer;
