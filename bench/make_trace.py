@@ -7,6 +7,12 @@ A trace is a run of blocks. In a block one thread takes some locks, one inside t
 innermost first, so that locks are held by one thread at a time; a program's other operations stand between.
 Blocks are drawn from a pool that is made first, as a program runs the same code over and over. A shape is a
 set of options; an option that is given replaces the shape's.
+
+    make_trace.py --shape gated-requests --threads 1000 --sections 4 > trace.std
+
+A knot is a shape whose edges all lie in one knot of the lock-order graph. Its pieces of code lie in a ring: each
+takes its own lock and then the next one's. There is no cycle in mode full, and each lesser part of the ring can be
+run in very many ways. How long it is follows from its threads, sections and segments; nothing in it is drawn.
 """
 
 import argparse
@@ -31,9 +37,20 @@ SHAPES = {
     # Threads that are forked and joined in waves, so that segments are ordered.
     "forks": dict(threads=41, locks=24, depth=2, sections=30, disorder=1.0, locations=500, waves=10, rejoins=2_000),
 }
+KNOTS = {
+    # A thread for each request, which runs one piece of code; every second piece holds one gate lock.
+    "gated-requests": dict(threads=1_000, sections=4),
+    # Threads that run their piece of code again in each segment, in turn under each of the gate locks, which are fewer
+    # than the pieces.
+    "alternating-gates": dict(threads=60, sections=4, segments=100, gates=2),
+    # Early threads, joined before late ones are forked, run the first and the last piece; for each piece between them
+    # there is one thread that lives as long as all of them and runs it in each of its segments.
+    "early-and-late": dict(threads=600, sections=3, segments=1_000),
+}
 GENERAL = dict(
     threads=8, locks=16, depth=2, sections=20, disorder=0.1, is_ring=False, locations=500, name_length=0,
     waves=0, rejoins=0, others=0.3, strays=0.0005, shared=0,
+    segments=1, gates=1,
 )  # fmt: skip
 
 PACKAGE = "org.example.server.storage.internal.cache.partition.segment.writer."
@@ -135,9 +152,67 @@ class Maker:
         return texts
 
 
+def nested(thread, file, locks):
+    """The thread takes these locks one inside the other and releases them."""
+    for place, lock in enumerate(locks, 10):
+        yield f"{thread}|acq({lock})|{file}:{place}"
+    for place, lock in enumerate(reversed(locks), 30):
+        yield f"{thread}|rel({lock})|{file}:{place}"
+
+
+def piece(thread, k, sections, gates=()):
+    """The thread runs the k-th piece of code of a ring, under these gate locks."""
+    return nested(thread, f"Piece{k}.java", [*gates, f"lock{k}", f"lock{(k + 1) % sections}"])
+
+
+def new_segment(thread):
+    """Another join of a thread that did nothing: it orders nothing."""
+    return f"{thread}|join(idle)|Pool.java:7"
+
+
+def gated_requests(options):
+    for t in range(options.threads):
+        k = t % options.sections
+        yield from piece(f"request{t}", k, options.sections, ["gate"] if k % 2 == 0 else [])
+
+
+def alternating_gates(options):
+    for segment in range(options.segments):
+        for t in range(options.threads):
+            if segment > 0:
+                yield new_segment(f"T{t}")
+            gate = f"gate{(segment + t // options.sections) % options.gates}"
+            yield from piece(f"T{t}", t % options.sections, options.sections, [gate])
+
+
+def early_and_late(options):
+    last = options.sections - 1
+    lasting = {k: f"lasting{k}" for k in range(1, last)}
+    half = options.threads // 2
+    yield from (f"main|fork({thread})|Main.java:5" for thread in lasting.values())
+
+    def all_run(name, k):
+        threads = [f"{name}{t}" for t in range(half)]
+        yield from (f"main|fork({thread})|Main.java:10" for thread in threads)
+        for thread in threads:
+            yield from piece(thread, k, options.sections)
+        yield from (f"main|join({thread})|Main.java:11" for thread in threads)
+
+    yield from all_run("early", 0)
+    for segment in range(options.segments):
+        for k, thread in lasting.items():
+            if segment > 0:
+                yield new_segment(thread)
+            yield from piece(thread, k, options.sections)
+    yield from all_run("late", last)
+
+
+MADE_BY = {"gated-requests": gated_requests, "alternating-gates": alternating_gates, "early-and-late": early_and_late}
+
+
 def main():
     parser = argparse.ArgumentParser(description=__doc__, formatter_class=argparse.RawDescriptionHelpFormatter)
-    parser.add_argument("--shape", choices=sorted(SHAPES), default="few-locks")
+    parser.add_argument("--shape", choices=[*sorted(SHAPES), *sorted(KNOTS)], default="few-locks")
     parser.add_argument("--events", type=int, default=1_000_000, help="about how many lines")
     parser.add_argument("--seed", type=int, default=1)
     parser.add_argument("--threads", type=int, help="at most 1,024")
@@ -152,22 +227,27 @@ def main():
     parser.add_argument("--strays", type=float, help="share of blocks that release what isn't held")
     parser.add_argument("--waves", type=int, help="groups of threads, forked and joined one after the other")
     parser.add_argument("--rejoins", type=int, help="further joins of threads that have ended")
+    parser.add_argument("--segments", type=int, help="of a knot: how often a thread runs its piece")
+    parser.add_argument("--gates", type=int, help="of a knot: gate locks, fewer than its pieces of code")
     parser.add_argument("--crlf", action="store_true", help="lines end with CR LF")
     options = parser.parse_args()
-    for name, value in {**GENERAL, **SHAPES[options.shape]}.items():
+    is_knot = options.shape in KNOTS
+    for name, value in {**GENERAL, **(KNOTS if is_knot else SHAPES)[options.shape]}.items():
         if getattr(options, name, None) is None:
             setattr(options, name, value)
     for name, least, most in [
         ("events", 0, 10**9), ("threads", 2 if options.waves else 1, 1_024), ("locks", 1, 10**8), ("depth", 1, 64),
         ("sections", 1, 10**8), ("disorder", 0, 1), ("name_length", 0, 30_000), ("locations", 1, 10**8),
         ("others", 0, 0.95), ("strays", 0, 1), ("waves", 0, 1_023), ("rejoins", 0, 10**8),
-        ("shared", 0, 1),
+        ("shared", 0, 1), ("segments", 1, 10**6), ("gates", 1, 60),
     ]:  # fmt: skip
         if not least <= getattr(options, name) <= most:
             parser.error(f"--{name.replace('_', '-')} is from {least} to {most}")
     if options.is_ring and options.depth > options.locks:
         parser.error("--depth is at most --locks in a ring")
-    texts = Maker(options).make()
+    if is_knot and (options.sections < 3 or options.gates >= options.sections):
+        parser.error("a knot has three --sections or more, and fewer --gates")
+    texts = [line + "\n" for line in MADE_BY[options.shape](options)] if is_knot else Maker(options).make()
     try:
         for at in range(0, len(texts), 50_000):
             sys.stdout.write("".join(texts[at : at + 50_000]))

@@ -1,12 +1,14 @@
 #!/usr/bin/env python3
 """Compares a program with the reference on worked traces and on random and damaged ones.
 
-    compare.py [--stage first|full] [--cases N] [--seed S] PROGRAM [ARGUMENT..]
+    compare.py [--stage first|full] [--cases N] [--seed S] [--commands LIST] PROGRAM [ARGUMENT..]
 
 Standard output, standard error and exit status must be equal byte for byte. Further arguments go to the
-program. `--mode`, `--len` and `--max` tell the reference another query than the stage's. A difference is
-shrunk by leaving out lines and written into a file; `--only K` runs case K of the seed alone. The last line
-is `N passed, N failed`, with one for each trace.
+program. `--mode`, `--len` and `--max` tell the reference another query than the stage's. `--commands`, as
+"predict, predict --json, stats, replay", also runs the program with these words and without the further
+arguments: on the worked traces of each, and on each random one with one of them, with a query of its own. A
+difference is shrunk by leaving out lines and written into a file; `--only K` runs case K of the seed alone. The
+last line is `N passed, N failed`, with one for each answer.
 """
 
 import argparse
@@ -323,6 +325,77 @@ def worked(stage):
     ]
 
 
+def edge(thread, held, held_at, wanted, wanted_at, place, guards=None):
+    """An edge of JSON in the first segment, its names as JSON spells them; guards are the held lock unless given."""
+    guards = ",".join(f'"{lock}"' for lock in guards or [held])
+    return (
+        f'{{"first":0,"guards":[{guards}],"held":"{held}","held_at":"{held_at}","place":{place},"second":0,'
+        f'"thread":"{thread}","wanted":"{wanted}","wanted_at":"{wanted_at}"}}'
+    )
+
+
+def as_json(*cycles):
+    """The answer that lists these cycles for the query of the program."""
+    listed = ",".join("[" + ",".join(edges) + "]" for edges in cycles)
+    report = f'{{"cycles":[{listed}],"format":1,"len":4,"max":1000,"mode":"full","more":false}}\n'
+    return report.encode(), b"", 1 if cycles else 0
+
+
+OPPOSITE_JSON = as_json([edge("T0", "a", 1, "b", 2, 1), edge("T1", "b", 5, "a", 6, 1)])
+
+
+def counts(events, skipped, stray, threads, locks, segments, edges, cycles):
+    text = f"events: {events}\nskipped: {skipped}\nstray: {stray}\nthreads: {threads}\nlocks: {locks}\n"
+    return (text + f"segments: {segments}\nedges: {edges}\ncycles: {cycles}\n").encode(), b"", 0
+
+
+def worked_of_commands():
+    """Name, command, text, answer by hand, for the program's own query."""
+    crlf = b"T0|acq(a)|1\r\n\r\nT0|r(x)|9\r\nT1|rel(a)|2\r\nT0|begin|3\nT0|acq(b)|5\r"
+    holding = lines("M acq a @1", "M fork T1 @2", "M acq b @3", "T1 acq b @4", "T1 acq a @5")
+    fork_loop = lines("T0 fork T1 @1", "T0 join T1 @2", "T0 fork T1 @3", "T1 acq a @4")
+    words = ["acq", "racq", "tryacq", "tryracq", "fork", "join"]
+    each_word = lines(*[f"T{i % 2} {word} l{i} @{i}" for i, word in enumerate(words)], "T1 rel l1 @7", "T0 rrel l0 @8")
+    by_thread = lines(*[f"T0 {words[i]} l{i} @{i}" for i in (0, 2, 4)], "T0 rrel l0 @8")
+    by_thread += lines(*[f"T1 {words[i]} l{i} @{i}" for i in (1, 3, 5)], "T1 rel l1 @7")
+    unclosed = lines("T0 acq a @1") + b"T0|rel(a|2\n" + lines("T0 acq b @3")
+    odd = b"T 0|acq(a\xc3\xa9)|x|y\\\nT 0|acq(\x7f)|\nT1|acq(\x7f)| ~\nT1|acq(a\xc3\xa9)|\x00\n"
+    odd_edges = [edge("T 0", "a\\\\xc3\\\\xa9", "x|y\\\\x5c", "\\\\x7f", "", 1)]
+    odd_edges += [edge("T1", "\\\\x7f", " ~", "a\\\\xc3\\\\xa9", "\\\\x00", 1)]
+    nested = ["T0 acq c @1", "T0 acq a @2", "T0 acq b @3", "T1 acq b @4", "T1 acq a @5"]
+    guarded = [edge("T0", "a", 2, "b", 3, 2, ["c", "a"]), edge("T1", "b", 4, "a", 5, 1)]
+    return [
+        ("empty_input", "predict --json", b"", as_json()),
+        ("opposite_order", "predict --json", lines(*OPPOSITE), OPPOSITE_JSON),
+        ("guards by number", "predict --json", lines(*nested), as_json(guarded)),
+        ("escaped names", "predict --json", odd, as_json(odd_edges)),
+        ("an unclosed operand", "predict --json", unclosed, refused(2, "bad operand")),
+        ("empty_input", "stats", b"", counts(0, 0, 0, 0, 0, 0, 0, 0)),
+        ("opposite_order", "stats", lines(*OPPOSITE), counts(6, 0, 0, 2, 2, 2, 2, 1)),
+        ("fork_while_holding", "stats", holding, counts(5, 0, 0, 2, 2, 3, 2, 1)),
+        ("crlf_and_skipped", "stats", crlf, counts(2, 2, 1, 1, 2, 1, 1, 0)),
+        ("stray_release", "stats", lines("T0 rel a @1", "T0 acq b @2"), counts(1, 0, 1, 1, 1, 1, 0, 0)),
+        # A forked thread without events counts, with its one segment; equal edges count once.
+        ("a thread without events", "stats", lines("T0 fork T1 @1"), counts(1, 0, 0, 2, 0, 3, 0, 0)),
+        ("equal edges", "stats", lines(*OPPOSITE[:4] * 3), counts(12, 0, 0, 1, 2, 1, 1, 0)),
+        ("each word", "stats", each_word, counts(8, 0, 0, 4, 4, 6, 0, 0)),
+        ("an unclosed operand", "stats", unclosed, refused(2, "bad operand")),
+        ("fork_join_fork", "stats", fork_loop, (b"", b"goodlock: inconsistent: T0.2 precedes itself\n", 2)),
+        ("empty_input", "replay", b"", (b"", b"", 0)),
+        (
+            "replayed_lists",
+            "replay",
+            lines("T1 acq b @5", "T0 acq a @1", "T1 rel b @6", "T1 r x @9"),
+            (lines("T1 acq b @5", "T1 rel b @6", "T0 acq a @1"), b"", 0),
+        ),
+        ("replayed_lists, CR alone", "replay", b"T0|acq(a)|x\r", (b"T0|acq(a)|x\r\r\n", b"", 0)),
+        ("crlf_and_skipped", "replay", crlf, (b"T0|acq(a)|1\nT0|acq(b)|5\r\r\n", b"", 0)),
+        ("each word", "replay", each_word, (by_thread, b"", 0)),
+        ("an unclosed operand", "replay", unclosed, refused(2, "bad operand")),
+        ("fork_join_fork", "replay", fork_loop, (fork_loop, b"", 0)),
+    ]
+
+
 # --- Random traces ---------------------------------------------------------------------------------------
 
 PLAIN = ["T0", "T1", "T2", "T3", "T4", "T5"]
@@ -502,6 +575,21 @@ def huge(random_, made):
     return text[:place] + line + end + text[place:]
 
 
+def asked(random_, commands):
+    """A command, its words with a query of its own, and the reference's answer to a text."""
+    command = random_.choice(commands)
+    word, *form = command.split()
+    query = reference.Query()
+    words = []
+    if word != "replay":
+        query.mode = random_.choice(["basic", "guarded", "full"])
+        query.length = random_.choice([2, 3, 4, 5, 16])
+        query.most = random_.choice([1, 2, 3, 1000, 100_000])
+        words = ["--mode", query.mode, "--len", str(query.length), "--max", str(query.most)]
+        words = [w for pair in random_.sample(list(zip(words[::2], words[1::2])), 3) for w in pair]
+    return command, [word, *form, *words], lambda text: reference.answer(word, text, query, "--json" in form)
+
+
 def case(seed, number, most_lines=34):
     random_ = random.Random(f"{seed}/{number}")
     kind = random_.random()
@@ -560,6 +648,7 @@ def main():
     parser.add_argument("--seed", default="1")
     parser.add_argument("--lines", type=int, default=34, help="most lines of a random trace, about")
     parser.add_argument("--only", type=int)
+    parser.add_argument("--commands", default="", help="further ones that are compared, with commas between them")
     parser.add_argument("program")
     parser.add_argument("arguments", nargs=argparse.REMAINDER)
     options = parser.parse_args()
@@ -569,8 +658,13 @@ def main():
         options.mode or stage.mode, options.length or stage.length, options.most or stage.most, stage.with_forks
     )
     command = [os.path.abspath(options.program)] + [a for a in options.arguments if a != "--"]
+    commands = [words.strip() for words in options.commands.split(",") if words.strip()]
+    known = {words for _, words, _, _ in worked_of_commands()} | {"predict"}
+    if not known.issuperset(commands):
+        parser.error(f"--commands knows {', '.join(sorted(known))}")
     tried = wrong = 0
     seen = {}
+    by_command = {}
 
     def compare(name, answers):
         nonlocal tried, wrong
@@ -596,34 +690,52 @@ def main():
                 if mode == query.mode and (options.most or stage.most) > 1:
                     answers.append(("program", run(command, text)))
                 compare(f"{name}, mode {mode}", answers)
+        for name, words, text, by_hand in worked_of_commands():
+            word, *form = words.split()
+            answers = [("by hand", by_hand)]
+            answers.append(("reference", reference.answer(word, text, reference.Query(), "--json" in form)))
+            if words in commands:
+                answers.append(("program", run(command[:1] + words.split(), text)))
+            compare(f"{name}, {words}", answers)
         for name, expected, got in unreadable(command):
             tried += 1
             if got != expected:
                 wrong += 1
                 print(f"{name}: expected {show(expected)}\n    got {show(got)}")
 
-    numbers = range(options.cases) if options.only is None else [options.only]
-    for number in numbers:
+    def compare_case(number, text, words, by_reference):
+        """Whether the answers are equal; the reference's."""
+        nonlocal tried, wrong
+        tried += 1
+        expected = by_reference(text)
+        if run(words, text) == expected:
+            return expected
+        wrong += 1
+        small = shrunk(text, lambda t: by_reference(t) != run(words, t))
+        path = os.path.join(tempfile.gettempdir(), f"goodlock-differs-{options.seed}-{number}.std")
+        with open(path, "wb") as file:
+            file.write(small)
+        print(f"case {number}: {' '.join(words)}: answers differ on {path}: {small[:400]!r}")
+        print(f"    reference: {show(by_reference(small))}\n    program: {show(run(words, small))}")
+        return expected
+
+    for number in range(options.cases) if options.only is None else [options.only]:
         text = case(options.seed, number, options.lines)
-        expected = reference.predict(text, query)
-        got = run(command, text)
+        expected = compare_case(number, text, command, lambda t: reference.predict(t, query))
         sort = expected[1].split(b": ", 2)[-1].strip().decode("latin-1") or f"status {expected[2]}"
         sort = "inconsistent" if "precedes" in sort else sort
         seen[sort] = seen.get(sort, 0) + 1
-        tried += 1
-        if got != expected:
-            wrong += 1
-            small = shrunk(text, lambda t: reference.predict(t, query) != run(command, t))
-            path = os.path.join(tempfile.gettempdir(), f"goodlock-differs-{options.seed}-{number}.std")
-            with open(path, "wb") as file:
-                file.write(small)
-            print(f"case {number}: answers differ on {path}: {small[:400]!r}")
-            print(f"    reference: {show(reference.predict(small, query))}\n    program: {show(run(command, small))}")
-            if wrong >= 10:
-                print("stopped at 10 differences")
-                break
+        if commands:
+            drawn, words, by_reference = asked(random.Random(f"{options.seed}/{number}/command"), commands)
+            compare_case(number, text, command[:1] + words, by_reference)
+            by_command[drawn] = by_command.get(drawn, 0) + 1
+        if wrong >= 10:
+            print("stopped at 10 differences")
+            break
     made = sum(seen.values())
     print(f"{made} random cases: " + ", ".join(f"{kind} {count}" for kind, count in sorted(seen.items())))
+    if commands:
+        print("by command: " + ", ".join(f"{words} {count}" for words, count in sorted(by_command.items())))
     print(f"{tried - wrong} passed, {wrong} failed")
     return 1 if wrong or tried == 0 else 0
 

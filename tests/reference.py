@@ -4,12 +4,15 @@
 It counts over prefixes, follows chains of steps and selects among lists of edges. Nothing is indexed,
 cached or searched cleverly, so it is for small traces only.
 
-    reference.py [--stage first|full] [--mode M] [--len L] [--max N] [--skip-forks] < trace.std
+    reference.py [predict|stats|replay] [--stage first|full] [--mode M] [--len L] [--max N] [--json] [--skip-forks] \
+        < trace.std
 
-Stage `first` is mode basic, length 2, and forks and joins are skipped like any other operation; stage
-`full` (the default) is mode full, length 4. Both list at most 1,000 cycles.
+The command is predict unless it is given; `--json` is for predict alone. Stage `first` is mode basic, length 2,
+and forks and joins are skipped like any other operation; stage `full` (the default) is mode full, length 4. Both
+list at most 1,000 cycles.
 """
 
+import json
 import sys
 import typing
 
@@ -25,6 +28,8 @@ WAITING = ("acq", "racq")  # an acquire that was tried could not have waited
 RELEASES = ("rel", "rrel")
 LINKS = ("fork", "join")
 
+EMPTY, SKIPPED, STRAY = "empty", "skipped", "stray"  # lines that tell no event
+
 
 class Query:
     def __init__(self, mode="full", length=4, most=1000, with_forks=True):
@@ -37,11 +42,8 @@ class Query:
 STAGES = {"first": Query("basic", 2, 1000, False), "full": Query("full", 4, 1000, True)}
 
 
-class LineFault(Exception):
-    def __init__(self, line, text):
-        super().__init__(line, text)
-        self.line = line
-        self.text = text
+class Refused(Exception):
+    """Why there is no answer, as standard error says it."""
 
 
 # --- The text -----------------------------------------------------------------------------------
@@ -97,11 +99,11 @@ def locks_of(kept):
 
 
 def judge(line, kept, query):
-    """An event (thread, (word, operand, location)), or None for a line that is passed over."""
+    """An event (thread, (word, operand, location)), or what else the line is."""
     if len(line) > LINE_LIMIT:
         raise ValueError("line too long")
     if line == b"":
-        return None
+        return EMPTY
     fields = line.split(b"|", 2)
     if len(fields) == 1:
         raise ValueError("no bar")
@@ -112,7 +114,7 @@ def judge(line, kept, query):
         raise ValueError("no thread")
     word = call.split(b"(", 1)[0].decode("latin-1")
     if word not in ACQUIRES + RELEASES + (LINKS if query.with_forks else ()):
-        return None
+        return SKIPPED
     if b"(" not in call or not call.endswith(b")"):
         raise ValueError("bad operand")
     operand = call.split(b"(", 1)[1][:-1]
@@ -122,7 +124,7 @@ def judge(line, kept, query):
         raise ValueError("thread forks or joins itself")
     before = [event for acting, event in kept if acting == thread]
     if word in RELEASES and depth(before, operand) == 0:
-        return None
+        return STRAY
     if word in ACQUIRES:
         if depth(before, operand) == 0 and len(held(before)) == HELD_LIMIT:
             raise ValueError("too many locks held")
@@ -136,17 +138,33 @@ def judge(line, kept, query):
     return event
 
 
+class Trace(typing.NamedTuple):
+    """What a text tells. Names have their numbers by position; operands of the events are numbers."""
+
+    threads: list
+    locks: list
+    lists: list  # by thread
+    skipped: int
+    stray: int
+
+
 def trace_of(text, query):
-    """The kept lines in order; or the first line with a fault."""
-    kept = []
+    """The trace of the text; or the first line with a fault."""
+    kept, others = [], []
     for number, line in enumerate(lines_of(text), 1):
         try:
-            event = judge(line, kept, query)
+            told = judge(line, kept, query)
         except ValueError as fault:
-            raise LineFault(number, str(fault)) from None
-        if event is not None:
-            kept.append(event)
-    return kept
+            raise Refused(b"line %d: %s" % (number, str(fault).encode())) from None
+        (others if told in (EMPTY, SKIPPED, STRAY) else kept).append(told)
+    threads, locks = threads_of(kept), locks_of(kept)
+
+    def numbered(event):
+        word, operand, location = event
+        return word, (threads if word in LINKS else locks).index(operand), location
+
+    lists = [[numbered(event) for acting, event in kept if acting == name] for name in threads]
+    return Trace(threads, locks, lists, others.count(SKIPPED), others.count(STRAY))
 
 
 # --- Segments and their order ---------------------------------------------------------------------
@@ -291,46 +309,126 @@ def cycles_of(edges, before, query):
 # --- The report -------------------------------------------------------------------------------------
 
 
-def predict(text, query):
+class Report(typing.NamedTuple):
+    edges: dict  # with their samples
+    cycles: list  # those that are listed
+    more: bool
+
+
+def report_of(trace, query):
+    """The report of the trace; or the least segment before itself."""
+    before = before_relation(trace.lists)
+    for t, i in segments_of(trace.lists):
+        if ((t, i), (t, i)) in before:
+            raise Refused(b"inconsistent: %s.%d precedes itself" % (trace.threads[t], i))
+    edges = edges_of(trace.lists)
+    cycles = cycles_of(sorted(edges), before, query)
+    return Report(edges, cycles[: query.most], len(cycles) > query.most)
+
+
+def as_text(trace, report):
+    threads, locks = trace.threads, trace.locks
+    text = b""
+    for number, cycle in enumerate(report.cycles, 1):
+        text += b"cycle %d: %d edges\n" % (number, len(cycle))
+        for edge in cycle:
+            _, held_location, wanted_location = report.edges[edge]
+            names = (threads[edge.thread], locks[edge.held], held_location, locks[edge.wanted], wanted_location)
+            text += b"  %s holds %s since %s wants %s at %s\n" % names
+    more = b" (more)" if report.more else b""
+    return text + b"cycles: %d%s\n" % (len(report.cycles), more)
+
+
+def escaped(name):
+    """Printable ASCII but the backslash is itself, every other byte two hexadecimal digits."""
+    return "".join(chr(byte) if 0x20 <= byte <= 0x7E and byte != 0x5C else "\\x%02x" % byte for byte in name)
+
+
+def as_json(trace, report, query):
+    def edge_object(edge):
+        place, held_location, wanted_location = report.edges[edge]
+        return {
+            "first": edge.first,
+            "guards": [escaped(trace.locks[lock]) for lock, _ in edge.guards],
+            "held": escaped(trace.locks[edge.held]),
+            "held_at": escaped(held_location),
+            "place": place,
+            "second": edge.second,
+            "thread": escaped(trace.threads[edge.thread]),
+            "wanted": escaped(trace.locks[edge.wanted]),
+            "wanted_at": escaped(wanted_location),
+        }
+
+    cycles = [[edge_object(edge) for edge in cycle] for cycle in report.cycles]
+    asked = {"len": query.length, "max": query.most, "mode": query.mode}
+    tree = {"cycles": cycles, "format": 1, "more": report.more, **asked}
+    return json.dumps(tree, sort_keys=True, separators=(",", ":")).encode() + b"\n"
+
+
+# --- The commands -----------------------------------------------------------------------------------
+
+
+def predicted(text, query, is_json):
+    trace = trace_of(text, query)
+    report = report_of(trace, query)
+    printed = as_json(trace, report, query) if is_json else as_text(trace, report)
+    return printed, b"", 1 if report.cycles else 0
+
+
+def counted(text, query, _):
+    """Eight numbers of the trace and its report."""
+    trace = trace_of(text, query)
+    report = report_of(trace, query)
+    counts = [
+        ("events", sum(len(events) for events in trace.lists)),
+        ("skipped", trace.skipped),
+        ("stray", trace.stray),
+        ("threads", len(trace.threads)),
+        ("locks", len(trace.locks)),
+        ("segments", len(segments_of(trace.lists))),
+        ("edges", len(report.edges)),
+        ("cycles", len(report.cycles)),
+    ]
+    return "".join(f"{name}: {count}\n" for name, count in counts).encode(), b"", 0
+
+
+def replayed(text, query, _):
+    """Each thread's events as lines, thread by thread."""
+    trace = trace_of(text, query)
+    written = b""
+    for thread, events in zip(trace.threads, trace.lists):
+        for word, number, location in events:
+            operand = (trace.threads if word in LINKS else trace.locks)[number]
+            end = b"\r\n" if location.endswith(b"\r") else b"\n"
+            written += b"%s|%s(%s)|%s%s" % (thread, word.encode(), operand, location, end)
+    return written, b"", 0
+
+
+COMMANDS = {"predict": predicted, "stats": counted, "replay": replayed}
+
+
+def answer(command, text, query, is_json=False):
     """Standard output, standard error and exit status."""
     try:
-        kept = trace_of(text, query)
-    except LineFault as fault:
-        return b"", b"goodlock: line %d: %s\n" % (fault.line, fault.text.encode()), 2
-    threads, locks = threads_of(kept), locks_of(kept)
+        return COMMANDS[command](text, query, is_json)
+    except Refused as refused:
+        return b"", b"goodlock: %s\n" % refused.args[0], 2
 
-    def numbered(event):
-        word, operand, location = event
-        return word, (threads if word in LINKS else locks).index(operand), location
 
-    lists = [[numbered(event) for acting, event in kept if acting == name] for name in threads]
-    before = before_relation(lists)
-    for t, i in segments_of(lists):
-        if ((t, i), (t, i)) in before:
-            return b"", b"goodlock: inconsistent: %s.%d precedes itself\n" % (threads[t], i), 2
-    table = edges_of(lists)
-    cycles = cycles_of(sorted(table), before, query)
-    listed = cycles[: query.most]
-    report = b""
-    for number, cycle in enumerate(listed, 1):
-        report += b"cycle %d: %d edges\n" % (number, len(cycle))
-        for edge in cycle:
-            _, held_location, wanted_location = table[edge]
-            names = (threads[edge.thread], locks[edge.held], held_location, locks[edge.wanted], wanted_location)
-            report += b"  %s holds %s since %s wants %s at %s\n" % names
-    more = b" (more)" if len(cycles) > len(listed) else b""
-    report += b"cycles: %d%s\n" % (len(listed), more)
-    return report, b"", 1 if listed else 0
+def predict(text, query):
+    return answer("predict", text, query)
 
 
 def main():
     import argparse
 
     parser = argparse.ArgumentParser(description=__doc__, formatter_class=argparse.RawDescriptionHelpFormatter)
+    parser.add_argument("command", nargs="?", choices=list(COMMANDS), default="predict")
     parser.add_argument("--stage", choices=sorted(STAGES), default="full")
     parser.add_argument("--mode", choices=["basic", "guarded", "full"])
     parser.add_argument("--len", type=int, dest="length")
     parser.add_argument("--max", type=int, dest="most")
+    parser.add_argument("--json", action="store_true")
     parser.add_argument("--skip-forks", action="store_true")
     options = parser.parse_args()
     stage = STAGES[options.stage]
@@ -340,7 +438,7 @@ def main():
         options.most or stage.most,
         stage.with_forks and not options.skip_forks,
     )
-    output, errors, status = predict(sys.stdin.buffer.read(), query)
+    output, errors, status = answer(options.command, sys.stdin.buffer.read(), query, options.json)
     sys.stdout.buffer.write(output)
     sys.stdout.flush()
     sys.stderr.buffer.write(errors)

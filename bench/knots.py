@@ -1,0 +1,131 @@
+#!/usr/bin/env python3
+"""Time and memory of goodlock, a plain and a tuned Rust program on traces whose edges lie in one knot.
+
+    bench/knots.py [--seconds N] [--cores LIST] [--shapes LIST] [--query WORDS] [--sizes small|large] [PROGRAM]
+
+PROGRAM is goodlock's (crates/goodlock/out/goodlock unless given). Each run ends after --seconds (20). --cores, as
+`1,2,4`, gives goodlock one row for each number of cores; the peers run on one thread always. --query is what all
+three are asked (--mode full --len 4 --max 1000). BENCH_DIR is the folder for the Rust programs (/tmp/goodlock-bench).
+Seconds are of the clock, MB are the greatest resident memory that was seen (- where the run was too short for that).
+The status is 1 where two answers differ.
+"""
+
+import argparse
+import os
+import subprocess
+import sys
+import tempfile
+import time
+import typing
+
+HERE = os.path.dirname(os.path.realpath(__file__))
+BUILT = os.path.join(os.path.dirname(HERE), "crates", "goodlock", "out", "goodlock")
+FOLDER = os.environ.get("BENCH_DIR", "/tmp/goodlock-bench")
+
+# The options of bench/make_trace.py for each shape, by size.
+SHAPES = {
+    "gated-requests": {
+        "small": ["--threads 100", "--threads 200"],
+        "large": ["--threads 400", "--threads 1000", "--threads 1000 --sections 8"],
+    },
+    "alternating-gates": {
+        "small": ["--segments 2", "--segments 5"],
+        "large": ["--segments 10", "--segments 100", "--segments 100 --sections 6 --gates 3"],
+    },
+    "early-and-late": {
+        "small": ["--threads 100 --segments 200"],
+        "large": ["--threads 600", "--threads 1000 --segments 4000", "--threads 1000 --segments 2000 --sections 4"],
+    },
+}
+
+
+class Run(typing.NamedTuple):
+    answer: tuple  # standard output, standard error, status; nothing where it didn't end
+    seconds: float
+    megabytes: float
+
+
+def resident(child):
+    """The greatest resident memory of the child so far, in MB; 0 where it isn't there, or isn't the program yet."""
+    try:
+        if os.readlink(f"/proc/{child}/exe") == os.readlink("/proc/self/exe"):
+            return 0
+        with open(f"/proc/{child}/status") as status:
+            fields = dict(line.split(":", 1) for line in status)
+        return int(fields["VmHWM"].split()[0]) * 1024 / 1e6
+    except (OSError, KeyError):
+        return 0
+
+
+def run(command, trace, limit, cores):
+    """The command on this trace, ended after so many seconds, on so many cores."""
+
+    def prepare():
+        if cores is not None:
+            os.sched_setaffinity(0, sorted(os.sched_getaffinity(0))[:cores])
+
+    with open(trace, "rb") as text, tempfile.TemporaryFile() as output, tempfile.TemporaryFile() as errors:
+        start = time.monotonic()
+        child = subprocess.Popen(command, stdin=text, stdout=output, stderr=errors, preexec_fn=prepare)
+        megabytes = 0
+        while child.poll() is None:
+            seconds = time.monotonic() - start
+            if seconds > limit:
+                child.kill()
+            megabytes = max(megabytes, resident(child.pid))
+            time.sleep(0.002)
+        seconds = time.monotonic() - start
+        output.seek(0)
+        errors.seek(0)
+        answer = (output.read(), errors.read(), child.returncode) if seconds < limit else None
+    return Run(answer, seconds, megabytes)
+
+
+def shown(result, limit):
+    seconds = f"over {limit:g} s" if result.answer is None else f"{result.seconds:.3f} s"
+    memory = f"{result.megabytes:.0f} MB" if result.megabytes > 0 else "-"
+    return f"{seconds:>12} {memory:>9}"
+
+
+def main():
+    parser = argparse.ArgumentParser(description=__doc__, formatter_class=argparse.RawDescriptionHelpFormatter)
+    parser.add_argument("--seconds", type=float, default=20)
+    parser.add_argument("--cores", default="")
+    parser.add_argument("--shapes", default=",".join(SHAPES))
+    parser.add_argument("--sizes", choices=["small", "large"], help="both unless given")
+    parser.add_argument("--query", default="--mode full --len 4 --max 1000")
+    parser.add_argument("program", nargs="?", default=BUILT)
+    options = parser.parse_args()
+    if not os.access(options.program, os.X_OK):
+        parser.error(f"there is no program at {options.program}; ./goodlock predict </dev/null builds it")
+    os.makedirs(FOLDER, exist_ok=True)
+    for peer in ("plain", "tuned"):
+        source, built = os.path.join(HERE, peer, "main.rs"), os.path.join(FOLDER, peer)
+        subprocess.run(["rustc", "--edition", "2021", "-C", "opt-level=3", "-o", built, source], check=True)
+    query = options.query.split()
+    goodlock = [os.path.abspath(options.program), "predict", *query]
+    programs = [(f"goodlock, {n} cores", goodlock, int(n)) for n in options.cores.split(",") if n]
+    programs = programs or [("goodlock", goodlock, None)]
+    programs += [(peer, [os.path.join(FOLDER, peer), *query], None) for peer in ("plain", "tuned")]
+    print(f"{options.query}; each run is ended after {options.seconds:g} seconds")
+    differ = False
+    for shape in options.shapes.split(","):
+        for size in [options.sizes] if options.sizes else ["small", "large"]:
+            for settings in SHAPES[shape][size]:
+                with tempfile.NamedTemporaryFile(suffix=".std") as trace:
+                    maker = [sys.executable, os.path.join(HERE, "make_trace.py"), "--shape", shape, *settings.split()]
+                    subprocess.run(maker, stdout=trace, check=True)
+                    print(f"{shape} {settings}: {os.path.getsize(trace.name) / 1_000:.0f} KB", flush=True)
+                    answers = []
+                    for name, command, cores in programs:
+                        result = run(command, trace.name, options.seconds, cores)
+                        answers += [result.answer] if result.answer is not None else []
+                        print(f"    {name:<18} {shown(result, options.seconds)}", flush=True)
+                if any(answer != answers[0] for answer in answers):
+                    print("    the answers DIFFER")
+                    differ = True
+    return 1 if differ else 0
+
+
+if __name__ == "__main__":
+    sys.exit(main())

@@ -1,0 +1,279 @@
+#!/usr/bin/env python3
+"""Refuses memory, reads, writes and threads to a program, one call after the other, and spoils its input and output.
+
+    refusals.py [--commands LIST] PROGRAM
+
+LIST has commands with commas between them ("predict, predict --json"); the table below knows some more. The answer
+must be the one of an undisturbed run, which is written by hand, or what the disturbance asks for. A preload
+library, which gcc builds in a temporary folder, does the refusing (tests/refuse.c). The last line is
+`N passed, N failed`.
+"""
+
+import argparse
+import os
+import pathlib
+import signal
+import subprocess
+import sys
+import tempfile
+import typing
+
+sys.dont_write_bytecode = True
+import compare  # noqa: E402
+
+SOURCE = pathlib.Path(__file__).resolve().parent / "refuse.c"
+
+# --- Answers by hand ------------------------------------------------------------------------------------
+
+OUT_OF_MEMORY = (b"", b"goodlock: out of memory\n", 3)
+READ_FAILED = (b"", b"goodlock: read failed\n", 4)
+UNCONFIRMED = (b"", b"goodlock: session not confirmed\n", 4)
+WRITE_FAILED = b"goodlock: write failed\n"
+
+WORKED = {name: (text, answer) for name, text, answer, _ in compare.worked("full")}
+TRACES = {name: WORKED[name][0] for name in ("opposite_order", "joined_before", "first_of_two_cycles", "join_loop")}
+TRACES["bad line"] = compare.lines("T0 acq a @1") + b"T0|rel(a|2\n" + compare.lines("T0 acq b @3")
+
+BAD_LINE = compare.refused(2, "bad operand")
+LOOP = WORKED["join_loop"][1]
+TEXTS = {name: WORKED[name][1] for name in TRACES if name in WORKED} | {"bad line": BAD_LINE}
+TWO_CYCLES = [
+    [compare.edge("T0", "a", 1, "b", 2, 1), compare.edge("T1", "b", 9, "a", 10, 1)],
+    [compare.edge("T0", "c", 5, "d", 6, 5), compare.edge("T1", "d", 13, "c", 14, 5)],
+]
+OBJECTS = {
+    "opposite_order": compare.OPPOSITE_JSON,
+    "joined_before": compare.as_json(),
+    "first_of_two_cycles": compare.as_json(*TWO_CYCLES),
+    "join_loop": LOOP,
+    "bad line": BAD_LINE,
+}
+COUNTS = {
+    "opposite_order": compare.counts(6, 0, 0, 2, 2, 2, 2, 1),
+    "joined_before": compare.counts(9, 0, 0, 3, 2, 6, 2, 0),
+    "first_of_two_cycles": compare.counts(14, 0, 0, 2, 4, 2, 4, 2),
+    "join_loop": LOOP,
+    "bad line": BAD_LINE,
+}
+# These traces stand thread by thread already.
+LISTS = {name: (text, b"", 0) for name, text in TRACES.items()} | {"bad line": BAD_LINE}
+
+ANSWERS = {
+    "predict": TEXTS,
+    "predict --json": OBJECTS,
+    "stats": COUNTS,
+    "replay": LISTS,
+    "live": TEXTS,
+    "live --json": OBJECTS,
+    "live --stream": TEXTS,
+    "live --stream --json": OBJECTS,
+}
+
+# Words that are answered without any input, and the status; what they print is theirs.
+USAGE = {"--help": 0, "--version": 0, "predict --help": 0, "": 2, "predict --len 17": 2, "predict --mode Full": 2}
+
+# --- Disturbed runs -------------------------------------------------------------------------------------
+
+
+class Run(typing.NamedTuple):
+    answer: tuple  # standard output, standard error, status
+    refused: str  # a sign for each refused call: a descriptor, `m` for memory, `t` for a thread
+
+
+class Runner:
+    def __init__(self, program, library):
+        self.program = program
+        self.library = library
+
+    def run(self, words, text, refuse=None, is_short=False):
+        """The program with these words and this input; `refuse` is a sort of calls, the call's number and how."""
+        reading, writing = os.pipe()
+        settings = {"LD_PRELOAD": self.library, "REFUSE_TELL": str(writing)}
+        if refuse is not None:
+            settings |= dict(zip(("REFUSE_CALLS", "REFUSE_AT", "REFUSE_HOW"), map(str, refuse)))
+        if is_short:
+            settings["REFUSE_SHORT"] = "1"
+        try:
+            done = subprocess.run(
+                [self.program, *words.split()], input=text, capture_output=True, timeout=20,
+                env=os.environ | settings, pass_fds=[writing],
+            )  # fmt: skip
+            answer = done.stdout, done.stderr, done.returncode
+        except subprocess.TimeoutExpired:
+            answer = b"", b"(nothing after 20 seconds)", None
+        finally:
+            os.close(writing)
+            with os.fdopen(reading, "rb") as told:
+                refused = told.read().decode()
+        return Run(answer, refused)
+
+    def sweep(self, words, text, sort, how, is_short=False):
+        """Runs in which the first call of the sort is refused, then the second, until a run makes too few calls."""
+        number = 1
+        while True:
+            run = self.run(words, text, (sort, number, how), is_short)
+            if run.refused == "":
+                return
+            yield number, run
+            if run.answer[2] is None:
+                return
+            number += 1
+
+
+class Tests:
+    def __init__(self, runner):
+        self.runner = runner
+        self.passed = self.failed = 0
+        self.shown = {}
+
+    def check(self, name, right, run):
+        """One of the right answers; or it is counted and shown, three times for each name."""
+        if run.answer in right:
+            self.passed += 1
+            return
+        self.failed += 1
+        sweep = name.split(" call ")[0]
+        self.shown[sweep] = self.shown.get(sweep, 0) + 1
+        if self.shown[sweep] <= 3:
+            print(f"{name}: {compare.show(run.answer)}")
+            for answer in right:
+                print(f"    right is {compare.show(answer)}")
+
+    def check_that(self, name, is_right, problem):
+        self.passed, self.failed = self.passed + is_right, self.failed + (not is_right)
+        if not is_right:
+            print(f"{name}: {problem}")
+
+    def memory(self, words, name, text, ample):
+        """Each answer is that of ample memory, or tells that memory was refused."""
+        right = [ample, OUT_OF_MEMORY] + [UNCONFIRMED] * words.startswith("live")
+        for how in ("once", "onwards"):
+            answers = []
+            for number, run in self.runner.sweep(words, text, "memory", how):
+                self.check(f"{words}, {name}, memory {how} call {number}", right, run)
+                answers.append(run.answer)
+            self.check_that(f"{words}, {name}, memory {how}", OUT_OF_MEMORY in answers, "no refusal was told")
+
+    def threads(self, words, name, text, ample):
+        for number, run in self.runner.sweep(words, text, "thread", "once"):
+            self.check(f"{words}, {name}, thread call {number}", [ample, UNCONFIRMED, OUT_OF_MEMORY], run)
+
+    def reads(self, words, name, text, ample):
+        """A failed read is told, unless a line that was ended before has a fault. An interrupted read has failed."""
+        self.check(f"{words}, {name}, short", [ample], self.runner.run(words, text, is_short=True))
+        for how, is_short in (("once", False), ("onwards", False), ("interrupted", False), ("once", True)):
+            count = 0
+            for number, run in self.runner.sweep(words, text, "read", how, is_short):
+                read = text[: number - 1] if is_short else text if number > 1 else b""
+                right = ample if ample == BAD_LINE and read.count(b"\n") >= 2 else READ_FAILED
+                self.check(f"{words}, {name}, read {how}{' short' * is_short} call {number}", [right], run)
+                is_input = set(run.refused) == {"0"}
+                self.check_that(f"{words}, {name}, read call {number}", is_input, "not of standard input")
+                count += 1
+            # Each byte, and the end.
+            least = len(text) + 1 if is_short else 2
+            self.check_that(f"{words}, {name}, read {how}", count >= least, f"{count} reads, not {least} or more")
+
+    def writes(self, words, name, text, ample):
+        """What went out before the failure is a front of the report, and the failure is told. Where telling it fails
+        nothing is left to be done."""
+        output, errors, status = ample
+        ways = [("once", False), ("onwards", False), ("interrupted", False), ("nothing", False), ("once", True)]
+        for how, is_short in ways:
+            count = 0
+            for number, run in self.runner.sweep(words, text, "write", how, is_short):
+                count += 1
+                is_report = run.refused.startswith("1")
+                if is_report:
+                    front = output[: number - 1] if is_short else b""
+                    right = [(front, b"" if how == "onwards" else WRITE_FAILED, 4)]
+                elif how == "interrupted":
+                    right = [ample, (output, b"", status)]
+                else:
+                    right = [(output, errors[: number - 1] if is_short else b"", status)]
+                self.check(f"{words}, {name}, write {how}{' short' * is_short} call {number}", right, run)
+                is_known = set(run.refused) <= set("12") and is_report == (errors == b"")
+                self.check_that(f"{words}, {name}, write call {number}", is_known, f"of {run.refused}")
+            least = len(output + errors) if is_short else 1 if output + errors else 0
+            self.check_that(f"{words}, {name}, write {how}", count >= least, f"{count} writes, not {least} or more")
+
+    def usage(self, words, status):
+        """The same of words that ask for nothing to be done."""
+        ample = self.runner.run(words, b"")
+        output, errors, got = ample.answer
+        is_right = got == status and (output != b"") == (status == 0) and (errors != b"") == (status != 0)
+        self.check_that(f"{words or 'no words'}", is_right, compare.show(ample.answer))
+        for how in ("once", "onwards"):
+            refused = 0
+            for number, run in self.runner.sweep(words, b"", "memory", how):
+                self.check(f"{words or 'no words'}, memory {how} call {number}", [ample.answer, OUT_OF_MEMORY], run)
+                refused += run.answer == OUT_OF_MEMORY
+            self.check_that(f"{words or 'no words'}, memory {how}", refused > 0, "no refusal was told")
+
+    def ends(self, words, text, ample):
+        """Input that can't be read, output that can't be written."""
+        output, errors, status = ample
+
+        def run(command="exec \"$@\"", **streams):
+            """A shell runs the program, to close its descriptors."""
+            streams = {"stdin": subprocess.PIPE, "stdout": subprocess.PIPE, "stderr": subprocess.PIPE} | streams
+            child = subprocess.Popen(["sh", "-c", command, "sh", self.runner.program, *words.split()], **streams)
+            out, err = child.communicate(text if streams["stdin"] == subprocess.PIPE else None, timeout=20)
+            return Run((out or b"", err or b"", child.returncode), "")
+
+        with tempfile.TemporaryDirectory() as folder:
+            handle = os.open(folder, os.O_RDONLY)
+            self.check(f"{words}, input is a folder", [READ_FAILED], run(stdin=handle))
+            os.close(handle)
+        self.check(f"{words}, input is closed", [READ_FAILED], run('exec "$@" <&-'))
+        handle = os.open(os.devnull, os.O_WRONLY)
+        self.check(f"{words}, input can't be read", [READ_FAILED], run(stdin=handle))
+        os.close(handle)
+        if os.path.exists("/dev/full"):
+            with open("/dev/full", "wb") as full:
+                self.check(f"{words}, output is full", [(b"", WRITE_FAILED, 4)], run(stdout=full))
+            with open("/dev/full", "wb") as full:
+                self.check(f"{words}, errors are full", [(output, b"", status)], run(stderr=full))
+        self.check(f"{words}, output is closed", [(b"", WRITE_FAILED, 4)], run('exec "$@" >&-'))
+        self.check(f"{words}, errors are closed", [(output, b"", status)], run('exec "$@" 2>&-'))
+        # A reader that went away ends the program without a word, or its writing fails; both are usual.
+        for name, trap in (("", ""), (", signal ignored", "trap '' PIPE; ")):
+            reading, writing = os.pipe()
+            os.close(reading)
+            right = [(b"", WRITE_FAILED, 4)] + ([(b"", b"", -signal.SIGPIPE)] if trap == "" else [])
+            self.check(f"{words}, output is a closed pipe{name}", right, run(trap + 'exec "$@"', stdout=writing))
+            os.close(writing)
+
+
+def main():
+    parser = argparse.ArgumentParser(description=__doc__, formatter_class=argparse.RawDescriptionHelpFormatter)
+    parser.add_argument("--commands", default="predict, predict --json")
+    parser.add_argument("program")
+    options = parser.parse_args()
+    commands = [words.strip() for words in options.commands.split(",") if words.strip()]
+    if not set(commands) <= set(ANSWERS):
+        parser.error(f"--commands knows {', '.join(ANSWERS)}")
+    with tempfile.TemporaryDirectory() as folder:
+        library = os.path.join(folder, "refuse.so")
+        flags = ["-std=gnu11", "-Wall", "-Wextra", "-O1", "-fPIC", "-shared", "-fvisibility=hidden"]
+        subprocess.run(["gcc", *flags, "-o", library, SOURCE, "-ldl"], check=True)
+        tests = Tests(Runner(os.path.abspath(options.program), library))
+        for words in commands:
+            for name, text in TRACES.items():
+                ample = ANSWERS[words][name]
+                before = tests.passed + tests.failed
+                tests.check(f"{words}, {name}", [ample], tests.runner.run(words, text))
+                tests.memory(words, name, text, ample)
+                tests.threads(words, name, text, ample)
+                tests.reads(words, name, text, ample)
+                tests.writes(words, name, text, ample)
+                print(f"{words}, {name}: {tests.passed + tests.failed - before} answers")
+            tests.ends(words, TRACES["opposite_order"], ANSWERS[words]["opposite_order"])
+        for words, status in USAGE.items():
+            tests.usage(words, status)
+    print(f"{tests.passed} passed, {tests.failed} failed")
+    return 1 if tests.failed or tests.passed == 0 else 0
+
+
+if __name__ == "__main__":
+    sys.exit(main())

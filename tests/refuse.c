@@ -1,0 +1,218 @@
+/* A preload library that refuses calls of the program that it is loaded into.
+
+   REFUSE_CALLS   memory, read, write or thread: of which sort the refused call is
+   REFUSE_AT      the how manyeth call of that sort is refused, counted from 1
+   REFUSE_HOW     once; onwards (this one and all after it); or, of reads and writes, interrupted (once, by EINTR) and
+                  nothing (once, by the answer that no byte was moved)
+   REFUSE_SHORT   if set, each read and write moves one byte at most
+   REFUSE_TELL    a file descriptor to which a byte goes for each refused call: the descriptor that the call was on, as
+                  a digit, or `m` or `t`
+
+   A refused call does nothing else. Memory that the C library takes for itself isn't counted. */
+
+#define _GNU_SOURCE
+#include <dlfcn.h>
+#include <errno.h>
+#include <pthread.h>
+#include <stdarg.h>
+#include <stddef.h>
+#include <stdlib.h>
+#include <string.h>
+#include <sys/mman.h>
+#include <sys/syscall.h>
+#include <sys/uio.h>
+#include <unistd.h>
+
+#define OPEN __attribute__((visibility("default")))
+
+static const char *calls = "", *how = "once";
+static long at, made;
+static int tells = -1, is_short;
+
+__attribute__((constructor)) static void read_settings(void)
+{
+    const char *value;
+    is_short = getenv("REFUSE_SHORT") != NULL;
+    if ((value = getenv("REFUSE_TELL")) != NULL)
+        tells = atoi(value);
+    if ((value = getenv("REFUSE_HOW")) != NULL)
+        how = value;
+    if ((value = getenv("REFUSE_AT")) != NULL)
+        at = atol(value);
+    if (at > 0 && (value = getenv("REFUSE_CALLS")) != NULL)
+        calls = value;
+}
+
+static int is_how(const char *word)
+{
+    return strcmp(how, word) == 0;
+}
+
+/* Whether this call is refused. */
+static int refuses(const char *sort, char sign)
+{
+    if (strcmp(calls, sort) != 0)
+        return 0;
+    long call = __atomic_add_fetch(&made, 1, __ATOMIC_RELAXED);
+    if (call < at || (call > at && !is_how("onwards")))
+        return 0;
+    if (tells >= 0)
+        syscall(SYS_write, tells, &sign, 1L);
+    return 1;
+}
+
+static int refuses_memory(void)
+{
+    if (!refuses("memory", 'm'))
+        return 0;
+    errno = ENOMEM;
+    return 1;
+}
+
+/* The C library's function of this name. Where looking it up asks for memory, there is none for it. */
+static void *real(void **known, const char *name)
+{
+    static __thread int is_looking;
+    if (*known == NULL && !is_looking) {
+        is_looking = 1;
+        *known = dlsym(RTLD_NEXT, name);
+        is_looking = 0;
+    }
+    return *known;
+}
+
+#define REAL(name) \
+    static void *known; \
+    __typeof__(&name) real_##name = (__typeof__(&name))real(&known, #name)
+
+/* ---- memory */
+
+OPEN void *malloc(size_t size)
+{
+    REAL(malloc);
+    return real_malloc == NULL || refuses_memory() ? NULL : real_malloc(size);
+}
+
+OPEN void *calloc(size_t count, size_t size)
+{
+    REAL(calloc);
+    return real_calloc == NULL || refuses_memory() ? NULL : real_calloc(count, size);
+}
+
+OPEN void *realloc(void *old, size_t size)
+{
+    REAL(realloc);
+    return real_realloc == NULL || refuses_memory() ? NULL : real_realloc(old, size);
+}
+
+OPEN void *reallocarray(void *old, size_t count, size_t size)
+{
+    REAL(reallocarray);
+    return real_reallocarray == NULL || refuses_memory() ? NULL : real_reallocarray(old, count, size);
+}
+
+OPEN void *memalign(size_t alignment, size_t size)
+{
+    REAL(memalign);
+    return real_memalign == NULL || refuses_memory() ? NULL : real_memalign(alignment, size);
+}
+
+OPEN void *aligned_alloc(size_t alignment, size_t size)
+{
+    REAL(aligned_alloc);
+    return real_aligned_alloc == NULL || refuses_memory() ? NULL : real_aligned_alloc(alignment, size);
+}
+
+OPEN int posix_memalign(void **result, size_t alignment, size_t size)
+{
+    REAL(posix_memalign);
+    return real_posix_memalign == NULL || refuses_memory() ? ENOMEM : real_posix_memalign(result, alignment, size);
+}
+
+OPEN void *mmap(void *where, size_t size, int protection, int flags, int file, off_t offset)
+{
+    if (refuses_memory())
+        return MAP_FAILED;
+    return (void *)syscall(SYS_mmap, where, size, protection, flags, file, offset);
+}
+
+OPEN void *mmap64(void *where, size_t size, int protection, int flags, int file, off_t offset)
+{
+    return mmap(where, size, protection, flags, file, offset);
+}
+
+OPEN void *mremap(void *old, size_t old_size, size_t size, int flags, ...)
+{
+    va_list rest;
+    va_start(rest, flags);
+    void *where = flags & MREMAP_FIXED ? va_arg(rest, void *) : NULL;
+    va_end(rest);
+    if (refuses_memory())
+        return MAP_FAILED;
+    return (void *)syscall(SYS_mremap, old, old_size, size, flags, where);
+}
+
+/* ---- reading and writing */
+
+/* Whether this call moves no byte; what it answers then. */
+static int refuses_bytes(const char *sort, int file, ssize_t *answer)
+{
+    if (!refuses(sort, file >= 0 && file <= 9 ? (char)('0' + file) : '?'))
+        return 0;
+    *answer = is_how("nothing") ? 0 : -1;
+    errno = is_how("interrupted") ? EINTR : EIO;
+    return 1;
+}
+
+OPEN ssize_t read(int file, void *bytes, size_t size)
+{
+    ssize_t answer;
+    if (refuses_bytes("read", file, &answer))
+        return answer;
+    return syscall(SYS_read, file, bytes, is_short && size > 1 ? 1 : size);
+}
+
+OPEN ssize_t write(int file, const void *bytes, size_t size)
+{
+    ssize_t answer;
+    if (refuses_bytes("write", file, &answer))
+        return answer;
+    return syscall(SYS_write, file, bytes, is_short && size > 1 ? 1 : size);
+}
+
+OPEN ssize_t __write(int file, const void *bytes, size_t size)
+{
+    return write(file, bytes, size);
+}
+
+OPEN ssize_t readv(int file, const struct iovec *parts, int count)
+{
+    ssize_t answer;
+    if (refuses_bytes("read", file, &answer))
+        return answer;
+    for (int i = 0; is_short && i < count; i++)
+        if (parts[i].iov_len > 0)
+            return syscall(SYS_read, file, parts[i].iov_base, 1L);
+    return syscall(SYS_readv, file, parts, count);
+}
+
+OPEN ssize_t writev(int file, const struct iovec *parts, int count)
+{
+    ssize_t answer;
+    if (refuses_bytes("write", file, &answer))
+        return answer;
+    for (int i = 0; is_short && i < count; i++)
+        if (parts[i].iov_len > 0)
+            return syscall(SYS_write, file, parts[i].iov_base, 1L);
+    return syscall(SYS_writev, file, parts, count);
+}
+
+/* ---- threads */
+
+OPEN int pthread_create(pthread_t *thread, const pthread_attr_t *settings, void *(*run)(void *), void *argument)
+{
+    REAL(pthread_create);
+    if (real_pthread_create == NULL || refuses("thread", 't'))
+        return EAGAIN;
+    return real_pthread_create(thread, settings, run, argument);
+}

@@ -1,0 +1,333 @@
+#!/usr/bin/env python3
+"""Checks docs/report.schema.json, and JSON reports of a program against it.
+
+    schema.py [--cases N] [PROGRAM [ARGUMENT..]]
+
+Each rule of the schema has to refuse a wrong document that no other rule refuses, and hand-made reports have to
+pass. With a program (`goodlock predict`; `--json` and a query are added), its reports of the samples, of a trace
+with all bytes in its names and of random traces have to pass too, be spelled as the schema's description says,
+and say the query that was asked. The validator here knows the keywords of this schema alone and stops at any
+other. The last line is `N passed, N failed`.
+"""
+
+import argparse
+import copy
+import json
+import os
+import pathlib
+import re
+import subprocess
+import sys
+
+sys.dont_write_bytecode = True
+import compare  # noqa: E402
+
+TOP = pathlib.Path(__file__).resolve().parent.parent
+SCHEMA = TOP / "docs" / "report.schema.json"
+
+# --- The validator: rules and documents ---------------------------------------------------------------
+
+TYPES = {
+    "object": lambda value: isinstance(value, dict),
+    "array": lambda value: isinstance(value, list),
+    "string": lambda value: isinstance(value, str),
+    "boolean": lambda value: isinstance(value, bool),
+    "integer": lambda value: is_number(value) and value == int(value),
+}
+
+
+def is_number(value):
+    return isinstance(value, (int, float)) and not isinstance(value, bool)
+
+
+def is_same(value, other):
+    """Equality of JSON values: 1 is 1.0, and isn't true."""
+    return value == other and isinstance(value, bool) == isinstance(other, bool)
+
+
+def matches(pattern, text):
+    """ECMA's `$` is the very end; Python's isn't."""
+    assert pattern.startswith("^") and pattern.endswith("$"), pattern
+    return re.fullmatch(pattern[1:-1], text) is not None
+
+
+# By keyword, the kind of document that it speaks of and what it refuses.
+TESTS = {
+    "type": (lambda value: True, lambda kind, value: not TYPES[kind](value)),
+    "const": (lambda value: True, lambda wanted, value: not is_same(value, wanted)),
+    "enum": (lambda value: True, lambda words, value: not any(is_same(value, word) for word in words)),
+    "minimum": (is_number, lambda least, value: value < least),
+    "maximum": (is_number, lambda most, value: value > most),
+    "minItems": (TYPES["array"], lambda least, value: len(value) < least),
+    "maxItems": (TYPES["array"], lambda most, value: len(value) > most),
+    "uniqueItems": (TYPES["array"], lambda asked, value: asked and len(set(map(json.dumps, value))) < len(value)),
+    "minLength": (TYPES["string"], lambda least, value: len(value) < least),
+    "pattern": (TYPES["string"], lambda pattern, value: not matches(pattern, value)),
+}
+WORDS = ["$schema", "$id", "$defs", "title", "description"]
+PARTS = ["$ref", "properties", "required", "additionalProperties", "items"]
+
+
+def target(schema, reference):
+    """What `#/$defs/NAME` stands for."""
+    start, name = reference.rsplit("/", 1)
+    assert start == "#/$defs", reference
+    return schema["$defs"][name]
+
+
+def rules(schema, part, at=""):
+    """The places of all rules that a document can break, by the way that leads to them."""
+    for keyword, value in part.items():
+        assert keyword in WORDS + PARTS or keyword in TESTS, f"unknown keyword {keyword}"
+        assert keyword != "$defs" or at == "", "definitions stand at the top"
+        here = f"{at}/{keyword}"
+        if keyword in TESTS:
+            yield here
+        elif keyword == "required":
+            yield from (f"{here}/{name}" for name in value)
+        elif keyword == "additionalProperties":
+            assert value is False, "only false is known"
+            yield here
+        elif keyword == "properties":
+            for name, inner in value.items():
+                yield from rules(schema, inner, f"{here}/{name}")
+        elif keyword in ("items", "$ref"):
+            yield from rules(schema, value if keyword == "items" else target(schema, value), here)
+
+
+def broken(schema, part, value, at=""):
+    """The rules that the document breaks."""
+    for keyword, asked in part.items():
+        here = f"{at}/{keyword}"
+        if keyword in TESTS:
+            speaks_of, refuses = TESTS[keyword]
+            if speaks_of(value) and refuses(asked, value):
+                yield here
+        elif keyword == "$ref":
+            yield from broken(schema, target(schema, asked), value, here)
+        elif keyword == "items" and isinstance(value, list):
+            for item in {id(item): item for item in value}.values():  # one that stands there often is looked at once
+                yield from broken(schema, asked, item, here)
+        elif isinstance(value, dict) and keyword == "properties":
+            for name in asked.keys() & value.keys():
+                yield from broken(schema, asked[name], value[name], f"{here}/{name}")
+        elif isinstance(value, dict) and keyword == "required":
+            yield from (f"{here}/{name}" for name in asked if name not in value)
+        elif isinstance(value, dict) and keyword == "additionalProperties":
+            if value.keys() - part.get("properties", {}).keys():
+                yield here
+
+
+# --- Documents by hand ----------------------------------------------------------------------------------
+
+EDGES = [
+    dict(first=0, guards=["a"], held="a", held_at="1", place=1, second=0, thread="T0", wanted="b", wanted_at="2"),
+    dict(first=0, guards=["b"], held="b", held_at="5", place=1, second=0, thread="T1", wanted="a", wanted_at="6"),
+]
+REPORT = dict(cycles=[EDGES], format=1, len=4, max=1000, mode="full", more=False)
+NONE = dict(REPORT, cycles=[])
+LEFT_OUT = object()
+
+
+def changed(report, *way_and_value):
+    """The report with another value at the end of this way; without it where the value is LEFT_OUT."""
+    *way, last, value = way_and_value
+    report = copy.deepcopy(report)
+    part = report
+    for step in way:
+        part = part[step]
+    if value is LEFT_OUT:
+        del part[last]
+    else:
+        part[last] = value
+    return report
+
+
+def right_documents():
+    ring = [dict(EDGES[0], thread=f"T{i}", held=f"l{i}", wanted=f"l{(i + 1) % 16}") for i in range(16)]
+    yield REPORT
+    yield NONE
+    yield dict(REPORT, mode="basic", len=2, max=1, more=True)
+    yield dict(REPORT, mode="guarded", len=16, max=100_000)
+    yield dict(REPORT, cycles=[ring], len=16)
+    yield dict(REPORT, cycles=[EDGES] * 100_000, max=100_000, more=True)
+    for number in (0, 4_294_967_295):
+        for key in ("first", "second", "place"):
+            yield changed(REPORT, "cycles", 0, 0, key, number)
+    for at in ("held_at", "wanted_at"):
+        yield changed(REPORT, "cycles", 0, 0, at, "")
+    # é, a backslash, the bytes next to those that stand for themselves, and `\x41` as a name of four bytes.
+    for name in ("\\xc3\\xa9", "\\x5c", "\\x1f !~\\x7f[]", "\\x5cx41", "\\x00\\x0a\\x80\\xff", '"', "(|)"):
+        for key in ("held", "wanted", "thread", "held_at", "wanted_at"):
+            yield changed(REPORT, "cycles", 0, 1, key, name)
+    yield changed(REPORT, "cycles", 0, 0, "guards", [f"l{i}" for i in range(64)])
+
+
+def wrong_documents():
+    """The one rule that the document breaks, and the document."""
+    for kind in ([], "x", 1, True, None):
+        yield "/type", kind
+    yield "/additionalProperties", dict(REPORT, edges=[])
+    for name in REPORT:
+        yield f"/required/{name}", changed(REPORT, name, LEFT_OUT)
+    yield "/properties/cycles/type", dict(REPORT, cycles={})
+    yield "/properties/cycles/maxItems", dict(REPORT, cycles=[EDGES] * 100_001)
+    for value in (2, 0, "1", True, None, [1]):
+        yield "/properties/format/const", dict(REPORT, format=value)
+    for name, least, most in (("len", 2, 16), ("max", 1, 100_000)):
+        for value in ("4", 4.5, True, None, [4]):
+            yield f"/properties/{name}/type", changed(REPORT, name, value)
+        yield f"/properties/{name}/minimum", changed(REPORT, name, least - 1)
+        yield f"/properties/{name}/maximum", changed(REPORT, name, most + 1)
+    for value in ("Full", "", "full ", 2, None, ["full"]):
+        yield "/properties/mode/enum", dict(REPORT, mode=value)
+    for value in (0, 1, "false", None):
+        yield "/properties/more/type", dict(REPORT, more=value)
+
+    cycle = "/properties/cycles/items/$ref"
+    for value in ({}, "ab", 0, None):
+        yield f"{cycle}/type", dict(REPORT, cycles=[EDGES, value])
+    yield f"{cycle}/minItems", dict(REPORT, cycles=[EDGES[:1]])
+    yield f"{cycle}/maxItems", dict(REPORT, cycles=[EDGES[:1] * 17])
+
+    edge = f"{cycle}/items/$ref"
+    yield f"{edge}/type", changed(REPORT, "cycles", 0, 1, [])
+    yield f"{edge}/additionalProperties", changed(REPORT, "cycles", 0, 1, "held_mode", "x")
+    for name in EDGES[0]:
+        yield f"{edge}/required/{name}", changed(REPORT, "cycles", 0, 1, name, LEFT_OUT)
+
+    def with_value(*way_and_value):
+        return changed(REPORT, "cycles", 0, 1, *way_and_value)
+
+    for name in ("first", "second", "place"):
+        at = f"{edge}/properties/{name}/$ref"
+        for value in ("0", 0.5, False, None):
+            yield f"{at}/type", with_value(name, value)
+        yield f"{at}/minimum", with_value(name, -1)
+        yield f"{at}/maximum", with_value(name, 4_294_967_296)
+
+    # A byte that isn't escaped or needn't be, upper-case digits, a digit too few, an unknown escape, a letter that
+    # isn't one byte.
+    misspelled = ["\n", "a\x7f", "\xe9", "\\x41", "\\x7e", "\\x20", "\\x5C", "\\xC3", "\\x8", "\\n", "\\", "\\\\"]
+    names = [(f"{edge}/properties/{name}/$ref", [name]) for name in ("thread", "held", "wanted")]
+    for at, way in names + [(f"{edge}/properties/guards/items/$ref", ["guards", 0])]:
+        yield f"{at}/minLength", with_value(*way, "")
+        yield f"{at}/$ref/type", with_value(*way, 7)
+        for text in misspelled:
+            yield f"{at}/$ref/pattern", with_value(*way, text)
+    for name in ("held_at", "wanted_at"):
+        yield f"{edge}/properties/{name}/$ref/type", with_value(name, None)
+        for text in misspelled:
+            yield f"{edge}/properties/{name}/$ref/pattern", with_value(name, text)
+
+    guards = f"{edge}/properties/guards"
+    for value in ("b", {"b": 0}, None):
+        yield f"{guards}/type", with_value("guards", value)
+    yield f"{guards}/minItems", with_value("guards", [])
+    yield f"{guards}/maxItems", with_value("guards", [f"l{i}" for i in range(65)])
+    yield f"{guards}/uniqueItems", with_value("guards", ["b", "c", "b"])
+
+
+# --- Reports of a program -------------------------------------------------------------------------------
+
+
+def loaded(text):
+    """The document of a text in which no key stands twice and no word is unknown to JSON."""
+
+    def once(pairs):
+        assert len(dict(pairs)) == len(pairs), "a key stands twice"
+        return dict(pairs)
+
+    def refused(word):
+        raise AssertionError(f"{word} is no JSON")
+
+    return json.loads(text, object_pairs_hook=once, parse_constant=refused)
+
+
+def wrong_in(schema, output, status, mode, length, most):
+    """What is wrong with a report for this query; nothing where it is right."""
+    try:
+        report = loaded(output.decode("ascii"))
+    except (ValueError, AssertionError) as error:
+        return f"not JSON: {error}"
+    found = sorted(set(broken(schema, schema, report)))
+    if found:
+        return f"breaks {', '.join(found)}"
+    if output.decode() != json.dumps(report, sort_keys=True, separators=(",", ":")) + "\n":
+        return "isn't compact text on a line, with keys in order"
+    if (report["mode"], report["len"], report["max"]) != (mode, length, most):
+        return "says another query"
+    count = len(report["cycles"])
+    if count > most or (report["more"] and count < most) or any(len(cycle) > length for cycle in report["cycles"]):
+        return "lists more or longer cycles than were asked for"
+    if status != (1 if count else 0):
+        return f"{count} cycles with status {status}"
+    return None
+
+
+def traces(cases):
+    for path in sorted((TOP / "samples").glob("*.std")):
+        yield path.name, path.read_bytes()
+    every = bytes(byte for byte in range(256) if byte not in b"\n|")
+    names = [every.replace(b"(", b"").replace(b")", b"") + end for end in (b"a", b"b")]
+    acquires = [(b"T0", 0), (b"T0", 1), (every, 1), (every, 0)]
+    yield "all bytes", b"".join(b"%s|acq(%s)||%s.\n" % (thread, names[lock], every) for thread, lock in acquires)
+    for number in range(cases):
+        yield f"case {number}", compare.case("schema", number)
+
+
+def main():
+    parser = argparse.ArgumentParser(description=__doc__, formatter_class=argparse.RawDescriptionHelpFormatter)
+    parser.add_argument("--cases", type=int, default=300)
+    parser.add_argument("program", nargs="?")
+    parser.add_argument("arguments", nargs=argparse.REMAINDER)
+    options = parser.parse_args()
+    passed = failed = 0
+
+    def check(name, problem):
+        nonlocal passed, failed
+        passed, failed = passed + (not problem), failed + bool(problem)
+        if problem:
+            print(f"{name}: {problem}")
+
+    schema = loaded(SCHEMA.read_text())
+    places = list(rules(schema, schema))
+    unused = schema["$defs"].keys() - set(re.findall(r'"#/\$defs/(\w+)"', json.dumps(schema)))
+    check("definitions", unused and f"nothing leads to {sorted(unused)}")
+    for document in right_documents():
+        found = list(broken(schema, schema, document))
+        check("right document", found and f"breaks {found}: {json.dumps(document)[:400]}")
+    tried = set()
+    for rule, document in wrong_documents():
+        found = list(broken(schema, schema, document))
+        tried.add(rule)
+        check(f"wrong document for {rule}", found != [rule] and f"breaks {found}: {json.dumps(document)[:400]}")
+    for place in places:
+        check(f"rule {place}", place not in tried and "no wrong document breaks it")
+
+    if options.program:
+        command = [os.path.abspath(options.program), *options.arguments, "--json"]
+        with_cycles = with_more = 0
+        for number, (name, text) in enumerate(traces(options.cases)):
+            mode, length = ("full", "basic", "guarded")[number % 3], (4, 2, 16, 3)[number % 4]
+            most = (1000, 1)[number % 2]
+            words = ["--mode", mode, "--len", str(length), "--max", str(most)]
+            done = subprocess.run(command + words, input=text, capture_output=True)
+            if done.returncode == 2:
+                check(f"report of {name}", done.stdout and "refused, and there is output")
+                continue
+            problem = wrong_in(schema, done.stdout, done.returncode, mode, length, most)
+            check(f"report of {name}", problem and f"{problem}: {done.stdout[:400]!r}")
+            if not problem:
+                report = loaded(done.stdout)
+                with_cycles, with_more = with_cycles + (report["cycles"] != []), with_more + report["more"]
+        print(f"{with_cycles} reports with cycles, {with_more} of them with more")
+        if options.cases >= 100:
+            is_enough = with_cycles >= options.cases / 10 and with_more >= options.cases / 100
+            check("random traces", not is_enough and "too few cycles to tell")
+    print(f"{passed} passed, {failed} failed")
+    return 1 if failed or passed == 0 else 0
+
+
+if __name__ == "__main__":
+    sys.exit(main())
