@@ -1,5 +1,6 @@
 #!/usr/bin/env python3
-"""Time and memory of goodlock, a plain and a tuned Rust program on traces whose edges lie in one knot.
+"""Time and memory of goodlock, a plain and a tuned Rust program on traces whose edges lie in one knot, or whose names
+were chosen to collide.
 
     bench/knots.py [--seconds N] [--cores LIST] [--shapes LIST] [--query WORDS] [--sizes small|large] [PROGRAM]
 
@@ -36,6 +37,8 @@ SHAPES = {
         "small": ["--threads 100 --segments 200"],
         "large": ["--threads 600", "--threads 1000 --segments 4000", "--threads 1000 --segments 2000 --sections 4"],
     },
+    "colliding-names": {"small": ["--locks 10000"], "large": ["--locks 100000"]},
+    "ordinary-names": {"small": ["--locks 10000"], "large": ["--locks 100000"]},
 }
 
 

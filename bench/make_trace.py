@@ -13,6 +13,11 @@ set of options; an option that is given replaces the shape's.
 A knot is a shape whose edges all lie in one knot of the lock-order graph. Its pieces of code lie in a ring: each
 takes its own lock and then the next one's. There is no cycle in mode full, and each lesser part of the ring can be
 run in very many ways. How long it is follows from its threads, sections and segments; nothing in it is drawn.
+
+    make_trace.py --shape colliding-names --locks 100000 > trace.std
+
+The names of its locks were chosen to have one hash, that of the toolchain's maps with their fixed seed. In
+ordinary-names they are as long and have different hashes.
 """
 
 import argparse
@@ -47,6 +52,7 @@ KNOTS = {
     # there is one thread that lives as long as all of them and runs it in each of its segments.
     "early-and-late": dict(threads=600, sections=3, segments=1_000),
 }
+NAMES = {"colliding-names": dict(locks=100_000), "ordinary-names": dict(locks=100_000)}
 GENERAL = dict(
     threads=8, locks=16, depth=2, sections=20, disorder=0.1, is_ring=False, locations=500, name_length=0,
     waves=0, rejoins=0, others=0.3, strays=0.0005, shared=0,
@@ -207,12 +213,38 @@ def early_and_late(options):
     yield from all_run("late", last)
 
 
-MADE_BY = {"gated-requests": gated_requests, "alternating-gates": alternating_gates, "early-and-late": early_and_late}
+def locks_in_turn(options, prefix):
+    """One thread takes and releases each lock twice; a lock's name is the prefix and eight digits."""
+    for _ in range(2):
+        for number in range(options.locks):
+            yield from nested("T0", "Names.java", [f"{prefix}{number:08}"])
+
+
+# The hasher adds a name's length to this seed, and begins by multiplying with the xor of that and the first eight
+# bytes: with these the product is 0, whatever follows.
+HASH_SEED, NAME_LENGTH = 0x243F_6A88_85A3_08D3, 16
+
+
+def colliding_names(options):
+    return locks_in_turn(options, (HASH_SEED + NAME_LENGTH).to_bytes(8, "little").decode("latin-1"))
+
+
+def ordinary_names(options):
+    return locks_in_turn(options, "ordinary")
+
+
+MADE_BY = {
+    "gated-requests": gated_requests,
+    "alternating-gates": alternating_gates,
+    "early-and-late": early_and_late,
+    "colliding-names": colliding_names,
+    "ordinary-names": ordinary_names,
+}
 
 
 def main():
     parser = argparse.ArgumentParser(description=__doc__, formatter_class=argparse.RawDescriptionHelpFormatter)
-    parser.add_argument("--shape", choices=[*sorted(SHAPES), *sorted(KNOTS)], default="few-locks")
+    parser.add_argument("--shape", choices=sorted({**SHAPES, **MADE_BY}), default="few-locks")
     parser.add_argument("--events", type=int, default=1_000_000, help="about how many lines")
     parser.add_argument("--seed", type=int, default=1)
     parser.add_argument("--threads", type=int, help="at most 1,024")
@@ -231,8 +263,7 @@ def main():
     parser.add_argument("--gates", type=int, help="of a knot: gate locks, fewer than its pieces of code")
     parser.add_argument("--crlf", action="store_true", help="lines end with CR LF")
     options = parser.parse_args()
-    is_knot = options.shape in KNOTS
-    for name, value in {**GENERAL, **(KNOTS if is_knot else SHAPES)[options.shape]}.items():
+    for name, value in {**GENERAL, **{**SHAPES, **KNOTS, **NAMES}[options.shape]}.items():
         if getattr(options, name, None) is None:
             setattr(options, name, value)
     for name, least, most in [
@@ -245,12 +276,15 @@ def main():
             parser.error(f"--{name.replace('_', '-')} is from {least} to {most}")
     if options.is_ring and options.depth > options.locks:
         parser.error("--depth is at most --locks in a ring")
-    if is_knot and (options.sections < 3 or options.gates >= options.sections):
+    if options.shape in KNOTS and (options.sections < 3 or options.gates >= options.sections):
         parser.error("a knot has three --sections or more, and fewer --gates")
-    texts = [line + "\n" for line in MADE_BY[options.shape](options)] if is_knot else Maker(options).make()
+    if options.shape in MADE_BY:
+        texts = [line + "\n" for line in MADE_BY[options.shape](options)]
+    else:
+        texts = Maker(options).make()
     try:
         for at in range(0, len(texts), 50_000):
-            sys.stdout.write("".join(texts[at : at + 50_000]))
+            sys.stdout.buffer.write("".join(texts[at : at + 50_000]).encode("latin-1"))
     except BrokenPipeError:
         sys.stderr.close()
 
