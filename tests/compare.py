@@ -5,10 +5,10 @@
 
 Standard output, standard error and exit status must be equal byte for byte. Further arguments go to the
 program. `--mode`, `--len` and `--max` tell the reference another query than the stage's. `--commands`, as
-"predict, predict --json, stats, replay", also runs the program with these words and without the further
-arguments: on the worked traces of each, and on each random one with one of them, with a query of its own. A
-difference is shrunk by leaving out lines and written into a file; `--only K` runs case K of the seed alone. The
-last line is `N passed, N failed`, with one for each answer.
+"predict, predict --json, stats, replay, live, live --stream", also runs the program with these words and without
+the further arguments: on the worked traces of each, and on each random one with one of them, with options of its
+own. A difference is shrunk by leaving out lines and written into a file; `--only K` runs case K of the seed
+alone. The last line is `N passed, N failed`, with one for each answer.
 """
 
 import argparse
@@ -381,6 +381,23 @@ def worked_of_commands():
         ("each word", "stats", each_word, counts(8, 0, 0, 4, 4, 6, 0, 0)),
         ("an unclosed operand", "stats", unclosed, refused(2, "bad operand")),
         ("fork_join_fork", "stats", fork_loop, (b"", b"goodlock: inconsistent: T0.2 precedes itself\n", 2)),
+        ("empty_input", "live", b"", NONE),
+        ("empty_input", "live --json", b"", as_json()),
+        ("empty_input", "live --stream", b"", NONE),
+        ("opposite_order", "live", lines(*OPPOSITE), (OPPOSITE_REPORT, b"", 1)),
+        ("opposite_order", "live --recorders 2 --shards 3 --ring 1", lines(*OPPOSITE), (OPPOSITE_REPORT, b"", 1)),
+        ("opposite_order", "live --json", lines(*OPPOSITE), OPPOSITE_JSON),
+        ("opposite_order", "live --stream", lines(*OPPOSITE), (OPPOSITE_REPORT, b"", 1)),
+        ("opposite_order", "live --stream --json", lines(*OPPOSITE), OPPOSITE_JSON),
+        ("one_thread_too_few", "live --stream --threads 1", lines(*OPPOSITE), refused(5, "too many threads")),
+        ("as many threads", "live --stream --threads 2", lines(*OPPOSITE), (OPPOSITE_REPORT, b"", 1)),
+        ("threads of no stream", "live --threads 1", lines(*OPPOSITE), (OPPOSITE_REPORT, b"", 1)),
+        ("64 threads", "live --stream", lines(*[f"T{i} acq a @1" for i in range(64)]), NONE),
+        ("65 threads", "live --stream", lines(*[f"T{i} acq a @1" for i in range(65)]), refused(65, "too many threads")),
+        ("an unclosed operand", "live", unclosed, refused(2, "bad operand")),
+        ("an unclosed operand", "live --stream", unclosed, refused(2, "bad operand")),
+        ("fork_join_fork", "live", fork_loop, (b"", b"goodlock: inconsistent: T0.2 precedes itself\n", 2)),
+        ("fork_join_fork", "live --stream", fork_loop, (b"", b"goodlock: inconsistent: T0.2 precedes itself\n", 2)),
         ("empty_input", "replay", b"", (b"", b"", 0)),
         (
             "replayed_lists",
@@ -575,19 +592,41 @@ def huge(random_, made):
     return text[:place] + line + end + text[place:]
 
 
-def asked(random_, commands):
-    """A command, its words with a query of its own, and the reference's answer to a text."""
-    command = random_.choice(commands)
-    word, *form = command.split()
-    query = reference.Query()
-    words = []
+FLAGS = ["--json", "--stream"]
+STREAM_THREADS = 64  # unless --threads is given
+
+
+def by_reference(words, text):
+    """The reference's answer to these words and this text."""
+    word, *options = words
+    values = {name: value for name, value in zip(options, [*options[1:], ""]) if name not in FLAGS}
+    query = reference.Query(values.get("--mode", "full"), int(values.get("--len", 4)), int(values.get("--max", 1000)))
+    if "--stream" in options:
+        query.threads = int(values.get("--threads", STREAM_THREADS))
+    return reference.answer(word, text, query, "--json" in options)
+
+
+def asked(random_, command):
+    """The command's words, with options of its own."""
+    word, *flags = command.split()
+    options = []
     if word != "replay":
-        query.mode = random_.choice(["basic", "guarded", "full"])
-        query.length = random_.choice([2, 3, 4, 5, 16])
-        query.most = random_.choice([1, 2, 3, 1000, 100_000])
-        words = ["--mode", query.mode, "--len", str(query.length), "--max", str(query.most)]
-        words = [w for pair in random_.sample(list(zip(words[::2], words[1::2])), 3) for w in pair]
-    return command, [word, *form, *words], lambda text: reference.answer(word, text, query, "--json" in form)
+        options.append(["--mode", random_.choice(["basic", "guarded", "full"])])
+        options.append(["--len", random_.choice([2, 3, 4, 5, 16])])
+        options.append(["--max", random_.choice([1, 2, 3, 1000, 100_000])])
+    if word == "live":
+        options.append(["--recorders", random_.choice([1, 2, 3, 16])])
+        options.append(["--shards", random_.choice([1, 2, 3, 16])])
+        options.append(["--ring", random_.choice([1, 2, 7, 256, 65_536])])
+        options.append(["--threads", random_.choice([1, 2, 3, 5, 64, 1024])])
+    chosen = [[flag] for flag in flags] + random_.sample(options, random_.randint(0, len(options)))
+    random_.shuffle(chosen)
+    return [word, *(str(part) for option in chosen for part in option)]
+
+
+def plain(words):
+    """A command without the values of its options."""
+    return " ".join(part for at, part in enumerate(words.split()) if at == 0 or part in FLAGS)
 
 
 def case(seed, number, most_lines=34):
@@ -659,7 +698,7 @@ def main():
     )
     command = [os.path.abspath(options.program)] + [a for a in options.arguments if a != "--"]
     commands = [words.strip() for words in options.commands.split(",") if words.strip()]
-    known = {words for _, words, _, _ in worked_of_commands()} | {"predict"}
+    known = {plain(words) for _, words, _, _ in worked_of_commands()} | {"predict"}
     if not known.issuperset(commands):
         parser.error(f"--commands knows {', '.join(sorted(known))}")
     tried = wrong = 0
@@ -691,10 +730,8 @@ def main():
                     answers.append(("program", run(command, text)))
                 compare(f"{name}, mode {mode}", answers)
         for name, words, text, by_hand in worked_of_commands():
-            word, *form = words.split()
-            answers = [("by hand", by_hand)]
-            answers.append(("reference", reference.answer(word, text, reference.Query(), "--json" in form)))
-            if words in commands:
+            answers = [("by hand", by_hand), ("reference", by_reference(words.split(), text))]
+            if plain(words) in commands:
                 answers.append(("program", run(command[:1] + words.split(), text)))
             compare(f"{name}, {words}", answers)
         for name, expected, got in unreadable(command):
@@ -703,20 +740,20 @@ def main():
                 wrong += 1
                 print(f"{name}: expected {show(expected)}\n    got {show(got)}")
 
-    def compare_case(number, text, words, by_reference):
+    def compare_case(number, text, words, answer):
         """Whether the answers are equal; the reference's."""
         nonlocal tried, wrong
         tried += 1
-        expected = by_reference(text)
+        expected = answer(text)
         if run(words, text) == expected:
             return expected
         wrong += 1
-        small = shrunk(text, lambda t: by_reference(t) != run(words, t))
+        small = shrunk(text, lambda t: answer(t) != run(words, t))
         path = os.path.join(tempfile.gettempdir(), f"goodlock-differs-{options.seed}-{number}.std")
         with open(path, "wb") as file:
             file.write(small)
         print(f"case {number}: {' '.join(words)}: answers differ on {path}: {small[:400]!r}")
-        print(f"    reference: {show(by_reference(small))}\n    program: {show(run(words, small))}")
+        print(f"    reference: {show(answer(small))}\n    program: {show(run(words, small))}")
         return expected
 
     for number in range(options.cases) if options.only is None else [options.only]:
@@ -726,8 +763,10 @@ def main():
         sort = "inconsistent" if "precedes" in sort else sort
         seen[sort] = seen.get(sort, 0) + 1
         if commands:
-            drawn, words, by_reference = asked(random.Random(f"{options.seed}/{number}/command"), commands)
-            compare_case(number, text, command[:1] + words, by_reference)
+            random_ = random.Random(f"{options.seed}/{number}/command")
+            drawn = random_.choice(commands)
+            words = asked(random_, drawn)
+            compare_case(number, text, command[:1] + words, lambda t: by_reference(words, t))
             by_command[drawn] = by_command.get(drawn, 0) + 1
         if wrong >= 10:
             print("stopped at 10 differences")

@@ -4,10 +4,10 @@
 It counts over prefixes, follows chains of steps and selects among lists of edges. Nothing is indexed,
 cached or searched cleverly, so it is for small traces only.
 
-    reference.py [predict|stats|replay] [--stage first|full] [--mode M] [--len L] [--max N] [--json] [--skip-forks] \
-        < trace.std
+    reference.py [predict|live|stats|replay] [--stage first|full] [--mode M] [--len L] [--max N] [--json]
+        [--skip-forks] < trace.std
 
-The command is predict unless it is given; `--json` is for predict alone. Stage `first` is mode basic, length 2,
+The command is predict unless it is given; `--json` is for predict and live. Stage `first` is mode basic, length 2,
 and forks and joins are skipped like any other operation; stage `full` (the default) is mode full, length 4. Both
 list at most 1,000 cycles.
 """
@@ -32,11 +32,12 @@ EMPTY, SKIPPED, STRAY = "empty", "skipped", "stray"  # lines that tell no event
 
 
 class Query:
-    def __init__(self, mode="full", length=4, most=1000, with_forks=True):
+    def __init__(self, mode="full", length=4, most=1000, with_forks=True, threads=THREAD_LIMIT):
         self.mode = mode  # "basic", "guarded" or "full"
         self.length = length
         self.most = most
         self.with_forks = with_forks
+        self.threads = threads  # the most of a trace
 
 
 STAGES = {"first": Query("basic", 2, 1000, False), "full": Query("full", 4, 1000, True)}
@@ -133,7 +134,7 @@ def judge(line, kept, query):
         if depth(before, operand) > 0 and held_mode(before, operand) == SHARED and MODES[word] == EXCLUSIVE:
             raise ValueError("shared lock taken exclusively")
     event = (thread, (word, operand, location))
-    if len(threads_of(kept + [event])) > THREAD_LIMIT:
+    if len(threads_of(kept + [event])) > query.threads:
         raise ValueError("too many threads")
     return event
 
@@ -404,7 +405,8 @@ def replayed(text, query, _):
     return written, b"", 0
 
 
-COMMANDS = {"predict": predicted, "stats": counted, "replay": replayed}
+# What live prints doesn't show its recorders, shards and rings.
+COMMANDS = {"predict": predicted, "live": predicted, "stats": counted, "replay": replayed}
 
 
 def answer(command, text, query, is_json=False):

@@ -3,9 +3,9 @@
 
     samples.py [PROGRAM [ARGUMENT..]]
 
-The program must have the default query: mode full, cycles of at most 4 edges. An output that the page shows for
-another mode or length is compared with the reference's alone. The last line is `N passed, N failed`, with one
-for each answer that was compared.
+Each output is that of `goodlock predict`, unless the text before it names other words, as `goodlock stats` or
+`--len 5`. The program gets these words; further arguments in place of `predict`. The last line is
+`N passed, N failed`, with one for each answer that was compared.
 """
 
 import pathlib
@@ -14,7 +14,7 @@ import subprocess
 import sys
 
 sys.dont_write_bytecode = True
-import reference  # noqa: E402
+import compare  # noqa: E402
 
 SAMPLES = pathlib.Path(__file__).resolve().parent.parent / "samples"
 
@@ -36,12 +36,13 @@ def main():
             print(f"{name}: {len(blocks)} outputs with {len(statuses)} statuses")
             continue
         for (before, shown), status in zip(blocks, statuses):
-            length = re.search(r"--len (\d+)", before)
-            mode = re.search(r"--mode (\w+)", before)
-            query = reference.Query(mode[1] if mode else "full", int(length[1]) if length else 4)
-            answers = [("reference", reference.predict(text, query))]
-            if len(sys.argv) > 1 and not (length or mode):
-                done = subprocess.run(sys.argv[1:], input=text, capture_output=True)
+            named = re.search(r"`goodlock (\w+)", before)
+            command = [named[1]] if named else sys.argv[2:] or ["predict"]
+            options = re.findall(r"(--json\b|--(?:len|mode|max) \w+)", before)
+            words = [*command, *(word for option in options for word in option.split())]
+            answers = [("reference", compare.by_reference(words, text))]
+            if len(sys.argv) > 1:
+                done = subprocess.run([sys.argv[1], *words], input=text, capture_output=True)
                 answers.append(("program", (done.stdout, done.stderr, done.returncode)))
             for who, (output, errors, got) in answers:
                 if (output + errors).decode() == shown and got == status:
