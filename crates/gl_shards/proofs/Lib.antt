@@ -1,2 +1,4 @@
 pub mod Filling
+pub mod InOrder
+pub mod Messages
 pub mod Uniting

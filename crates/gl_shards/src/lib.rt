@@ -15,14 +15,19 @@
 //! The definitions stand in `specs/`, and the functions without a body say what holds of them.
 #![tactic(auto)]
 
+mod ends;
 mod laws;
+mod rule;
 mod shard;
 mod table;
 #[cfg(test)]
 mod tests;
+mod worker;
 
+pub use ends::{Gone, Inlet, Outlet, Sent, feed};
 pub use laws::{
     shards_make_the_whole, tables_have_least_samples, tables_need_no_order, unions_need_no_order,
 };
 pub use shard::{MAX_SHARDS, shard_of};
 pub use table::{Table, merge};
+pub use worker::{Gate, Open, ServeFault, Served, serve};

@@ -1,0 +1,12 @@
+use Rattle.std.proofs.Common.{ap, ◌∙◌}
+use Rattle.crossbeam_channel.specs.Claims.{view}
+use Rattle.gl_shards.specs.Rule.{pairs_in}
+use Rattle.gl_shards.proofs.InOrder.{sends}
+use Rattle.gl_shards.proofs.Messages.{end_more}
+use Rattle.gl_shards.proofs.ends.Outlet.end.Goals as goal
+
+pub send_as-requires-clause-rule : goal.send_as-requires-clause-rule
+send_as-requires-clause-rule g c = (sends _ _ _ _ c.self.invariant.is_sender.sends c.self.invariant.not_ended, λ messages passes kept at. tt)
+
+pub returns-in-Ok-clause-sent : goal.returns-in-Ok-clause-sent
+returns-in-Ok-clause-sent g c = ap (λ known. pairs_in known.sent) c.in-Ok.ensures.rule ∙ end_more (view c.self.inside.pass).sent ∙ ap (λ outlet. outlet.sent) c.self.view_is

@@ -1,0 +1,112 @@
+//! The worker of a shard: it puts the edges of its feed into a table.
+ghost use Rattle.std.specs.Prelude.{◌≡◌, ◌↔◌, false, true, Err, IfOk, IsTrue};
+ghost use mathlib.Core.List.{IsPrefix};
+ghost use Rattle.gl_edges.specs.Edges.{once};
+ghost use Rattle.gl_shards.specs.declared.worker.ServeFault.TheVariants.{Cut, Memory};
+
+use crate::ends::{Inlet, Sent};
+use crate::rule::{Message, Receives, Roles, Traffic, Whole};
+use crate::table::Table;
+use crossbeam_channel::Pass;
+use std::alloc::Global;
+use std::marker::Model;
+use std::sync::Wait;
+
+/// What a worker passes before it puts in an edge: a place where tests hold it up.
+pub trait Gate {
+    /// Called by [`serve`] for each edge that it receives, before the edge is put into the table,
+    /// with the worker's shard and the number of edges that it received before. That number stays
+    /// at its greatest value.
+    fn pass(&self, shard: u32, taken: u64);
+}
+
+/// The gate that does nothing.
+#[derive(Clone, Copy, Debug)]
+pub struct Open;
+
+impl Gate for Open {
+    fn pass(&self, shard: u32, taken: u64) {}
+}
+
+/// What a worker leaves behind that is done.
+///
+/// Contracts see which feed it is of, the edges that were received, and whether receiving ended
+/// before the end mark came.
+#[derive(Drop)]
+pub struct Served {
+    pass: Pass<Message, Traffic>,
+    cut: bool,
+    table: Option<Table>,
+}
+
+impl Model for Served {
+    ghost use Rattle.gl_shards.specs.Feeds.{Worked, feed_of, received_by};
+    ghost use Rattle.gl_shards.specs.Ends.{HasServed};
+
+    ghost Value = { Worked };
+
+    ghost view = { λ s. record { feed = feed_of s.pass; received = received_by s.pass; cut = s.cut } };
+
+    ghost invariant = { λ s. HasServed s.pass s.cut s.table };
+}
+
+/// Why a worker has no table.
+#[derive(Clone, Copy, Debug, PartialEq, Eq)]
+pub enum ServeFault {
+    /// Receiving ended before the end mark came.
+    Cut,
+    /// There was no memory for an edge.
+    Memory,
+}
+
+/// Receives edges until the end mark comes or the collector's end is dropped, and puts them into a
+/// table. It waits for each message as long as the feed is empty.
+///
+/// The gate is passed once for each edge, before the edge is put in. Where there is no memory for
+/// an edge, the table is given up, and the edges that follow are received and thrown away, so that
+/// the collector isn't held up.
+pub fn serve<R: Wait, G: Gate>(rt: &R, alloc: Global, inlet: Inlet, shard: u32, gate: &G) -> Served
+    ensures feed { result.feed ≡ inlet.feed }
+{
+    Served {
+        pass: inlet.pass,
+        cut: true,
+        table: None,
+    }
+}
+
+impl Served {
+    /// Whether receiving ended before the end mark came: the collector's end was dropped without an
+    /// [`end`](crate::Outlet::end).
+    pub fn cut(&self) -> bool
+        ensures { result ≡ self.now.cut }
+    {
+        self.cut
+    }
+
+    /// The table of all edges that were sent, each with its least sample. It takes no memory.
+    ///
+    /// # Errors
+    ///
+    /// [`ServeFault::Cut`] where receiving ended before the end mark came; else
+    /// [`ServeFault::Memory`] where the worker had no memory for an edge.
+    pub fn settle(self, sent: Sent) -> Result<Table, ServeFault>
+        requires one_feed { self.feed ≡ sent.feed }
+        ensures table { IfOk result (λ table. table ≡ once sent.sent) }
+        ensures cut { (result ≡ Err Cut) ↔ (self.cut ≡ true) }
+        ensures received { IsPrefix self.received sent.sent }
+        ensures all_received { self.cut ≡ false → self.received ≡ sent.sent }
+    {
+        let Served { pass, cut, table } = self;
+        let Sent {
+            sender,
+            pass: mut both,
+        } = sent;
+        sender.absorb::<Roles>(&mut both, pass);
+        sender.learn_as::<Whole>(&mut both);
+        if cut {
+            return Err(ServeFault::Cut);
+        }
+        table.ok_or(ServeFault::Memory)
+    }
+}
