@@ -65,13 +65,13 @@ pub struct Sent {
 
 impl Model for Sent {
     ghost use Rattle.gl_shards.specs.Feeds.{AllSent, feed_of, sent_by};
-    ghost use Rattle.gl_shards.specs.Ends.{IsSender};
+    ghost use Rattle.gl_shards.specs.Ends.{HasSent};
 
     ghost Value = { AllSent };
 
     ghost view = { λ s. record { feed = feed_of s.pass; sent = sent_by s.pass } };
 
-    ghost invariant = { λ s. IsSender s.sender s.pass };
+    ghost invariant = { λ s. HasSent s.sender s.pass };
 }
 
 /// The worker's end of the feed was dropped.

@@ -1,13 +1,16 @@
 //! The worker of a shard: it puts the edges of its feed into a table.
-ghost use Rattle.std.specs.Prelude.{◌≡◌, ◌↔◌, false, true, Err, IfOk, IsTrue};
+ghost use Rattle.std.specs.Prelude.{◌≡◌, ◌↔◌, false, true, Err, List, [], ◌∷◌, ◌++◌, IfOk, IfSome};
 ghost use mathlib.Core.List.{IsPrefix};
 ghost use Rattle.gl_edges.specs.Edges.{once};
+ghost use Rattle.gl_edges.specs.declared.edge.Edge.{Edge};
+ghost use Rattle.gl_edges.specs.declared.edge.Sample.{Sample};
 ghost use Rattle.gl_shards.specs.declared.worker.ServeFault.TheVariants.{Cut, Memory};
 
 use crate::ends::{Inlet, Sent};
 use crate::rule::{Message, Receives, Roles, Traffic, Whole};
 use crate::table::Table;
 use crossbeam_channel::Pass;
+use gl_edges::{Edge, Sample};
 use std::alloc::Global;
 use std::marker::Model;
 use std::sync::Wait;
@@ -68,10 +71,44 @@ pub enum ServeFault {
 pub fn serve<R: Wait, G: Gate>(rt: &R, alloc: Global, inlet: Inlet, shard: u32, gate: &G) -> Served
     ensures feed { result.feed ≡ inlet.feed }
 {
-    Served {
-        pass: inlet.pass,
-        cut: true,
-        table: None,
+    let Inlet { receiver, mut pass } = inlet;
+    let mut table = Some(Table::new(alloc));
+    let mut taken: u64 = 0;
+    for _ in rt.forever() {
+        match receiver.recv_as::<Receives, R>(rt, &mut pass) {
+            Ok(Message::Pair((edge, sample))) => {
+                gate.pass(shard, taken);
+                taken = taken.saturating_add(1);
+                table = with_edge(table, edge, sample);
+            }
+            Ok(Message::Ended) => {
+                return Served {
+                    pass,
+                    cut: false,
+                    table,
+                };
+            }
+            Err(_) => {
+                return Served {
+                    pass,
+                    cut: true,
+                    table,
+                };
+            }
+        }
+    }
+    unreachable!()
+}
+
+// The table with one edge more; none where there is no memory for it, or was none for an earlier
+// one.
+fn with_edge(table: Option<Table>, edge: Edge, sample: Sample) -> Option<Table>
+    ensures { (pairs : List (Edge × Sample)) → IfSome table (λ old. old ≡ once pairs) → IfSome result (λ new. new ≡ once (pairs ++ (edge, sample) ∷ [])) }
+{
+    let mut table = table?;
+    match table.insert(edge, sample) {
+        Ok(()) => Some(table),
+        Err(_) => None,
     }
 }
 
