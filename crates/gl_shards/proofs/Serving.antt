@@ -37,14 +37,15 @@ module _ {Q M L A B : Type 0} (receiver : Receiving (Channel Q M L A) B) where
       }
 
   -- an edge was received
-  pub goes_on : (old new : Pass Message Traffic) (table more : Option (List (Edge × Sample))) (pair : Edge × Sample)
+  pub goes_on : (old new : Pass Message Traffic) (table more : Option (List (Edge × Sample))) (message : Message) (pair : Edge × Sample)
       → IsServing receiver old table
       → IsSeatAt (receives_on receiver) new
-      → view new ≡ and_got (view old) (Pair pair)
+      → view new ≡ and_got (view old) message
+      → message ≡ Pair pair
       → ((pairs : List (Edge × Sample)) → IfSome table (λ filled. filled ≡ once pairs) → IfSome more (λ filled. filled ≡ once (pairs ++ pair ∷ [])))
       → IsServing receiver new more
-  goes_on old new table more pair serving seat got filled =
-      let received : (view new).received ≡ (view old).received ++ Pair pair ∷ [] = ap (λ known. known.received) got in
+  goes_on old new table more message pair serving seat got is filled =
+      let received : (view new).received ≡ (view old).received ++ Pair pair ∷ [] = ap (λ known. known.received) got ∙ ap (λ last. (view old).received ++ last ∷ []) is in
       let pairs : received_by new ≡ received_by old ++ pair ∷ [] = ap pairs_in received ∙ pair_more (view old).received pair in
       record {
         seat = seat;
@@ -54,13 +55,14 @@ module _ {Q M L A B : Type 0} (receiver : Receiving (Channel Q M L A) B) where
       }
 
   -- the end mark was received
-  pub ends : (old new : Pass Message Traffic) (table : Option (List (Edge × Sample)))
+  pub ends : (old new : Pass Message Traffic) (table : Option (List (Edge × Sample))) (message : Message)
       → IsServing receiver old table
       → IsSeatAt (receives_on receiver) new
-      → view new ≡ and_got (view old) Ended
+      → view new ≡ and_got (view old) message
+      → message ≡ Ended
       → HasServed new false table
-  ends old new table serving seat got =
-      let received : (view new).received ≡ (view old).received ++ Ended ∷ [] = ap (λ known. known.received) got in
+  ends old new table message serving seat got is =
+      let received : (view new).received ≡ (view old).received ++ Ended ∷ [] = ap (λ known. known.received) got ∙ ap (λ last. (view old).received ++ last ∷ []) is in
       let pairs : received_by new ≡ received_by old = ap pairs_in received ∙ end_more (view old).received in
       record {
         free = seat.2;
