@@ -88,6 +88,81 @@ fn outlet_dropped(rt: HostRuntime) -> Result<(), Fail> {
     Ok(())
 }
 
+// Sends the edge, drops the end without an end mark, and answers whether the edge was sent.
+fn send_one<R: Wait>(rt: &R, outlet: Outlet, edge: Edge, sample: Sample) -> bool {
+    let mut outlet = outlet;
+    outlet.send(rt, edge, sample).is_ok()
+}
+
+// A sender that waits for room, or comes to wait for it, is told that its worker is gone.
+#[test]
+fn inlet_dropped_later(rt: HostRuntime) -> Result<(), Fail> {
+    let alloc = rt.alloc();
+    let (outlet, inlet) = feed(alloc, 1)?;
+    let pairs = edges_from(alloc, 2)?;
+    let handle = &rt;
+    let (sent, ()) = thread::join(
+        handle,
+        move || send_all(handle, outlet, pairs),
+        move || drop(inlet),
+    );
+    assert!(rt; sent.is_none());
+    Ok(())
+}
+
+// A worker that waits for an edge, or comes to wait for it, is told that its sender is gone.
+#[test]
+fn outlet_dropped_later(rt: HostRuntime) -> Result<(), Fail> {
+    let alloc = rt.alloc();
+    let (outlet, inlet) = feed(alloc, 1)?;
+    let lone = edge(alloc, 0, 1, 2)?;
+    let handle = &rt;
+    let (served, was_sent) = thread::join(
+        handle,
+        move || serve(handle, alloc, inlet, 0, &Open),
+        move || send_one(handle, outlet, lone, at(7)),
+    );
+    assert!(rt; was_sent);
+    assert!(rt; served.cut());
+    Ok(())
+}
+
+// A gate that counts how often it is passed, and adds up what it is told.
+#[derive(Drop)]
+struct Counter {
+    passed: AtomicU64,
+    taken: AtomicU64,
+    shards: AtomicU64,
+}
+
+impl Gate for Counter {
+    fn pass(&self, shard: u32, taken: u64) {
+        self.passed.fetch_add(1, Ordering::SeqCst);
+        self.taken.fetch_add(taken, Ordering::SeqCst);
+        self.shards.fetch_add(u64::from(shard), Ordering::SeqCst);
+    }
+}
+
+// The gate is told the shard, and for each edge how many came before it.
+#[test]
+fn gate_counts(rt: HostRuntime) -> Result<(), Fail> {
+    let alloc = rt.alloc();
+    let (outlet, inlet) = feed(alloc, 5)?;
+    let sent = send_all(&rt, outlet, edges_from(alloc, 4)?);
+    assert!(rt; sent.is_some());
+    let gate = Counter {
+        passed: AtomicU64::new(0),
+        taken: AtomicU64::new(0),
+        shards: AtomicU64::new(0),
+    };
+    let served = serve(&rt, alloc, inlet, 7, &gate);
+    assert!(rt; !served.cut());
+    assert!(rt; gate.passed.load(Ordering::SeqCst) == 4);
+    assert!(rt; gate.taken.load(Ordering::SeqCst) == 6);
+    assert!(rt; gate.shards.load(Ordering::SeqCst) == 28);
+    Ok(())
+}
+
 // One thread sends through a feed with room for one edge, and another one receives.
 #[test]
 fn thousand_edges(rt: HostRuntime) -> Result<(), Fail> {
