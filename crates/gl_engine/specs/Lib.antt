@@ -1,0 +1,4 @@
+pub mod Recording
+pub mod Faults
+pub mod Collecting
+pub mod Keeping

@@ -1,0 +1,1 @@
+//! Sessions, in one thread and in two.
