@@ -1,2 +1,4 @@
 pub mod Notes
 pub mod Sides
+pub mod Dealt
+pub mod Confirming

@@ -21,17 +21,24 @@
 #![tactic(auto)]
 
 mod collector;
+mod faults;
+mod gathered;
 mod pulled;
 mod receipt;
 mod recorder;
 mod row;
 mod session;
+mod settle;
+mod settled;
 
 pub use collector::Collector;
+pub use faults::{RunFault, SettleFault};
+pub use gathered::Gathered;
 pub use pulled::{PullFault, Pulled};
 pub use receipt::Receipt;
 pub use recorder::{CloseFault, RecordFault, Recorder};
 pub use session::open;
+pub use settled::Settled;
 
 #[cfg(test)]
 mod tests;
