@@ -1,10 +1,10 @@
 -- What a pull makes of a collector's rows, stream and edges.
 use Rattle.std.proofs.Common.{◌≡◌, ◌≢◌, ℕ, ◌<◌, ◌≤◌, List, [], ◌∷◌, ◌++◌, length, map, take, set, get_or, None, Some, Result, Ok, Err, Vec, Global, refl, sym, ap, ◌∙◌, subst, arith, ◌⊎◌, inl, inr}
 use Rattle.std.specs.Prelude.{slice_get, IfOk}
-use Rattle.std.proofs.Math.Seq.{take-append_seam}
+use Rattle.std.proofs.Math.Seq.{take-append_seam, map-set_same}
 use Rattle.std.proofs.lemmas.Bool.{cases_eq}
 use Rattle.std.specs.Option.{option_map}
-use Rattle.std.proofs.lemmas.List.{length-set, map-append, map-set}
+use Rattle.std.proofs.lemmas.List.{length-set, map-append, map-set, get_or-map}
 use Rattle.std.proofs.lemmas.Option.{slice_get-map}
 use Rattle.gl_event.specs.Bounds.{Bounds, AreWithinRange}
 use Rattle.gl_event.specs.declared.events.Event.{Event}
@@ -178,7 +178,7 @@ module _ (limits : Bounds) (rows : List Row) (stream : List Note) (made : List (
       told : notes_of thread later ≡ map (as_of thread) new.lane.popped
       told =
           ap (notes_of thread) grown ∙ notes_own stream own ∙ ap (λ notes. notes ++ own ∷ []) was_told
-              ∙ sym (map-append (as_of thread) was.lane.popped (has.note ∷ [])) ∙ ap (map (as_of thread)) (sym popped)
+          ∙ sym (map-append (as_of thread) was.lane.popped (has.note ∷ [])) ∙ ap (map (as_of thread)) (sym popped)
 
   pub collector_after : (answer : Result Pulled PullFault) → IsSidePull collecting thread old_side answer new_side → IsCollector limits (set rows thread new) later later_made collecting
   collector_after (Ok Empty) tells = kept_same (ap (λ (s : Side). s.stream) tells.1) (ap (λ (s : Side). s.made) tells.1) (ap (λ (s : Side). s.row.popped) tells.1)
@@ -201,3 +201,18 @@ module _ (limits : Bounds) (rows : List Row) (stream : List Note) (made : List (
             (subst (λ b. IsSidePull b thread old_side answer new_side) is.same_limits tells);
         moved = ap (λ ps. collecting_from session limits ps later later_made) (map-set pulling_of rows thread new);
       })
+
+  lane_same : (answer : Result Pulled PullFault) → IsSidePull collecting thread old_side answer new_side → new.lane.lane ≡ was.lane.lane
+  lane_same (Ok Empty) tells = ap (λ (s : Side). s.row.lane) tells.1
+  lane_same (Ok (Answered place)) tells = ap (λ (s : Side). s.row.lane) tells.moved
+  lane_same (Ok (Closing count)) tells = ap (λ (s : Side). s.row.lane) tells.moved
+  lane_same (Err (Broken why)) (inl same) = ap (λ (s : Side). s.row.lane) same.1
+  lane_same (Err (Broken why)) (inr has) = ap (λ (s : Side). s.row.lane) has.moved
+  lane_same (Err OutOfMemory) tells = ap (λ (s : Side). s.row.lane) tells.1
+
+  -- the lanes stay where they are
+  pub lanes_still : (answer : Result Pulled PullFault) → IsSidePull collecting thread old_side answer new_side → map (λ (p : Pulling). p.lane) (map pulling_of (set rows thread new)) ≡ map (λ (p : Pulling). p.lane) (map pulling_of rows)
+  lanes_still answer tells =
+      let at : get_or (map pulling_of rows) thread (pulling_of was) ≡ pulling_of was = get_or-map pulling_of rows thread was (pulling_of was) within ∙ ap pulling_of (sym here) in
+      ap (map (λ (p : Pulling). p.lane)) (map-set pulling_of rows thread new)
+      ∙ map-set_same (λ (p : Pulling). p.lane) (map pulling_of rows) thread (pulling_of new) (pulling_of was) (lane_same answer tells ∙ ap (λ (p : Pulling). p.lane) (sym at))
