@@ -1,4 +1,5 @@
 pub mod Notes
 pub mod Sides
+pub mod Opening
 pub mod Dealt
 pub mod Confirming

@@ -30,6 +30,10 @@ pub record Collecting : Type 0 where
   pub stream : List Note
   pub made : List (Edge × Sample)
 
+-- the threads' lanes, in the order of thread numbers
+abbrev pub lanes_of : Collecting → List LaneId
+lanes_of c = map (λ row. row.lane) c.rows
+
 -- the collector's end of a new lane
 abbrev pub fresh_row : LaneId → Pulling
 fresh_row lane = record { lane = lane; popped = []; broken = None }

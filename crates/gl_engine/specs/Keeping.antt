@@ -48,9 +48,10 @@ pub record IsCollector (limits : Bounds) (rows : List Row) (stream : List Note) 
   pub same_limits : collecting ≡ limits
   pub range : AreWithinRange limits
 
--- a recorder and a row for each thread, in the order of thread numbers: the two ends of a lane in which nothing was pushed
-pub record AreFresh (session : ℕ) (limits : Bounds) (recorders : List Recording) (rows : List Row) : Type 0 where
-  pub count : length recorders ≡ limits.threads
+-- a recorder and a row for each of the first threads, in the order of their numbers: the two ends of a lane in which nothing was pushed
+pub record AreFresh (session : ℕ) (limits : Bounds) (threads : ℕ) (recorders : List Recording) (rows : List Row) : Type 0 where
+  pub count : length recorders ≡ threads
+  pub rows_count : length rows ≡ threads
   pub fresh : (thread : ℕ) (r : Recording) → slice_get recorders thread ≡ Some r → IsFresh session limits thread r
   pub ends : map pulling_of rows ≡ map fresh_row (map (λ r. r.lane) recorders)
-  pub follows : (thread : ℕ) (row : Row) → slice_get rows thread ≡ Some row → Follows thread [] row.tracker
+  pub follows : (thread : ℕ) (row : Row) → slice_get rows thread ≡ Some row → (row.lane.popped ≡ []) × Follows thread [] row.tracker

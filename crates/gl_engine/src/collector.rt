@@ -2,7 +2,7 @@
 ghost use Rattle.std.specs.Prelude.{◌≡◌, ◌<◌, ℕ, Some, slice_get, IfOk, IfErr, OnErr};
 ghost use Rattle.gl_cycles.specs.Reports.{IsGoodlockReport, IsReportFault};
 ghost use Rattle.gl_intake.specs.Stream.{events_of, logs_of, AreInOrder};
-ghost use Rattle.gl_engine.specs.Collecting.{Pulling, IsPull};
+ghost use Rattle.gl_engine.specs.Collecting.{Pulling, lanes_of, IsPull};
 
 use crate::pulled::{PullFault, Pulled};
 use crate::row::Row;
@@ -50,7 +50,10 @@ impl Collector {
     /// lock is acquired beside others takes a step for each pair of them.
     pub fn pull(&mut self, thread: ThreadId) -> Result<Pulled, PullFault>
         requires known { thread < self.old.limits.threads }
-        ensures { (row : Pulling) → slice_get self.old.rows thread ≡ Some row → IsPull self.old thread row result self.new }
+        ensures tells { (row : Pulling) → slice_get self.old.rows thread ≡ Some row → IsPull self.old thread row result self.new }
+        ensures session { self.new.session ≡ self.old.session }
+        ensures limits { self.new.limits ≡ self.old.limits }
+        ensures lanes { lanes_of self.new ≡ lanes_of self.old }
     {
         let row = &mut self.rows[thread.number() as usize];
         row.pull(self.alloc, thread, &mut self.intake, &mut self.made)

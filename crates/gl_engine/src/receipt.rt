@@ -1,5 +1,6 @@
 //! What a recorder leaves behind.
-ghost use Rattle.std.specs.Prelude.{◌≡◌, length};
+ghost use Rattle.std.specs.Prelude.{◌≡◌, true, length};
+ghost use Rattle.gl_intake.specs.Stream.{has_ended};
 ghost use Rattle.gl_engine.specs.Recording.{recorded_whole};
 
 use gl_event::{Limits, ThreadId};
@@ -47,7 +48,8 @@ impl Receipt {
 
     /// How many events the thread recorded.
     pub fn taken(&self) -> u32
-        ensures { result ≡ length (recorded_whole self.now) }
+        ensures value { result ≡ length (recorded_whole self.now) }
+        ensures ended { has_ended self.now.thread self.now.pushed ≡ true }
     {
         self.taken
     }

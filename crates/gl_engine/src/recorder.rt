@@ -1,6 +1,7 @@
 //! The recorder of a running thread.
-ghost use Rattle.std.specs.Prelude.{◌≡◌, ◌<◌, ◌≤◌, ◌+◌, None, Some, [], length, IsOk, OnOk, OnErr, IfOk, IfErr};
-ghost use Rattle.gl_event.specs.Lawful.{refusal};
+ghost use Rattle.std.specs.Prelude.{◌≡◌, ◌<◌, ◌≤◌, ◌+◌, false, None, Some, [], length, IsOk, OnOk, OnErr, IfOk, IfErr};
+ghost use Rattle.gl_event.specs.Lawful.{refusal, IsLawful};
+ghost use Rattle.gl_intake.specs.Stream.{has_ended};
 ghost use Rattle.gl_engine.specs.Recording.{recorded, next_note, push_note, seen_full, closed_of};
 ghost use Rattle.gl_engine.specs.declared.recorder.RecordFault.TheVariants.{Full};
 ghost use Rattle.gl_engine.specs.Faults.{IsNotRecorded, IsNotClosed, IsUnconfirmed};
@@ -79,7 +80,9 @@ impl Recorder {
 
     /// How many events were recorded.
     pub fn taken(&self) -> u32
-        ensures { result ≡ length (recorded self.now) }
+        ensures value { result ≡ length (recorded self.now) }
+        ensures lawful { IsLawful self.now.limits self.now.thread (recorded self.now) }
+        ensures running { has_ended self.now.thread self.now.pushed ≡ false }
     {
         self.taker.taken()
     }

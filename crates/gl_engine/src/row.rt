@@ -83,12 +83,7 @@ fn prepare(
 }
 
 // Pops the front note, and accepts it as the thread's: every growth was made.
-fn accept(
-    lane: &mut LaneOut,
-    tracker: &mut Tracker,
-    intake: &mut Intake,
-    note: &Note,
-) -> Pulled
+fn accept(lane: &mut LaneOut, tracker: &mut Tracker, intake: &mut Intake, note: &Note) -> Pulled
     requires seen { 0 < length lane.old.left }
     requires next { note_refusal intake.old.limits intake.old.stream note.now ≡ None }
     requires reserved { 1 ≤ spare_of intake.old note.now.thread }
