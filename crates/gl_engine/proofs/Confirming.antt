@@ -34,7 +34,7 @@ use Rattle.gl_engine.specs.Settling.{IsSettled}
 use Rattle.gl_engine.specs.Whole.{lane_of, IsConfirmed, IsWhole}
 use Rattle.gl_engine.specs.declared.faults.RunFault.{RunFault}
 use Rattle.gl_engine.specs.declared.row.Row.{Row}
-use Rattle.gl_engine.proofs.Dealt.{dealt_edges}
+use Rattle.gl_engine.proofs.Dealt.{numbered_at, dealt_edges}
 
 -- ---- a thread's lane and its receipt
 
@@ -151,11 +151,6 @@ union_sent tables sent are =
 
 -- ---- all threads
 
-log_at : {X : Type 0} (f : ℕ → X) (a n i : ℕ) → i < n → slice_get (map f (range_with_len a n)) i ≡ Some (f (a + i))
-log_at f a zero i within = absurd (omega arith)
-log_at f a (suc n) zero within = ap (λ k. Some (f k)) (let here : a ≡ a + 0 = omega arith in here)
-log_at f a (suc n) (suc i) within = log_at f (a + 1) n i (omega arith) ∙ ap (λ k. Some (f k)) (let here : (a + 1) + i ≡ a + suc i = omega arith in here)
-
 module _ (limits : Bounds) (rows : List Row) (stream : List Note) (sent : List AllSent) (whole : IsWhole limits rows stream sent) (count : length rows ≡ limits.threads) (receipts : List Closed)
     (all : AreThereBelow receipts limits.threads)
     (known : (at : ℕ) (r : Closed) → slice_get receipts at ≡ Some r → r.thread < limits.threads)
@@ -169,7 +164,7 @@ module _ (limits : Bounds) (rows : List Row) (stream : List Note) (sent : List A
 
   pub settled : IsSettled receipts (logs_of limits.threads stream) sent
   settled = record {
-    each = λ at r here. log_at (λ t. events_of t stream) 0 limits.threads r.thread (known at r here) ∙ ap Some (ap (λ t. events_of t stream) (let k : 0 + r.thread ≡ r.thread = omega arith in k) ∙ its_log at r here);
+    each = λ at r here. numbered_at (λ t. events_of t stream) 0 limits.threads r.thread (known at r here) ∙ ap Some (ap (λ t. events_of t stream) (let k : 0 + r.thread ≡ r.thread = omega arith in k) ∙ its_log at r here);
     one_each = λ thread within. all thread (omega (arith, within, length-map-range_with_len (λ t. events_of t stream) 0 limits.threads));
     edges_are = dealt_edges limits.threads stream sent (length sent) (omega (arith, whole.some)) whole.made_are whole.shipped;
   }

@@ -1,5 +1,6 @@
 -- Edges made by a stream, and dealt to shards, one after the other.
-use Rattle.std.proofs.Common.{◌≡◌, ◌≢◌, ℕ, zero, suc, ◌+◌, ◌<◌, ◌≤◌, eqb, Bool, true, false, cond, List, [], ◌∷◌, ◌++◌, length, map, set, refl, sym, ap, ◌∙◌, arith, append_assoc, ◌⊎◌, inl, inr}
+use Rattle.std.proofs.Common.{◌≡◌, ◌≢◌, ℕ, zero, suc, ◌+◌, ◌<◌, ◌≤◌, eqb, Bool, true, false, cond, List, [], ◌∷◌, ◌++◌, length, map, set, Some, refl, sym, ap, ◌∙◌, arith, append_assoc, ◌⊎◌, inl, inr}
+use Rattle.std.specs.Prelude.{slice_get}
 use Rattle.std.specs.List.{range_with_len, filter, flat_map}
 use Rattle.std.proofs.lemmas.Bool.{cases_eq, eq-eqb, ne_eqb}
 use Rattle.std.proofs.lemmas.List.{append-nil}
@@ -73,6 +74,17 @@ module _ (shards : ℕ) (pairs : List (Edge × Sample)) (pair : Edge × Sample) 
   pub dealt_more : shard_of pair.0 shards < shards → dealt shards (pairs ++ pair ∷ []) ≡ set (dealt shards pairs) (shard_of pair.0 shards) (of_shard shards pairs (shard_of pair.0 shards) ++ pair ∷ [])
   unfolding dealt
   dealt_more within = dealt_from 0 shards its (let here : its ≡ 0 + its = omega arith in here) within
+
+-- what stands at a place of a list by numbers
+pub numbered_at : {X : Type 0} (f : ℕ → X) (a n i : ℕ) → i < n → slice_get (map f (range_with_len a n)) i ≡ Some (f (a + i))
+numbered_at f a zero i within = absurd (omega arith)
+numbered_at f a (suc n) zero within = ap (λ k. Some (f k)) (let here : a ≡ a + 0 = omega arith in here)
+numbered_at f a (suc n) (suc i) within = numbered_at f (a + 1) n i (omega arith) ∙ ap (λ k. Some (f k)) (let here : (a + 1) + i ≡ a + suc i = omega arith in here)
+
+-- what was dealt to one shard
+pub dealt_at : (shards : ℕ) (pairs : List (Edge × Sample)) (shard : ℕ) → shard < shards → slice_get (dealt shards pairs) shard ≡ Some (of_shard shards pairs shard)
+unfolding dealt
+dealt_at shards pairs shard within = numbered_at (of_shard shards pairs) 0 shards shard within ∙ ap (λ k. Some (of_shard shards pairs k)) (let here : 0 + shard ≡ shard = omega arith in here)
 
 -- the tables of all that was dealt are those of the lists
 pub dealt_edges : (threads : ℕ) (stream : List Note) (sent : List AllSent) (shards : ℕ) → 1 ≤ shards → AreMade threads stream (made_by stream) → map (λ s. s.sent) sent ≡ dealt shards (made_by stream)

@@ -3,3 +3,4 @@ pub mod Sides
 pub mod Opening
 pub mod Dealt
 pub mod Confirming
+pub mod Running

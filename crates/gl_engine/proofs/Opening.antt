@@ -14,6 +14,7 @@ use Rattle.gl_world.proofs.Makings.{made_nothing}
 use Rattle.gl_engine.specs.Collecting.{Pulling, as_of, fresh_row}
 use Rattle.gl_engine.specs.Keeping.{AreFresh, IsCollector, pulling_of}
 use Rattle.gl_engine.specs.Recording.{Recording, IsFresh}
+use Rattle.gl_engine.proofs.Dealt.{made_by_none}
 use Rattle.gl_engine.specs.declared.row.Row.{Row}
 use Rattle.gl_lane.specs.Lanes.{LaneId}
 
@@ -57,6 +58,7 @@ collector_new session limits recorders rows are range = record {
   };
   in_order = AreInOrder-nil limits;
   made_are = made_nothing limits.threads;
+  made_is = sym made_by_none;
   same_limits = refl;
   range = range;
 }

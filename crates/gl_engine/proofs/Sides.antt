@@ -28,7 +28,9 @@ use Rattle.gl_world.proofs.Makings.{made_pulled}
 use Rattle.gl_world.proofs.Rows.{may_take}
 use Rattle.gl_world.proofs.Sound.{notes_own, notes_other}
 use Rattle.gl_engine.specs.Collecting.{Pulling, Collecting, Side, as_of, pulled_of, HasPulled, IsSidePull, IsPull}
+use Rattle.gl_engine.specs.Dealing.{made_by}
 use Rattle.gl_engine.specs.Keeping.{AreRows, IsCollector, pulling_of}
+use Rattle.gl_engine.proofs.Dealt.{made_by_more}
 use Rattle.gl_engine.specs.declared.pulled.Pulled.{Pulled}
 use Rattle.gl_engine.specs.declared.pulled.Pulled.TheVariants.{Empty, Event as Answered, Ended as Closing}
 use Rattle.gl_engine.specs.declared.pulled.PullFault.{PullFault}
@@ -140,6 +142,7 @@ module _ (limits : Bounds) (rows : List Row) (stream : List Note) (made : List (
         (λ t other. (ap (notes_of t) same, ap (events_of t) same));
     in_order = subst (AreInOrder limits) (sym same) is.in_order;
     made_are = subst (λ notes. AreMade limits.threads notes later_made) (sym same) (subst (AreMade limits.threads stream) (sym same_made) is.made_are);
+    made_is = same_made ∙ is.made_is ∙ ap made_by (sym same);
     same_limits = is.same_limits;
     range = is.range;
   }
@@ -156,6 +159,7 @@ module _ (limits : Bounds) (rows : List Row) (stream : List Note) (made : List (
         (λ t other. (ap (notes_of t) grown ∙ notes_other stream own t other, ap (events_of t) grown ∙ events_other stream own t other));
     in_order = subst (AreInOrder limits) (sym grown) (AreInOrder-push limits stream own is.in_order next);
     made_are = subst (λ notes. AreMade limits.threads notes later_made) (sym grown) (subst (AreMade limits.threads (stream ++ own ∷ [])) (sym edges) (made_more limits stream own next limits.threads made next.known is.made_are));
+    made_is = edges ∙ ap (λ pairs. pairs ++ edges_due thread (events_of thread (stream ++ own ∷ [])) own.place own.body) is.made_is ∙ sym (made_by_more stream own) ∙ ap made_by (sym grown);
     same_limits = is.same_limits;
     range = is.range;
   }
@@ -202,7 +206,7 @@ module _ (limits : Bounds) (rows : List Row) (stream : List Note) (made : List (
         moved = ap (λ ps. collecting_from session limits ps later later_made) (map-set pulling_of rows thread new);
       })
 
-  lane_same : (answer : Result Pulled PullFault) → IsSidePull collecting thread old_side answer new_side → new.lane.lane ≡ was.lane.lane
+  pub lane_same : (answer : Result Pulled PullFault) → IsSidePull collecting thread old_side answer new_side → new.lane.lane ≡ was.lane.lane
   lane_same (Ok Empty) tells = ap (λ (s : Side). s.row.lane) tells.1
   lane_same (Ok (Answered place)) tells = ap (λ (s : Side). s.row.lane) tells.moved
   lane_same (Ok (Closing count)) tells = ap (λ (s : Side). s.row.lane) tells.moved

@@ -10,6 +10,7 @@ use Rattle.gl_recorder.specs.Taking.{Taking, Tracks}
 use Rattle.gl_world.specs.Keeping.{notes_of, AreMade}
 use Rattle.gl_engine.specs.Recording.{Recording, IsFresh}
 use Rattle.gl_engine.specs.Collecting.{Pulling, as_of, fresh_row}
+use Rattle.gl_engine.specs.Dealing.{made_by}
 use Rattle.gl_engine.specs.declared.row.Row.{Row}
 
 -- these notes are of the thread alone, and each is its next one after those before it
@@ -45,6 +46,7 @@ pub record IsCollector (limits : Bounds) (rows : List Row) (stream : List Note) 
   pub rows_are : AreRows limits rows stream
   pub in_order : AreInOrder limits stream
   pub made_are : AreMade limits.threads stream made
+  pub made_is : made ≡ made_by stream
   pub same_limits : collecting ≡ limits
   pub range : AreWithinRange limits
 

@@ -5,10 +5,10 @@ use Rattle.gl_event.specs.Bounds.{Bounds}
 use Rattle.gl_event.specs.declared.notes.Note.{Note}
 use Rattle.gl_intake.specs.Stream.{has_ended, AreInOrder}
 use Rattle.gl_lane.specs.Lanes.{LaneId}
-use Rattle.gl_shards.specs.Feeds.{AllSent}
+use Rattle.gl_shards.specs.Feeds.{AllSent, Sending}
 use Rattle.gl_world.specs.Keeping.{notes_of, AreMade}
 use Rattle.gl_engine.specs.Collecting.{Pulling, as_of}
-use Rattle.gl_engine.specs.Keeping.{AreNotesOf, pulling_of}
+use Rattle.gl_engine.specs.Keeping.{AreNotesOf, IsCollector, pulling_of}
 use Rattle.gl_engine.specs.Recording.{Closed}
 use Rattle.gl_engine.specs.Dealing.{dealt, made_by}
 use Rattle.gl_engine.specs.declared.faults.RunFault.{RunFault}
@@ -17,6 +17,11 @@ use Rattle.gl_engine.specs.declared.row.Row.{Row}
 -- a row's lane
 abbrev pub lane_of : Row → LaneId
 lane_of row = row.lane.lane
+
+-- a run has kept up so far: what a collector keeps of the notes collected, and to each shard the edges were shipped that are its own
+pub record KeepsUp (limits : Bounds) (rows : List Row) (stream : List Note) (outlets : List Sending) : Type 0 where
+  pub collector : IsCollector limits rows stream (made_by stream) limits
+  pub shipped : map (λ o. o.sent) outlets ≡ dealt (length outlets) (made_by stream)
 
 -- all was collected and shipped: each thread's notes in order and as they were popped, up to its end mark, and to each shard those of
 -- the edges made that are its own

@@ -22,14 +22,17 @@
 
 mod collector;
 mod faults;
+mod gather;
 mod gathered;
 mod pulled;
 mod receipt;
 mod recorder;
 mod row;
+mod run;
 mod session;
 mod settle;
 mod settled;
+mod throw;
 
 pub use collector::Collector;
 pub use faults::{RunFault, SettleFault};
