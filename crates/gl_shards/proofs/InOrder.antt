@@ -1,6 +1,5 @@
 -- Each move of a feed's passes keeps its rule.
 use Rattle.std.proofs.Common.{◌≡◌, ◌≢◌, ℕ, zero, suc, true, false, true≢false, List, [], ◌∷◌, ◌++◌, length, set, inl, inr, sym, refl, ap, ◌∙◌, subst, ⊎_elim, append_assoc}
-use Rattle.std.specs.Prelude.{Contains}
 use Rattle.std.proofs.lemmas.List.{append-nil}
 use mathlib.Core.Option.{some, some-injective, some-ne-none}
 use lib.ListN.{get_elem?}
@@ -8,7 +7,7 @@ use Rattle.atomic_table.proofs.Lists.{at_set, at_snoc}
 use Rattle.crossbeam_channel.specs.Fifo.{Pushes, Pops, Forks, Merges, Learns}
 use Rattle.gl_edges.proofs.Membership.{contains_here, contains_later, contains_cases, contains_none}
 use Rattle.gl_shards.specs.declared.rule.Message.{Message}
-use Rattle.gl_shards.specs.declared.rule.Message.TheVariants.{Pair, Ended}
+use Rattle.gl_shards.specs.declared.rule.Message.TheVariants.{Ended}
 use Rattle.gl_shards.specs.declared.rule.Traffic.{Traffic}
 use Rattle.gl_shards.specs.Rule.{traffic, EndsLast, HasEnded, Fits, IsInOrder, IsReceived}
 

@@ -1,4 +1,5 @@
 pub mod Filling
 pub mod InOrder
 pub mod Messages
+pub mod Serving
 pub mod Uniting

@@ -25,6 +25,14 @@ pair_more messages pair = pairs_appended messages (Pair pair ∷ [])
 pub end_more : (messages : List Message) → pairs_in (messages ++ Ended ∷ []) ≡ pairs_in messages
 end_more messages = pairs_appended messages (Ended ∷ []) ∙ append-nil (pairs_in messages)
 
+-- what the sender has sent after one edge more
+pub sent_more : (old new : Traffic) (pair : Edge × Sample) → new ≡ traffic old.sends old.receives (old.sent ++ Pair pair ∷ []) old.received → pairs_in new.sent ≡ pairs_in old.sent ++ pair ∷ []
+sent_more old new pair is = ap (λ (known : Traffic). pairs_in known.sent) is ∙ pair_more old.sent pair
+
+-- and after the end mark
+pub sent_end : (old new : Traffic) → new ≡ traffic old.sends old.receives (old.sent ++ Ended ∷ []) old.received → pairs_in new.sent ≡ pairs_in old.sent
+sent_end old new is = ap (λ (known : Traffic). pairs_in known.sent) is ∙ end_more old.sent
+
 -- an edge is no end mark
 pub still_open : (messages : List Message) (pair : Edge × Sample) → ¬ HasEnded messages → ¬ HasEnded (messages ++ Pair pair ∷ [])
 still_open messages pair none ended =

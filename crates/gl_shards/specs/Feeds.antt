@@ -1,5 +1,5 @@
 -- What contracts see of a feed's two ends, of what its sender leaves behind, and of its worker when it is done.
-use Rattle.std.specs.Prelude.{◌≡◌, Bool, List}
+use Rattle.std.specs.Prelude.{ℕ, Bool, List}
 use Rattle.atomic_table.specs.Seated.{TableId}
 use Rattle.atomic_table.specs.declared.badge.Badge.{Badge}
 use Rattle.crossbeam_channel.specs.Claims.{Pass, view}
@@ -30,6 +30,8 @@ received_by pass = pairs_in (view pass).received
 -- the end that sends
 pub record Sending : Type 0 where
   pub feed : FeedId
+  -- how many messages the feed has room for
+  pub capacity : ℕ
   -- the edges that were sent, with their samples, oldest first
   pub sent : List (Edge × Sample)
 
@@ -50,3 +52,5 @@ pub record Worked : Type 0 where
   pub received : List (Edge × Sample)
   -- receiving ended before the end mark came
   pub cut : Bool
+  -- there was no memory for an edge
+  pub short : Bool

@@ -16,7 +16,8 @@ pub(crate) type Receiver = RuledReceiver<Message, Traffic, InOrder, Global>;
 
 /// The collector's end of a feed.
 ///
-/// Contracts see which feed it is, and the edges that were sent.
+/// Contracts see which feed it is, how many messages the feed has room for, and the edges that were
+/// sent.
 #[derive(Drop)]
 pub struct Outlet {
     sender: Sender,
@@ -24,12 +25,13 @@ pub struct Outlet {
 }
 
 impl Model for Outlet {
+    ghost use Rattle.crossbeam_channel.specs.Ends.{ruled_capacity, sends_on};
     ghost use Rattle.gl_shards.specs.Feeds.{Sending, feed_of, sent_by};
     ghost use Rattle.gl_shards.specs.Ends.{IsOpen};
 
     ghost Value = { Sending };
 
-    ghost view = { λ o. record { feed = feed_of o.pass; sent = sent_by o.pass } };
+    ghost view = { λ o. record { feed = feed_of o.pass; capacity = ruled_capacity (sends_on o.sender); sent = sent_by o.pass } };
 
     ghost invariant = { λ o. IsOpen o.sender o.pass };
 }
@@ -55,6 +57,7 @@ impl Model for Inlet {
 }
 
 /// What a collector leaves behind that has sent the end mark. No call but [`Outlet::end`] makes one.
+/// It keeps the feed's memory.
 ///
 /// Contracts see which feed it is of, and all edges that were sent.
 #[derive(Drop)]
@@ -65,25 +68,27 @@ pub struct Sent {
 
 impl Model for Sent {
     ghost use Rattle.gl_shards.specs.Feeds.{AllSent, feed_of, sent_by};
-    ghost use Rattle.gl_shards.specs.Ends.{IsSender};
+    ghost use Rattle.gl_shards.specs.Ends.{HasSent};
 
     ghost Value = { AllSent };
 
     ghost view = { λ s. record { feed = feed_of s.pass; sent = sent_by s.pass } };
 
-    ghost invariant = { λ s. IsSender s.sender s.pass };
+    ghost invariant = { λ s. HasSent s.sender s.pass };
 }
 
 /// The worker's end of the feed was dropped.
 #[derive(Clone, Copy, Debug, PartialEq, Eq)]
 pub struct Gone;
 
-/// The two ends of a new feed with room for so many edges, from 1 to 65,536, or that there is no
-/// memory for it. The memory is given back once both ends are dropped.
+/// The two ends of a new feed with room for so many messages, from 1 to 65,536, or that there is no
+/// memory for it. An edge is a message, and so is the end mark. The memory is given back once both
+/// ends, or what they became, are dropped.
 pub fn feed(alloc: Global, capacity: u32) -> Result<(Outlet, Inlet), Memory>
     requires some { 1 ≤ capacity }
     requires fit { capacity ≤ MAX_RING }
     ensures one_feed { IfOk result (λ ends. ends.1.feed ≡ ends.0.feed) }
+    ensures room { IfOk result (λ ends. ends.0.capacity ≡ capacity) }
     ensures empty { IfOk result (λ ends. ends.0.sent ≡ []) }
 {
     let (sender, receiver, mut pass) = bounded_with::<Message, Traffic, InOrder, Global>(
@@ -102,14 +107,14 @@ pub fn feed(alloc: Global, capacity: u32) -> Result<(Outlet, Inlet), Memory>
 
 impl Outlet {
     /// Sends an edge with its sample, and waits as long as the feed is full. Both are handed back
-    /// where the worker's end was dropped. It takes no memory.
+    /// where the worker's end was dropped. The edge is moved and not copied. It takes no memory.
     pub fn send<R: Wait>(
         &mut self,
         rt: &R,
         edge: Edge,
         sample: Sample,
     ) -> Result<(), (Edge, Sample)>
-        ensures feed { self.new.feed ≡ self.old.feed }
+        ensures feed { (self.new.feed ≡ self.old.feed) × (self.new.capacity ≡ self.old.capacity) }
         ensures sent { OnOk result (self.new.sent ≡ self.old.sent ++ (edge, sample) ∷ []) }
         ensures gone { IfErr result (λ back. (back ≡ (edge, sample)) × (self.new.sent ≡ self.old.sent)) }
     {

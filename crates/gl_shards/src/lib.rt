@@ -12,6 +12,23 @@
 //! let edges = merge(alloc, vec![in alloc; table]?)?;
 //! ```
 //!
+//! Edges reach the worker of a shard through a [`feed`]. The collector's end is an [`Outlet`] and the
+//! worker's an [`Inlet`]; each may move to a thread of its own.
+//!
+//! ```text
+//! let (mut outlet, inlet) = feed(alloc, 256)?;
+//! outlet.send(&rt, edge, sample)?;                          // waits as long as the feed is full
+//! let sent = outlet.end(&rt)?;                              // stands for all edges that were sent
+//! let served = serve(&rt, alloc, inlet, shard, &Open);      // in the worker's thread
+//! let table = served.settle(sent)?;                         // exactly the edges that were sent
+//! ```
+//!
+//! While both ends run, neither knows what the other one has done. A feed keeps the rule that what
+//! was sent is what was received and then what is on the way, and that nothing follows an end mark.
+//! So once the worker has the end mark, [`Served::settle`] knows that every edge came, with no look
+//! at the edges. That a waiting call returns, and that an end which is dropped is seen by the other
+//! one, is tested and not proved.
+//!
 //! The definitions stand in `specs/`, and the functions without a body say what holds of them.
 #![tactic(auto)]
 

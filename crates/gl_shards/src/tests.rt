@@ -6,6 +6,8 @@ use gl_event::{LocId, LockId, LockMode, Memory, ThreadId};
 use std::alloc::Global;
 use std::test::Fail;
 
+mod feeds;
+
 // The edge of a thread between two exclusive locks, with no other lock held.
 fn edge(alloc: Global, thread: u32, held: u32, wanted: u32) -> Result<Edge, Memory> {
     let mode = LockMode::Exclusive;

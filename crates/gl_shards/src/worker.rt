@@ -1,22 +1,25 @@
 //! The worker of a shard: it puts the edges of its feed into a table.
-ghost use Rattle.std.specs.Prelude.{◌≡◌, ◌↔◌, false, true, Err, IfOk, IsTrue};
+ghost use Rattle.std.specs.Prelude.{◌≡◌, ◌↔◌, false, true, Err, List, [], ◌∷◌, ◌++◌, IfOk, IfSome};
 ghost use mathlib.Core.List.{IsPrefix};
 ghost use Rattle.gl_edges.specs.Edges.{once};
+ghost use Rattle.gl_edges.specs.declared.edge.Edge.{Edge};
+ghost use Rattle.gl_edges.specs.declared.edge.Sample.{Sample};
 ghost use Rattle.gl_shards.specs.declared.worker.ServeFault.TheVariants.{Cut, Memory};
 
 use crate::ends::{Inlet, Sent};
 use crate::rule::{Message, Receives, Roles, Traffic, Whole};
 use crate::table::Table;
 use crossbeam_channel::Pass;
+use gl_edges::{Edge, Sample};
 use std::alloc::Global;
 use std::marker::Model;
 use std::sync::Wait;
 
-/// What a worker passes before it puts in an edge: a place where tests hold it up.
+/// What a worker passes before it puts in an edge: a place to watch it, or to hold it up.
 pub trait Gate {
     /// Called by [`serve`] for each edge that it receives, before the edge is put into the table,
-    /// with the worker's shard and the number of edges that it received before. That number stays
-    /// at its greatest value.
+    /// with the worker's shard and the number of edges that it received before, which stops at the
+    /// greatest number of its type.
     fn pass(&self, shard: u32, taken: u64);
 }
 
@@ -30,8 +33,8 @@ impl Gate for Open {
 
 /// What a worker leaves behind that is done.
 ///
-/// Contracts see which feed it is of, the edges that were received, and whether receiving ended
-/// before the end mark came.
+/// Contracts see which feed it is of, the edges that were received, whether receiving ended before
+/// the end mark came, and whether there was no memory for an edge.
 #[derive(Drop)]
 pub struct Served {
     pass: Pass<Message, Traffic>,
@@ -40,12 +43,13 @@ pub struct Served {
 }
 
 impl Model for Served {
+    ghost use Rattle.std.specs.Option.{is_none};
     ghost use Rattle.gl_shards.specs.Feeds.{Worked, feed_of, received_by};
     ghost use Rattle.gl_shards.specs.Ends.{HasServed};
 
     ghost Value = { Worked };
 
-    ghost view = { λ s. record { feed = feed_of s.pass; received = received_by s.pass; cut = s.cut } };
+    ghost view = { λ s. record { feed = feed_of s.pass; received = received_by s.pass; cut = s.cut; short = is_none s.table } };
 
     ghost invariant = { λ s. HasServed s.pass s.cut s.table };
 }
@@ -64,14 +68,48 @@ pub enum ServeFault {
 ///
 /// The gate is passed once for each edge, before the edge is put in. Where there is no memory for
 /// an edge, the table is given up, and the edges that follow are received and thrown away, so that
-/// the collector isn't held up.
+/// the collector isn't held up. An edge takes time logarithmic in the number of edges.
 pub fn serve<R: Wait, G: Gate>(rt: &R, alloc: Global, inlet: Inlet, shard: u32, gate: &G) -> Served
     ensures feed { result.feed ≡ inlet.feed }
 {
-    Served {
-        pass: inlet.pass,
-        cut: true,
-        table: None,
+    let Inlet { receiver, mut pass } = inlet;
+    let mut table = Some(Table::new(alloc));
+    let mut taken: u64 = 0;
+    for _ in rt.forever() {
+        match receiver.recv_as::<Receives, R>(rt, &mut pass) {
+            Ok(Message::Pair((edge, sample))) => {
+                gate.pass(shard, taken);
+                taken = taken.saturating_add(1);
+                table = with_edge(table, edge, sample);
+            }
+            Ok(Message::Ended) => {
+                return Served {
+                    pass,
+                    cut: false,
+                    table,
+                };
+            }
+            Err(_) => {
+                return Served {
+                    pass,
+                    cut: true,
+                    table,
+                };
+            }
+        }
+    }
+    unreachable!()
+}
+
+// The table with one edge more; none where there is no memory for it, or was none for an earlier
+// one.
+fn with_edge(table: Option<Table>, edge: Edge, sample: Sample) -> Option<Table>
+    ensures { (pairs : List (Edge × Sample)) → IfSome table (λ old. old ≡ once pairs) → IfSome result (λ new. new ≡ once (pairs ++ (edge, sample) ∷ [])) }
+{
+    let mut table = table?;
+    match table.insert(edge, sample) {
+        Ok(()) => Some(table),
+        Err(_) => None,
     }
 }
 
@@ -94,6 +132,7 @@ impl Served {
         requires one_feed { self.feed ≡ sent.feed }
         ensures table { IfOk result (λ table. table ≡ once sent.sent) }
         ensures cut { (result ≡ Err Cut) ↔ (self.cut ≡ true) }
+        ensures memory { (result ≡ Err Memory) ↔ ((self.cut ≡ false) × (self.short ≡ true)) }
         ensures received { IsPrefix self.received sent.sent }
         ensures all_received { self.cut ≡ false → self.received ≡ sent.sent }
     {

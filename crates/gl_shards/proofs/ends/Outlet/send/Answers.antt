@@ -3,9 +3,8 @@ use Rattle.crossbeam_channel.specs.Claims.{view}
 use Rattle.gl_edges.specs.declared.edge.Edge.{Edge}
 use Rattle.gl_edges.specs.declared.edge.Sample.{Sample}
 use Rattle.gl_shards.specs.Feeds.{sent_by}
-use Rattle.gl_shards.specs.Rule.{pairs_in}
 use Rattle.gl_shards.proofs.InOrder.{sends}
-use Rattle.gl_shards.proofs.Messages.{pair_more}
+use Rattle.gl_shards.proofs.Messages.{sent_more}
 use Rattle.gl_shards.proofs.ends.Outlet.send.Goals as goal
 use Rattle.gl_shards.proofs.ends.Outlet.send.Goals.{in-Ok, in-Err+in-Pair}
 
@@ -18,6 +17,6 @@ returns-clause-sent g c =
     elim c.match-send_as.branch [
       | in-Ok w ↦
           subst (λ result. OnOk result (sent_by c.send_as.new.pass ≡ c.args.self.now.sent ++ pair ∷ [])) (sym w.result-is)
-          (ap (λ known. pairs_in known.sent) w.in-Ok.ensures.rule ∙ pair_more (view c.self.inside.pass).sent pair ∙ ap (λ outlet. outlet.sent ++ pair ∷ []) c.self.view_is)
+          (sent_more (view c.self.inside.pass) (view c.send_as.new.pass) pair w.in-Ok.ensures.rule ∙ ap (λ outlet. outlet.sent ++ pair ∷ []) c.self.view_is)
       | in-Err+in-Pair w ↦ subst (λ result. OnOk result (sent_by c.send_as.new.pass ≡ c.args.self.now.sent ++ pair ∷ [])) (sym w.result-is) tt
     ]

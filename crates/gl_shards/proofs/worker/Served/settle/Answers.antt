@@ -1,4 +1,4 @@
-use Rattle.std.proofs.Common.{ap, subst, ◌∙◌}
+use Rattle.std.proofs.Common.{ap, subst}
 use mathlib.Core.List.{IsPrefix}
 use Rattle.crossbeam_channel.specs.Claims.{view}
 use Rattle.gl_shards.specs.Feeds.{received_by}
@@ -7,7 +7,7 @@ use Rattle.gl_shards.proofs.Messages.{begins_sent}
 use Rattle.gl_shards.proofs.worker.Served.settle.Goals as goal
 
 pub absorb-requires-clause-rule : goal.absorb-requires-clause-rule
-absorb-requires-clause-rule c = merges _ _ _ _ c.sent.invariant.sends c.self.invariant.receives
+absorb-requires-clause-rule c = merges _ _ _ _ c.sent.invariant.is_sender.sends c.self.invariant.receives
 
 pub learn_as-requires-clause-rule : goal.learn_as-requires-clause-rule
 learn_as-requires-clause-rule c = learns _ _ (ap (λ known. known.sends) c.absorb.ensures.rule) (ap (λ known. known.receives) c.absorb.ensures.rule)
