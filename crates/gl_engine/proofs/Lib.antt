@@ -1,3 +1,4 @@
 pub mod Notes
 pub mod Sides
 pub mod Opening
+pub mod Agreeing

@@ -21,6 +21,7 @@
 #![tactic(auto)]
 
 mod collector;
+mod laws;
 mod pulled;
 mod receipt;
 mod recorder;
@@ -28,6 +29,7 @@ mod row;
 mod session;
 
 pub use collector::Collector;
+pub use laws::running_calls_are_steps;
 pub use pulled::{PullFault, Pulled};
 pub use receipt::Receipt;
 pub use recorder::{CloseFault, RecordFault, Recorder};
