@@ -14,14 +14,14 @@ use Rattle.gl_recorder.specs.Taking.{event_note, end_note}
 use Rattle.gl_intake.specs.Stream.{events_of, IsNext}
 use Rattle.gl_world.specs.Machine.{Lane, State, Turn, rest, has_closed, has_room, use_wish, take_turn, take_judged, end_turn, taken_of, edges_due, step}
 use Rattle.gl_world.specs.Machine as machine
-use Rattle.gl_world.specs.Keeping.{IsLaneOf, IsFrontOf}
+use Rattle.gl_world.specs.Keeping.{IsLaneOf}
 use Rattle.gl_world.specs.declared.steps.Step.TheVariants.{Pull}
-use Rattle.gl_world.specs.declared.steps.Did.TheVariants.{Taken, Passed, Ended}
+use Rattle.gl_world.specs.declared.steps.Did.TheVariants.{Taken}
 use Rattle.gl_world.proofs.Rows.{take_open, end_room, end_full, due_are}
 use Rattle.gl_world.proofs.Sound.{front_is_next, front_of, told_events}
 use Rattle.gl_world.proofs.Worlds.{pull_known}
-use Rattle.gl_engine.specs.Collecting.{Collecting, Pulling, side_of, as_of, pull_note}
-use Rattle.gl_engine.specs.Recording.{Recording, recorded, next_note, push_note, closed_of}
+use Rattle.gl_engine.specs.Collecting.{Collecting, as_of}
+use Rattle.gl_engine.specs.Recording.{Recording, recorded}
 use Rattle.gl_engine.specs.Steps.{Wishes, Offers, RecordIsTake, CloseIsEnd, PullIsPull}
 use Rattle.gl_engine.proofs.Sides.{whole_lane, is_front}
 
@@ -42,9 +42,10 @@ module _ (r : Recording) (lane : Lane) (event : Event) (w : Wishes r lane event)
 pub record_is_take : RecordIsTake
 record_is_take = record {
   taken = λ r lane event room w lawful free.
-      (let is = judged r lane event w None lawful ∙ with_room r lane event w free in
-      (ap (λ (t : Turn). t.did) is ∙ ap (λ notes. Taken (length (events_of r.thread notes))) w.pushed,
-      ap (λ (t : Turn). t.lane.pushed) is ∙ ap (λ notes. notes ++ event_note r.thread (events_of r.thread notes) event ∷ []) w.pushed));
+      (let is = judged r lane event w None lawful ∙ with_room r lane event w free in (
+        ap (λ (t : Turn). t.did) is ∙ ap (λ notes. Taken (length (events_of r.thread notes))) w.pushed,
+        ap (λ (t : Turn). t.lane.pushed) is ∙ ap (λ notes. notes ++ event_note r.thread (events_of r.thread notes) event ∷ []) w.pushed,
+      ));
   refused = λ r lane event why w unlawful.
       (let is = judged r lane event w (Some why) unlawful in
       (ap (λ (t : Turn). t.did) is, ap (λ (t : Turn). t.lane.pushed) is ∙ w.pushed));
