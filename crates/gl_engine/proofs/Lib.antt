@@ -4,3 +4,4 @@ pub mod Opening
 pub mod Dealt
 pub mod Confirming
 pub mod Running
+pub mod Agreeing

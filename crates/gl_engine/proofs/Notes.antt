@@ -1,6 +1,5 @@
 -- What a recorder keeps, note by note.
-use Rattle.std.proofs.Common.{◌≡◌, ◌≢◌, ℕ, ◌<◌, true, false, List, [], ◌∷◌, ◌++◌, length, None, Some, refl, sym, ap, ◌∙◌, arith}
-use Rattle.std.specs.Prelude.{slice_get}
+use Rattle.std.proofs.Common.{◌≡◌, ℕ, ◌<◌, List, [], ◌∷◌, ◌++◌, length, None, refl, sym, ap, ◌∙◌, arith}
 use Rattle.gl_event.specs.Bounds.{Bounds}
 use Rattle.gl_event.specs.Lawful.{refusal}
 use Rattle.gl_event.specs.declared.events.Event.{Event}

@@ -1,5 +1,5 @@
 -- A session's recorders and rows, thread by thread.
-use Rattle.std.proofs.Common.{◌≡◌, ℕ, ◌+◌, ◌<◌, List, [], ◌∷◌, ◌++◌, length, map, Some, refl, sym, ap, ◌∙◌, subst, arith, ◌⊎◌, inl, inr}
+use Rattle.std.proofs.Common.{◌≡◌, ℕ, ◌+◌, List, [], ◌∷◌, ◌++◌, length, map, Some, refl, sym, ap, ◌∙◌, subst, arith, inl, inr}
 use Rattle.std.specs.Prelude.{slice_get}
 use Rattle.std.proofs.lemmas.List.{map-append, length_push}
 use Rattle.std.proofs.lemmas.Option.{slice_get_within}
@@ -16,7 +16,6 @@ use Rattle.gl_engine.specs.Keeping.{AreFresh, IsCollector, pulling_of}
 use Rattle.gl_engine.specs.Recording.{Recording, IsFresh}
 use Rattle.gl_engine.proofs.Dealt.{made_by_none}
 use Rattle.gl_engine.specs.declared.row.Row.{Row}
-use Rattle.gl_lane.specs.Lanes.{LaneId}
 
 -- what holds of each item with its place holds of each where one more joins them
 each_and_last : {X : Type 0} (P : ℕ → X → Type 0) (xs : List X) (x : X) → ((i : ℕ) (y : X) → slice_get xs i ≡ Some y → P i y) → P (length xs) x → (i : ℕ) (y : X) → slice_get (xs ++ x ∷ []) i ≡ Some y → P i y

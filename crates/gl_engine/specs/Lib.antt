@@ -6,3 +6,4 @@ pub mod Dealing
 pub mod Gathering
 pub mod Whole
 pub mod Settling
+pub mod Steps

@@ -10,7 +10,7 @@ returns-clause-shipped g c before are =
     (c.shard_of-shard.ensures.value ∙ ap (shard_of c.args.edge) count) (omega (arith, c.shard_of-shard.ensures.within, count)) c.in-Ok.ensures.sent before are
 
 pub returns-clause-feeds : goal.returns-clause-feeds
-returns-clause-feeds g c = feeds_same c.args.outlets.now.items c.shard_of-shard.result c.index_mut.result.now c.send.new.self c.index_mut.ensures.value c.send.ensures.feed
+returns-clause-feeds g c = feeds_same c.args.outlets.now.items c.shard_of-shard.result c.index_mut.result.now c.send.new.self c.index_mut.ensures.value c.send.ensures.feed.0
 
 pub returns-in_default-clause-feeds : goal.returns-in_default-clause-feeds
-returns-in_default-clause-feeds g c = feeds_same c.args.outlets.now.items c.shard_of-shard.result c.index_mut.result.now c.send.new.self c.index_mut.ensures.value c.send.ensures.feed
+returns-in_default-clause-feeds g c = feeds_same c.args.outlets.now.items c.shard_of-shard.result c.index_mut.result.now c.send.new.self c.index_mut.ensures.value c.send.ensures.feed.0

@@ -1,5 +1,4 @@
 use Rattle.std.proofs.Common.{◌<◌, length, subst, sym, arith}
-use Rattle.std.proofs.lemmas.List.{length-map}
 use Rattle.gl_world.proofs.Lists.{get_at}
 use Rattle.gl_engine.specs.Collecting.{Collecting}
 use Rattle.gl_engine.proofs.Sides.{collector_after, pull_tells, lanes_still}
