@@ -1,0 +1,170 @@
+-- A pull in a run, whose edges are kept apart from those that were shipped.
+use Rattle.std.proofs.Common.{◌≡◌, ◌≢◌, ℕ, zero, suc, ◌+◌, ◌<◌, ◌≤◌, true, List, [], ◌∷◌, ◌++◌, length, map, set, get_or, Option, None, Some, Result, Ok, Err, refl, sym, ap, ◌∙◌, subst, append_assoc, arith, ◌⊎◌, inl, inr}
+use Rattle.std.specs.Prelude.{slice_get, IsOk, OnOk}
+use Rattle.std.specs.List.{range_with_len}
+use Rattle.std.specs.Option.{option_map}
+use mathlib.Core.List.{IsPrefix}
+use Rattle.std.proofs.Math.Seq.{map-set_same}
+use Rattle.std.proofs.lemmas.Bool.{false≢true}
+use Rattle.std.proofs.lemmas.List.{append-nil, length-map, map-set, map-append}
+use Rattle.std.proofs.lemmas.Option.{slice_get-map, slice_get_within}
+use Rattle.gl_event.specs.Bounds.{Bounds}
+use Rattle.gl_event.specs.declared.notes.Note.{Note}
+use Rattle.gl_edges.specs.Tracking.{Tracks as Follows}
+use Rattle.gl_edges.specs.declared.edge.Edge.{Edge}
+use Rattle.gl_edges.specs.declared.edge.Sample.{Sample}
+use Rattle.gl_intake.specs.Stream.{events_of, has_ended}
+use Rattle.gl_shards.specs.Feeds.{AllSent, Sending}
+use Rattle.gl_shards.specs.Shards.{shard_of}
+use Rattle.gl_shards.specs.Tables.{of_shard}
+use Rattle.gl_world.proofs.Lists.{same_some, get_at, found_within}
+use Rattle.gl_engine.specs.Collecting.{Pulling, Side, as_of, pull_note, HasPulled, IsSidePull}
+use Rattle.gl_engine.specs.Dealing.{dealt, made_by}
+use Rattle.gl_engine.specs.Keeping.{IsCollector, pulling_of}
+use Rattle.gl_engine.specs.Whole.{lane_of, KeepsUp, IsWhole, IsGathered}
+use Rattle.std.proofs.lemmas.Simd.{map-map}
+use Rattle.gl_engine.specs.declared.faults.RunFault.{RunFault}
+use Rattle.gl_engine.specs.declared.pulled.Pulled.{Pulled}
+use Rattle.gl_engine.specs.declared.pulled.Pulled.TheVariants.{Empty, Event as Answered, Ended as Closing}
+use Rattle.gl_engine.specs.declared.pulled.PullFault.{PullFault}
+use Rattle.gl_engine.specs.declared.pulled.PullFault.TheVariants.{Broken, Memory as OutOfMemory}
+use Rattle.gl_engine.specs.declared.row.Row.{Row}
+use Rattle.gl_engine.proofs.Dealt.{dealt_at, dealt_more}
+use Rattle.gl_engine.proofs.Sides.{collector_after, lane_same}
+
+-- the side with these edges made before its own
+abbrev pub side_after : List (Edge × Sample) → Side → Side
+side_after before side = record { row = side.row; stream = side.stream; made = before ++ side.made }
+
+module _ (limits : Bounds) (thread : ℕ) (before : List (Edge × Sample)) (old new : Side) where
+  pulled_after : (answer : Pulled) → HasPulled limits thread old answer new → HasPulled limits thread (side_after before old) answer (side_after before new)
+  pulled_after answer has = record {
+    running = has.running;
+    note = has.note;
+    next = has.next;
+    answer_is = has.answer_is;
+    moved = ap (side_after before) has.moved
+        ∙ ap (λ pairs. let side : Side = record { row = (pull_note thread old has.note).row; stream = (pull_note thread old has.note).stream; made = pairs } in side) (sym (append_assoc before old.made _));
+  }
+
+  -- the same pull, with these edges made before
+  pub pull_after : (answer : Result Pulled PullFault) → IsSidePull limits thread old answer new → IsSidePull limits thread (side_after before old) answer (side_after before new)
+  pull_after (Ok Empty) tells = (tells.0, ap (side_after before) tells.1)
+  pull_after (Ok (Answered place)) tells = pulled_after (Answered place) tells
+  pull_after (Ok (Closing count)) tells = pulled_after (Closing count) tells
+  pull_after (Err (Broken why)) (inl same) = inl (same.0, ap (side_after before) same.1)
+  pull_after (Err (Broken why)) (inr has) = inr (record { running = has.running; note = has.note; refused = has.refused; moved = ap (side_after before) has.moved })
+  pull_after (Err OutOfMemory) tells = (tells.0, ap (side_after before) tells.1)
+
+module _ (limits : Bounds) (rows : List Row) (stream : List Note) (is : IsCollector limits rows stream (made_by stream) limits)
+    (thread : ℕ) (was new : Row) (within : thread < length rows) (here : was ≡ get_or rows thread was) (later : List Note) (due : List (Edge × Sample))
+    (follows : Follows thread (events_of thread later) new.tracker) (answer : Result Pulled PullFault)
+    (tells : IsSidePull limits thread (record { row = pulling_of was; stream = stream; made = [] }) answer (record { row = pulling_of new; stream = later; made = due })) where
+  told_after : IsSidePull limits thread (record { row = pulling_of was; stream = stream; made = made_by stream }) answer (record { row = pulling_of new; stream = later; made = made_by stream ++ due })
+  told_after =
+      subst (λ pairs. IsSidePull limits thread (record { row = pulling_of was; stream = stream; made = pairs }) answer (record { row = pulling_of new; stream = later; made = made_by stream ++ due })) (append-nil (made_by stream))
+      (pull_after limits thread (made_by stream) (record { row = pulling_of was; stream = stream; made = [] }) (record { row = pulling_of new; stream = later; made = due }) answer tells)
+
+  after : IsCollector limits (set rows thread new) later (made_by stream ++ due) limits
+  after = collector_after limits rows stream (made_by stream) limits is thread was new within here later (made_by stream ++ due) follows answer told_after
+
+  -- the edges due are those that the stream makes beside those before
+  pub due_later : made_by stream ++ due ≡ made_by later
+  due_later = after.made_is
+
+  pub kept_later : IsCollector limits (set rows thread new) later (made_by later) limits
+  kept_later = subst (λ pairs. IsCollector limits (set rows thread new) later pairs limits) due_later after
+
+  pub lanes_later : map lane_of (set rows thread new) ≡ map lane_of rows
+  lanes_later = map-set_same lane_of rows thread new was (lane_same limits rows stream (made_by stream) limits is thread was new within here later (made_by stream ++ due) follows answer told_after ∙ ap lane_of here)
+
+  grown_by : (answer : Result Pulled PullFault) → IsSidePull limits thread (record { row = pulling_of was; stream = stream; made = [] }) answer (record { row = pulling_of new; stream = later; made = due }) → IsPrefix stream later
+  grown_by (Ok Empty) t = ([], append-nil stream ∙ sym (ap (λ (s : Side). s.stream) t.1))
+  grown_by (Ok (Answered place)) t = (as_of thread t.note ∷ [], sym (ap (λ (s : Side). s.stream) t.moved))
+  grown_by (Ok (Closing count)) t = (as_of thread t.note ∷ [], sym (ap (λ (s : Side). s.stream) t.moved))
+  grown_by (Err (Broken why)) (inl same) = ([], append-nil stream ∙ sym (ap (λ (s : Side). s.stream) same.1))
+  grown_by (Err (Broken why)) (inr has) = ([], append-nil stream ∙ sym (ap (λ (s : Side). s.stream) has.moved))
+  grown_by (Err OutOfMemory) t = ([], append-nil stream ∙ sym (ap (λ (s : Side). s.stream) t.1))
+
+  pub grown_later : IsPrefix stream later
+  grown_later = grown_by answer tells
+
+-- ---- what was shipped
+
+-- lists that look alike in some way are as long
+pub as_long : {X Y Z : Type 0} (f : X → Z) (g : Y → Z) (xs : List X) (ys : List Y) → map f xs ≡ map g ys → length xs ≡ length ys
+as_long f g xs ys same = sym (length-map xs f) ∙ ap length same ∙ length-map ys g
+
+module _ (outlets : List Sending) (k : ℕ) (was new : Sending) (here : was ≡ get_or outlets k was) where
+  -- an edge more was shipped to its shard
+  pub shipped_more : (pair : Edge × Sample) → 1 ≤ length outlets → k ≡ shard_of pair.0 (length outlets) → k < length outlets → new.sent ≡ was.sent ++ pair ∷ [] → (before : List (Edge × Sample))
+      → map (λ o. o.sent) outlets ≡ dealt (length outlets) before → map (λ o. o.sent) (set outlets k new) ≡ dealt (length outlets) (before ++ pair ∷ [])
+  shipped_more pair some its within sent before are =
+      let n = length outlets in
+      let old : was.sent ≡ of_shard n before k = same_some was.sent (of_shard n before k) (sym (slice_get-map (λ (o : Sending). o.sent) outlets k ∙ ap (option_map (λ (o : Sending). o.sent)) (get_at outlets k was within here)) ∙ ap (λ xs. slice_get xs k) are ∙ dealt_at n before k within) in
+      map-set (λ (o : Sending). o.sent) outlets k new
+      ∙ (λ i. set (are i) k ((sent ∙ ap (λ xs. xs ++ pair ∷ []) old) i))
+      ∙ ap (λ j. set (dealt n before) j (of_shard n before j ++ pair ∷ [])) its
+      ∙ sym (dealt_more n before pair (subst (λ j. j < n) its within))
+
+  pub feeds_same : new.feed ≡ was.feed → map (λ o. o.feed) (set outlets k new) ≡ map (λ o. o.feed) outlets
+  feeds_same same = map-set_same (λ (o : Sending). o.feed) outlets k new was (same ∙ ap (λ (o : Sending). o.feed) here)
+
+-- nothing was sent through these outlets
+pub unsent_dealt : (outlets : List Sending) → ((shard : ℕ) (o : Sending) → slice_get outlets shard ≡ Some o → o.sent ≡ []) → map (λ o. o.sent) outlets ≡ dealt (length outlets) []
+unfolding dealt
+unsent_dealt outlets none = from 0 outlets none
+  where
+    from : (first : ℕ) (os : List Sending) → ((shard : ℕ) (o : Sending) → slice_get os shard ≡ Some o → o.sent ≡ []) → map (λ o. o.sent) os ≡ map (of_shard (length outlets) []) (range_with_len first (length os))
+    from first [] none = refl
+    from first (o ∷ os) none = (λ i. none 0 o refl i ∷ from (first + 1) os (λ shard p at. none (suc shard) p at) i)
+
+-- an end of a lane more in a list
+pub last_more : {X Y : Type 0} (f : X → Y) (xs : List X) (x : X) (ys : List X) → ys ≡ xs ++ x ∷ [] → map f ys ≡ map f xs ++ f x ∷ []
+last_more f xs x ys is = ap (map f) is ∙ map-append f xs (x ∷ [])
+
+pub prefix_on : {X : Type 0} (xs ys zs : List X) → IsPrefix xs ys → IsPrefix ys zs → IsPrefix xs zs
+prefix_on xs ys zs a b = (a.0 ++ b.0, sym (append_assoc xs a.0 b.0) ∙ ap (λ l. l ++ b.0) a.1 ∙ b.1)
+
+-- what an Ok tells
+pub when_ok : {X E : Type 0} (r : Result X E) (P : Type 0) → IsOk r → OnOk r P → P
+when_ok (Ok x) P ok told = told
+when_ok (Err e) P ok told = absurd (false≢true ok)
+
+-- ---- what was gathered
+
+-- a run that kept up to the end has gathered all
+pub all_whole : (limits : Bounds) (rows : List Row) (stream : List Note) (outlets : List Sending) (sent : List AllSent) → KeepsUp limits rows stream outlets
+    → ((thread : ℕ) → thread < limits.threads → has_ended thread stream ≡ true) → 1 ≤ length outlets → map (λ s. s.sent) sent ≡ map (λ o. o.sent) outlets → IsWhole limits rows stream sent
+all_whole limits rows stream outlets sent keeps ended some are =
+    let count : length sent ≡ length outlets = as_long (λ (s : AllSent). s.sent) (λ (o : Sending). o.sent) sent outlets are in
+    record {
+      told = λ thread seen at.
+          (let (row, there) = found_within rows thread (let within = slice_get_within (map pulling_of rows) thread seen at in omega (arith, length-map rows pulling_of)) in
+          let same : seen ≡ pulling_of row = same_some seen (pulling_of row) (sym at ∙ slice_get-map pulling_of rows thread ∙ ap (option_map pulling_of) there) in
+          keeps.collector.rows_are.told thread row there ∙ ap (λ (p : Pulling). map (as_of thread) p.popped) (sym same));
+      in_order = keeps.collector.in_order;
+      ended = ended;
+      made_are = keeps.collector.made_are;
+      some = omega (arith, some, count);
+      shipped = are ∙ keeps.shipped ∙ ap (λ n. dealt n (made_by stream)) (sym count);
+    }
+
+-- what a collector's rows show of their lanes
+pub lanes_shown : (rows : List Row) → map (λ (p : Pulling). p.lane) (map pulling_of rows) ≡ map lane_of rows
+lanes_shown rows = map-map (λ (p : Pulling). p.lane) pulling_of rows
+
+-- what a run keeps at its end, whatever went wrong
+pub gathered_all : (limits collecting : Bounds) → collecting ≡ limits → (before rows : List Row) → length before ≡ limits.threads → map lane_of rows ≡ map lane_of before → (stream : List Note) (given outlets : List Sending) (sent : List AllSent)
+    → 1 ≤ length given → map (λ o. o.feed) outlets ≡ map (λ o. o.feed) given → (gathered : Result (Unit {0}) RunFault) (ended : Result (Unit {0}) ℕ) → OnOk gathered (KeepsUp collecting rows stream outlets)
+    → OnOk gathered ((thread : ℕ) → thread < collecting.threads → has_ended thread stream ≡ true) → OnOk ended (map (λ s. s.sent) sent ≡ map (λ o. o.sent) outlets)
+    → (fault : Option RunFault) → (fault ≡ None → IsOk gathered × IsOk ended) → IsGathered limits rows stream collecting sent fault
+gathered_all limits collecting same before rows count lanes stream given outlets sent some feeds gathered ended keeps all kept fault none = record {
+  count = as_long lane_of lane_of rows before lanes ∙ count;
+  same_limits = same;
+  whole = λ is.
+      (let (ok, kept_ok) = none is in
+      let many : length outlets ≡ length given = as_long (λ (o : Sending). o.feed) (λ (o : Sending). o.feed) outlets given feeds in
+      subst (λ b. IsWhole b rows stream sent) same
+      (all_whole collecting rows stream outlets sent (when_ok gathered _ ok keeps) (when_ok gathered _ ok all) (omega (arith, many, some)) (when_ok ended _ kept_ok kept)));
+}

@@ -1,0 +1,222 @@
+-- What a pull makes of a collector's rows, stream and edges.
+use Rattle.std.proofs.Common.{◌≡◌, ◌≢◌, ℕ, ◌<◌, List, [], ◌∷◌, ◌++◌, length, map, take, set, get_or, Some, Result, Ok, Err, Vec, Global, refl, sym, ap, ◌∙◌, subst, inl, inr}
+use Rattle.std.specs.Prelude.{slice_get, IfOk}
+use Rattle.std.proofs.Math.Seq.{take-append_seam, map-set_same}
+use Rattle.std.proofs.lemmas.Bool.{cases_eq}
+use Rattle.std.specs.Option.{option_map}
+use Rattle.std.proofs.lemmas.List.{length-set, map-append, map-set, get_or-map}
+use Rattle.std.proofs.lemmas.Option.{slice_get-map}
+use Rattle.gl_event.specs.Bounds.{Bounds, AreWithinRange}
+use Rattle.gl_event.specs.declared.events.Event.{Event}
+use Rattle.gl_event.specs.declared.notes.Note.{Note}
+use Rattle.gl_event.specs.declared.notes.Body.{Body}
+use Rattle.gl_event.specs.declared.notes.Body.TheVariants.{Happened, Ended}
+use Rattle.gl_event.proofs.Depths.{slice_get_last}
+use Rattle.gl_edges.specs.Tracking.{Tracks as Follows}
+use Rattle.gl_edges.specs.declared.edge.Edge.{Edge}
+use Rattle.gl_edges.specs.declared.edge.Sample.{Sample}
+use Rattle.gl_edges.specs.declared.tracker.Tracker.{Tracker}
+use Rattle.gl_edges.specs.Edges.{edges_after}
+use Rattle.gl_edges.proofs.Steps.{newest}
+use Rattle.gl_intake.specs.Stream.{events_of, accepted_as, IsNext, AreInOrder}
+use Rattle.gl_intake.proofs.Order.{AreInOrder-push}
+use Rattle.gl_intake.proofs.Streams.{events_more, events_ended, events_other}
+use Rattle.gl_world.specs.Machine.{Lane, edges_due}
+use Rattle.gl_world.specs.Keeping.{notes_of, IsFrontOf, AreMade, MayTake, with_body}
+use Rattle.gl_world.proofs.Lists.{same_some, get_at, get_set_same, get_set_other}
+use Rattle.gl_world.proofs.Makings.{made_pulled}
+use Rattle.gl_world.proofs.Rows.{may_take}
+use Rattle.gl_world.proofs.Sound.{notes_own, notes_other}
+use Rattle.gl_engine.specs.Collecting.{Pulling, Collecting, Side, as_of, pulled_of, HasPulled, IsSidePull, IsPull}
+use Rattle.gl_engine.specs.Dealing.{made_by}
+use Rattle.gl_engine.specs.Keeping.{AreRows, IsCollector, pulling_of}
+use Rattle.gl_engine.proofs.Dealt.{made_by_more}
+use Rattle.gl_engine.specs.declared.pulled.Pulled.{Pulled}
+use Rattle.gl_engine.specs.declared.pulled.Pulled.TheVariants.{Empty, Event as Answered, Ended as Closing}
+use Rattle.gl_engine.specs.declared.pulled.PullFault.{PullFault}
+use Rattle.gl_engine.specs.declared.pulled.PullFault.TheVariants.{Broken, Memory as OutOfMemory}
+use Rattle.gl_engine.specs.declared.row.Row.{Row}
+
+-- ---- the note that joins a stream, as the front note of one lane
+
+abbrev pub whole_lane : List Note → Note → Lane
+whole_lane stream note = record { wishes = []; used = 0; pushed = stream ++ note ∷ []; popped = length stream }
+
+module _ (limits : Bounds) (stream : List Note) (note : Note) (next : IsNext limits stream note) where
+  front : take (length stream) (stream ++ note ∷ []) ≡ stream
+  front = take-append_seam stream (note ∷ [])
+
+  pub is_front : IsFrontOf limits note.thread (whole_lane stream note) note
+  is_front = record {
+    at = slice_get_last stream note;
+    own = refl;
+    next = rw front next;
+  }
+
+  pub made_more : (threads : ℕ) (made : List (Edge × Sample)) → note.thread < threads → AreMade threads stream made
+      → AreMade threads (stream ++ note ∷ []) (made ++ edges_due note.thread (events_of note.thread (stream ++ note ∷ [])) note.place note.body)
+  made_more threads made known are = made_pulled limits note.thread threads stream (whole_lane stream note) note made known (ap (events_of note.thread) front) is_front are
+
+  -- the thread's events with that of the note
+  pub with_note : with_body (events_of note.thread stream) note.body ≡ events_of note.thread (stream ++ note ∷ [])
+  with_note = by_body note.body refl
+    where
+      by_body : (body : Body) → note.body ≡ body → with_body (events_of note.thread stream) body ≡ events_of note.thread (stream ++ note ∷ [])
+      by_body (Happened e) is = sym (events_more stream note e is)
+      by_body (Ended count) is = sym (events_ended stream note note.thread count is)
+
+  -- the edges of the note, found after the events before it
+  pub due_is : edges_due note.thread (with_body (events_of note.thread stream) note.body) (length (events_of note.thread stream)) note.body
+      ≡ edges_due note.thread (events_of note.thread (stream ++ note ∷ [])) note.place note.body
+  due_is = λ i. edges_due note.thread (with_note i) (sym next.in_place i) note.body
+
+-- ---- the rows
+
+module _ (limits : Bounds) (rows : List Row) (stream : List Note) (are : AreRows limits rows stream) (thread : ℕ) (new : Row) (later : List Note) (within : thread < length rows)
+    (told : notes_of thread later ≡ map (as_of thread) new.lane.popped) (follows : Follows thread (events_of thread later) new.tracker)
+    (still : (t : ℕ) → thread ≢ t → (notes_of t later ≡ notes_of t stream) × (events_of t later ≡ events_of t stream)) where
+  now_there : (t : ℕ) (row : Row) → thread ≡ t → slice_get (set rows thread new) t ≡ Some row → row ≡ new
+  now_there t row same at = same_some row new (sym at ∙ ap (slice_get (set rows thread new)) (sym same) ∙ get_set_same rows thread new within)
+
+  pub rows_with : AreRows limits (set rows thread new) later
+  rows_with = record {
+    count = length-set rows thread new ∙ are.count;
+    told = λ t row at.
+        elim (cases_eq thread t) [
+          | inl same ↦ subst (λ k. notes_of k later ≡ map (as_of k) row.lane.popped) same (subst (λ (r : Row). notes_of thread later ≡ map (as_of thread) r.lane.popped) (sym (now_there t row same at)) told)
+          | inr other ↦ (still t other).0 ∙ are.told t row (sym (get_set_other rows thread t new other) ∙ at)
+        ];
+    follows = λ t row at.
+        elim (cases_eq thread t) [
+          | inl same ↦ subst (λ k. Follows k (events_of k later) row.tracker) same (subst (λ (r : Row). Follows thread (events_of thread later) r.tracker) (sym (now_there t row same at)) follows)
+          | inr other ↦ subst (λ es. Follows t es row.tracker) (sym (still t other).1) (are.follows t row (sym (get_set_other rows thread t new other) ∙ at))
+        ];
+  }
+
+-- ---- one pull
+
+-- the edges that an event makes as the next one
+pub due_if : {E : Type 0} (thread : ℕ) (es : List Event) (e : Event) (result : Result (Vec (Edge × Sample) Global) E) → IfOk result (λ edges. edges.items ≡ edges_after thread es e)
+    → IfOk result (λ edges. edges.items ≡ edges_due thread (es ++ e ∷ []) (length es) (Happened e))
+due_if thread es e (Ok edges) made = made ∙ sym (newest thread es e)
+due_if thread es e (Err why) made = tt
+
+-- a tracker of the thread may take the next note
+pub may_take_next : (limits : Bounds) (stream : List Note) (note : Note) → IsNext limits stream note → (tracker : Tracker) → Follows note.thread (events_of note.thread stream) tracker → AreWithinRange limits
+    → MayTake tracker note.body
+may_take_next limits stream note next tracker follows range =
+    may_take limits note.thread (whole_lane stream note) note (is_front limits stream note next) tracker
+    (subst (λ notes. Follows note.thread (events_of note.thread notes) tracker) (sym (take-append_seam stream (note ∷ []))) follows) range
+
+never_empty : (place : ℕ) (body : Body) → Empty ≢ pulled_of (accepted_as place body)
+never_empty place (Happened e) is = cc
+never_empty place (Ended count) is = cc
+
+-- the answer to a note that was pulled
+pub pull_ok : (limits : Bounds) (thread : ℕ) (old : Side) (answer : Pulled) (new : Side) → HasPulled limits thread old answer new → IsSidePull limits thread old (Ok answer) new
+pull_ok limits thread old Empty new has = absurd (never_empty has.note.place has.note.body has.answer_is)
+pull_ok limits thread old (Answered place) new has = has
+pull_ok limits thread old (Closing count) new has = has
+
+-- ---- the collector after a pull
+
+abbrev pub collecting_from : ℕ → Bounds → List Pulling → List Note → List (Edge × Sample) → Collecting
+collecting_from session limits rows stream made = record { session = session; limits = limits; rows = rows; stream = stream; made = made }
+
+-- what contracts see of a collector with these rows
+abbrev pub collecting_of : ℕ → Bounds → List Row → List Note → List (Edge × Sample) → Collecting
+collecting_of session limits rows stream made = collecting_from session limits (map pulling_of rows) stream made
+
+module _ (limits : Bounds) (rows : List Row) (stream : List Note) (made : List (Edge × Sample)) (collecting : Bounds) (is : IsCollector limits rows stream made collecting)
+    (thread : ℕ) (was new : Row) (within : thread < length rows) (here : was ≡ get_or rows thread was) (later : List Note) (later_made : List (Edge × Sample))
+    (follows : Follows thread (events_of thread later) new.tracker) where
+  row_at : slice_get rows thread ≡ Some was
+  row_at = get_at rows thread was within here
+
+  was_told : notes_of thread stream ≡ map (as_of thread) was.lane.popped
+  was_told = is.rows_are.told thread was row_at
+
+  kept_same : later ≡ stream → later_made ≡ made → new.lane.popped ≡ was.lane.popped → IsCollector limits (set rows thread new) later later_made collecting
+  kept_same same same_made popped = record {
+    rows_are = rows_with limits rows stream is.rows_are thread new later within (ap (notes_of thread) same ∙ was_told ∙ ap (map (as_of thread)) (sym popped)) follows
+        (λ t other. (ap (notes_of t) same, ap (events_of t) same));
+    in_order = subst (AreInOrder limits) (sym same) is.in_order;
+    made_are = subst (λ notes. AreMade limits.threads notes later_made) (sym same) (subst (AreMade limits.threads stream) (sym same_made) is.made_are);
+    made_is = same_made ∙ is.made_is ∙ ap made_by (sym same);
+    same_limits = is.same_limits;
+    range = is.range;
+  }
+
+  abbrev old_side : Side
+  old_side = record { row = pulling_of was; stream = stream; made = made }
+
+  abbrev new_side : Side
+  new_side = record { row = pulling_of new; stream = later; made = later_made }
+
+  kept_pulled : (answer : Pulled) → HasPulled collecting thread old_side answer new_side → IsCollector limits (set rows thread new) later later_made collecting
+  kept_pulled answer has = record {
+    rows_are = rows_with limits rows stream is.rows_are thread new later within told follows
+        (λ t other. (ap (notes_of t) grown ∙ notes_other stream own t other, ap (events_of t) grown ∙ events_other stream own t other));
+    in_order = subst (AreInOrder limits) (sym grown) (AreInOrder-push limits stream own is.in_order next);
+    made_are = subst (λ notes. AreMade limits.threads notes later_made) (sym grown) (subst (AreMade limits.threads (stream ++ own ∷ [])) (sym edges) (made_more limits stream own next limits.threads made next.known is.made_are));
+    made_is = edges ∙ ap (λ pairs. pairs ++ edges_due thread (events_of thread (stream ++ own ∷ [])) own.place own.body) is.made_is ∙ sym (made_by_more stream own) ∙ ap made_by (sym grown);
+    same_limits = is.same_limits;
+    range = is.range;
+  }
+    where
+      own : Note
+      own = as_of thread has.note
+
+      next : IsNext limits stream own
+      next = subst (λ b. IsNext b stream own) is.same_limits has.next
+
+      grown : later ≡ stream ++ own ∷ []
+      grown = ap (λ (s : Side). s.stream) has.moved
+
+      edges : later_made ≡ made ++ edges_due thread (events_of thread (stream ++ own ∷ [])) own.place own.body
+      edges = ap (λ (s : Side). s.made) has.moved
+
+      popped : new.lane.popped ≡ was.lane.popped ++ has.note ∷ []
+      popped = ap (λ (s : Side). s.row.popped) has.moved
+
+      told : notes_of thread later ≡ map (as_of thread) new.lane.popped
+      told =
+          ap (notes_of thread) grown ∙ notes_own stream own ∙ ap (λ notes. notes ++ own ∷ []) was_told
+          ∙ sym (map-append (as_of thread) was.lane.popped (has.note ∷ [])) ∙ ap (map (as_of thread)) (sym popped)
+
+  pub collector_after : (answer : Result Pulled PullFault) → IsSidePull collecting thread old_side answer new_side → IsCollector limits (set rows thread new) later later_made collecting
+  collector_after (Ok Empty) tells = kept_same (ap (λ (s : Side). s.stream) tells.1) (ap (λ (s : Side). s.made) tells.1) (ap (λ (s : Side). s.row.popped) tells.1)
+  collector_after (Ok (Answered place)) tells = kept_pulled (Answered place) tells
+  collector_after (Ok (Closing count)) tells = kept_pulled (Closing count) tells
+  collector_after (Err (Broken why)) (inl same) = kept_same (ap (λ (s : Side). s.stream) same.1) (ap (λ (s : Side). s.made) same.1) (ap (λ (s : Side). s.row.popped) same.1)
+  collector_after (Err (Broken why)) (inr has) = kept_same (ap (λ (s : Side). s.stream) has.moved) (ap (λ (s : Side). s.made) has.moved) (ap (λ (s : Side). s.row.popped) has.moved)
+  collector_after (Err OutOfMemory) tells = kept_same (ap (λ (s : Side). s.stream) tells.1) (ap (λ (s : Side). s.made) tells.1) (ap (λ (s : Side). s.row.popped) tells.1)
+
+  pub pull_tells : (session : ℕ) (answer : Result Pulled PullFault) → IsSidePull collecting thread old_side answer new_side → (before : Collecting) → collecting_of session limits rows stream made ≡ before
+      → (row : Pulling) → slice_get before.rows thread ≡ Some row → IsPull before thread row answer (collecting_of session limits (set rows thread new) later later_made)
+  pull_tells session answer tells before view =
+      subst (λ (s : Collecting). (row : Pulling) → slice_get s.rows thread ≡ Some row → IsPull s thread row answer (collecting_of session limits (set rows thread new) later later_made)) view
+      (λ row found.
+      let its : Some (pulling_of was) ≡ Some row = sym (slice_get-map pulling_of rows thread ∙ ap (option_map pulling_of) row_at) ∙ found in
+      let same : pulling_of was ≡ row = same_some (pulling_of was) row its in
+      record {
+        side = new_side;
+        tells = subst (λ (r : Pulling). IsSidePull limits thread (record { row = r; stream = stream; made = made }) answer new_side) same
+            (subst (λ b. IsSidePull b thread old_side answer new_side) is.same_limits tells);
+        moved = ap (λ ps. collecting_from session limits ps later later_made) (map-set pulling_of rows thread new);
+      })
+
+  pub lane_same : (answer : Result Pulled PullFault) → IsSidePull collecting thread old_side answer new_side → new.lane.lane ≡ was.lane.lane
+  lane_same (Ok Empty) tells = ap (λ (s : Side). s.row.lane) tells.1
+  lane_same (Ok (Answered place)) tells = ap (λ (s : Side). s.row.lane) tells.moved
+  lane_same (Ok (Closing count)) tells = ap (λ (s : Side). s.row.lane) tells.moved
+  lane_same (Err (Broken why)) (inl same) = ap (λ (s : Side). s.row.lane) same.1
+  lane_same (Err (Broken why)) (inr has) = ap (λ (s : Side). s.row.lane) has.moved
+  lane_same (Err OutOfMemory) tells = ap (λ (s : Side). s.row.lane) tells.1
+
+  -- the lanes stay where they are
+  pub lanes_still : (answer : Result Pulled PullFault) → IsSidePull collecting thread old_side answer new_side → map (λ (p : Pulling). p.lane) (map pulling_of (set rows thread new)) ≡ map (λ (p : Pulling). p.lane) (map pulling_of rows)
+  lanes_still answer tells =
+      let at : get_or (map pulling_of rows) thread (pulling_of was) ≡ pulling_of was = get_or-map pulling_of rows thread was (pulling_of was) within ∙ ap pulling_of (sym here) in
+      ap (map (λ (p : Pulling). p.lane)) (map-set pulling_of rows thread new)
+      ∙ map-set_same (λ (p : Pulling). p.lane) (map pulling_of rows) thread (pulling_of new) (pulling_of was) (lane_same answer tells ∙ ap (λ (p : Pulling). p.lane) (sym at))

@@ -1,0 +1,7 @@
+use Rattle.gl_engine.proofs.Notes.{receipt_of}
+use Rattle.gl_engine.proofs.recorder.Recorder.close.Goals as goal
+
+pub invariant_of-result-in-Some : goal.invariant_of-result-in-Some
+invariant_of-result-in-Some c =
+    rw (c.in-Some.ensures.pushed, c.in-Ok.ensures.pushed.0, c.end.ensures.mark _ _ _ c.self.invariant.tracks, c.thread-thread.ensures.value, c.taken-taken.ensures.length _ _ _ c.self.invariant.tracks)
+    (receipt_of _ _ _ _ c.self.invariant)

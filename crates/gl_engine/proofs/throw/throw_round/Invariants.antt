@@ -1,0 +1,7 @@
+use Rattle.std.proofs.Common.{◌≡◌, map, length}
+use Rattle.gl_engine.specs.Whole.{lane_of}
+use Rattle.gl_engine.proofs.throw.throw_round.Given as goal
+
+-- the lanes stay where they are
+abbrev pub invariant-loop-index : goal.invariant-loop-index
+invariant-loop-index l = (map lane_of l.rows.items ≡ map lane_of l.fn.rows.items) × (length l.rows.items ≡ length l.fn.rows.items)

@@ -1,0 +1,23 @@
+-- The edges that a stream makes, and how they are dealt to shards.
+use Rattle.std.specs.Prelude.{ℕ, List, [], ◌∷◌, ◌++◌, map}
+use Rattle.std.specs.List.{range_with_len}
+use Rattle.gl_event.specs.declared.notes.Note.{Note}
+use Rattle.gl_edges.specs.declared.edge.Edge.{Edge}
+use Rattle.gl_edges.specs.declared.edge.Sample.{Sample}
+use Rattle.gl_intake.specs.Stream.{events_of}
+use Rattle.gl_shards.specs.Tables.{of_shard}
+use Rattle.gl_world.specs.Machine.{edges_due}
+
+-- the edges that these notes make, one note after the other, after those before
+abbrev pub made_after : List Note → List Note → List (Edge × Sample)
+made_after before [] = []
+made_after before (note ∷ notes) =
+    edges_due note.thread (events_of note.thread (before ++ note ∷ [])) note.place note.body ++ made_after (before ++ note ∷ []) notes
+
+-- the edges that the notes of a stream make, in its order
+unfoldable pub made_by : List Note → List (Edge × Sample)
+made_by stream = made_after [] stream
+
+-- the pairs, dealt to so many shards: to each those of its edges, in their order
+unfoldable pub dealt : ℕ → List (Edge × Sample) → List (List (Edge × Sample))
+dealt shards pairs = map (of_shard shards pairs) (range_with_len 0 shards)

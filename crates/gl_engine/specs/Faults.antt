@@ -1,0 +1,24 @@
+-- What a recorder answers where it doesn't take an event, or gives no receipt.
+use Rattle.std.specs.Prelude.{◌≡◌, None, Some, length}
+use Rattle.gl_event.specs.Lawful.{refusal}
+use Rattle.gl_event.specs.declared.events.Event.{Event}
+use Rattle.gl_engine.specs.Recording.{Recording, recorded, seen_full}
+use Rattle.gl_engine.specs.declared.recorder.RecordFault.{RecordFault}
+use Rattle.gl_engine.specs.declared.recorder.RecordFault.TheVariants as record_fault
+use Rattle.gl_engine.specs.declared.recorder.CloseFault.{CloseFault}
+use Rattle.gl_engine.specs.declared.recorder.CloseFault.TheVariants as close_fault
+
+-- why an event wasn't recorded: it may not come next, and nothing changed; or it may, and the lane is full
+abbrev pub IsNotRecorded : Recording → Event → RecordFault → Recording → Type 0
+IsNotRecorded old event (record_fault.Refused why) new = (refusal old.limits old.thread (recorded old) event ≡ Some why) × (new ≡ old)
+IsNotRecorded old event (record_fault.Full back) new = (refusal old.limits old.thread (recorded old) event ≡ None) × (back ≡ event) × (new ≡ seen_full old)
+
+-- why a recorder gave no receipt: its lane is full, and it is handed back; or nobody is left to collect
+abbrev pub IsNotClosed : Recording → CloseFault → Type 0
+IsNotClosed old (close_fault.Full back) = back ≡ seen_full old
+IsNotClosed old (close_fault.Unconfirmed thread taken) = (thread ≡ old.thread) × (taken ≡ length (recorded old))
+
+-- the recorder's end mark was pushed, and nobody is left to collect
+abbrev pub IsUnconfirmed : CloseFault → Type 0
+IsUnconfirmed (close_fault.Full back) = ⊥
+IsUnconfirmed (close_fault.Unconfirmed thread taken) = Unit {0}

@@ -1,0 +1,59 @@
+-- What holds of recorders, receipts and collectors between calls.
+use Rattle.std.specs.Prelude.{◌≡◌, ℕ, ◌<◌, true, false, List, [], length, map, Some, slice_get}
+use Rattle.gl_event.specs.Bounds.{Bounds, AreWithinRange}
+use Rattle.gl_event.specs.declared.notes.Note.{Note}
+use Rattle.gl_edges.specs.Tracking.{Tracks as Follows}
+use Rattle.gl_edges.specs.declared.edge.Edge.{Edge}
+use Rattle.gl_edges.specs.declared.edge.Sample.{Sample}
+use Rattle.gl_intake.specs.Stream.{events_of, has_ended, AreInOrder}
+use Rattle.gl_recorder.specs.Taking.{Taking, Tracks}
+use Rattle.gl_world.specs.Keeping.{notes_of, AreMade}
+use Rattle.gl_engine.specs.Recording.{Recording, IsFresh}
+use Rattle.gl_engine.specs.Collecting.{Pulling, as_of, fresh_row}
+use Rattle.gl_engine.specs.Dealing.{made_by}
+use Rattle.gl_engine.specs.declared.row.Row.{Row}
+
+-- these notes are of the thread alone, and each is its next one after those before it
+pub record AreNotesOf (limits : Bounds) (thread : ℕ) (notes : List Note) : Type 0 where
+  pub own : (place : ℕ) (note : Note) → slice_get notes place ≡ Some note → note.thread ≡ thread
+  pub in_order : AreInOrder limits notes
+
+-- a recorder pushed its thread's notes, in order and no end mark, and tracks the events that they tell
+pub record IsRecorder (limits : Bounds) (thread : ℕ) (pushed : List Note) (taker : Taking) : Type 0 where
+  pub known : thread < limits.threads
+  pub tracks : Tracks limits thread (events_of thread pushed) taker
+  pub notes : AreNotesOf limits thread pushed
+  pub running : has_ended thread pushed ≡ false
+
+-- a recorder that has closed pushed its thread's notes, in order up to the end mark, which counts them
+pub record IsReceipt (limits : Bounds) (thread : ℕ) (pushed : List Note) (taken : ℕ) : Type 0 where
+  pub notes : AreNotesOf limits thread pushed
+  pub ended : has_ended thread pushed ≡ true
+  pub counted : taken ≡ length (events_of thread pushed)
+
+-- what contracts see of a row
+abbrev pub pulling_of : Row → Pulling
+pulling_of row = record { lane = row.lane.lane; popped = row.lane.popped; broken = row.broken }
+
+-- the rows are the threads': the stream has of each thread what was popped off its lane, and its tracker follows that
+pub record AreRows (limits : Bounds) (rows : List Row) (stream : List Note) : Type 0 where
+  pub count : length rows ≡ limits.threads
+  pub told : (thread : ℕ) (row : Row) → slice_get rows thread ≡ Some row → notes_of thread stream ≡ map (as_of thread) row.lane.popped
+  pub follows : (thread : ℕ) (row : Row) → slice_get rows thread ≡ Some row → Follows thread (events_of thread stream) row.tracker
+
+-- a collector's rows and edges made are those of its stream, which has each thread's notes in order
+pub record IsCollector (limits : Bounds) (rows : List Row) (stream : List Note) (made : List (Edge × Sample)) (collecting : Bounds) : Type 0 where
+  pub rows_are : AreRows limits rows stream
+  pub in_order : AreInOrder limits stream
+  pub made_are : AreMade limits.threads stream made
+  pub made_is : made ≡ made_by stream
+  pub same_limits : collecting ≡ limits
+  pub range : AreWithinRange limits
+
+-- a recorder and a row for each of the first threads, in the order of their numbers: the two ends of a lane in which nothing was pushed
+pub record AreFresh (session : ℕ) (limits : Bounds) (threads : ℕ) (recorders : List Recording) (rows : List Row) : Type 0 where
+  pub count : length recorders ≡ threads
+  pub rows_count : length rows ≡ threads
+  pub fresh : (thread : ℕ) (r : Recording) → slice_get recorders thread ≡ Some r → IsFresh session limits thread r
+  pub ends : map pulling_of rows ≡ map fresh_row (map (λ r. r.lane) recorders)
+  pub follows : (thread : ℕ) (row : Row) → slice_get rows thread ≡ Some row → (row.lane.popped ≡ []) × Follows thread [] row.tracker

@@ -1,0 +1,57 @@
+-- A thread's recorder, and what it leaves behind.
+use Rattle.std.specs.Prelude.{◌≡◌, ℕ, List, [], ◌∷◌, ◌++◌, length}
+use Rattle.gl_event.specs.Bounds.{Bounds}
+use Rattle.gl_event.specs.declared.events.Event.{Event}
+use Rattle.gl_event.specs.declared.notes.Note.{Note}
+use Rattle.gl_intake.specs.Stream.{events_of}
+use Rattle.gl_lane.specs.Lanes.{LaneId}
+use Rattle.gl_recorder.specs.Taking.{event_note, end_note}
+
+-- the recorder of a thread: its session, thread and limits, its lane, the notes pushed into it, and for how many more there is certainly room
+pub record Recording : Type 0 where
+  pub session : ℕ
+  pub thread : ℕ
+  pub limits : Bounds
+  pub lane : LaneId
+  pub pushed : List Note
+  pub room : ℕ
+
+-- what a recorder leaves behind that has closed its lane: its session, thread and limits, the lane, and all notes that were pushed into it
+pub record Closed : Type 0 where
+  pub session : ℕ
+  pub thread : ℕ
+  pub limits : Bounds
+  pub lane : LaneId
+  pub pushed : List Note
+
+-- the events that the recorder took
+abbrev pub recorded : Recording → List Event
+recorded r = events_of r.thread r.pushed
+
+-- the events that the recorder took before it closed
+abbrev pub recorded_whole : Closed → List Event
+recorded_whole c = events_of c.thread c.pushed
+
+-- the recorder with this note pushed, which leaves certain room for so many more
+abbrev pub push_note : Recording → Note → ℕ → Recording
+push_note r note room = record r { pushed = r.pushed ++ note ∷ []; room = room }
+
+-- the recorder with its lane seen full
+abbrev pub seen_full : Recording → Recording
+seen_full r = record r { room = 0 }
+
+-- the note of an event that the recorder takes next
+abbrev pub next_note : Recording → Event → Note
+next_note r event = event_note r.thread (recorded r) event
+
+-- the recorder's end mark
+abbrev pub last_note : Recording → Note
+last_note r = end_note r.thread (length (recorded r))
+
+-- what is left of a recorder that closes
+abbrev pub closed_of : Recording → Closed
+closed_of r = record { session = r.session; thread = r.thread; limits = r.limits; lane = r.lane; pushed = r.pushed ++ last_note r ∷ [] }
+
+-- a recorder of this session and thread that has taken nothing yet, with its ring free
+abbrev pub IsFresh : ℕ → Bounds → ℕ → Recording → Type 0
+IsFresh session limits thread r = r ≡ record { session = session; thread = thread; limits = limits; lane = r.lane; pushed = []; room = limits.ring }

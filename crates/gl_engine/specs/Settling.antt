@@ -1,0 +1,33 @@
+-- What a collector that has run is settled into by the recorders' receipts.
+use Rattle.std.specs.Prelude.{◌≡◌, ℕ, ◌<◌, true, List, length, Some, slice_get}
+use Rattle.std.specs.List.{flat_map}
+use Rattle.gl_event.specs.declared.events.Event.{Event}
+use Rattle.gl_edges.specs.Edges.{once, edges}
+use Rattle.gl_shards.specs.Feeds.{AllSent}
+use Rattle.gl_engine.specs.Gathering.{Gathering, has_receipt, AreOwnBelow, IsFirstStrange, IsFirstMissing, AreComplete}
+use Rattle.gl_engine.specs.Recording.{Closed, recorded_whole}
+use Rattle.gl_engine.specs.declared.faults.RunFault.{RunFault}
+use Rattle.gl_engine.specs.declared.faults.RunFault.TheVariants as kept
+use Rattle.gl_engine.specs.declared.faults.SettleFault.{SettleFault}
+use Rattle.gl_engine.specs.declared.faults.SettleFault.TheVariants as fault
+
+-- why nothing is settled: the first strange receipt, else the first missing one, with what was gathered as it was; else what went wrong
+-- in the run
+abbrev pub IsSettleFault : Gathering → List Closed → SettleFault → Type 0
+IsSettleFault g receipts (fault.Strange at back) = (back ≡ g) × IsFirstStrange g receipts at
+IsSettleFault g receipts (fault.Missing thread back) = (back ≡ g) × AreOwnBelow g receipts (length receipts) × IsFirstMissing g receipts thread
+IsSettleFault g receipts fault.Memory = AreComplete g receipts × (g.fault ≡ Some kept.Memory)
+IsSettleFault g receipts (fault.Gone shard) = AreComplete g receipts × (g.fault ≡ Some (kept.Gone shard))
+IsSettleFault g receipts (fault.Broken thread refused) = AreComplete g receipts × (g.fault ≡ Some (kept.Broken thread refused))
+
+-- what settling answers for what went wrong in the run
+abbrev pub told : RunFault → SettleFault
+told kept.Memory = fault.Memory
+told (kept.Gone shard) = fault.Gone shard
+told (kept.Broken thread refused) = fault.Broken thread refused
+
+-- the lists are the receipts', thread by thread, and the feeds were sent the edges of these lists, each with its least sample, and no others
+pub record IsSettled (receipts : List Closed) (lists : List (List Event)) (sent : List AllSent) : Type 0 where
+  pub each : (at : ℕ) (r : Closed) → slice_get receipts at ≡ Some r → slice_get lists r.thread ≡ Some (recorded_whole r)
+  pub one_each : (thread : ℕ) → thread < length lists → has_receipt receipts thread ≡ true
+  pub edges_are : once (flat_map (λ s. s.sent) sent) ≡ edges lists

@@ -1,0 +1,91 @@
+//! The collector of a session.
+ghost use Rattle.std.specs.Prelude.{◌≡◌, ◌<◌, ℕ, Some, slice_get, IfOk, IfErr, OnErr};
+ghost use Rattle.gl_cycles.specs.Reports.{IsGoodlockReport, IsReportFault};
+ghost use Rattle.gl_intake.specs.Stream.{events_of, logs_of, AreInOrder};
+ghost use Rattle.gl_engine.specs.Collecting.{Pulling, lanes_of, IsPull};
+
+use crate::pulled::{PullFault, Pulled};
+use crate::row::Row;
+use gl_cycles::{Report, ReportFault, report_over};
+use gl_edges::{Edge, Sample, edges_of};
+use gl_event::{Event, Limits, Note, ThreadId};
+use gl_filters::Query;
+use gl_intake::Intake;
+use std::alloc::Global;
+use std::marker::Model;
+
+/// The collector of a session: it pulls the notes off the threads' lanes.
+///
+/// Contracts see the session and the limits, each thread's lane with the notes popped off it and
+/// whether it is broken, all collected notes, and the edges that they made.
+#[derive(Drop)]
+pub struct Collector {
+    pub(crate) alloc: Global,
+    pub(crate) session: u64,
+    pub(crate) limits: Limits,
+    pub(crate) intake: Intake,
+    pub(crate) rows: Vec<Row>,
+    pub(crate) made: Vec<(Edge, Sample)>,
+}
+
+impl Model for Collector {
+    ghost use Rattle.std.specs.Prelude.{map};
+    ghost use Rattle.gl_engine.specs.Collecting.{Collecting};
+    ghost use Rattle.gl_engine.specs.Keeping.{pulling_of, IsCollector};
+
+    ghost Value = { Collecting };
+
+    ghost view = { λ c. record { session = c.session; limits = c.limits; rows = map pulling_of c.rows.items; stream = c.intake.stream; made = c.made.items } };
+
+    ghost invariant = { λ c. IsCollector c.limits c.rows.items c.intake.stream c.made.items c.intake.limits };
+}
+
+impl Collector {
+    /// Pulls the next note off the thread's lane, read as one of the thread. Err where the note may not
+    /// come next in the thread's list, which breaks the lane for good, and where memory was refused: the
+    /// note stays in the lane then.
+    ///
+    /// It waits for nobody. It makes every growth before it pops the note: for the stream, the thread's
+    /// log and the edges. It looks through the at most 64 locks that the thread holds, and where a
+    /// lock is acquired beside others takes a step for each pair of them.
+    pub fn pull(&mut self, thread: ThreadId) -> Result<Pulled, PullFault>
+        requires known { thread < self.old.limits.threads }
+        ensures tells { (row : Pulling) → slice_get self.old.rows thread ≡ Some row → IsPull self.old thread row result self.new }
+        ensures session { self.new.session ≡ self.old.session }
+        ensures limits { self.new.limits ≡ self.old.limits }
+        ensures lanes { lanes_of self.new ≡ lanes_of self.old }
+    {
+        let row = &mut self.rows[thread.number() as usize];
+        row.pull(self.alloc, thread, &mut self.intake, &mut self.made)
+    }
+
+    /// The events of the thread that were collected so far.
+    pub fn log(&self, thread: ThreadId) -> &[Event]
+        requires { thread < self.now.limits.threads }
+        ensures { result.now ≡ events_of thread self.now.stream }
+    {
+        self.intake.log(thread)
+    }
+
+    /// All notes collected so far, in the order in which they were pulled. Each was its thread's next
+    /// one after those before it.
+    pub fn stream(&self) -> &[Note]
+        ensures value { result.now ≡ self.now.stream }
+        ensures in_order { AreInOrder self.now.limits self.now.stream }
+    {
+        self.intake.stream()
+    }
+
+    /// The Goodlock report of the events collected so far. It may list a cycle that a later report drops:
+    /// a fork or a join that isn't collected yet may order its edges.
+    ///
+    /// Err where a segment of the lists is before itself, and where memory was refused.
+    pub fn report_so_far(&self, query: &Query) -> Result<Report, ReportFault>
+        ensures report { IfOk result (λ report. IsGoodlockReport query.now (logs_of self.now.limits.threads self.now.stream) report) }
+        ensures fault { IfErr result (λ fault. IsReportFault (logs_of self.now.limits.threads self.now.stream) fault) }
+    {
+        let logs = self.intake.logs();
+        let edges = edges_of(self.alloc, logs)?;
+        report_over(self.alloc, edges, logs, query)
+    }
+}

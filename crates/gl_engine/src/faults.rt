@@ -1,0 +1,34 @@
+//! What can go wrong in a run, and why nothing is settled.
+use crate::gathered::Gathered;
+use gl_event::ThreadId;
+use gl_intake::Refused;
+
+/// What went wrong first in a run.
+#[derive(Clone, Copy, Debug, PartialEq, Eq)]
+pub enum RunFault {
+    /// There was no memory for a note, for its edges or for the list of feeds.
+    Memory,
+    /// The worker's end of this shard's feed was dropped.
+    Gone { shard: u32 },
+    /// A note of the thread's lane may not come next, for this reason.
+    Broken { thread: ThreadId, refused: Refused },
+}
+
+/// Why nothing is settled.
+#[derive(Drop)]
+pub enum SettleFault {
+    /// The receipt at this place is of another session, of an unknown thread, or the second one of its
+    /// thread. It is the first such one.
+    Strange { at: usize, gathered: Gathered },
+    /// There is no receipt of this thread. It is the first such one.
+    Missing {
+        thread: ThreadId,
+        gathered: Gathered,
+    },
+    /// The run had no memory.
+    Memory,
+    /// The worker's end of this shard's feed was dropped.
+    Gone { shard: u32 },
+    /// A note of the thread's lane may not come next, for this reason.
+    Broken { thread: ThreadId, refused: Refused },
+}

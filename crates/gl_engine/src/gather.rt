@@ -1,0 +1,212 @@
+//! How a run goes on as long as nothing goes wrong: it pulls, and ships the edges.
+ghost use Rattle.std.specs.Prelude.{◌≡◌, ◌<◌, ◌≤◌, ◌++◌, [], ◌∷◌, ℕ, true, List, map, length, OnOk, IfErr};
+ghost use mathlib.Core.List.{IsPrefix};
+ghost use Rattle.gl_edges.specs.declared.edge.Edge.{Edge};
+ghost use Rattle.gl_edges.specs.declared.edge.Sample.{Sample};
+ghost use Rattle.gl_intake.specs.Stream.{has_ended};
+ghost use Rattle.gl_shards.specs.declared.shard.TheConstants.{MAX_SHARDS};
+ghost use Rattle.gl_engine.specs.Dealing.{dealt, made_by};
+ghost use Rattle.gl_engine.specs.Keeping.{IsCollector};
+ghost use Rattle.gl_engine.specs.Whole.{lane_of, KeepsUp};
+
+use crate::faults::RunFault;
+use crate::pulled::{PullFault, Pulled};
+use crate::row::Row;
+use crate::throw::throw_away;
+use gl_edges::{Edge, Sample};
+use gl_event::ThreadId;
+use gl_intake::Intake;
+use gl_shards::{Outlet, shard_of};
+use std::alloc::Global;
+use std::sync::Wait;
+use std::thread;
+
+// Ships an edge to its shard, or answers the shard whose worker is gone.
+fn ship_one<R: Wait>(
+    rt: &R,
+    outlets: &mut Vec<Outlet>,
+    edge: Edge,
+    sample: Sample,
+) -> Result<(), u32>
+    requires some { 1 ≤ length outlets.old.items }
+    requires fit { length outlets.old.items ≤ MAX_SHARDS }
+    ensures shipped { (before : List (Edge × Sample)) → map (λ o. o.sent) outlets.old.items ≡ dealt (length outlets.old.items) before → OnOk result (map (λ o. o.sent) outlets.new.items ≡ dealt (length outlets.old.items) (before ++ (edge, sample) ∷ [])) }
+    ensures feeds { map (λ o. o.feed) outlets.new.items ≡ map (λ o. o.feed) outlets.old.items }
+    ensures gone { IfErr result (λ shard. shard < length outlets.old.items) }
+{
+    let shard = shard_of(&edge, outlets.len() as u32);
+    let Ok(()) = outlets[shard as usize].send(rt, edge, sample) else {
+        return Err(shard);
+    };
+    Ok(())
+}
+
+// Ships the edges to their shards, in order.
+fn ship<R: Wait>(
+    rt: &R,
+    outlets: &mut Vec<Outlet>,
+    made: Vec<(Edge, Sample)>,
+) -> Result<(), RunFault>
+    requires some { 1 ≤ length outlets.old.items }
+    requires fit { length outlets.old.items ≤ MAX_SHARDS }
+    ensures shipped { (before : List (Edge × Sample)) → map (λ o. o.sent) outlets.old.items ≡ dealt (length outlets.old.items) before → OnOk result (map (λ o. o.sent) outlets.new.items ≡ dealt (length outlets.old.items) (before ++ made.items)) }
+    ensures feeds { map (λ o. o.feed) outlets.new.items ≡ map (λ o. o.feed) outlets.old.items }
+{
+    for (edge, sample) in made {
+        if let Err(shard) = ship_one(rt, outlets, edge, sample) {
+            return Err(RunFault::Gone { shard });
+        }
+    }
+    Ok(())
+}
+
+// Whether a pull from the thread's lane gave a note.
+fn has_pulled(thread: ThreadId, pulled: &Result<Pulled, PullFault>) -> Result<bool, RunFault> {
+    match *pulled {
+        Ok(Pulled::Empty) => Ok(false),
+        Ok(_) => Ok(true),
+        Err(PullFault::Memory) => Err(RunFault::Memory),
+        Err(PullFault::Broken(refused)) => Err(RunFault::Broken { thread, refused }),
+    }
+}
+
+// Pulls the next note off the thread's lane, if there is one, and makes its edges. Whether there was one.
+fn pull_at(
+    alloc: Global,
+    thread: ThreadId,
+    rows: &mut Vec<Row>,
+    intake: &mut Intake,
+    made: &mut Vec<(Edge, Sample)>,
+) -> Result<bool, RunFault>
+    requires known { thread < intake.old.limits.threads }
+    requires none { made.old.items ≡ [] }
+    requires keeps { IsCollector intake.old.limits rows.old.items intake.old.stream (made_by intake.old.stream) intake.old.limits }
+    ensures keeps { IsCollector intake.old.limits rows.new.items intake.new.stream (made_by intake.new.stream) intake.old.limits }
+    ensures made { made_by intake.old.stream ++ made.new.items ≡ made_by intake.new.stream }
+    ensures limits { intake.new.limits ≡ intake.old.limits }
+    ensures lanes { map lane_of rows.new.items ≡ map lane_of rows.old.items }
+    ensures grown { IsPrefix intake.old.stream intake.new.stream }
+{
+    let row = &mut rows[thread.number() as usize];
+    let pulled = row.pull(alloc, thread, intake, made);
+    has_pulled(thread, &pulled)
+}
+
+// Pulls the next note off the thread's lane, if there is one, and ships its edges. Whether there was one.
+fn turn<R: Wait>(
+    rt: &R,
+    alloc: Global,
+    thread: ThreadId,
+    rows: &mut Vec<Row>,
+    intake: &mut Intake,
+    outlets: &mut Vec<Outlet>,
+) -> Result<bool, RunFault>
+    requires known { thread < intake.old.limits.threads }
+    requires some { 1 ≤ length outlets.old.items }
+    requires fit { length outlets.old.items ≤ MAX_SHARDS }
+    requires keeps { KeepsUp intake.old.limits rows.old.items intake.old.stream outlets.old.items }
+    ensures keeps { OnOk result (KeepsUp intake.old.limits rows.new.items intake.new.stream outlets.new.items) }
+    ensures limits { intake.new.limits ≡ intake.old.limits }
+    ensures lanes { map lane_of rows.new.items ≡ map lane_of rows.old.items }
+    ensures feeds { map (λ o. o.feed) outlets.new.items ≡ map (λ o. o.feed) outlets.old.items }
+    ensures grown { IsPrefix intake.old.stream intake.new.stream }
+{
+    let mut made = Vec::new(alloc);
+    let pulled = pull_at(alloc, thread, rows, intake, &mut made)?;
+    ship(rt, outlets, made)?;
+    Ok(pulled)
+}
+
+// A turn of each thread. Whether a note was pulled.
+fn round<R: Wait>(
+    rt: &R,
+    alloc: Global,
+    threads: u32,
+    rows: &mut Vec<Row>,
+    intake: &mut Intake,
+    outlets: &mut Vec<Outlet>,
+) -> Result<bool, RunFault>
+    requires all { threads ≡ intake.old.limits.threads }
+    requires some { 1 ≤ length outlets.old.items }
+    requires fit { length outlets.old.items ≤ MAX_SHARDS }
+    requires keeps { KeepsUp intake.old.limits rows.old.items intake.old.stream outlets.old.items }
+    ensures keeps { OnOk result (KeepsUp intake.old.limits rows.new.items intake.new.stream outlets.new.items) }
+    ensures limits { intake.new.limits ≡ intake.old.limits }
+    ensures lanes { map lane_of rows.new.items ≡ map lane_of rows.old.items }
+    ensures feeds { map (λ o. o.feed) outlets.new.items ≡ map (λ o. o.feed) outlets.old.items }
+    ensures grown { IsPrefix intake.old.stream intake.new.stream }
+{
+    let mut moved = false;
+    for number in 0..threads {
+        let pulled = turn(rt, alloc, ThreadId::new(number), rows, intake, outlets)?;
+        moved = moved || pulled;
+    }
+    Ok(moved)
+}
+
+// Ships the edges made before; then pulls and ships, round by round, until every thread's end mark was
+// pulled. It yields the processor after a round in which no note was seen.
+fn gather<R: Wait>(
+    rt: &R,
+    alloc: Global,
+    threads: u32,
+    rows: &mut Vec<Row>,
+    intake: &mut Intake,
+    made: Vec<(Edge, Sample)>,
+    outlets: &mut Vec<Outlet>,
+) -> Result<(), RunFault>
+    requires all { threads ≡ intake.old.limits.threads }
+    requires some { 1 ≤ length outlets.old.items }
+    requires fit { length outlets.old.items ≤ MAX_SHARDS }
+    requires unsent { map (λ o. o.sent) outlets.old.items ≡ dealt (length outlets.old.items) [] }
+    requires collector { IsCollector intake.old.limits rows.old.items intake.old.stream made.items intake.old.limits }
+    ensures keeps { OnOk result (KeepsUp intake.old.limits rows.new.items intake.new.stream outlets.new.items) }
+    ensures ended { OnOk result ((thread : ℕ) → thread < intake.old.limits.threads → has_ended thread intake.new.stream ≡ true) }
+    ensures limits { intake.new.limits ≡ intake.old.limits }
+    ensures lanes { map lane_of rows.new.items ≡ map lane_of rows.old.items }
+    ensures feeds { map (λ o. o.feed) outlets.new.items ≡ map (λ o. o.feed) outlets.old.items }
+    ensures grown { IsPrefix intake.old.stream intake.new.stream }
+{
+    ship(rt, outlets, made)?;
+    for _ in rt.forever() {
+        if intake.all_ended() {
+            return Ok(());
+        }
+        if !round(rt, alloc, threads, rows, intake, outlets)? {
+            thread::yield_now();
+        }
+    }
+    unreachable!()
+}
+
+/// Collects and ships all. Where something goes wrong, it throws away what comes, until every thread's end
+/// mark came.
+pub(crate) fn collect_all<R: Wait>(
+    rt: &R,
+    alloc: Global,
+    threads: u32,
+    rows: &mut Vec<Row>,
+    intake: &mut Intake,
+    made: Vec<(Edge, Sample)>,
+    outlets: &mut Vec<Outlet>,
+) -> Result<(), RunFault>
+    requires all { threads ≡ intake.old.limits.threads }
+    requires some { 1 ≤ length outlets.old.items }
+    requires fit { length outlets.old.items ≤ MAX_SHARDS }
+    requires unsent { map (λ o. o.sent) outlets.old.items ≡ dealt (length outlets.old.items) [] }
+    requires collector { IsCollector intake.old.limits rows.old.items intake.old.stream made.items intake.old.limits }
+    ensures keeps { OnOk result (KeepsUp intake.old.limits rows.new.items intake.new.stream outlets.new.items) }
+    ensures ended { OnOk result ((thread : ℕ) → thread < intake.old.limits.threads → has_ended thread intake.new.stream ≡ true) }
+    ensures limits { intake.new.limits ≡ intake.old.limits }
+    ensures lanes { map lane_of rows.new.items ≡ map lane_of rows.old.items }
+    ensures feeds { map (λ o. o.feed) outlets.new.items ≡ map (λ o. o.feed) outlets.old.items }
+    ensures grown { IsPrefix intake.old.stream intake.new.stream }
+{
+    match gather(rt, alloc, threads, rows, intake, made, outlets) {
+        Ok(()) => Ok(()),
+        Err(fault) => {
+            throw_away(rt, rows, intake, threads);
+            Err(fault)
+        }
+    }
+}

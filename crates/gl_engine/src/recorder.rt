@@ -1,0 +1,195 @@
+//! The recorder of a running thread.
+ghost use Rattle.std.specs.Prelude.{◌≡◌, ◌<◌, ◌≤◌, ◌+◌, false, None, Some, [], length, IsOk, OnOk, OnErr, IfOk, IfErr};
+ghost use Rattle.gl_event.specs.Lawful.{refusal, IsLawful};
+ghost use Rattle.gl_intake.specs.Stream.{has_ended};
+ghost use Rattle.gl_engine.specs.Recording.{recorded, next_note, push_note, seen_full, closed_of};
+ghost use Rattle.gl_engine.specs.declared.recorder.RecordFault.TheVariants.{Full};
+ghost use Rattle.gl_engine.specs.Faults.{IsNotRecorded, IsNotClosed, IsUnconfirmed};
+
+use crate::receipt::Receipt;
+use gl_event::{Event, Limits, Note, Refusal, ThreadId};
+use gl_lane::LaneIn;
+use gl_recorder::Taker;
+use std::marker::Model;
+use std::sync::Wait;
+use std::thread;
+
+/// Why an event wasn't recorded.
+#[derive(Clone, Copy, Debug, PartialEq, Eq, Hash)]
+pub enum RecordFault {
+    /// The event may not come next in the thread's list.
+    Refused(Refusal),
+    /// The lane is full. The event is handed back.
+    Full(Event),
+}
+
+/// Why a recorder gave no receipt.
+#[derive(Drop)]
+pub enum CloseFault {
+    /// The lane is full. The recorder is handed back as it was.
+    Full(Recorder),
+    /// The end mark was pushed, but the collector's end of the lane was dropped before. The thread
+    /// had recorded so many events.
+    Unconfirmed { thread: ThreadId, taken: u32 },
+}
+
+/// The recorder of one thread of a session, which moves to the thread.
+///
+/// Contracts see the session, thread and limits, which lane it is of, the notes that were pushed into
+/// it, and for how many more there is certainly room.
+#[derive(Drop)]
+pub struct Recorder {
+    pub(crate) session: u64,
+    pub(crate) limits: Limits,
+    pub(crate) taker: Taker,
+    pub(crate) lane: LaneIn,
+}
+
+impl Model for Recorder {
+    ghost use Rattle.gl_engine.specs.Recording.{Recording};
+    ghost use Rattle.gl_engine.specs.Keeping.{IsRecorder};
+
+    ghost Value = { Recording };
+
+    ghost view = { λ r. record { session = r.session; thread = r.taker.thread; limits = r.limits; lane = r.lane.lane; pushed = r.lane.pushed; room = r.lane.room } };
+
+    ghost invariant = { λ r. IsRecorder r.limits r.taker.thread r.lane.pushed r.taker };
+}
+
+impl Recorder {
+    // The recorder of the thread, which has taken nothing yet, with the recorder's end of its lane.
+    pub(crate) fn new(session: u64, thread: ThreadId, limits: &Limits, lane: LaneIn) -> Recorder
+        requires known { thread < limits.now.threads }
+        requires empty { lane.pushed ≡ [] }
+        ensures fresh { result ≡ record { session = session; thread = thread; limits = limits.now; lane = lane.lane; pushed = []; room = lane.room } }
+    {
+        Recorder {
+            session,
+            limits: *limits,
+            taker: Taker::new(thread, limits),
+            lane,
+        }
+    }
+
+    /// The thread whose events are recorded.
+    pub fn thread(&self) -> ThreadId
+        ensures { result ≡ self.now.thread }
+    {
+        self.taker.thread()
+    }
+
+    /// How many events were recorded.
+    pub fn taken(&self) -> u32
+        ensures value { result ≡ length (recorded self.now) }
+        ensures lawful { IsLawful self.now.limits self.now.thread (recorded self.now) }
+        ensures running { has_ended self.now.thread self.now.pushed ≡ false }
+    {
+        self.taker.taken()
+    }
+
+    /// Records the thread's next event, and answers its place in the thread's list. Err where the event
+    /// may not come next, and where the lane is full, in this order: the recorder is as it was then.
+    ///
+    /// It waits for nobody and takes no memory. It looks through the at most 64 locks that the thread
+    /// holds.
+    pub fn record(&mut self, event: Event) -> Result<u32, RecordFault>
+        ensures lawful { OnOk result (refusal self.old.limits self.old.thread (recorded self.old) event ≡ None) }
+        ensures place { IfOk result (λ place. place ≡ length (recorded self.old)) }
+        ensures pushed { OnOk result (self.new ≡ push_note self.old (next_note self.old event) self.new.room) }
+        ensures room { OnOk result (self.old.room ≤ self.new.room + 1) }
+        ensures fault { IfErr result (λ fault. IsNotRecorded self.old event fault self.new) }
+        ensures succeeds { 0 < self.old.room → refusal self.old.limits self.old.thread (recorded self.old) event ≡ None → IsOk result }
+    {
+        self.try_record(&event)
+    }
+
+    /// Records the thread's next event as soon as there is room for it, and answers its place in the
+    /// thread's list. Err where the event may not come next: the recorder is as it was then.
+    ///
+    /// While the lane is full it yields the processor and tries again, so that it returns only if the
+    /// collector pulls. It takes no memory.
+    pub fn record_wait<R: Wait>(&mut self, rt: &R, event: Event) -> Result<u32, Refusal>
+        ensures lawful { OnOk result (refusal self.old.limits self.old.thread (recorded self.old) event ≡ None) }
+        ensures place { IfOk result (λ place. place ≡ length (recorded self.old)) }
+        ensures pushed { OnOk result (self.new ≡ push_note self.old (next_note self.old event) self.new.room) }
+        ensures refused { IfErr result (λ why. refusal self.old.limits self.old.thread (recorded self.old) event ≡ Some why) }
+        ensures unchanged { OnErr result (self.new ≡ record self.old { room = self.new.room }) }
+    {
+        for _ in rt.forever() {
+            match self.try_record(&event) {
+                Ok(place) => return Ok(place),
+                Err(RecordFault::Refused(refusal)) => return Err(refusal),
+                Err(RecordFault::Full(_)) => thread::yield_now(),
+            }
+        }
+        unreachable!()
+    }
+
+    /// Ends the recording: pushes the thread's end mark and answers the receipt. Err where the lane is
+    /// full, with the recorder as it was, and where the collector's end was dropped.
+    ///
+    /// It waits for nobody and takes no memory.
+    pub fn close(self) -> Result<Receipt, CloseFault>
+        ensures closed { IfOk result (λ receipt. receipt ≡ closed_of self) }
+        ensures fault { IfErr result (λ fault. IsNotClosed self fault) }
+        ensures succeeds { 0 < self.room → IfErr result (λ fault. IsUnconfirmed fault) }
+    {
+        let Recorder {
+            session,
+            limits,
+            taker,
+            mut lane,
+        } = self;
+        let Ok(()) = lane.push(taker.end()) else {
+            return Err(CloseFault::Full(Recorder {
+                session,
+                limits,
+                taker,
+                lane,
+            }));
+        };
+        let (thread, taken) = (taker.thread(), taker.taken());
+        match lane.finish() {
+            Some(finished) => Ok(Receipt {
+                session,
+                thread,
+                limits,
+                taken,
+                finished,
+            }),
+            None => Err(CloseFault::Unconfirmed { thread, taken }),
+        }
+    }
+
+    // Records the event, where it may come next and there is room for it.
+    fn try_record(&mut self, event: &Event) -> Result<u32, RecordFault>
+        ensures lawful { OnOk result (refusal self.old.limits self.old.thread (recorded self.old) event.now ≡ None) }
+        ensures place { IfOk result (λ place. place ≡ length (recorded self.old)) }
+        ensures pushed { OnOk result (self.new ≡ push_note self.old (next_note self.old event.now) self.new.room) }
+        ensures room { OnOk result (self.old.room ≤ self.new.room + 1) }
+        ensures fault { IfErr result (λ fault. IsNotRecorded self.old event.now fault self.new) }
+        ensures succeeds { 0 < self.old.room → refusal self.old.limits self.old.thread (recorded self.old) event.now ≡ None → IsOk result }
+    {
+        match self.taker.check(*event) {
+            Ok(note) => self.push(event, &note),
+            Err(refusal) => Err(RecordFault::Refused(refusal)),
+        }
+    }
+
+    // Pushes the event's note, where there is room for it. The event may come next.
+    fn push(&mut self, event: &Event, note: &Note) -> Result<u32, RecordFault>
+        requires lawful { refusal self.old.limits self.old.thread (recorded self.old) event.now ≡ None }
+        requires its_note { note.now ≡ next_note self.old event.now }
+        ensures place { IfOk result (λ place. place ≡ length (recorded self.old)) }
+        ensures pushed { OnOk result (self.new ≡ push_note self.old note.now self.new.room) }
+        ensures room { OnOk result (self.old.room ≤ self.new.room + 1) }
+        ensures full { IfErr result (λ fault. (fault ≡ Full event.now) × (self.new ≡ seen_full self.old)) }
+        ensures succeeds { 0 < self.old.room → IsOk result }
+    {
+        let Ok(()) = self.lane.push(*note) else {
+            return Err(RecordFault::Full(*event));
+        };
+        self.taker.advance(*event);
+        Ok(note.place)
+    }
+}

@@ -1,0 +1,80 @@
+//! Opening a session.
+ghost use Rattle.std.specs.Prelude.{◌≡◌, ◌<◌, [], map, IfOk};
+ghost use Rattle.gl_event.specs.Bounds.{AreWithinRange};
+ghost use Rattle.gl_edges.specs.Tracking.{Tracks as Follows};
+ghost use Rattle.gl_engine.specs.Collecting.{fresh_row, IsOpened};
+ghost use Rattle.gl_engine.specs.Keeping.{pulling_of, AreFresh};
+ghost use Rattle.gl_engine.specs.Recording.{IsFresh};
+
+use crate::collector::Collector;
+use crate::recorder::Recorder;
+use crate::row::Row;
+use gl_edges::Tracker;
+use gl_event::{Limits, Memory, ThreadId};
+use gl_intake::Intake;
+use gl_lane::lane;
+use std::alloc::Global;
+
+// A thread's recorder, and the collector's row of the thread, with the two ends of a new lane.
+fn open_lane(
+    alloc: Global,
+    session: u64,
+    thread: ThreadId,
+    limits: &Limits,
+) -> Result<(Recorder, Row), Memory>
+    requires known { thread < limits.now.threads }
+    ensures fresh { IfOk result (λ ends. IsFresh session limits.now thread ends.0) }
+    ensures row { IfOk result (λ ends. pulling_of ends.1 ≡ fresh_row ends.0.lane) }
+    ensures follows { IfOk result (λ ends. Follows thread [] ends.1.tracker) }
+{
+    let (recorder, collector) = lane(alloc, limits.ring())?;
+    let row = Row {
+        lane: collector,
+        tracker: Tracker::new(thread),
+        broken: None,
+    };
+    Ok((Recorder::new(session, thread, limits, recorder), row))
+}
+
+// The recorders and the rows of all threads, in the order of thread numbers.
+fn open_lanes(
+    alloc: Global,
+    session: u64,
+    limits: &Limits,
+) -> Result<(Vec<Recorder>, Vec<Row>), Memory>
+    ensures fresh { IfOk result (λ ends. AreFresh session limits.now limits.now.threads ends.0.items ends.1.items) }
+    ensures range { AreWithinRange limits.now }
+{
+    let mut recorders = Vec::new(alloc);
+    let mut rows = Vec::new(alloc);
+    for thread in 0..limits.threads() {
+        let (recorder, row) = open_lane(alloc, session, ThreadId::new(thread), limits)?;
+        recorders.push(recorder)?;
+        rows.push(row)?;
+    }
+    Ok((recorders, rows))
+}
+
+/// A session of this number: a recorder for each thread, in the order of thread numbers, and the
+/// collector of what they record. All lists are empty, and each lane has the capacity of a ring.
+///
+/// It takes memory for the lanes, and for a row of each thread.
+pub fn open(
+    alloc: Global,
+    session: u64,
+    limits: &Limits,
+) -> Result<(Vec<Recorder>, Collector), Memory>
+    ensures { IfOk result (λ opened. IsOpened session limits.now opened.0.items opened.1) }
+{
+    let intake = Intake::new(alloc, limits)?;
+    let (recorders, rows) = open_lanes(alloc, session, limits)?;
+    let collector = Collector {
+        alloc,
+        session,
+        limits: *limits,
+        intake,
+        rows,
+        made: Vec::new(alloc),
+    };
+    Ok((recorders, collector))
+}

@@ -1,0 +1,61 @@
+//! What is known of a session once its receipts were settled.
+ghost use Rattle.std.specs.Prelude.{◌≡◌, List, map, IfOk, IfErr};
+ghost use Rattle.gl_cycles.specs.Reports.{IsReport, IsGoodlockReport, IsReportFault};
+ghost use Rattle.gl_edges.specs.Edges.{once};
+ghost use Rattle.gl_shards.specs.Feeds.{AllSent};
+ghost use Rattle.gl_shards.specs.Tables.{union};
+ghost use Rattle.gl_engine.specs.Recording.{Closed};
+ghost use Rattle.gl_engine.specs.Settling.{IsSettled};
+
+use gl_cycles::{Report, ReportFault, report_over};
+use gl_event::Event;
+use gl_filters::Query;
+use gl_intake::Intake;
+use gl_shards::{Table, merge};
+use std::alloc::Global;
+use std::marker::Model;
+
+/// The lists of all threads' events, from a session whose receipts were settled.
+///
+/// Contracts see the lists, in the order of thread numbers.
+#[derive(Drop)]
+pub struct Settled {
+    pub(crate) alloc: Global,
+    pub(crate) intake: Intake,
+}
+
+impl Model for Settled {
+    ghost use Rattle.std.specs.Prelude.{List};
+    ghost use Rattle.gl_event.specs.declared.events.Event.{Event};
+    ghost use Rattle.gl_intake.specs.Stream.{logs_of};
+
+    ghost Value = { List (List Event) };
+
+    ghost view = { λ s. logs_of s.intake.limits.threads s.intake.stream };
+}
+
+impl Settled {
+    /// The events of each thread, in the order of thread numbers.
+    pub fn lists(&self) -> &[Vec<Event>]
+        ensures { map (λ list. list.items) result.now ≡ self.now }
+    {
+        self.intake.logs()
+    }
+
+    /// The report over the edges of these tables, taken together, by the order of the lists. Whichever
+    /// tables they are, each edge counts once, with its least sample.
+    ///
+    /// **Where they are the tables of the settled workers it is the Goodlock report of what the threads
+    /// recorded**, whatever the threads' timing and however many workers there were: the lists are
+    /// those of the receipts, and table by table the workers have what was sent to them.
+    ///
+    /// Err where a segment of the lists is before itself, and where memory was refused.
+    pub fn report(&self, tables: Vec<Table>, query: &Query) -> Result<Report, ReportFault>
+        ensures report { IfOk result (λ report. IsReport query.now (union tables.items) self.now report) }
+        ensures fault { IfErr result (λ fault. IsReportFault self.now fault) }
+        ensures recorded { (receipts : List Closed) (sent : List AllSent) → IsSettled receipts self.now sent → tables.items ≡ map (λ s. once s.sent) sent → IfOk result (λ report. IsGoodlockReport query.now self.now report) }
+    {
+        let edges = merge(self.alloc, tables)?;
+        report_over(self.alloc, edges, self.intake.logs(), query)
+    }
+}

@@ -1,0 +1,97 @@
+//! How a run goes on in which something went wrong: what comes is thrown away.
+ghost use Rattle.std.specs.Prelude.{◌≡◌, ◌<◌, map, length};
+ghost use Rattle.gl_engine.specs.Whole.{lane_of};
+
+use crate::row::Row;
+use gl_event::{Body, ThreadId};
+use gl_intake::Intake;
+use gl_lane::LaneOut;
+use std::sync::Wait;
+use std::thread;
+
+// What came off a lane.
+#[derive(Clone, Copy)]
+enum Thrown {
+    Nothing,
+    Event,
+    Ended,
+}
+
+// How many end marks are still to come, and whether a note came.
+#[derive(Clone, Copy)]
+struct Round {
+    left: u32,
+    moved: bool,
+}
+
+// Pops a note off the lane, if there is one.
+fn throw_one(lane: &mut LaneOut) -> Thrown
+    ensures { lane.new.lane ≡ lane.old.lane }
+{
+    let Some(note) = lane.pop() else {
+        return Thrown::Nothing;
+    };
+    match note.body {
+        Body::Happened(_) => Thrown::Event,
+        Body::Ended { .. } => Thrown::Ended,
+    }
+}
+
+// Pops a note off a thread's lane, if there is one.
+fn throw_at(rows: &mut Vec<Row>, index: usize, round: Round) -> Round
+    requires { index < length rows.old.items }
+    ensures { map lane_of rows.new.items ≡ map lane_of rows.old.items }
+{
+    match throw_one(&mut rows[index].lane) {
+        Thrown::Nothing => round,
+        Thrown::Event => Round {
+            left: round.left,
+            moved: true,
+        },
+        Thrown::Ended => Round {
+            left: round.left.saturating_sub(1),
+            moved: true,
+        },
+    }
+}
+
+// Pops a note off each lane that has one.
+fn throw_round(rows: &mut Vec<Row>, left: u32) -> Round
+    ensures { map lane_of rows.new.items ≡ map lane_of rows.old.items }
+{
+    let mut round = Round { left, moved: false };
+    for index in 0..rows.len() {
+        round = throw_at(rows, index, round);
+    }
+    round
+}
+
+// How many of the threads have not ended.
+fn running(intake: &Intake, threads: u32) -> u32 {
+    let mut left = 0;
+    for number in 0..threads {
+        if !intake.ended(ThreadId::new(number)) {
+            left += 1;
+        }
+    }
+    left
+}
+
+/// Pops all notes off the lanes and throws them away, round by round, until every thread's end mark
+/// came. It yields the processor after a round in which no note was seen.
+pub(crate) fn throw_away<R: Wait>(rt: &R, rows: &mut Vec<Row>, intake: &Intake, threads: u32)
+    ensures { map lane_of rows.new.items ≡ map lane_of rows.old.items }
+{
+    let mut left = running(intake, threads);
+    for _ in rt.forever() {
+        if left == 0 {
+            return;
+        }
+        let round = throw_round(rows, left);
+        left = round.left;
+        if !round.moved {
+            thread::yield_now();
+        }
+    }
+    unreachable!()
+}
