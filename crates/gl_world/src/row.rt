@@ -212,8 +212,7 @@ impl Row {
         ensures unchanged { OnErr result (self.new ≡ self.old) }
     {
         append_both(&mut self.taken, &mut self.pushed, *wish, *note)?;
-        // the event is lawful next, so that it is taken
-        let _ = self.taker.take(*wish);
+        self.taker.advance(*wish);
         self.used += 1;
         Ok(())
     }
