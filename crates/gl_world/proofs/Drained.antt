@@ -1,18 +1,15 @@
 -- A drained state has collected and worked all that its threads took.
-use Rattle.std.proofs.Common.{◌≡◌, ℕ, zero, suc, ◌+◌, ◌<◌, ◌≤◌, true, false, List, [], ◌∷◌, ◌++◌, length, map, take, Some, None, refl, sym, ap, ◌∙◌, subst, arith, ◌⊎◌, inl, inr}
+use Rattle.std.proofs.Common.{◌≡◌, ℕ, suc, ◌+◌, ◌≤◌, true, false, List, [], ◌∷◌, length, map, take, Some, refl, sym, ap, ◌∙◌, subst, arith, inl, inr}
 use Rattle.std.specs.Prelude.{slice_get}
 use Rattle.std.specs.List.{range_with_len, enumerate_from}
 use Rattle.std.proofs.lemmas.Bool.{cases_lt, false≢true}
 use Rattle.std.proofs.lemmas.List.{take_all}
 use Rattle.std.proofs.lemmas.Option.{slice_get_within}
 use Rattle.gl_event.specs.Bounds.{Bounds}
-use Rattle.gl_event.specs.declared.events.Event.{Event}
 use Rattle.gl_event.specs.declared.events.Segment.{Segment}
 use Rattle.gl_event.specs.declared.notes.Note.{Note}
 use Rattle.gl_segments.specs.Segments.{IsLeastInRing}
-use Rattle.gl_edges.specs.Edges.{once, edges, edges_made}
-use Rattle.gl_edges.specs.declared.edge.Edge.{Edge}
-use Rattle.gl_edges.specs.declared.edge.Sample.{Sample}
+use Rattle.gl_edges.specs.Edges.{edges, edges_made}
 use Rattle.gl_edges.proofs.Least.{same_once}
 use Rattle.gl_filters.specs.Asked.{Asked}
 use Rattle.gl_cycles.specs.Reports.{IsReport, IsGoodlockReport, IsReportFault}
@@ -20,8 +17,7 @@ use Rattle.gl_cycles.specs.declared.found.Report.{Report}
 use Rattle.gl_cycles.specs.declared.found.ReportFault.{ReportFault}
 use Rattle.gl_cycles.proofs.Uniqueness.{reports_agree, loops_agree, none_of_loops}
 use Rattle.gl_intake.specs.Stream.{events_of, has_ended, logs_of}
-use Rattle.gl_world.specs.Dispatch.{all_worked}
-use Rattle.gl_world.specs.Machine.{Lane, State, start, run, taken_of, taken_lists, IsDrained}
+use Rattle.gl_world.specs.Machine.{Lane, State, start, taken_of, taken_lists, IsDrained}
 use Rattle.gl_world.specs.Keeping.{IsLaneOf, IsSound}
 use Rattle.gl_world.specs.Headline.{collected_lists, worked_table, IsReportOf, HasAllTaken, IsReached, StaysSound, EverySoundDrainedStateReportsWhatWasTaken, EveryDrainedScheduleReportsWhatWasTaken, ReportsDontShowTheSchedule, LoopsDontShowTheSchedule}
 use Rattle.gl_world.proofs.Lists.{found_within}

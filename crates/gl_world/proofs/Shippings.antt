@@ -1,5 +1,5 @@
 -- What was shipped are the first of the edges made, to each shard its own.
-use Rattle.std.proofs.Common.{◌≡◌, ◌≢◌, ℕ, zero, suc, ◌+◌, ◌<◌, ◌≤◌, Bool, true, false, cond, eqb, List, [], ◌∷◌, ◌++◌, length, map, take, set, replicate, Option, Some, None, refl, sym, ap, ◌∙◌, subst, arith, ◌⊎◌, inl, inr}
+use Rattle.std.proofs.Common.{◌≡◌, ◌≢◌, ℕ, zero, suc, ◌+◌, ◌<◌, ◌≤◌, Bool, true, false, cond, eqb, List, [], ◌∷◌, ◌++◌, length, map, take, set, replicate, Option, Some, None, refl, sym, ap, ◌∙◌, subst, arith, inl, inr}
 use Rattle.std.specs.Prelude.{slice_get}
 use Rattle.std.specs.List.{range_with_len}
 use Rattle.std.specs.Option.{option_map_or}
@@ -230,7 +230,7 @@ worked_is_made d are done =
           ∙ ap union (sym (each_alike (λ k. once (of_shard (length d.shards) d.made k)) table_of 0 d.shards table_at))
           ∙ shards_whole (length d.shards) d.made (omega arith)
       | inr none ↦
-          let unsent : length d.made ≤ 0 = elim (cases_lt 0 d.sent) [ | inl any ↦ (let one = are.some (omega arith) in absurd (omega arith)) | inr not ↦ (let all = done.all_sent in omega arith) ] in
+          let unsent : length d.made ≤ 0 = elim (cases_lt 0 d.sent) [ inl any ↦ (let one = are.some (omega arith) in absurd (omega arith)) | inr not ↦ (let all = done.all_sent in omega arith) ] in
           ap once (no_shards d.shards (omega arith) ∙ sym (none_made d.made unsent))
     ]
   where

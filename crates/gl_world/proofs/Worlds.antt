@@ -1,9 +1,9 @@
 -- A world's rows and its state, step by step.
-use Rattle.std.proofs.Common.{◌≡◌, ◌≢◌, ℕ, Bool, true, false, cond, eqb, zero, suc, ◌+◌, ◌<◌, ◌≤◌, List, [], ◌∷◌, ◌++◌, length, map, set, get_or, Option, Some, None, refl, sym, ap, ◌∙◌, arith, subst, take, Vec, Global, ◌⊎◌, inl, inr}
+use Rattle.std.proofs.Common.{◌≡◌, ◌≢◌, ℕ, Bool, true, false, cond, eqb, ◌+◌, ◌<◌, ◌≤◌, List, [], ◌∷◌, ◌++◌, length, map, set, get_or, Option, Some, None, refl, sym, ap, ◌∙◌, arith, subst, take, Vec, Global, ◌⊎◌, inl, inr}
 use Rattle.std.specs.Prelude.{slice_get, Result, Ok, Err, IfOk, OnOk, OnErr, IsTrue}
 use Rattle.std.specs.Option.{option_map, option_map_or}
 use Rattle.std.proofs.lemmas.Bool.{cases_eq, eq-eqb, ne_eqb}
-use Rattle.std.proofs.lemmas.List.{take_all, take-append-le, length-map, map-set}
+use Rattle.std.proofs.lemmas.List.{take_all, length-map, map-set}
 use Rattle.std.proofs.lemmas.Option.{slice_get-map, slice_get_past, slice_get_within, get_or_from_slice_get}
 use Rattle.gl_event.specs.Bounds.{Bounds, AreWithinRange}
 use Rattle.gl_event.specs.declared.events.Event.{Event}
@@ -14,7 +14,7 @@ use Rattle.gl_intake.specs.declared.notes.Refused.TheVariants.{Memory}
 use Rattle.gl_intake.proofs.Next.{none_of_next}
 use Rattle.gl_edges.specs.declared.edge.Edge.{Edge}
 use Rattle.gl_edges.specs.declared.edge.Sample.{Sample}
-use Rattle.gl_world.specs.Dispatch.{Dispatch, Shard, Handled, fresh_dispatch, ship_turn, work_turn}
+use Rattle.gl_world.specs.Dispatch.{Dispatch, Handled, fresh_dispatch, ship_turn, work_turn}
 use Rattle.gl_world.specs.Machine.{Lane, State, Turn, Moved, fresh_lane, take_turn, end_turn, pop_note, turned, handled, idle, pull_note, again_note, answer_again, edges_due, add_edges, taken_of, step, run}
 use Rattle.gl_world.specs.Enabled.{grows}
 use Rattle.gl_world.specs.Keeping.{Keeper, AreKeepers, IsLaneOf, IsFrontOf, IsSound, IsWorld, lanes_of}

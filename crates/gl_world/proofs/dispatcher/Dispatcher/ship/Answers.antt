@@ -1,4 +1,4 @@
-use Rattle.std.proofs.Common.{◌≡◌, refl, ◌≤◌, ◌<◌, length, false, true, sym, ap, ◌∙◌, subst, arith}
+use Rattle.std.proofs.Common.{◌≡◌, refl, ◌≤◌, length, sym, ap, ◌∙◌, subst, arith}
 use Rattle.gl_shards.specs.Shards.{shard_of}
 use Rattle.gl_world.specs.Dispatch.{Dispatch, Handled, ship_edge}
 use Rattle.gl_world.specs.Enabled.{grows}

@@ -1,4 +1,4 @@
-use Rattle.std.proofs.Common.{◌≡◌, ◌≤◌, ◌<◌, length, false, true, cond, sym, ap, ◌∙◌, subst, arith}
+use Rattle.std.proofs.Common.{◌≤◌, length, true, cond, sym, ap, ◌∙◌, subst, arith}
 use Rattle.gl_world.specs.Dispatch.{Dispatch, Handled, work_edge}
 use Rattle.gl_world.specs.Enabled.{grows}
 use Rattle.gl_world.specs.declared.steps.Did.TheVariants.{Nothing, Worked}

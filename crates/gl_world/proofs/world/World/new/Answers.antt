@@ -1,6 +1,3 @@
-use Rattle.std.proofs.Common.{subst, sym}
-use Rattle.gl_world.specs.Dispatch.{Dispatch}
-use Rattle.gl_world.specs.Keeping.{IsWorld}
 use Rattle.gl_world.proofs.Worlds.{fresh_lists, world_new}
 use Rattle.gl_world.proofs.world.World.new.Goals as goal
 
