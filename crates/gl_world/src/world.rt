@@ -118,7 +118,8 @@ impl World {
         requires each_thread { length wishes.items ≡ limits.now.threads }
         requires some_shard { 1 ≤ shards }
         requires shards_fit { shards ≤ MAX_SHARDS }
-        ensures { IfOk result (λ world. world ≡ start limits.now shards (map (λ w. w.items) wishes.items)) }
+        ensures state { IfOk result (λ world. world ≡ start limits.now shards (map (λ w. w.items) wishes.items)) }
+        ensures lanes { IfOk result (λ world. length world.lanes ≡ world.limits.threads) }
     {
         let intake = Intake::new(alloc, limits)?;
         let rows = fresh_rows(alloc, limits, wishes)?;
