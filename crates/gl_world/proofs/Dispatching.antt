@@ -1,9 +1,8 @@
 -- The steps of a dispatch, case by case.
-use Rattle.std.proofs.Common.{◌≡◌, ℕ, zero, suc, ◌+◌, ◌<◌, ◌≤◌, Bool, true, false, cond, List, [], ◌∷◌, ◌++◌, length, map, take, set, get_or, replicate, Option, Some, None, refl, sym, ap, ◌∙◌, arith, subst}
+use Rattle.std.proofs.Common.{◌≡◌, ℕ, ◌+◌, ◌<◌, ◌≤◌, Bool, true, false, cond, List, [], ◌∷◌, ◌++◌, length, map, take, set, get_or, Some, refl, sym, ap, ◌∙◌, arith}
 use Rattle.std.specs.Prelude.{slice_get}
 use Rattle.std.specs.List.{flat_map}
-use Rattle.std.proofs.lemmas.Bool.{lt-ltb, le-ltb}
-use Rattle.std.proofs.lemmas.List.{append-nil, length-replicate, set-get_or, take_more}
+use Rattle.std.proofs.lemmas.List.{set-get_or, take_more}
 use Rattle.std.proofs.lemmas.Option.{slice_get_past, slice_get_read}
 use Rattle.gl_event.specs.Bounds.{Bounds}
 use Rattle.gl_edges.specs.Edges.{once}
@@ -12,8 +11,8 @@ use Rattle.gl_edges.specs.declared.edge.Sample.{Sample}
 use Rattle.gl_shards.specs.Shards.{shard_of}
 use Rattle.gl_shards.specs.Tables.{all_pairs, union}
 use Rattle.gl_shards.proofs.Filling.{once_of_none, once_before, once_behind}
-use Rattle.gl_world.specs.Dispatch.{Shard, Dispatch, Handled, wait, fresh_shard, worked_edges, table_of, all_worked, has_place, has_work, ship_edge, work_edge, ship_turn, work_turn, IsDone}
-use Rattle.gl_world.specs.Keeping.{IsTabled, AreShards}
+use Rattle.gl_world.specs.Dispatch.{Shard, Dispatch, Handled, wait, has_place, has_work, ship_edge, work_edge, ship_turn, work_turn}
+use Rattle.gl_world.specs.Keeping.{IsTabled}
 use Rattle.gl_world.specs.declared.steps.Did.TheVariants.{Nothing, Shipped, Worked}
 
 -- ---- tables

@@ -1,18 +1,15 @@
 -- A drained state has collected and worked all that its threads took.
-use Rattle.std.proofs.Common.{◌≡◌, ℕ, zero, suc, ◌+◌, ◌<◌, ◌≤◌, true, false, List, [], ◌∷◌, ◌++◌, length, map, take, Some, None, refl, sym, ap, ◌∙◌, subst, arith, ◌⊎◌, inl, inr}
+use Rattle.std.proofs.Common.{◌≡◌, ℕ, suc, ◌+◌, ◌≤◌, true, false, List, [], ◌∷◌, length, map, take, Some, refl, sym, ap, ◌∙◌, subst, arith, inl, inr}
 use Rattle.std.specs.Prelude.{slice_get}
 use Rattle.std.specs.List.{range_with_len, enumerate_from}
 use Rattle.std.proofs.lemmas.Bool.{cases_lt, false≢true}
 use Rattle.std.proofs.lemmas.List.{take_all}
 use Rattle.std.proofs.lemmas.Option.{slice_get_within}
 use Rattle.gl_event.specs.Bounds.{Bounds}
-use Rattle.gl_event.specs.declared.events.Event.{Event}
 use Rattle.gl_event.specs.declared.events.Segment.{Segment}
 use Rattle.gl_event.specs.declared.notes.Note.{Note}
 use Rattle.gl_segments.specs.Segments.{IsLeastInRing}
-use Rattle.gl_edges.specs.Edges.{once, edges, edges_made}
-use Rattle.gl_edges.specs.declared.edge.Edge.{Edge}
-use Rattle.gl_edges.specs.declared.edge.Sample.{Sample}
+use Rattle.gl_edges.specs.Edges.{edges, edges_made}
 use Rattle.gl_edges.proofs.Least.{same_once}
 use Rattle.gl_filters.specs.Asked.{Asked}
 use Rattle.gl_cycles.specs.Reports.{IsReport, IsGoodlockReport, IsReportFault}
@@ -20,14 +17,13 @@ use Rattle.gl_cycles.specs.declared.found.Report.{Report}
 use Rattle.gl_cycles.specs.declared.found.ReportFault.{ReportFault}
 use Rattle.gl_cycles.proofs.Uniqueness.{reports_agree, loops_agree, none_of_loops}
 use Rattle.gl_intake.specs.Stream.{events_of, has_ended, logs_of}
-use Rattle.gl_world.specs.Dispatch.{all_worked}
-use Rattle.gl_world.specs.Machine.{Lane, State, start, run, taken_of, taken_lists, IsDrained}
+use Rattle.gl_world.specs.Machine.{Lane, State, start, taken_of, taken_lists, IsDrained}
 use Rattle.gl_world.specs.Keeping.{IsLaneOf, IsSound}
-use Rattle.gl_world.specs.Headline.{collected_lists, worked_table, IsReportOf, HasAllTaken, IsReached, EveryDrainedScheduleReportsWhatWasTaken, ReportsDontShowTheSchedule, LoopsDontShowTheSchedule}
+use Rattle.gl_world.specs.Headline.{collected_lists, worked_table, IsReportOf, HasAllTaken, IsReached, StaysSound, EverySoundDrainedStateReportsWhatWasTaken, EveryDrainedScheduleReportsWhatWasTaken, ReportsDontShowTheSchedule, LoopsDontShowTheSchedule}
 use Rattle.gl_world.proofs.Lists.{found_within}
 use Rattle.gl_world.proofs.Shippings.{worked_is_made}
 use Rattle.gl_world.proofs.Sound.{told_events, ended_of_notes, sound_start}
-use Rattle.gl_world.proofs.Schedules.{sound_run}
+use Rattle.gl_world.proofs.Schedules.{sound_step, sound_run, keeps_order}
 
 -- whose end mark was collected has nothing left in its lane
 all_popped : (limits : Bounds) (thread : ℕ) (stream : List Note) (lane : Lane) → IsLaneOf limits thread stream lane → has_ended thread stream ≡ true → length lane.pushed ≤ lane.popped
@@ -69,16 +65,14 @@ module _ (s : State) (sound : IsSound s) (drained : IsDrained s) where
       ∙ lists_alike (λ t. events_of t s.stream) taken_of 0 s.lanes (λ i lane at. (let here : 0 + i ≡ i = omega arith in subst (λ k. events_of k s.stream ≡ taken_of k lane) (sym here) (each_whole i lane at)))
 
   pub has_all : HasAllTaken s
-  has_all =
-      let (from, all) = worked_is_made s.dispatch sound.shipped drained.done in
-      record {
-        each = each_whole;
-        lists = lists_whole;
-        table =
-            same_once (all_worked s.dispatch.shards) s.dispatch.made from all
-            ∙ same_once s.dispatch.made (edges_made (collected_lists s)) sound.made.from sound.made.all
-            ∙ ap edges lists_whole;
-      }
+  has_all = record {
+    each = each_whole;
+    lists = lists_whole;
+    table =
+        worked_is_made s.dispatch sound.shipped drained.done
+        ∙ same_once s.dispatch.made (edges_made (collected_lists s)) sound.made.from sound.made.all
+        ∙ ap edges lists_whole;
+  }
 
   pub drained_report : (asked : Asked) (report : Report) → IsReportOf asked s report → IsGoodlockReport asked (taken_lists s.lanes) report
   drained_report asked report is = subst (λ pairs. IsReport asked pairs (taken_lists s.lanes) report) has_all.table (subst (λ lists. IsReport asked (worked_table s) lists report) lists_whole is)
@@ -92,10 +86,14 @@ module _ (s : State) (sound : IsSound s) (drained : IsDrained s) where
 sound_reached : (s : State) → IsReached s → IsSound s
 sound_reached s r = subst IsSound (sym r.there) (sound_run (start r.limits r.shards r.wishes) (sound_start r.limits r.shards r.wishes r.each_thread) r.steps)
 
+pub stays_sound : StaysSound
+stays_sound = record { start = sound_start; step = λ s x sound. sound_step s sound x; order = keeps_order }
+
+pub every_sound_drained : EverySoundDrainedStateReportsWhatWasTaken
+every_sound_drained s sound drained = record { taken = has_all s sound drained; report = drained_report s sound drained; fault = drained_fault s sound drained }
+
 pub every_drained : EveryDrainedScheduleReportsWhatWasTaken
-every_drained s reached drained =
-    let sound = sound_reached s reached in
-    (has_all s sound drained, drained_report s sound drained, drained_fault s sound drained)
+every_drained s reached drained = every_sound_drained s (sound_reached s reached) drained
 
 pub reports_hide : ReportsDontShowTheSchedule
 reports_hide a b reached_a reached_b drained_a drained_b same asked of_a of_b is_a is_b =

@@ -1,10 +1,10 @@
 -- A step does something exactly where it is enabled.
-use Rattle.std.proofs.Common.{◌≡◌, ◌≢◌, ℕ, ◌+◌, ◌<◌, ◌≤◌, ◌⊎◌, inl, inr, Bool, true, false, cond, eqb, List, [], ◌∷◌, ◌++◌, length, set, get_or, Option, Some, None, refl, sym, ap, ◌∙◌, subst, arith}
+use Rattle.std.proofs.Common.{◌≡◌, ◌≢◌, ℕ, ◌+◌, ◌<◌, inl, inr, Bool, true, false, cond, eqb, length, set, Option, Some, None, refl, sym, ap, ◌∙◌, subst}
 use Rattle.std.specs.Prelude.{slice_get}
 use Rattle.std.specs.Option.{option_map_or}
-use Rattle.std.proofs.lemmas.Bool.{false≢true, ltb-true, lt-ltb, le-ltb, eq-eqb, ne_eqb, eqb-true, cases_lt}
+use Rattle.std.proofs.lemmas.Bool.{false≢true, ltb-true, lt-ltb, eq-eqb, eqb-true}
 use Rattle.std.proofs.lemmas.List.{set-get_or}
-use Rattle.std.proofs.lemmas.Option.{slice_get_within, slice_get_past, get_or_from_slice_get}
+use Rattle.std.proofs.lemmas.Option.{slice_get_within, get_or_from_slice_get}
 use Rattle.gl_event.specs.Bounds.{Bounds}
 use Rattle.gl_event.specs.Lawful.{refusal}
 use Rattle.gl_event.specs.declared.events.Event.{Event}
@@ -22,7 +22,7 @@ use Rattle.gl_world.specs.Enabled.{MayTake, MayEnd, MayPull, MayOffer, MayShip, 
 use Rattle.gl_world.specs.declared.steps.Step.{Step}
 use Rattle.gl_world.specs.declared.steps.Step.TheVariants.{Take, End, Pull, Again, Ship, Work}
 use Rattle.gl_world.specs.declared.steps.Did.{Did}
-use Rattle.gl_world.specs.declared.steps.Did.TheVariants.{Nothing, Taken, Passed, Ended, Pulled, Refused, Shipped, Worked}
+use Rattle.gl_world.specs.declared.steps.Did.TheVariants.{Nothing, Taken, Ended, Pulled, Refused, Shipped, Worked}
 use Rattle.gl_world.proofs.Lists.{same_some, found_within}
 
 -- an answer fits what was there: it isn't Nothing exactly where this holds, and where it is, nothing changed

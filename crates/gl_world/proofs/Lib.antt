@@ -1,4 +1,5 @@
 pub mod Dispatching
+pub mod Errors
 pub mod Lists
 pub mod Rows
 pub mod Makings

@@ -1,7 +1,6 @@
 -- The report of a state, from its logs and its tables.
-use Rattle.std.proofs.Common.{◌≡◌, ℕ, ◌+◌, ◌<◌, ◌≤◌, List, length, map, Some, refl, sym, ap, ◌∙◌, subst, arith, Result, Ok, Err, Vec, Global}
+use Rattle.std.proofs.Common.{◌≡◌, ℕ, ◌+◌, ◌<◌, ◌≤◌, List, length, map, Some, sym, ap, ◌∙◌, subst, arith, Result, Ok, Err, Vec, Global}
 use Rattle.std.specs.Prelude.{slice_get, IfOk, IfErr}
-use Rattle.std.specs.List.{range_with_len}
 use Rattle.std.proofs.lemmas.List.{length-map}
 use Rattle.std.proofs.lemmas.List.FromFn.{length-map-range_with_len}
 use Rattle.gl_event.specs.Bounds.{Bounds, AreWithinRange, greatest}

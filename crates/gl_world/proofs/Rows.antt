@@ -1,6 +1,6 @@
 -- What a thread's row keeps, and its turns case by case.
-use Rattle.std.proofs.Common.{◌≡◌, ℕ, ◌+◌, ◌<◌, Bool, true, false, List, [], ◌∷◌, ◌++◌, length, take, drop, ◌≤◌, cond, Option, Some, None, Result, Ok, Err, Vec, Global, refl, sym, ap, ◌∙◌, subst, arith, length-append}
-use Rattle.std.specs.Prelude.{OnOk, IfOk, slice_get, nat_le}
+use Rattle.std.proofs.Common.{◌≡◌, ℕ, ◌+◌, Bool, true, false, List, [], ◌∷◌, ◌++◌, length, take, drop, ◌≤◌, cond, Option, Some, None, Result, Ok, Err, Vec, Global, refl, sym, ap, ◌∙◌, subst, arith, length-append}
+use Rattle.std.specs.Prelude.{IfOk, slice_get, nat_le}
 use Rattle.std.specs.List.{filter_map}
 use Rattle.std.specs.Option.{option_map_or}
 use Rattle.std.proofs.lemmas.Bool.{leb-false, lt-leb}
@@ -23,7 +23,7 @@ use Rattle.gl_edges.specs.declared.edge.Sample.{Sample}
 use Rattle.gl_edges.specs.declared.tracker.Tracker.{Tracker}
 use Rattle.gl_edges.proofs.Fronts.{edges_at_front}
 use Rattle.gl_edges.proofs.Steps.{newest}
-use Rattle.gl_recorder.specs.Taking.{Taking, Tracks, event_note, end_note, answer_to}
+use Rattle.gl_recorder.specs.Taking.{Taking, Tracks, MayFollow, event_note, end_note}
 use Rattle.gl_intake.specs.Stream.{event_in, events_of, has_ended, FitsAfter}
 use Rattle.gl_intake.proofs.Streams.{events_more, events_ended, ended_event, ended_now}
 use Rattle.gl_world.specs.Machine.{Lane, rest, has_closed, has_room, taken_of, push_note, take_wish, take_turn, end_turn, edges_due}
@@ -35,30 +35,31 @@ pub kept_new : (limits : Bounds) (thread : ℕ) (taker : Taking) (tracker : Trac
 unfolding events_of has_ended
 kept_new limits thread taker tracker tracks follows range = record { tracks = tracks; listed = refl; known = refl; within = omega arith; follows = follows; range = range }
 
--- what a recorder that answers an event's note keeps
-taken_well : (limits : Bounds) (thread : ℕ) (es : List Event) (e : Event) (answer : Result Note Refusal) (after : Taking) → refusal limits thread es e ≡ None → answer ≡ answer_to limits thread es e
-    → OnOk answer (Tracks limits thread (es ++ e ∷ []) after) → Tracks limits thread (es ++ e ∷ []) after
-taken_well limits thread es e answer after allowed is h =
-    let ok : answer ≡ Ok (event_note thread es e) = rw allowed at is in
-    rw ok at h
-
 module _ (limits : Bounds) (thread : ℕ) (pushed : List Note) (popped : ℕ) (taken : List Event) (closed : Bool) (taker : Taking) (tracker : Tracker)
     (kept : IsKept limits thread pushed popped taken closed taker tracker) where
   -- what was popped stays as it was where a note more is pushed
   follows_still : (note : Note) → Follows thread (events_of thread (take popped (pushed ++ note ∷ []))) tracker
   follows_still note = subst (λ notes. Follows thread (events_of thread notes) tracker) (sym (take-append-le popped pushed (note ∷ []) kept.within)) kept.follows
 
+  -- the recorder may take an event that is lawful next
+  pub may_follow : (e : Event) → refusal limits thread (events_of thread pushed) e ≡ None → MayFollow taker e
+  may_follow e allowed = record {
+    es = events_of thread pushed;
+    tracked = subst (λ (b : Bounds). Tracks b taker.thread (events_of thread pushed) taker) (sym kept.tracks.its_limits)
+        (subst (λ (t : ℕ). Tracks limits t (events_of thread pushed) taker) (sym kept.tracks.its_thread) kept.tracks);
+    allowed = rw (kept.tracks.its_limits, kept.tracks.its_thread) allowed;
+  }
+
   -- one event more
-  pub kept_event : (e : Event) → refusal limits thread (events_of thread pushed) e ≡ None → (note : Note) → note ≡ event_note thread (events_of thread pushed) e → (answer : Result Note Refusal) (after : Taking)
-      → ((b : Bounds) (t : ℕ) (es : List Event) → Tracks b t es taker → answer ≡ answer_to b t es e)
-      → ((b : Bounds) (t : ℕ) (es : List Event) → Tracks b t es taker → OnOk answer (Tracks b t (es ++ e ∷ []) after))
+  pub kept_event : (e : Event) (note : Note) → note ≡ event_note thread (events_of thread pushed) e → (after : Taking)
+      → ((b : Bounds) (t : ℕ) (es : List Event) → Tracks b t es taker → Tracks b t (es ++ e ∷ []) after)
       → IsKept limits thread (pushed ++ note ∷ []) popped (taken ++ e ∷ []) closed after tracker
-  kept_event e allowed note is answer after answers tracks =
+  kept_event e note is after tracks =
       let es = events_of thread pushed in
       let own : Note = event_note thread es e in
       let more : events_of thread (pushed ++ own ∷ []) ≡ es ++ e ∷ [] = events_more pushed own e refl in
       rw is (record {
-        tracks = rw more (taken_well limits thread es e answer after allowed (answers limits thread es kept.tracks) (tracks limits thread es kept.tracks));
+        tracks = rw more (tracks limits thread es kept.tracks);
         listed = ap (λ xs. xs ++ e ∷ []) kept.listed ∙ sym more;
         known = kept.known ∙ sym (ended_event pushed own thread e refl);
         within = omega (arith, kept.within, length-append pushed (own ∷ []));

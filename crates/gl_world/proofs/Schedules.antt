@@ -1,11 +1,8 @@
 -- Each step keeps what holds of a state, and so does every list of steps.
-use Rattle.std.proofs.Common.{◌≡◌, ◌≢◌, ℕ, ◌+◌, ◌<◌, Bool, true, false, cond, eqb, List, [], ◌∷◌, ◌++◌, length, take, drop, Option, Some, None, refl, sym, ap, ◌∙◌, arith}
+use Rattle.std.proofs.Common.{◌≡◌, ◌≢◌, ℕ, ◌+◌, ◌<◌, Bool, true, false, cond, eqb, List, [], ◌∷◌, ◌++◌, length, drop, Option, Some, None, refl, sym, ap, ◌∙◌, arith}
 use Rattle.std.specs.Prelude.{slice_get}
-use Rattle.std.specs.List.{filter_map}
 use Rattle.std.specs.Option.{option_map_or}
 use Rattle.std.proofs.lemmas.Bool.{eq-eqb, false≢true}
-use Rattle.std.proofs.lemmas.List.{take-append-drop}
-use Rattle.std.proofs.lemmas.List.Elements.{filter_map-append}
 use Rattle.std.proofs.lemmas.Option.{slice_get_within}
 use Rattle.gl_event.specs.Bounds.{Bounds}
 use Rattle.gl_event.specs.Lawful.{refusal}
@@ -13,7 +10,7 @@ use Rattle.gl_event.specs.declared.events.Event.{Event}
 use Rattle.gl_event.specs.declared.events.Refusal.{Refusal}
 use Rattle.gl_event.specs.declared.notes.Note.{Note}
 use Rattle.gl_recorder.specs.Taking.{event_note, end_note}
-use Rattle.gl_intake.specs.Stream.{event_in, events_of, note_refusal, accepted_as}
+use Rattle.gl_intake.specs.Stream.{events_of, note_refusal, accepted_as}
 use Rattle.gl_intake.specs.declared.notes.Accepted.{Accepted}
 use Rattle.gl_intake.specs.declared.notes.Refused.{Refused as Reason}
 use Rattle.gl_world.specs.Machine.{Lane, State, rest, start, use_wish, push_note, taken_of, has_closed, has_room, take_judged, take_wish, take_turn, end_turn, Moved, idle, turned, pull_note, again_note, step, run, answer_again, IsPrefixOf, KeepsOrder}

@@ -1,145 +1,127 @@
--- What was shipped are the first of the edges made.
-use Rattle.std.proofs.Common.{◌≡◌, ◌≢◌, ℕ, zero, suc, ◌+◌, ◌<◌, ◌≤◌, Bool, true, false, cond, List, [], ◌∷◌, ◌++◌, length, map, take, set, replicate, Option, Some, None, refl, sym, ap, ◌∙◌, subst, arith, ◌⊎◌, inl, inr}
-use Rattle.std.specs.Prelude.{slice_get, Contains}
-use Rattle.std.specs.List.{flat_map}
+-- What was shipped are the first of the edges made, to each shard its own.
+use Rattle.std.proofs.Common.{◌≡◌, ◌≢◌, ℕ, zero, suc, ◌+◌, ◌<◌, ◌≤◌, Bool, true, false, cond, eqb, List, [], ◌∷◌, ◌++◌, length, map, take, set, replicate, Option, Some, None, refl, sym, ap, ◌∙◌, subst, arith, inl, inr}
+use Rattle.std.specs.Prelude.{slice_get}
+use Rattle.std.specs.List.{range_with_len}
 use Rattle.std.specs.Option.{option_map_or}
-use Rattle.std.proofs.lemmas.Bool.{cases_eq}
+use Rattle.std.proofs.lemmas.Bool.{cases_eq, cases_lt, eq-eqb, ne_eqb}
 use Rattle.std.proofs.lemmas.List.{take-append-le, length-append, append-nil, take_all, length-set}
-use Rattle.std.proofs.lemmas.List.Elements.{Contains-append_left, Contains-append_right, Contains-append_cases, Contains-push, Contains-push_cases}
+use Rattle.std.proofs.lemmas.List.Elements.{filter-append}
 use Rattle.std.proofs.lemmas.Option.{slice_get_within}
 use Rattle.gl_event.specs.Bounds.{Bounds}
-use Rattle.gl_edges.specs.Laws.{AreAmong}
+use Rattle.gl_edges.specs.Edges.{once}
 use Rattle.gl_edges.specs.declared.edge.Edge.{Edge}
 use Rattle.gl_edges.specs.declared.edge.Sample.{Sample}
-use Rattle.gl_edges.proofs.Membership.{contains_here, contains_later, contains_cases, contains_none}
 use Rattle.gl_shards.specs.Shards.{shard_of}
-use Rattle.gl_world.specs.Dispatch.{Shard, Dispatch, Handled, wait, fresh_shard, fresh_dispatch, worked_edges, all_worked, all_shipped, has_place, has_work, ship_edge, work_edge, ship_to, ship_pair, work_on, ship_turn, work_turn, IsDone}
+use Rattle.gl_shards.specs.Tables.{of_shard, union}
+use Rattle.gl_shards.proofs.Uniting.{shards_whole}
+use Rattle.gl_world.specs.Dispatch.{Shard, Dispatch, Handled, wait, fresh_shard, fresh_dispatch, worked_edges, table_of, all_worked, has_place, has_work, ship_edge, work_edge, ship_to, ship_pair, work_on, ship_turn, work_turn, IsDone}
 use Rattle.gl_world.specs.Machine.{add_edges}
 use Rattle.gl_world.specs.Keeping.{AreShipped}
 use Rattle.gl_world.specs.declared.steps.Did.TheVariants.{Shipped, Worked}
-use Rattle.gl_world.proofs.Lists.{same_some, take_more}
+use Rattle.gl_world.proofs.Lists.{same_some, take_more, get_set_same, get_set_other}
+use Rattle.gl_world.proofs.Dispatching.{union_is}
 
--- ---- one shard among all
+-- ---- the edges of one shard
 
--- one shard with one edge more adds this edge to what was shipped, and nothing else
-shipped_more : (shards : List Shard) (k : ℕ) (shard : Shard) (pair : Edge × Sample) → slice_get shards k ≡ Some shard
-    → (q : Edge × Sample) → Contains (all_shipped (set shards k (ship_edge shard pair))) q → Contains (all_shipped shards) q ⊎ (pair ≡ q)
-shipped_more [] k shard pair at q there = absurd (cc)
-shipped_more (s ∷ shards) zero shard pair at q there =
-    let same : s ≡ shard = same_some s shard at in
-    elim (Contains-append_cases (shard.shipped ++ pair ∷ []) (all_shipped shards) q there) [
-      | inl own ↦ elim (Contains-push_cases shard.shipped pair q own) [
-        | inl before ↦ inl (Contains-append_left s.shipped (all_shipped shards) q (subst (λ (x : Shard). Contains x.shipped q) (sym same) before))
-        | inr new ↦ inr new
-      ]
-      | inr other ↦ inl (Contains-append_right s.shipped (all_shipped shards) q other)
-    ]
-shipped_more (s ∷ shards) (suc k) shard pair at q there =
-    elim (Contains-append_cases s.shipped (all_shipped (set shards k (ship_edge shard pair))) q there) [
-      | inl own ↦ inl (Contains-append_left s.shipped (all_shipped shards) q own)
-      | inr other ↦ elim (shipped_more shards k shard pair at q other) [
-        | inl before ↦ inl (Contains-append_right s.shipped (all_shipped shards) q before)
-        | inr new ↦ inr new
-      ]
-    ]
+-- an edge more goes to its shard
+own_more : (shards : ℕ) (pairs : List (Edge × Sample)) (pair : Edge × Sample) (k : ℕ) → shard_of pair.0 shards ≡ k → of_shard shards (pairs ++ pair ∷ []) k ≡ of_shard shards pairs k ++ pair ∷ []
+own_more shards pairs pair k is =
+    filter-append (λ (p : Edge × Sample). eqb (shard_of p.0 shards) k) pairs (pair ∷ [])
+    ∙ ap (λ b. of_shard shards pairs k ++ cond b (pair ∷ []) []) (eq-eqb (shard_of pair.0 shards) k is)
 
-shipped_still : (shards : List Shard) (k : ℕ) (shard : Shard) (pair : Edge × Sample) → slice_get shards k ≡ Some shard
-    → (q : Edge × Sample) → Contains (all_shipped shards) q → Contains (all_shipped (set shards k (ship_edge shard pair))) q
-shipped_still [] k shard pair at q there = absurd (cc)
-shipped_still (s ∷ shards) zero shard pair at q there =
-    let same : s ≡ shard = same_some s shard at in
-    elim (Contains-append_cases s.shipped (all_shipped shards) q there) [
-      | inl own ↦
-          Contains-append_left (shard.shipped ++ pair ∷ []) (all_shipped shards) q
-          (Contains-append_left shard.shipped (pair ∷ []) q (subst (λ (x : Shard). Contains x.shipped q) same own))
-      | inr other ↦ Contains-append_right (shard.shipped ++ pair ∷ []) (all_shipped shards) q other
-    ]
-shipped_still (s ∷ shards) (suc k) shard pair at q there =
-    elim (Contains-append_cases s.shipped (all_shipped shards) q there) [
-      | inl own ↦ Contains-append_left s.shipped (all_shipped (set shards k (ship_edge shard pair))) q own
-      | inr other ↦ Contains-append_right s.shipped (all_shipped (set shards k (ship_edge shard pair))) q (shipped_still shards k shard pair at q other)
-    ]
+-- and to no other
+other_more : (shards : ℕ) (pairs : List (Edge × Sample)) (pair : Edge × Sample) (k : ℕ) → shard_of pair.0 shards ≢ k → of_shard shards (pairs ++ pair ∷ []) k ≡ of_shard shards pairs k
+other_more shards pairs pair k apart =
+    filter-append (λ (p : Edge × Sample). eqb (shard_of p.0 shards) k) pairs (pair ∷ [])
+    ∙ ap (λ b. of_shard shards pairs k ++ cond b (pair ∷ []) []) (ne_eqb (shard_of pair.0 shards) k apart)
+    ∙ append-nil (of_shard shards pairs k)
 
-shipped_now : (shards : List Shard) (k : ℕ) (shard : Shard) (pair : Edge × Sample) → slice_get shards k ≡ Some shard → Contains (all_shipped (set shards k (ship_edge shard pair))) pair
-shipped_now [] k shard pair at = absurd (cc)
-shipped_now (s ∷ shards) zero shard pair at = Contains-append_left (shard.shipped ++ pair ∷ []) (all_shipped shards) pair (Contains-push shard.shipped pair)
-shipped_now (s ∷ shards) (suc k) shard pair at =
-    Contains-append_right s.shipped (all_shipped (set shards k (ship_edge shard pair))) pair (shipped_now shards k shard pair at)
-
--- an edge that is worked stays shipped
-shipped_same : (shards : List Shard) (k : ℕ) (shard : Shard) → slice_get shards k ≡ Some shard → all_shipped (set shards k (work_edge shard)) ≡ all_shipped shards
-shipped_same [] k shard at = absurd (cc)
-shipped_same (s ∷ shards) zero shard at = ap (λ (x : Shard). x.shipped ++ all_shipped shards) (sym (same_some s shard at))
-shipped_same (s ∷ shards) (suc k) shard at = ap (λ xs. s.shipped ++ xs) (shipped_same shards k shard at)
+-- the one shard that was set
+set_at : (shards : List Shard) (k : ℕ) (now : Shard) (t : ℕ) (other : Shard) → k < length shards → k ≡ t → slice_get (set shards k now) t ≡ Some other → other ≡ now
+set_at shards k now t other within same at = same_some other now (sym at ∙ ap (slice_get (set shards k now)) (sym same) ∙ get_set_same shards k now within)
 
 -- ---- the steps
 
 -- edges made later aren't among the first
 pub shipped_added : (d : Dispatch) (due : List (Edge × Sample)) → AreShipped d → AreShipped (add_edges d due)
-shipped_added d due are =
-    let front : take d.sent (d.made ++ due) ≡ take d.sent d.made = take-append-le d.sent d.made due are.within in
-    record {
-      within = (let w = are.within in omega (arith, length-append d.made due));
-      from = λ q at. subst (λ xs. Contains xs q) (sym front) (are.from q at);
-      all = λ q at. are.all q (subst (λ xs. Contains xs q) front at);
-    }
+shipped_added d due are = record {
+  within = (let w = are.within in omega (arith, length-append d.made due));
+  some = are.some;
+  each = λ k shard at. are.each k shard at ∙ ap (λ pairs. of_shard (length d.shards) pairs k) (sym (take-append-le d.sent d.made due are.within));
+}
 
-shipped_next : (d : Dispatch) (pair : Edge × Sample) (k : ℕ) (shard : Shard) → slice_get d.made d.sent ≡ Some pair → slice_get d.shards k ≡ Some shard → AreShipped d
-    → AreShipped (record d { sent = d.sent + 1; shards = set d.shards k (ship_edge shard pair) })
-shipped_next d pair k shard next here are =
+shipped_next : (d : Dispatch) (pair : Edge × Sample) (shard : Shard) → slice_get d.made d.sent ≡ Some pair → slice_get d.shards (shard_of pair.0 (length d.shards)) ≡ Some shard → AreShipped d
+    → AreShipped (record d { sent = d.sent + 1; shards = set d.shards (shard_of pair.0 (length d.shards)) (ship_edge shard pair) })
+shipped_next d pair shard next here are =
+    let k = shard_of pair.0 (length d.shards) in
     let more : take (d.sent + 1) d.made ≡ take d.sent d.made ++ pair ∷ [] = take_more d.made d.sent pair next in
+    let within : k < length d.shards = slice_get_within d.shards k shard here in
+    let count : length (set d.shards k (ship_edge shard pair)) ≡ length d.shards = length-set d.shards k (ship_edge shard pair) in
     record {
       within = (let w = slice_get_within d.made d.sent pair next in omega arith);
-      from = λ q at.
-          subst (λ xs. Contains xs q) (sym more)
-          (elim (shipped_more d.shards k shard pair here q at) [
-            | inl before ↦ Contains-append_left (take d.sent d.made) (pair ∷ []) q (are.from q before)
-            | inr new ↦ subst (Contains (take d.sent d.made ++ pair ∷ [])) new (Contains-push (take d.sent d.made) pair)
+      some = λ any. omega (arith, within, count);
+      each = λ t other at.
+          rw (count, more)
+          (elim (cases_eq k t) [
+            | inl same ↦
+                ap (λ (x : Shard). x.shipped) (set_at d.shards k (ship_edge shard pair) t other within same at)
+                ∙ ap (λ xs. xs ++ pair ∷ []) (are.each k shard here)
+                ∙ ap (λ i. of_shard (length d.shards) (take d.sent d.made) i ++ pair ∷ []) same
+                ∙ sym (own_more (length d.shards) (take d.sent d.made) pair t same)
+            | inr apart ↦
+                are.each t other (sym (get_set_other d.shards k t (ship_edge shard pair) apart) ∙ at)
+                ∙ sym (other_more (length d.shards) (take d.sent d.made) pair t apart)
           ]);
-      all = λ q at.
-          elim (Contains-push_cases (take d.sent d.made) pair q (subst (λ xs. Contains xs q) more at)) [
-            | inl before ↦ shipped_still d.shards k shard pair here q (are.all q before)
-            | inr new ↦ subst (Contains (all_shipped (set d.shards k (ship_edge shard pair)))) new (shipped_now d.shards k shard pair here)
-          ];
     }
 
 module _ (limits : Bounds) (d : Dispatch) (are : AreShipped d) where
-  to_shard : (pair : Edge × Sample) → slice_get d.made d.sent ≡ Some pair → (k : ℕ) (shard : Shard) → slice_get d.shards k ≡ Some shard → (b : Bool)
-      → AreShipped (cond b (let h : Handled = record { dispatch = record d { sent = d.sent + 1; shards = set d.shards k (ship_edge shard pair) }; did = Shipped k } in h) (wait d)).dispatch
-  to_shard pair next k shard here true = shipped_next d pair k shard next here are
-  to_shard pair next k shard here false = are
+  to_shard : (pair : Edge × Sample) → slice_get d.made d.sent ≡ Some pair → (shard : Shard) → slice_get d.shards (shard_of pair.0 (length d.shards)) ≡ Some shard → (b : Bool)
+      → AreShipped (cond b (let h : Handled = record { dispatch = record d { sent = d.sent + 1; shards = set d.shards (shard_of pair.0 (length d.shards)) (ship_edge shard pair) }; did = Shipped (shard_of pair.0 (length d.shards)) } in h) (wait d)).dispatch
+  to_shard pair next shard here true = shipped_next d pair shard next here are
+  to_shard pair next shard here false = are
 
-  of_pair : (pair : Edge × Sample) → slice_get d.made d.sent ≡ Some pair → (k : ℕ) (found : Option Shard) → slice_get d.shards k ≡ found → AreShipped (option_map_or (ship_to limits d pair k) found (wait d)).dispatch
-  of_pair pair next k None here = are
-  of_pair pair next k (Some shard) here = to_shard pair next k shard here (has_place limits shard)
+  of_pair : (pair : Edge × Sample) → slice_get d.made d.sent ≡ Some pair → (found : Option Shard) → slice_get d.shards (shard_of pair.0 (length d.shards)) ≡ found
+      → AreShipped (option_map_or (ship_to limits d pair (shard_of pair.0 (length d.shards))) found (wait d)).dispatch
+  of_pair pair next None here = are
+  of_pair pair next (Some shard) here = to_shard pair next shard here (has_place limits shard)
 
   of_next : (next : Option (Edge × Sample)) → slice_get d.made d.sent ≡ next → AreShipped (option_map_or (ship_pair limits d) next (wait d)).dispatch
   of_next None at = are
-  of_next (Some pair) at = of_pair pair at (shard_of pair.0 (length d.shards)) (slice_get d.shards (shard_of pair.0 (length d.shards))) refl
+  of_next (Some pair) at = of_pair pair at (slice_get d.shards (shard_of pair.0 (length d.shards))) refl
 
   pub shipped_turn : AreShipped (ship_turn limits d).dispatch
   unfolding ship_turn
   shipped_turn = of_next (slice_get d.made d.sent) refl
 
 module _ (d : Dispatch) (are : AreShipped d) (k : ℕ) where
+  -- an edge that is worked stays shipped
   by_worker : (shard : Shard) → slice_get d.shards k ≡ Some shard → (b : Bool)
       → AreShipped (cond b (let h : Handled = record { dispatch = record d { shards = set d.shards k (work_edge shard) }; did = Worked } in h) (wait d)).dispatch
   by_worker shard here true =
-      let same : all_shipped (set d.shards k (work_edge shard)) ≡ all_shipped d.shards = shipped_same d.shards k shard here in
+      let within : k < length d.shards = slice_get_within d.shards k shard here in
+      let count : length (set d.shards k (work_edge shard)) ≡ length d.shards = length-set d.shards k (work_edge shard) in
       record {
         within = are.within;
-        from = λ q at. are.from q (subst (λ xs. Contains xs q) same at);
-        all = λ q at. subst (λ xs. Contains xs q) (sym same) (are.all q at);
+        some = λ any. omega (arith, within, count);
+        each = λ t other at.
+            rw count
+            (elim (cases_eq k t) [
+              | inl same ↦
+                  ap (λ (x : Shard). x.shipped) (set_at d.shards k (work_edge shard) t other within same at)
+                  ∙ are.each k shard here
+                  ∙ ap (of_shard (length d.shards) (take d.sent d.made)) same
+              | inr apart ↦ are.each t other (sym (get_set_other d.shards k t (work_edge shard) apart) ∙ at)
+            ]);
       }
   by_worker shard here false = are
 
-  of_shard : (found : Option Shard) → slice_get d.shards k ≡ found → AreShipped (option_map_or (work_on d k) found (wait d)).dispatch
-  of_shard None here = are
-  of_shard (Some shard) here = by_worker shard here (has_work shard)
+  of_shards : (found : Option Shard) → slice_get d.shards k ≡ found → AreShipped (option_map_or (work_on d k) found (wait d)).dispatch
+  of_shards None here = are
+  of_shards (Some shard) here = by_worker shard here (has_work shard)
 
   pub worked_turn : AreShipped (work_turn d k).dispatch
   unfolding work_turn
-  worked_turn = of_shard (slice_get d.shards k) refl
+  worked_turn = of_shards (slice_get d.shards k) refl
 
 -- neither makes an edge
 module _ (limits : Bounds) (d : Dispatch) where
@@ -211,28 +193,55 @@ module _ (d : Dispatch) (k : ℕ) where
 pub shipped_nothing : (shards : ℕ) → AreShipped (fresh_dispatch shards)
 shipped_nothing shards = record {
   within = omega arith;
-  from = λ q at. subst (λ xs. Contains xs q) (nothing shards) at;
-  all = λ q at. absurd (contains_none q at);
+  some = λ any. absurd (omega arith);
+  each = λ k shard at. ap (λ (x : Shard). x.shipped) (fresh_one shards k shard at);
 }
   where
-    nothing : (n : ℕ) → all_shipped (replicate n fresh_shard) ≡ []
-    nothing zero = refl
-    nothing (suc n) = nothing n
+    fresh_one : (n k : ℕ) (shard : Shard) → slice_get (replicate n fresh_shard) k ≡ Some shard → shard ≡ fresh_shard
+    fresh_one zero k shard at = absurd (cc)
+    fresh_one (suc n) zero shard at = sym (same_some fresh_shard shard at)
+    fresh_one (suc n) (suc k) shard at = fresh_one n k shard at
 
 -- ---- where all is done
 
--- what was worked is what was shipped
-worked_all : (shards : List Shard) → ((k : ℕ) (shard : Shard) → slice_get shards k ≡ Some shard → shard.worked ≡ length shard.shipped) → all_worked shards ≡ all_shipped shards
-worked_all [] each = refl
-worked_all (s ∷ shards) each =
-    let first : worked_edges s ≡ s.shipped = (let all = each 0 s refl in take_all s.worked s.shipped (omega arith)) in
-    (λ i. first i ++ worked_all shards (λ k shard at. each (suc k) shard at) i)
+-- two ways to list what belongs to each place of a list
+each_alike : {X Y : Type 0} (f : ℕ → Y) (g : X → Y) (n : ℕ) (xs : List X) → ((i : ℕ) (x : X) → slice_get xs i ≡ Some x → f (n + i) ≡ g x) → map f (range_with_len n (length xs)) ≡ map g xs
+each_alike f g n [] each = refl
+each_alike f g n (x ∷ xs) each =
+    let here : n + 0 ≡ n = omega arith in
+    let first : f n ≡ g x = subst (λ k. f k ≡ g x) here (each 0 x refl) in
+    let rest = each_alike f g (n + 1) xs (λ i z at. (let later : n + suc i ≡ (n + 1) + i = omega arith in subst (λ k. f k ≡ g z) later (each (suc i) z at))) in
+    (λ i. first i ∷ rest i)
 
--- what was worked is what was made
-pub worked_is_made : (d : Dispatch) → AreShipped d → IsDone d → AreAmong (all_worked d.shards) d.made × AreAmong d.made (all_worked d.shards)
+no_shards : (shards : List Shard) → length shards ≤ 0 → all_worked shards ≡ []
+no_shards [] none = refl
+no_shards (s ∷ shards) none = absurd (omega arith)
+
+none_made : (pairs : List (Edge × Sample)) → length pairs ≤ 0 → pairs ≡ []
+none_made [] none = refl
+none_made (p ∷ pairs) none = absurd (omega arith)
+
+-- the tables of what was worked make the table of what was made
+pub worked_is_made : (d : Dispatch) → AreShipped d → IsDone d → once (all_worked d.shards) ≡ once d.made
 worked_is_made d are done =
-    let worked : all_worked d.shards ≡ all_shipped d.shards = worked_all d.shards done.all_worked in
-    let sent : take d.sent d.made ≡ d.made = (let all = done.all_sent in take_all d.sent d.made (omega arith)) in (
-      λ q at. subst (λ xs. Contains xs q) sent (are.from q (subst (λ xs. Contains xs q) worked at)),
-      λ q at. subst (λ xs. Contains xs q) (sym worked) (are.all q (subst (λ xs. Contains xs q) (sym sent) at)),
-    )
+    elim (cases_lt 0 (length d.shards)) [
+      | inl some ↦
+          sym (union_is worked_edges d.shards)
+          ∙ ap union (sym (each_alike (λ k. once (of_shard (length d.shards) d.made k)) table_of 0 d.shards table_at))
+          ∙ shards_whole (length d.shards) d.made (omega arith)
+      | inr none ↦
+          let unsent : length d.made ≤ 0 = elim (cases_lt 0 d.sent) [ inl any ↦ (let one = are.some (omega arith) in absurd (omega arith)) | inr not ↦ (let all = done.all_sent in omega arith) ] in
+          ap once (no_shards d.shards (omega arith) ∙ sym (none_made d.made unsent))
+    ]
+  where
+    sent_all : take d.sent d.made ≡ d.made
+    sent_all = let all = done.all_sent in take_all d.sent d.made (omega arith)
+
+    table_at : (k : ℕ) (shard : Shard) → slice_get d.shards k ≡ Some shard → once (of_shard (length d.shards) d.made (0 + k)) ≡ table_of shard
+    table_at k shard at =
+        let number : 0 + k ≡ k = omega arith in
+        let all = done.all_worked k shard at in
+        let worked : worked_edges shard ≡ shard.shipped = take_all shard.worked shard.shipped (omega arith) in
+        ap (λ i. once (of_shard (length d.shards) d.made i)) number
+        ∙ ap (λ pairs. once (of_shard (length d.shards) pairs k)) (sym sent_all)
+        ∙ ap once (sym (are.each k shard at) ∙ sym worked)

@@ -1,9 +1,9 @@
 -- A world's rows and its state, step by step.
-use Rattle.std.proofs.Common.{◌≡◌, ◌≢◌, ℕ, Bool, true, false, cond, eqb, zero, suc, ◌+◌, ◌<◌, ◌≤◌, List, [], ◌∷◌, ◌++◌, length, map, set, get_or, Option, Some, None, refl, sym, ap, ◌∙◌, arith, subst, take, Vec, Global, ◌⊎◌, inl, inr}
-use Rattle.std.specs.Prelude.{slice_get, Result, Ok, Err, IfOk, OnOk, OnErr}
+use Rattle.std.proofs.Common.{◌≡◌, ◌≢◌, ℕ, Bool, true, false, cond, eqb, ◌+◌, ◌<◌, ◌≤◌, List, [], ◌∷◌, ◌++◌, length, map, set, get_or, Option, Some, None, refl, sym, ap, ◌∙◌, arith, subst, take, Vec, Global, ◌⊎◌, inl, inr}
+use Rattle.std.specs.Prelude.{slice_get, Result, Ok, Err, IfOk, OnOk, OnErr, IsTrue}
 use Rattle.std.specs.Option.{option_map, option_map_or}
 use Rattle.std.proofs.lemmas.Bool.{cases_eq, eq-eqb, ne_eqb}
-use Rattle.std.proofs.lemmas.List.{take_all, take-append-le, length-map, map-set}
+use Rattle.std.proofs.lemmas.List.{take_all, length-map, map-set}
 use Rattle.std.proofs.lemmas.Option.{slice_get-map, slice_get_past, slice_get_within, get_or_from_slice_get}
 use Rattle.gl_event.specs.Bounds.{Bounds, AreWithinRange}
 use Rattle.gl_event.specs.declared.events.Event.{Event}
@@ -14,8 +14,9 @@ use Rattle.gl_intake.specs.declared.notes.Refused.TheVariants.{Memory}
 use Rattle.gl_intake.proofs.Next.{none_of_next}
 use Rattle.gl_edges.specs.declared.edge.Edge.{Edge}
 use Rattle.gl_edges.specs.declared.edge.Sample.{Sample}
-use Rattle.gl_world.specs.Dispatch.{Dispatch, Shard, Handled, fresh_dispatch, ship_turn, work_turn}
+use Rattle.gl_world.specs.Dispatch.{Dispatch, Handled, fresh_dispatch, ship_turn, work_turn}
 use Rattle.gl_world.specs.Machine.{Lane, State, Turn, Moved, fresh_lane, take_turn, end_turn, pop_note, turned, handled, idle, pull_note, again_note, answer_again, edges_due, add_edges, taken_of, step, run}
+use Rattle.gl_world.specs.Enabled.{grows}
 use Rattle.gl_world.specs.Keeping.{Keeper, AreKeepers, IsLaneOf, IsFrontOf, IsSound, IsWorld, lanes_of}
 use Rattle.gl_world.specs.declared.steps.Step.{Step}
 use Rattle.gl_world.specs.declared.steps.Step.TheVariants.{Take, End, Pull, Again, Ship, Work}
@@ -24,7 +25,7 @@ use Rattle.gl_world.specs.declared.steps.Did.TheVariants.{Pulled, Refused}
 use Rattle.gl_world.proofs.Lists.{same_some, take_more, get_set_same, get_set_other, found_within, get_at}
 use Rattle.gl_world.proofs.Shippings.{ship_keeps_shards, work_keeps_shards}
 use Rattle.gl_world.proofs.Sound.{sound_start, front_is_next, other_isnt_next, front_of}
-use Rattle.gl_world.proofs.Schedules.{sound_step, run_push}
+use Rattle.gl_world.proofs.Schedules.{sound_step, sound_run, run_push}
 
 abbrev pub state_of : Bounds → Dispatch → List Keeper → List Note → State
 state_of limits dispatch keepers stream = record { limits = limits; lanes = lanes_of keepers; stream = stream; dispatch = dispatch }
@@ -165,6 +166,17 @@ module _ (limits : Bounds) (dispatch : Dispatch) (keepers : List Keeper) (stream
       take_known (state_of limits dispatch keepers stream) i was.lane lane_at
       ∙ moved_as (take_turn limits i was.lane) now did (ap (λ (k : Keeper). k.lane) is ∙ ap (λ (t : Turn). t.lane) same) (says ∙ ap (λ (t : Turn). t.did) same)
 
+  -- what the step of the state does is what the turn of the row does
+  pub take_did : (step (state_of limits dispatch keepers stream) (Take i)).did ≡ (take_turn was.limits was.thread was.lane).did
+  take_did =
+      let same : take_turn was.limits was.thread was.lane ≡ take_turn limits i was.lane = rw (own, own_limits) in
+      ap (λ (m : Moved). m.did) (take_known (state_of limits dispatch keepers stream) i was.lane lane_at) ∙ ap (λ (t : Turn). t.did) (sym same)
+
+  pub end_did : (step (state_of limits dispatch keepers stream) (End i)).did ≡ (end_turn was.limits was.thread was.lane).did
+  end_did =
+      let same : end_turn was.limits was.thread was.lane ≡ end_turn limits i was.lane = rw (own, own_limits) in
+      ap (λ (m : Moved). m.did) (end_known (state_of limits dispatch keepers stream) i was.lane lane_at) ∙ ap (λ (t : Turn). t.did) (sym same)
+
   pub end_moved : (now : Keeper) (did : Did) → now ≡ record was { lane = (end_turn was.limits was.thread was.lane).lane } → did ≡ (end_turn was.limits was.thread was.lane).did
       → (let m : Moved = record { after = state_of limits dispatch (set keepers i now) stream; did = did } in step (state_of limits dispatch keepers stream) (End i) ≡ m)
   end_moved now did is says =
@@ -175,6 +187,11 @@ module _ (limits : Bounds) (dispatch : Dispatch) (keepers : List Keeper) (stream
   -- the row's lane in the state
   sound_lane : IsLaneOf limits i stream was.lane
   sound_lane = world.sound.lanes i was.lane lane_at
+
+  -- what is known of the front of the state's lane holds of the row's
+  pub front_there : (s : State) → state_of limits dispatch keepers stream ≡ s → (note : Note) → ((lane : Lane) → slice_get s.lanes i ≡ Some lane → slice_get lane.pushed lane.popped ≡ Some note)
+      → slice_get was.lane.pushed was.lane.popped ≡ Some note
+  front_there s e note front = front was.lane (subst (λ (s : State). slice_get s.lanes i ≡ Some was.lane) e lane_at)
 
   -- the next note of this row
   pub front_here : (note : Note) → slice_get was.lane.pushed was.lane.popped ≡ Some note → IsFrontOf was.limits was.thread was.lane note
@@ -224,13 +241,6 @@ module _ (limits : Bounds) (dispatch : Dispatch) (keepers : List Keeper) (stream
 pub same_row : (keepers : List Keeper) (i : ℕ) (a b : Keeper) → i < length keepers → a ≡ get_or keepers i a → b ≡ get_or keepers i b → a ≡ b
 same_row keepers i a b within at_a at_b = same_some a b (sym (get_at keepers i a within at_a) ∙ get_at keepers i b within at_b)
 
--- edges that were added and taken back
-pub taken_back : (d added now : Dispatch) (due : List (Edge × Sample)) (count : ℕ) → added ≡ add_edges d due → count ≡ length d.made → now ≡ record added { made = take count added.made } → now ≡ d
-taken_back d added now due count is counted back =
-    let front : take count (d.made ++ due) ≡ d.made = ap (λ n. take n (d.made ++ due)) counted ∙ take-append-le (length d.made) d.made due (omega arith) ∙ take_all (length d.made) d.made (omega arith) in
-    let whole : (let e : Dispatch = record { made = take count (d.made ++ due); sent = d.sent; shards = d.shards } in e ≡ d) = (λ i. record { made = front i; sent = d.sent; shards = d.shards }) in
-    back ∙ ap (λ (e : Dispatch). (let r : Dispatch = record { made = take count e.made; sent = e.sent; shards = e.shards } in r)) is ∙ whole
-
 -- ---- the dispatch changed
 
 module _ (limits : Bounds) (dispatch : Dispatch) (keepers : List Keeper) (stream : List Note) (collecting : Bounds) (world : IsWorld limits dispatch keepers stream collecting) where
@@ -253,6 +263,13 @@ module _ (limits : Bounds) (dispatch : Dispatch) (keepers : List Keeper) (stream
             → IfOk r (λ did. (let m : Moved = record { after = state_of limits next keepers stream; did = did } in step (state_of limits dispatch keepers stream) x ≡ m))
         by_result (Ok did) is says = steps ∙ rw (is, says)
         by_result (Err e) is says = tt
+
+    pub grows_if : OnErr result (IsTrue (grows turn.did)) → OnErr result (IsTrue (grows (step (state_of limits dispatch keepers stream) x).did))
+    grows_if = by_result result
+      where
+        by_result : (r : Result Did E) → OnErr r (IsTrue (grows turn.did)) → OnErr r (IsTrue (grows (step (state_of limits dispatch keepers stream) x).did))
+        by_result (Ok did) more = tt
+        by_result (Err e) more = ap (λ (m : Moved). grows m.did) steps ∙ more
 
     pub world_if : OnOk result (next ≡ turn.dispatch) → IfOk result (λ did. did ≡ turn.did) → OnErr result (next ≡ dispatch) → IsWorld limits next keepers stream collecting
     world_if = by_result result
@@ -386,3 +403,25 @@ run_count s (x ∷ xs) = run_count (step s x).after xs ∙ step_count s x
 pub count_if_moved : {E : Type 0} (result : Result Did E) (s t : State) (x : Step) → IfOk result (λ did. step s x ≡ record { after = t; did = did }) → OnOk result (length t.dispatch.shards ≡ length s.dispatch.shards)
 count_if_moved (Ok did) s t x moved = sym (ap (λ (m : Moved). length m.after.dispatch.shards) moved) ∙ step_count s x
 count_if_moved (Err e) s t x moved = tt
+
+-- ---- each thread keeps its lane
+
+pub lanes_if_moved : {E : Type 0} (result : Result Did E) (s t : State) (x : Step) → IsSound s → IfOk result (λ did. step s x ≡ record { after = t; did = did }) → OnErr result (t ≡ s)
+    → length t.lanes ≡ t.limits.threads
+lanes_if_moved (Ok did) s t x sound moved still = subst (λ (m : Moved). length m.after.lanes ≡ m.after.limits.threads) moved (sound_step s sound x).count
+lanes_if_moved (Err e) s t x sound moved still = subst (λ (q : State). length q.lanes ≡ q.limits.threads) (sym still) sound.count
+
+pub run_lanes : (s : State) → IsSound s → (steps : List Step) (t : State) → t ≡ run s steps → length t.lanes ≡ t.limits.threads
+run_lanes s sound steps t is = subst (λ (q : State). length q.lanes ≡ q.limits.threads) (sym is) (sound_run s sound steps).count
+
+-- ---- where a step may lack memory
+
+-- a note that is pulled makes a list longer
+pub pull_grows : (s : State) (thread : ℕ) (lane : Lane) (note : Note) → slice_get s.lanes thread ≡ Some lane → slice_get lane.pushed lane.popped ≡ Some note → IsTrue (grows (step s (Pull thread)).did)
+pull_grows s thread lane note at front = ap (λ (m : Moved). grows m.did) (pull_known s thread lane at (Some note) front)
+
+-- what is known of the step at a place of a list
+pub grows_at : (old new : State) (steps : List Step) (i : ℕ) (x next : Step) → new ≡ old → slice_get steps i ≡ Some x → slice_get steps i ≡ Some next → IsTrue (grows (step old x).did) → IsTrue (grows (step new next).did)
+grows_at old new steps i x next same at is more =
+    let one : x ≡ next = same_some x next (sym at ∙ is) in
+    rw (same, ← one) more

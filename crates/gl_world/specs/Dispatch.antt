@@ -41,10 +41,6 @@ table_of shard = once (worked_edges shard)
 abbrev pub all_worked : List Shard → List (Edge × Sample)
 all_worked shards = flat_map worked_edges shards
 
--- the edges shipped, one shard after the other
-abbrev pub all_shipped : List Shard → List (Edge × Sample)
-all_shipped shards = flat_map (λ shard. shard.shipped) shards
-
 -- fewer edges than the feed holds are shipped to the shard and not worked
 abbrev pub has_place : Bounds → Shard → Bool
 has_place limits shard = nat_lt (length shard.shipped - shard.worked) limits.ring

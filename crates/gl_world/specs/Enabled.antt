@@ -1,5 +1,5 @@
 -- Where each step is enabled, in the words of recorders, lanes, shards and workers.
-use Rattle.std.specs.Prelude.{◌≡◌, ◌≢◌, ◌↔◌, ◌⊎◌, ℕ, ◌<◌, false, IsTrue, length, Some, None, slice_get}
+use Rattle.std.specs.Prelude.{◌≡◌, ◌≢◌, ◌↔◌, ◌⊎◌, ℕ, ◌<◌, Bool, true, false, IsTrue, length, Some, None, slice_get}
 use Rattle.gl_event.specs.Bounds.{Bounds}
 use Rattle.gl_event.specs.Lawful.{refusal}
 use Rattle.gl_event.specs.declared.events.Event.{Event}
@@ -10,7 +10,8 @@ use Rattle.gl_world.specs.Dispatch.{Dispatch, Shard, has_place}
 use Rattle.gl_world.specs.Machine.{Lane, State, taken_of, has_closed, has_room, step}
 use Rattle.gl_world.specs.declared.steps.Step.{Step}
 use Rattle.gl_world.specs.declared.steps.Step.TheVariants.{Take, End, Pull, Again, Ship, Work}
-use Rattle.gl_world.specs.declared.steps.Did.TheVariants.{Nothing}
+use Rattle.gl_world.specs.declared.steps.Did.{Did}
+use Rattle.gl_world.specs.declared.steps.Did.TheVariants.{Nothing, Taken, Passed, Ended, Pulled, Refused, Shipped, Worked}
 
 -- the thread hasn't ended and has a wish left, which is unlawful next, or there is room in its ring
 pub record MayTake (limits : Bounds) (thread : ℕ) (lane : Lane) : Type 0 where
@@ -57,3 +58,14 @@ IsEnabled s (Work k) = (shard : Shard) × (slice_get s.dispatch.shards k ≡ Som
 pub record StepsWhereEnabled : Type 0 where
   pub exactly : (s : State) (x : Step) → ((step s x).did ≢ Nothing) ↔ IsEnabled s x
   pub stays : (s : State) (x : Step) → (step s x).did ≡ Nothing → (step s x).after ≡ s
+
+-- what was done made a list longer, which may take memory: a wish that is passed over and a note that is refused don't
+abbrev pub grows : Did → Bool
+grows Nothing = false
+grows (Taken place) = true
+grows (Passed why) = false
+grows Ended = true
+grows (Pulled answer) = true
+grows (Refused why) = false
+grows (Shipped shard) = true
+grows Worked = true

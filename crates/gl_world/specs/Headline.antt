@@ -13,7 +13,8 @@ use Rattle.gl_cycles.specs.declared.found.Report.{Report}
 use Rattle.gl_cycles.specs.declared.found.ReportFault.{ReportFault}
 use Rattle.gl_intake.specs.Stream.{events_of, logs_of}
 use Rattle.gl_world.specs.Dispatch.{all_worked}
-use Rattle.gl_world.specs.Machine.{Lane, State, start, run, taken_of, taken_lists, IsDrained}
+use Rattle.gl_world.specs.Keeping.{IsSound}
+use Rattle.gl_world.specs.Machine.{Lane, State, start, step, run, taken_of, taken_lists, IsDrained, KeepsOrder}
 use Rattle.gl_world.specs.declared.steps.Step.{Step}
 
 -- the lists of what was collected, in the order of thread numbers
@@ -43,14 +44,26 @@ pub record IsReached (s : State) : Type 0 where
   pub steps : List Step
   pub there : s ≡ run (start limits shards wishes) steps
 
--- whatever steps lead to a drained state: its report is the Goodlock report of what the threads took, and what stands against a report is
--- the loop of segments that stands against that one
+-- the state's report is the Goodlock report of what the threads took, and what stands against a report is the loop of segments that stands
+-- against that one
+pub record ReportsWhatWasTaken (s : State) : Type 0 where
+  pub taken : HasAllTaken s
+  pub report : (asked : Asked) (report : Report) → IsReportOf asked s report → IsGoodlockReport asked (taken_lists s.lanes) report
+  pub fault : (fault : ReportFault) → IsReportFault (collected_lists s) fault → IsReportFault (taken_lists s.lanes) fault
+
+-- a new world is sound, each step keeps a state sound, and in a sound state each thread's order is kept
+pub record StaysSound : Type 0 where
+  pub start : (limits : Bounds) (shards : ℕ) (wishes : List (List Event)) → length wishes ≡ limits.threads → IsSound (start limits shards wishes)
+  pub step : (s : State) (x : Step) → IsSound s → IsSound (step s x).after
+  pub order : (s : State) → IsSound s → KeepsOrder s
+
+-- however it came about, a sound and drained state reports what was taken
+abbrev pub EverySoundDrainedStateReportsWhatWasTaken : Type 0
+EverySoundDrainedStateReportsWhatWasTaken = (s : State) → IsSound s → IsDrained s → ReportsWhatWasTaken s
+
+-- and so does every drained state to which steps lead
 abbrev pub EveryDrainedScheduleReportsWhatWasTaken : Type 0
-EveryDrainedScheduleReportsWhatWasTaken =
-    (s : State) → IsReached s → IsDrained s
-    → HasAllTaken s
-    × ((asked : Asked) (report : Report) → IsReportOf asked s report → IsGoodlockReport asked (taken_lists s.lanes) report)
-    × ((fault : ReportFault) → IsReportFault (collected_lists s) fault → IsReportFault (taken_lists s.lanes) fault)
+EveryDrainedScheduleReportsWhatWasTaken = (s : State) → IsReached s → IsDrained s → ReportsWhatWasTaken s
 
 -- two drained states in which the threads took the same have the same report, whatever steps led there, and however many shards there were
 abbrev pub ReportsDontShowTheSchedule : Type 0

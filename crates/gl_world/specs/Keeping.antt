@@ -14,8 +14,9 @@ use Rattle.gl_edges.specs.declared.edge.Sample.{Sample}
 use Rattle.gl_edges.specs.declared.tracker.Tracker.{Tracker}
 use Rattle.gl_recorder.specs.Taking.{Taking, Tracks}
 use Rattle.gl_intake.specs.Stream.{events_of, has_ended, logs_of, IsNext, AreInOrder}
+use Rattle.gl_shards.specs.Tables.{of_shard}
 use Rattle.gl_shards.specs.declared.shard.TheConstants.{MAX_SHARDS}
-use Rattle.gl_world.specs.Dispatch.{Dispatch, Shard, all_shipped}
+use Rattle.gl_world.specs.Dispatch.{Dispatch, Shard}
 use Rattle.gl_world.specs.Machine.{Lane, State}
 
 -- a thread's row: its number, the limits and its lane
@@ -66,11 +67,11 @@ pub record AreMade (threads : ℕ) (stream : List Note) (made : List (Edge × Sa
   pub from : AreAmong made (edges_made (logs_of threads stream))
   pub all : AreAmong (edges_made (logs_of threads stream)) made
 
--- what was shipped to the shards are the first of the edges made, as many as were sent
+-- what was shipped are the first of the edges made, as many as were sent: to each shard those that belong to it, in their order
 pub record AreShipped (d : Dispatch) : Type 0 where
   pub within : d.sent ≤ length d.made
-  pub from : AreAmong (all_shipped d.shards) (take d.sent d.made)
-  pub all : AreAmong (take d.sent d.made) (all_shipped d.shards)
+  pub some : 1 ≤ d.sent → 1 ≤ length d.shards
+  pub each : (k : ℕ) (shard : Shard) → slice_get d.shards k ≡ Some shard → shard.shipped ≡ of_shard (length d.shards) (take d.sent d.made) k
 
 -- what holds of a state after any steps from a new world
 pub record IsSound (s : State) : Type 0 where

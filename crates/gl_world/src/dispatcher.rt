@@ -1,6 +1,7 @@
 //! What a world keeps of the edges that were made, and of the shards.
-ghost use Rattle.std.specs.Prelude.{◌≡◌, ◌↔◌, ◌<◌, ◌≤◌, ◌++◌, ℕ, Some, IsTrue, length, map, take, replicate, slice_get, IfOk, OnOk, OnErr};
+ghost use Rattle.std.specs.Prelude.{◌≡◌, ◌↔◌, ◌<◌, ◌≤◌, ◌++◌, ℕ, Some, IsTrue, length, map, replicate, slice_get, IfOk, OnOk, OnErr};
 ghost use Rattle.gl_world.specs.Dispatch.{Shard, fresh_dispatch, fresh_shard, table_of, ship_turn, work_turn, IsDone};
+ghost use Rattle.gl_world.specs.Enabled.{grows};
 ghost use Rattle.gl_world.specs.Machine.{add_edges};
 
 use crate::feed::Feed;
@@ -84,13 +85,6 @@ impl Dispatcher {
         })
     }
 
-    /// How many edges were made.
-    pub fn count(&self) -> usize
-        ensures { result ≡ length self.now.made }
-    {
-        self.made.len()
-    }
-
     /// Adds edges to those made.
     pub fn add(&mut self, edges: Vec<(Edge, Sample)>) -> Result<(), Memory>
         ensures added { OnOk result (self.new ≡ add_edges self.old edges.items) }
@@ -101,17 +95,11 @@ impl Dispatcher {
         Ok(())
     }
 
-    /// Takes the edges from this place on back.
-    pub fn take_back(&mut self, count: usize)
-        ensures { self.new ≡ record self.old { made = take count self.old.made } }
-    {
-        self.made.truncate(count);
-    }
-
     /// Ships the oldest edge that isn't shipped, where that is enabled.
     pub fn ship(&mut self, limits: &Limits) -> Result<Did, Memory>
         ensures moved { OnOk result (self.new ≡ (ship_turn limits.now self.old).dispatch) }
         ensures answer { IfOk result (λ did. did ≡ (ship_turn limits.now self.old).did) }
+        ensures memory { OnErr result (IsTrue (grows (ship_turn limits.now self.old).did)) }
         ensures unchanged { OnErr result (self.new ≡ self.old) }
     {
         if self.sent >= self.made.len() {
@@ -132,6 +120,7 @@ impl Dispatcher {
     pub fn work(&mut self, shard: u32) -> Result<Did, Memory>
         ensures moved { OnOk result (self.new ≡ (work_turn self.old shard).dispatch) }
         ensures answer { IfOk result (λ did. did ≡ (work_turn self.old shard).did) }
+        ensures memory { OnErr result (IsTrue (grows (work_turn self.old shard).did)) }
         ensures unchanged { OnErr result (self.new ≡ self.old) }
     {
         let index = shard as usize;

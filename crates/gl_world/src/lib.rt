@@ -32,6 +32,7 @@ mod world;
 pub use gl_shards::MAX_SHARDS;
 pub use laws::{
     every_drained_schedule_reports_what_was_taken, every_schedule_keeps_order,
+    every_step_keeps_a_state_sound, sound_drained_states_report_what_was_taken,
     steps_do_something_where_enabled,
 };
 pub use steps::{Did, Step};

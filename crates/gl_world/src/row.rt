@@ -4,6 +4,7 @@ ghost use Rattle.gl_event.specs.Bounds.{AreWithinRange};
 ghost use Rattle.gl_event.specs.Lawful.{refusal};
 ghost use Rattle.gl_recorder.specs.Taking.{event_note, end_note};
 ghost use Rattle.gl_world.specs.Machine.{Lane, fresh_lane, taken_of, has_closed, has_room, use_wish, push_note, pop_note, take_turn, take_judged, end_turn, edges_due};
+ghost use Rattle.gl_world.specs.Enabled.{grows};
 ghost use Rattle.gl_event.specs.declared.events.Event.{Event};
 ghost use Rattle.gl_edges.specs.Tracking.{Tracks as Follows};
 ghost use Rattle.gl_world.specs.Keeping.{IsFrontOf, MayTake, with_body};
@@ -130,6 +131,7 @@ impl Row {
     pub fn take(&mut self) -> Result<Did, AllocError>
         ensures moved { OnOk result (self.new ≡ record self.old { lane = (take_turn self.old.limits self.old.thread self.old.lane).lane }) }
         ensures answer { IfOk result (λ did. did ≡ (take_turn self.old.limits self.old.thread self.old.lane).did) }
+        ensures memory { OnErr result (IsTrue (grows (take_turn self.old.limits self.old.thread self.old.lane).did)) }
         ensures unchanged { OnErr result (self.new ≡ self.old) }
     {
         if self.has_closed {
@@ -145,6 +147,7 @@ impl Row {
     pub fn end(&mut self) -> Result<Did, AllocError>
         ensures moved { OnOk result (self.new ≡ record self.old { lane = (end_turn self.old.limits self.old.thread self.old.lane).lane }) }
         ensures answer { IfOk result (λ did. did ≡ (end_turn self.old.limits self.old.thread self.old.lane).did) }
+        ensures memory { OnErr result (IsTrue (grows (end_turn self.old.limits self.old.thread self.old.lane).did)) }
         ensures unchanged { OnErr result (self.new ≡ self.old) }
     {
         if self.has_closed {
@@ -181,6 +184,7 @@ impl Row {
         requires running { has_closed self.old.thread self.old.lane ≡ false }
         ensures moved { OnOk result (self.new ≡ record self.old { lane = (take_judged self.old.limits self.old.thread self.old.lane wish.now (refusal self.old.limits self.old.thread (taken_of self.old.thread self.old.lane) wish.now)).lane }) }
         ensures answer { IfOk result (λ did. did ≡ (take_judged self.old.limits self.old.thread self.old.lane wish.now (refusal self.old.limits self.old.thread (taken_of self.old.thread self.old.lane) wish.now)).did) }
+        ensures memory { OnErr result (IsTrue (grows (take_judged self.old.limits self.old.thread self.old.lane wish.now (refusal self.old.limits self.old.thread (taken_of self.old.thread self.old.lane) wish.now)).did)) }
         ensures unchanged { OnErr result (self.new ≡ self.old) }
     {
         match self.taker.check(*wish) {
@@ -208,8 +212,7 @@ impl Row {
         ensures unchanged { OnErr result (self.new ≡ self.old) }
     {
         append_both(&mut self.taken, &mut self.pushed, *wish, *note)?;
-        // the event is lawful next, so that it is taken
-        let _ = self.taker.take(*wish);
+        self.taker.advance(*wish);
         self.used += 1;
         Ok(())
     }

@@ -26,6 +26,14 @@ fn release(lock: u32, loc: u32) -> Event {
     }
 }
 
+fn acquire_shared(lock: u32, loc: u32) -> Event {
+    Event::Acquire {
+        lock: LockId::new(lock),
+        mode: LockMode::Shared,
+        loc: LocId::new(loc),
+    }
+}
+
 fn join(thread: u32, loc: u32) -> Event {
     Event::Join {
         thread: ThreadId::new(thread),
@@ -387,6 +395,123 @@ fn passed_and_again(rt: HostRuntime) -> Result<(), Fail> {
         (end(0), Did::Ended),
         (pull(0), Did::Pulled(Accepted::Ended { count: 0 })),
         (again(0, 0), Did::Refused(Refused::Late)),
+    ];
+    assert!(rt; does(&mut world, &steps));
+    Ok(())
+}
+
+// Who holds a lock shared may not take it exclusively: the wish is used, and nothing else changes.
+#[test]
+fn upgrade_passed_over(rt: HostRuntime) -> Result<(), Fail> {
+    let alloc = rt.alloc();
+    let list = vec![in alloc; acquire_shared(0, 1), acquire(0, 2), acquire(1, 3)]?;
+    let wishes = one_list(alloc, list)?;
+    let mut world = World::new(alloc, &Limits::new(1, 8, 100, 100)?, 1, wishes)?;
+    assert_eq!(rt; world.step(take(0)), Ok(Did::Taken(0)));
+    assert_eq!(rt; world.step(take(0)), Ok(Did::Passed(Refusal::Upgrade)));
+    let taken = [acquire_shared(0, 1)];
+    assert_eq!(rt; world.taken(ThreadId::new(0)), taken.as_slice());
+    assert!(rt; world.stream().is_empty());
+    let steps = [
+        (pull(0), pulled(0)),
+        (pull(0), Did::Nothing),
+        (take(0), Did::Taken(1)),
+    ];
+    assert!(rt; does(&mut world, &steps));
+    Ok(())
+}
+
+// Threads, places and shards that aren't there, an empty lane, the front of a lane, and no edges.
+#[test]
+fn nothing_to_do(rt: HostRuntime) -> Result<(), Fail> {
+    let alloc = rt.alloc();
+    let wishes = one_list(alloc, vec![in alloc; acquire(0, 1)]?)?;
+    let mut world = World::new(alloc, &Limits::new(1, 8, 100, 100)?, 2, wishes)?;
+    let steps = [
+        (take(1), Did::Nothing),
+        (end(1), Did::Nothing),
+        (pull(1), Did::Nothing),
+        (again(1, 0), Did::Nothing),
+        (pull(0), Did::Nothing),
+        (again(0, 0), Did::Nothing),
+        (again(0, 1), Did::Nothing),
+        (Step::Ship, Did::Nothing),
+        (Step::Work(0), Did::Nothing),
+        (Step::Work(2), Did::Nothing),
+        (take(0), Did::Taken(0)),
+        (take(0), Did::Nothing),
+        (again(0, 0), Did::Nothing),
+        (again(0, 1), Did::Nothing),
+    ];
+    assert!(rt; does(&mut world, &steps));
+    Ok(())
+}
+
+// A thread that has ended takes no wish, and doesn't end once more.
+#[test]
+fn nothing_after_the_end(rt: HostRuntime) -> Result<(), Fail> {
+    let alloc = rt.alloc();
+    let list = vec![in alloc; acquire(0, 1), acquire(1, 2)]?;
+    let wishes = one_list(alloc, list)?;
+    let mut world = World::new(alloc, &Limits::new(1, 8, 100, 100)?, 1, wishes)?;
+    let steps = [
+        (take(0), Did::Taken(0)),
+        (end(0), Did::Ended),
+        (take(0), Did::Nothing),
+        (end(0), Did::Nothing),
+        (pull(0), pulled(0)),
+        (pull(0), Did::Pulled(Accepted::Ended { count: 1 })),
+        (pull(0), Did::Nothing),
+        (take(0), Did::Nothing),
+        (end(0), Did::Nothing),
+    ];
+    assert!(rt; does(&mut world, &steps));
+    Ok(())
+}
+
+// An unlawful wish is passed over though the lane is full. A lawful one waits, and so does the end.
+#[test]
+fn full_lane(rt: HostRuntime) -> Result<(), Fail> {
+    let alloc = rt.alloc();
+    let list = vec![in alloc; acquire(0, 1), release(5, 2), acquire(1, 3)]?;
+    let wishes = one_list(alloc, list)?;
+    let mut world = World::new(alloc, &Limits::new(1, 1, 100, 100)?, 1, wishes)?;
+    let steps = [
+        (take(0), Did::Taken(0)),
+        (end(0), Did::Nothing),
+        (take(0), Did::Passed(Refusal::NotHeld)),
+        (take(0), Did::Nothing),
+        (end(0), Did::Nothing),
+        (pull(0), pulled(0)),
+        (take(0), Did::Taken(1)),
+        (end(0), Did::Nothing),
+        (pull(0), pulled(1)),
+        (end(0), Did::Ended),
+    ];
+    assert!(rt; does(&mut world, &steps));
+    Ok(())
+}
+
+// Three shards, and locks whose numbers are at least as great.
+#[test]
+fn three_shards(rt: HostRuntime) -> Result<(), Fail> {
+    let alloc = rt.alloc();
+    let list = vec![in alloc; acquire(4, 1), acquire(5, 2), acquire(3, 3)]?;
+    let wishes = one_list(alloc, list)?;
+    let mut world = World::new(alloc, &Limits::new(1, 8, 100, 100)?, 3, wishes)?;
+    let steps = [take(0), pull(0), take(0), pull(0), take(0), pull(0)];
+    assert_eq!(rt; world.run(steps.as_slice()), Ok(()));
+    let steps = [
+        (Step::Ship, Did::Shipped(1)),
+        (Step::Ship, Did::Shipped(1)),
+        (Step::Ship, Did::Shipped(2)),
+        (Step::Ship, Did::Nothing),
+        (Step::Work(0), Did::Nothing),
+        (Step::Work(1), Did::Worked),
+        (Step::Work(1), Did::Worked),
+        (Step::Work(1), Did::Nothing),
+        (Step::Work(2), Did::Worked),
+        (Step::Work(3), Did::Nothing),
     ];
     assert!(rt; does(&mut world, &steps));
     Ok(())

@@ -1,13 +1,15 @@
 //! Recorders, their lanes, a collector and shards, step by step.
-ghost use Rattle.std.specs.Prelude.{◌≡◌, ◌≢◌, ◌↔◌, ◌<◌, ◌≤◌, ℕ, List, length, map, take, Some, None, IsTrue, IsErr, OnOk, OnErr, IfOk, IfErr, slice_get};
+ghost use Rattle.std.specs.Prelude.{◌≡◌, ◌≢◌, ◌↔◌, ◌<◌, ◌≤◌, ℕ, List, [], ◌∷◌, ◌++◌, length, map, take, Some, None, IsTrue, OnOk, OnErr, IfOk, IfErr, slice_get};
 ghost use Rattle.gl_event.specs.Bounds.{AreWithinRange};
 ghost use Rattle.gl_cycles.specs.Reports.{IsGoodlockReport, IsReportFault};
-ghost use Rattle.gl_intake.specs.Stream.{events_of, AreInOrder};
+ghost use Rattle.gl_intake.specs.Stream.{events_of, note_refusal, accepted_as, spare_of, AreInOrder};
 ghost use Rattle.gl_intake.specs.declared.notes.Refused.TheVariants.{Memory as OutOfMemory};
 ghost use Rattle.gl_world.specs.Dispatch.{Shard, table_of};
+ghost use Rattle.gl_world.specs.Enabled.{grows};
 ghost use Rattle.gl_world.specs.Headline.{collected_lists, IsReportOf};
 ghost use Rattle.gl_world.specs.Machine.{State, Lane, start, step, run, taken_of, taken_lists, fresh_lane, IsPrefixOf, IsDrained};
 ghost use Rattle.gl_world.specs.Keeping.{AreKeepers, lanes_of};
+ghost use Rattle.gl_world.specs.declared.steps.Step.{Step};
 ghost use Rattle.gl_world.specs.declared.steps.Step.TheVariants.{Take, End, Pull, Again, Ship, Work};
 
 use crate::dispatcher::Dispatcher;
@@ -16,7 +18,7 @@ use crate::steps::{Did, Step};
 use gl_cycles::{Report, ReportFault, report_over};
 use gl_event::{Event, Limits, Memory, Note, ThreadId};
 use gl_filters::Query;
-use gl_intake::{Intake, Refused};
+use gl_intake::{Accepted, Intake, Refused};
 use gl_shards::{MAX_SHARDS, Table, merge};
 use std::alloc::{AllocError, Global};
 use std::marker::Model;
@@ -65,14 +67,40 @@ fn fresh_rows(
     Ok(rows)
 }
 
-// The answer to a note that was refused for want of memory.
-fn only_memory(why: Refused) -> Result<Did, Memory>
+// The want of memory for which a note was refused.
+fn only_memory(why: Refused) -> Memory
     requires { why ≡ OutOfMemory }
-    ensures { IsErr result }
 {
     match why {
-        Refused::Memory => Err(AllocError),
+        Refused::Memory => AllocError,
         _ => unreachable!(),
+    }
+}
+
+// Makes room for the note, which may come next.
+fn make_ready(intake: &mut Intake, note: &Note) -> Result<(), Memory>
+    requires { note_refusal intake.old.limits intake.old.stream note.now ≡ None }
+    ensures reserved { OnOk result (1 ≤ spare_of intake.new note.now.thread) }
+    ensures limits { intake.new.limits ≡ intake.old.limits }
+    ensures stream { intake.new.stream ≡ intake.old.stream }
+{
+    match intake.ready(note) {
+        Ok(()) => Ok(()),
+        Err(why) => Err(only_memory(why)),
+    }
+}
+
+// Accepts the note, which may come next, where there is room for it.
+fn accept(intake: &mut Intake, note: &Note) -> Accepted
+    requires next { note_refusal intake.old.limits intake.old.stream note.now ≡ None }
+    requires room { 1 ≤ spare_of intake.old note.now.thread }
+    ensures answer { result ≡ accepted_as note.now.place note.now.body }
+    ensures grown { intake.new.stream ≡ intake.old.stream ++ note.now ∷ [] }
+    ensures limits { intake.new.limits ≡ intake.old.limits }
+{
+    match intake.offer(*note) {
+        Ok(accepted) => accepted,
+        Err(_) => unreachable!(),
     }
 }
 
@@ -90,7 +118,8 @@ impl World {
         requires each_thread { length wishes.items ≡ limits.now.threads }
         requires some_shard { 1 ≤ shards }
         requires shards_fit { shards ≤ MAX_SHARDS }
-        ensures { IfOk result (λ world. world ≡ start limits.now shards (map (λ w. w.items) wishes.items)) }
+        ensures state { IfOk result (λ world. world ≡ start limits.now shards (map (λ w. w.items) wishes.items)) }
+        ensures lanes { IfOk result (λ world. length world.lanes ≡ world.limits.threads) }
     {
         let intake = Intake::new(alloc, limits)?;
         let rows = fresh_rows(alloc, limits, wishes)?;
@@ -114,16 +143,13 @@ impl World {
         ensures moved { IfOk result (λ did. step self.old next ≡ record { after = self.new; did = did }) }
         ensures limits { OnOk result (self.new.limits ≡ self.old.limits) }
         ensures shards { OnOk result (length self.new.dispatch.shards ≡ length self.old.dispatch.shards) }
+        ensures lanes { length self.new.lanes ≡ self.new.limits.threads }
+        ensures memory { OnErr result (IsTrue (grows (step self.old next).did)) }
         ensures unchanged { OnErr result (self.new ≡ self.old) }
     {
-        match next {
-            Step::Take(thread) => self.take(thread),
-            Step::End(thread) => self.end(thread),
-            Step::Pull(thread) => self.pull(thread),
-            Step::Again(thread, place) => self.again(thread, place),
-            Step::Ship => self.ship(),
-            Step::Work(shard) => self.work(shard),
-        }
+        // Tells the proof that each thread has a lane.
+        let _ = &self.rows;
+        self.make(next)
     }
 
     /// Makes these steps in turn. Where one finds no memory, the answer has its place in the list:
@@ -132,9 +158,13 @@ impl World {
         ensures done { OnOk result (self.new ≡ run self.old steps.now) }
         ensures limits { self.new.limits ≡ self.old.limits }
         ensures shards { length self.new.dispatch.shards ≡ length self.old.dispatch.shards }
+        ensures lanes { length self.new.lanes ≡ self.new.limits.threads }
         ensures within { IfErr result (λ stop. stop.0 < length steps.now) }
+        ensures memory { IfErr result (λ stop. (next : Step) → slice_get steps.now stop.0 ≡ Some next → IsTrue (grows (step self.new next).did)) }
         ensures stopped { IfErr result (λ stop. self.new ≡ run self.old (take stop.0 steps.now)) }
     {
+        // Tells the proof that each thread has a lane.
+        let _ = &self.rows;
         for place in 0..steps.len() {
             match self.step(steps[place]) {
                 Ok(_) => {}
@@ -208,8 +238,25 @@ impl World {
         report_over(self.alloc, edges, self.intake.logs(), query)
     }
 
+    // Makes the step.
+    fn make(&mut self, next: Step) -> Result<Did, Memory>
+        ensures moved { IfOk result (λ did. step self.old next ≡ record { after = self.new; did = did }) }
+        ensures memory { OnErr result (IsTrue (grows (step self.old next).did)) }
+        ensures unchanged { OnErr result (self.new ≡ self.old) }
+    {
+        match next {
+            Step::Take(thread) => self.take(thread),
+            Step::End(thread) => self.end(thread),
+            Step::Pull(thread) => self.pull(thread),
+            Step::Again(thread, place) => Ok(self.again(thread, place)),
+            Step::Ship => self.ship(),
+            Step::Work(shard) => self.work(shard),
+        }
+    }
+
     fn take(&mut self, thread: ThreadId) -> Result<Did, Memory>
         ensures moved { IfOk result (λ did. step self.old (Take thread) ≡ record { after = self.new; did = did }) }
+        ensures memory { OnErr result (IsTrue (grows (step self.old (Take thread)).did)) }
         ensures unchanged { OnErr result (self.new ≡ self.old) }
     {
         let index = thread.number() as usize;
@@ -222,6 +269,7 @@ impl World {
 
     fn end(&mut self, thread: ThreadId) -> Result<Did, Memory>
         ensures moved { IfOk result (λ did. step self.old (End thread) ≡ record { after = self.new; did = did }) }
+        ensures memory { OnErr result (IsTrue (grows (step self.old (End thread)).did)) }
         ensures unchanged { OnErr result (self.new ≡ self.old) }
     {
         let index = thread.number() as usize;
@@ -234,6 +282,7 @@ impl World {
 
     fn pull(&mut self, thread: ThreadId) -> Result<Did, Memory>
         ensures moved { IfOk result (λ did. step self.old (Pull thread) ≡ record { after = self.new; did = did }) }
+        ensures memory { OnErr result (IsTrue (grows (step self.old (Pull thread)).did)) }
         ensures unchanged { OnErr result (self.new ≡ self.old) }
     {
         let index = thread.number() as usize;
@@ -246,7 +295,8 @@ impl World {
         }
     }
 
-    // Adds the note, which is next in the thread's lane, to the stream.
+    // Adds the note, which is next in the thread's lane, to the stream. All that may grow grows before
+    // the note is accepted.
     fn collect(&mut self, thread: ThreadId, note: &Note) -> Result<Did, Memory>
         requires known { thread < length self.old.lanes }
         requires front { (lane : Lane) → slice_get self.old.lanes thread ≡ Some lane → slice_get lane.pushed lane.popped ≡ Some note.now }
@@ -254,35 +304,27 @@ impl World {
         ensures unchanged { OnErr result (self.new ≡ self.old) }
     {
         let index = thread.number() as usize;
+        make_ready(&mut self.intake, note)?;
         let edges = self.rows[index].due(self.alloc, note)?;
-        let made = self.dispatcher.count();
         self.dispatcher.add(edges)?;
-        match self.intake.offer(*note) {
-            Ok(accepted) => {
-                self.rows[index].pop(note);
-                Ok(Did::Pulled(accepted))
-            }
-            Err(why) => {
-                self.dispatcher.take_back(made);
-                only_memory(why)
-            }
-        }
+        let accepted = accept(&mut self.intake, note);
+        self.rows[index].pop(note);
+        Ok(Did::Pulled(accepted))
     }
 
-    fn again(&mut self, thread: ThreadId, place: u32) -> Result<Did, Memory>
-        ensures moved { IfOk result (λ did. step self.old (Again thread place) ≡ record { after = self.new; did = did }) }
-        ensures unchanged { OnErr result (self.new ≡ self.old) }
+    fn again(&mut self, thread: ThreadId, place: u32) -> Did
+        ensures { step self.old (Again thread place) ≡ record { after = self.new; did = result } }
     {
         let index = thread.number() as usize;
         if index >= self.rows.len() {
-            return Ok(Did::Nothing);
+            return Did::Nothing;
         }
         if place as usize == self.rows[index].popped() {
-            return Ok(Did::Nothing);
+            return Did::Nothing;
         }
         match self.rows[index].note(place as usize) {
-            Some(note) => Ok(self.refuse(thread, place, &note)),
-            None => Ok(Did::Nothing),
+            Some(note) => self.refuse(thread, place, &note),
+            None => Did::Nothing,
         }
     }
 
@@ -303,6 +345,7 @@ impl World {
 
     fn ship(&mut self) -> Result<Did, Memory>
         ensures moved { IfOk result (λ did. step self.old Ship ≡ record { after = self.new; did = did }) }
+        ensures memory { OnErr result (IsTrue (grows (step self.old Ship).did)) }
         ensures unchanged { OnErr result (self.new ≡ self.old) }
     {
         self.dispatcher.ship(&self.limits)
@@ -310,6 +353,7 @@ impl World {
 
     fn work(&mut self, shard: u32) -> Result<Did, Memory>
         ensures moved { IfOk result (λ did. step self.old (Work shard) ≡ record { after = self.new; did = did }) }
+        ensures memory { OnErr result (IsTrue (grows (step self.old (Work shard)).did)) }
         ensures unchanged { OnErr result (self.new ≡ self.old) }
     {
         self.dispatcher.work(shard)

@@ -1,6 +1,8 @@
-use Rattle.std.proofs.Common.{◌≡◌, ◌≤◌, ◌<◌, length, false, true, sym, ap, ◌∙◌, subst, arith}
+use Rattle.std.proofs.Common.{◌≡◌, refl, ◌≤◌, length, sym, ap, ◌∙◌, subst, arith}
 use Rattle.gl_shards.specs.Shards.{shard_of}
-use Rattle.gl_world.specs.Dispatch.{Dispatch, Handled}
+use Rattle.gl_world.specs.Dispatch.{Dispatch, Handled, ship_edge}
+use Rattle.gl_world.specs.Enabled.{grows}
+use Rattle.gl_world.proofs.Errors.{on_err}
 use Rattle.gl_world.proofs.Dispatching.{ship_none, ship_full, ship_next}
 use Rattle.gl_world.proofs.dispatcher.Dispatcher.ship.Goals as goal
 
@@ -53,3 +55,15 @@ returns-clause-answer c =
     (omega (arith, c.if-self-len.false, c.len.ensures)) c.index-pair.ensures
     (c.shard_of-shard.ensures.value ∙ ap (shard_of c.index-pair.result.now.0) count) (omega (arith, c.shard_of-shard.ensures.within, c.len-2.ensures)) c.index_mut-feed.ensures.value
     (sym c.has_place.ensures ∙ c.if-not-has_place.false) c.ship.new.self c.in_ok-ship.ensures.shipped))
+
+pub returns-in_err-ship-clause-memory : goal.returns-in_err-ship-clause-memory
+returns-in_err-ship-clause-memory c =
+    let count : c.len-2.result ≡ length c.self.inside.feeds.items = omega (arith, c.len-2.ensures) in
+    on_err c.from_residual.result _
+    (rw (← c.self.view_is)
+    (ap (λ (h : Handled). grows h.did)
+    (sym
+    (ship_next c.args.limits.now (record { made = c.self.inside.made.items; sent = c.self.inside.sent; shards = c.self.inside.feeds.items }) c.index-pair.result.now c.shard_of-shard.result c.index_mut-feed.result.now
+    (omega (arith, c.if-self-len.false, c.len.ensures)) c.index-pair.ensures
+    (c.shard_of-shard.ensures.value ∙ ap (shard_of c.index-pair.result.now.0) count) (omega (arith, c.shard_of-shard.ensures.within, c.len-2.ensures)) c.index_mut-feed.ensures.value
+    (sym c.has_place.ensures ∙ c.if-not-has_place.false) (ship_edge c.index_mut-feed.result.now c.index-pair.result.now) refl))))

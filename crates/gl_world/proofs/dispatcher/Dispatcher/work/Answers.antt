@@ -1,6 +1,8 @@
-use Rattle.std.proofs.Common.{◌≡◌, ◌≤◌, ◌<◌, length, false, true, cond, sym, ap, ◌∙◌, subst, arith}
-use Rattle.gl_world.specs.Dispatch.{Dispatch, Handled}
+use Rattle.std.proofs.Common.{◌≤◌, length, true, cond, sym, ap, ◌∙◌, subst, arith}
+use Rattle.gl_world.specs.Dispatch.{Dispatch, Handled, work_edge}
+use Rattle.gl_world.specs.Enabled.{grows}
 use Rattle.gl_world.specs.declared.steps.Did.TheVariants.{Nothing, Worked}
+use Rattle.gl_world.proofs.Errors.{on_err}
 use Rattle.gl_world.proofs.Dispatching.{work_unknown, work_is}
 use Rattle.gl_world.proofs.dispatcher.Dispatcher.work.Goals as goal
 
@@ -43,3 +45,13 @@ returns-clause-answer c =
     ∙ ap (λ (h : Handled). h.did)
     (work_is (record { made = c.self.inside.made.items; sent = c.self.inside.sent; shards = c.self.inside.feeds.items }) c.args.shard c.index_mut.result.now (omega (arith, c.if-index-len.false, c.len.ensures))
     c.index_mut.ensures.value c.in_ok-work.field-0 c.in_ok-work.ensures.had c.work.new.self c.in_ok-work.ensures.worked))
+
+pub returns-in_err-work-clause-memory : goal.returns-in_err-work-clause-memory
+returns-in_err-work-clause-memory c =
+    let shard = c.index_mut.result.now in
+    on_err c.from_residual.result _
+    (rw (← c.self.view_is)
+    (ap (λ (h : Handled). grows h.did)
+    (sym
+    (work_is (record { made = c.self.inside.made.items; sent = c.self.inside.sent; shards = c.self.inside.feeds.items }) c.args.shard shard (omega (arith, c.if-index-len.false, c.len.ensures)) c.index_mut.ensures.value
+    true (sym c.in_err-work.ensures.memory) (work_edge shard) (sym (ap (λ b. cond b (work_edge shard) shard) c.in_err-work.ensures.memory))))))

@@ -1,6 +1,5 @@
-use Rattle.std.proofs.Common.{◌≡◌, sym, subst, ap, ◌∙◌, Ok, Err}
+use Rattle.std.proofs.Common.{◌≡◌, sym, subst}
 use Rattle.std.specs.Prelude.{IfOk}
-use Rattle.gl_event.specs.declared.notes.Note.{Note}
 use Rattle.gl_world.specs.Machine.{edges_due, taken_of}
 use Rattle.gl_world.specs.Keeping.{Keeper, IsFrontOf}
 use Rattle.gl_world.proofs.Rows.{due_if}

@@ -1,6 +1,8 @@
-use Rattle.std.proofs.Common.{◌≡◌, true, false, sym, ◌∙◌, subst}
-use Rattle.gl_world.specs.Machine.{has_closed}
+use Rattle.std.proofs.Common.{◌≡◌, true, false, sym, ap, ◌∙◌, subst}
+use Rattle.gl_world.specs.Machine.{Turn, has_closed}
+use Rattle.gl_world.specs.Enabled.{grows}
 use Rattle.gl_world.specs.Keeping.{Keeper}
+use Rattle.gl_world.proofs.Errors.{on_err}
 use Rattle.gl_world.proofs.Rows.{kept_end, end_closed, end_full, end_room, end_lane}
 use Rattle.gl_world.proofs.row.Row.end.Goals as goal
 
@@ -37,3 +39,9 @@ pub returns-clause-answer : goal.returns-clause-answer
 returns-clause-answer c =
     let running : has_closed c.args.self.now.thread c.args.self.now.lane ≡ false = subst (λ (k : Keeper). has_closed k.thread k.lane ≡ false) c.self.view_is (sym c.self.invariant.known ∙ c.if-self.false) in
     rw (end_room c.args.self.now.limits c.args.self.now.thread c.args.self.now.lane running (sym c.has_room.ensures ∙ c.if-not-has_room.false))
+
+pub returns-in_err-append-clause-memory : goal.returns-in_err-append-clause-memory
+returns-in_err-append-clause-memory c =
+    let running : has_closed c.args.self.now.thread c.args.self.now.lane ≡ false = subst (λ (k : Keeper). has_closed k.thread k.lane ≡ false) c.self.view_is (sym c.self.invariant.known ∙ c.if-self.false) in
+    on_err c.from_residual.result _
+    (ap (λ (t : Turn). grows t.did) (end_room c.args.self.now.limits c.args.self.now.thread c.args.self.now.lane running (sym c.has_room.ensures ∙ c.if-not-has_room.false)))

@@ -36,3 +36,8 @@ pub returns-in-Some-clause-answer : goal.returns-in-Some-clause-answer
 returns-in-Some-clause-answer c =
     let running : has_closed c.args.self.now.thread c.args.self.now.lane ≡ false = subst (λ (k : Keeper). has_closed k.thread k.lane ≡ false) c.self.view_is (sym c.self.invariant.known ∙ c.if-self.false) in
     rw (take_open c.args.self.now.limits c.args.self.now.thread c.args.self.now.lane running (Some c.in-Some.wish) (sym c.in-Some.ensures)) c.take_wish.ensures.answer
+
+pub returns-in-Some-clause-memory : goal.returns-in-Some-clause-memory
+returns-in-Some-clause-memory c =
+    let running : has_closed c.args.self.now.thread c.args.self.now.lane ≡ false = subst (λ (k : Keeper). has_closed k.thread k.lane ≡ false) c.self.view_is (sym c.self.invariant.known ∙ c.if-self.false) in
+    rw (take_open c.args.self.now.limits c.args.self.now.thread c.args.self.now.lane running (Some c.in-Some.wish) (sym c.in-Some.ensures)) c.take_wish.ensures.memory

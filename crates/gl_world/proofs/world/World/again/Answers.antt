@@ -5,14 +5,14 @@ use Rattle.gl_world.specs.Keeping.{Keeper}
 use Rattle.gl_world.proofs.Worlds.{state_of, again_unknown, again_known, again_same, lane_at, lane_is}
 use Rattle.gl_world.proofs.world.World.again.Goals as goal
 
-pub returns-then-index-len-clause-moved : goal.returns-then-index-len-clause-moved
-returns-then-index-len-clause-moved c =
+pub returns-then-index-len : goal.returns-then-index-len
+returns-then-index-len c =
     let strange : length c.args.self.now.lanes ≤ c.args.thread =
     subst (λ (s : State). length s.lanes ≤ c.args.thread) c.self.view_is (omega (arith, c.if-index-len.true, c.len.ensures, c.number-index.ensures, length-map c.self.inside.rows.items (λ (k : Keeper). k.lane))) in
     again_unknown c.args.self.now c.args.thread c.args.place strange
 
-pub returns-then-place-popped-clause-moved : goal.returns-then-place-popped-clause-moved
-returns-then-place-popped-clause-moved c =
+pub returns-then-place-popped : goal.returns-then-place-popped
+returns-then-place-popped c =
     let here = rw c.number-index.ensures at c.index.ensures in
     let within : c.args.thread < length c.self.inside.rows.items = omega (arith, c.if-index-len.false, c.len.ensures, c.number-index.ensures) in
     let at_lane = lane_at c.self.inside.limits c.self.inside.dispatcher c.self.inside.rows.items c.self.inside.intake.stream c.self.inside.intake.limits c.self.invariant c.args.thread c.index.result.now within here in
@@ -35,8 +35,8 @@ refuse-requires-clause-there c = λ lane found.
     c.args.self.now c.self.view_is lane found in
     rw is (sym c.in-Some.ensures)
 
-pub returns-in-None-clause-moved : goal.returns-in-None-clause-moved
-returns-in-None-clause-moved c =
+pub returns-in-None : goal.returns-in-None
+returns-in-None c =
     let here = rw c.number-index.ensures at c.index-2.ensures in
     let within : c.args.thread < length c.self.inside.rows.items = omega (arith, c.if-index-len.false, c.len.ensures, c.number-index.ensures) in
     let at_lane = lane_at c.self.inside.limits c.self.inside.dispatcher c.self.inside.rows.items c.self.inside.intake.stream c.self.inside.intake.limits c.self.invariant c.args.thread c.index-2.result.now within here in

@@ -1,8 +1,10 @@
-use Rattle.std.proofs.Common.{◌≤◌, ◌<◌, length, subst, arith}
+use Rattle.std.proofs.Common.{◌≤◌, ◌<◌, length, ap, ◌∙◌, subst, arith}
 use Rattle.std.proofs.lemmas.List.{length-map}
 use Rattle.gl_world.specs.Machine.{State}
+use Rattle.gl_world.specs.Enabled.{grows}
 use Rattle.gl_world.specs.Keeping.{Keeper}
-use Rattle.gl_world.proofs.Worlds.{end_unknown, end_moved, end_world}
+use Rattle.gl_world.proofs.Errors.{on_err}
+use Rattle.gl_world.proofs.Worlds.{end_unknown, end_moved, end_did, end_world}
 use Rattle.gl_world.proofs.world.World.end.Goals as goal
 
 pub returns-then-index-len-clause-moved : goal.returns-then-index-len-clause-moved
@@ -26,3 +28,13 @@ returns-clause-moved c =
     rw (← c.self.view_is, c.number-index.ensures)
     (end_moved c.self.inside.limits c.self.inside.dispatcher c.self.inside.rows.items c.self.inside.intake.stream c.self.inside.intake.limits c.self.invariant c.args.thread c.index_mut.result.now within here
     c.end.new.self c.in_ok-did.did c.in_ok-did.ensures.moved c.in_ok-did.ensures.answer)
+
+pub returns-in_err-did-clause-memory : goal.returns-in_err-did-clause-memory
+returns-in_err-did-clause-memory c =
+    let here = rw c.number-index.ensures at c.index_mut.ensures.value in
+    let within : c.args.thread < length c.self.inside.rows.items = omega (arith, c.if-index-len.false, c.len.ensures, c.number-index.ensures) in
+    on_err c.from_residual.result _
+    (rw (← c.self.view_is)
+    (ap grows
+    (end_did c.self.inside.limits c.self.inside.dispatcher c.self.inside.rows.items c.self.inside.intake.stream c.self.inside.intake.limits c.self.invariant c.args.thread c.index_mut.result.now within here)
+    ∙ c.in_err-did.ensures.memory))

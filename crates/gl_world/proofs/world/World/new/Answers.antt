@@ -1,6 +1,7 @@
-use Rattle.std.proofs.Common.{subst, sym}
-use Rattle.gl_world.specs.Dispatch.{Dispatch}
-use Rattle.gl_world.specs.Keeping.{IsWorld}
+use Rattle.std.proofs.Common.{Vec, Global, ap, ◌∙◌, length}
+use Rattle.std.proofs.lemmas.List.{length-map}
+use Rattle.gl_event.specs.declared.events.Event.{Event}
+use Rattle.gl_world.specs.Machine.{fresh_lane}
 use Rattle.gl_world.proofs.Worlds.{fresh_lists, world_new}
 use Rattle.gl_world.proofs.world.World.new.Goals as goal
 
@@ -9,5 +10,8 @@ invariant_of-result c =
     rw (c.in_ok-intake.ensures.limits, c.in_ok-intake.ensures.empty, c.in_ok-dispatcher.ensures)
     (world_new c.args.limits.now c.args.shards c.in_ok-rows.rows.items c.args.wishes.items c.requires.each_thread c.in_ok-rows.ensures.keepers c.in_ok-rows.ensures.lanes c.fresh_rows.ensures.range)
 
-pub returns : goal.returns
-returns c = rw (c.in_ok-intake.ensures.empty, c.in_ok-rows.ensures.lanes, fresh_lists c.args.wishes.items, c.in_ok-dispatcher.ensures)
+pub returns-clause-state : goal.returns-clause-state
+returns-clause-state c = rw (c.in_ok-intake.ensures.empty, c.in_ok-rows.ensures.lanes, fresh_lists c.args.wishes.items, c.in_ok-dispatcher.ensures)
+
+pub returns-clause-lanes : goal.returns-clause-lanes
+returns-clause-lanes c = ap length c.in_ok-rows.ensures.lanes ∙ length-map c.args.wishes.items (λ (w : Vec Event Global). fresh_lane w.items) ∙ c.requires.each_thread

@@ -2,7 +2,8 @@ use Rattle.std.proofs.Common.{◌≤◌, ◌<◌, length, None, sym, subst, arit
 use Rattle.std.proofs.lemmas.List.{length-map}
 use Rattle.gl_world.specs.Machine.{State}
 use Rattle.gl_world.specs.Keeping.{Keeper}
-use Rattle.gl_world.proofs.Worlds.{state_of, pull_unknown, pull_known, lane_at, lane_is}
+use Rattle.gl_world.proofs.Errors.{on_err}
+use Rattle.gl_world.proofs.Worlds.{state_of, pull_unknown, pull_known, pull_grows, lane_at, lane_is}
 use Rattle.gl_world.proofs.world.World.pull.Goals as goal
 
 pub returns-then-index-len-clause-moved : goal.returns-then-index-len-clause-moved
@@ -26,3 +27,12 @@ returns-in-None-clause-moved c =
     let at_lane = lane_at c.self.inside.limits c.self.inside.dispatcher c.self.inside.rows.items c.self.inside.intake.stream c.self.inside.intake.limits c.self.invariant c.args.thread c.index.result.now within here in
     rw (← c.self.view_is)
     (pull_known (state_of c.self.inside.limits c.self.inside.dispatcher c.self.inside.rows.items c.self.inside.intake.stream) c.args.thread c.index.result.now.lane at_lane None (sym c.in-None.ensures))
+
+pub returns-in-Some-clause-memory : goal.returns-in-Some-clause-memory
+returns-in-Some-clause-memory c =
+    let here = rw c.number-index.ensures at c.index.ensures in
+    let within : c.args.thread < length c.self.inside.rows.items = omega (arith, c.if-index-len.false, c.len.ensures, c.number-index.ensures) in
+    let at_lane = lane_at c.self.inside.limits c.self.inside.dispatcher c.self.inside.rows.items c.self.inside.intake.stream c.self.inside.intake.limits c.self.invariant c.args.thread c.index.result.now within here in
+    on_err c.collect.result _
+    (rw (← c.self.view_is)
+    (pull_grows (state_of c.self.inside.limits c.self.inside.dispatcher c.self.inside.rows.items c.self.inside.intake.stream) c.args.thread c.index.result.now.lane c.in-Some.note at_lane (sym c.in-Some.ensures)))

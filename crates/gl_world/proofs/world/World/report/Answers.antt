@@ -1,17 +1,11 @@
-use Rattle.std.proofs.Common.{◌≡◌, List, map, sym, ap, ◌∙◌, subst, arith}
-use Rattle.std.specs.Prelude.{IfOk, IfErr}
+use Rattle.std.proofs.Common.{◌≡◌, ap, ◌∙◌, subst, arith}
 use Rattle.gl_event.specs.Bounds.{Bounds}
-use Rattle.gl_event.specs.declared.events.Event.{Event}
-use Rattle.gl_edges.specs.declared.edge.Edge.{Edge}
-use Rattle.gl_edges.specs.declared.edge.Sample.{Sample}
 use Rattle.gl_segments.specs.Orders.{lists_of}
 use Rattle.gl_shards.specs.Tables.{union}
-use Rattle.gl_cycles.specs.Reports.{IsReport, IsReportFault}
 use Rattle.gl_intake.specs.Stream.{logs_of}
 use Rattle.gl_world.specs.Dispatch.{worked_edges}
-use Rattle.gl_world.specs.Machine.{State}
 use Rattle.gl_world.specs.Keeping.{IsSound}
-use Rattle.gl_world.specs.Headline.{collected_lists, worked_table, IsReportOf}
+use Rattle.gl_world.specs.Headline.{collected_lists, worked_table}
 use Rattle.gl_world.proofs.Dispatching.{union_is}
 use Rattle.gl_world.proofs.Reporting.{logs_few, logs_lawful, reported, faulted, report_if, fault_if}
 use Rattle.gl_world.proofs.world.World.report.Goals as goal
