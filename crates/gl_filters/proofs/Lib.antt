@@ -4,3 +4,4 @@ pub mod Gates
 pub mod Judged
 pub mod Valid
 pub mod Verdicts
+pub mod Round
