@@ -8,3 +8,4 @@ pub mod Members
 pub mod ByEdges
 pub mod Uniqueness
 pub mod Level
+pub mod Off

@@ -7,11 +7,20 @@ use Rattle.gl_filters.specs.declared.query.Mode.{Mode}
 use Rattle.gl_edges.specs.declared.edge.Edge.{Edge}
 use Rattle.gl_edges.specs.declared.edge.Sample.{Sample}
 use Rattle.gl_cycles.specs.AllCycles.{edges_of_table, all_cycles}
+use Rattle.gl_cycles.proofs.Off.{loops_keep}
 use Rattle.gl_cycles.proofs.paths.search.Goals as goal
 
 -- the first of what was found are the first of all
 first_of_more : {X : Type 0} (max cap : ℕ) (found all : List X) → max ≤ cap → found ≡ take cap all → take max found ≡ take max all
 first_of_more max cap found all within is = ap (take max) is ∙ take-take max cap all within
+
+-- what the search relies on
+pub first_cycles-requires-clause-ready : goal.first_cycles-requires-clause-ready
+first_cycles-requires-clause-ready c = record {
+  fits = omega (arith, c.len.ensures.value, c.len.ensures.within.len_fits);
+  kept = loops_keep (is_before c.args.order.now) c.mode.result (edges_of_table c.entries-table.result.now) c.len.result c.in_ok-kept.kept.items c.in_ok-kept.ensures;
+  indexed = rw c.deref.ensures.value at c.in_ok-index.ensures;
+}
 
 pub returns-clause-cycles : goal.returns-clause-cycles
 returns-clause-cycles c =
