@@ -9,3 +9,4 @@ pub mod ByEdges
 pub mod Uniqueness
 pub mod Level
 pub mod Off
+pub mod Back

@@ -8,3 +8,4 @@ pub mod OffCycles
 pub mod Ranks
 pub mod Reports
 pub mod Searching
+pub mod Walks

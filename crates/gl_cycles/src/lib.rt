@@ -19,11 +19,14 @@ mod followers;
 mod found;
 mod laws;
 mod loops;
+mod neighbours;
+mod numbers;
 mod paths;
 mod ranks;
 mod reports;
 #[cfg(test)]
 mod tests;
+mod ways;
 
 pub use found::{Cycles, Found, Report, ReportFault};
 pub use laws::{

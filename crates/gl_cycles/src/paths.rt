@@ -11,7 +11,7 @@ ghost use Rattle.gl_edges.specs.declared.edge.Edge.{Edge};
 
 use crate::followers::Followers;
 use crate::found::{Cycles, Found};
-use crate::loops::edges_on_loops;
+use crate::neighbours::Sought;
 use arrayvec::ArrayVec;
 use gl_edges::{Edge, EdgeList, Sample};
 use gl_event::Memory;
@@ -250,15 +250,23 @@ pub fn search(
 {
     let table = edges.entries();
     let max = query.max() as usize;
-    let kept = edges_on_loops(alloc, table)?;
+    let mode = query.mode();
+    let len = query.len() as usize;
+    let sought = Sought {
+        table,
+        order,
+        mode,
+        len,
+    };
+    let kept = sought.kept_edges(alloc)?;
     let index = Followers::of(alloc, table, &kept)?;
     let search = Searcher {
         table,
         order,
-        mode: query.mode(),
+        mode,
         kept,
         index,
-        len: query.len() as usize,
+        len,
         cap: max + 1,
     };
     let mut cycles = search.first_cycles(alloc)?;
