@@ -10,3 +10,4 @@ pub mod Uniqueness
 pub mod Level
 pub mod Off
 pub mod Back
+pub mod Beside

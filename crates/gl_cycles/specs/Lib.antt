@@ -8,4 +8,6 @@ pub mod OffCycles
 pub mod Ranks
 pub mod Reports
 pub mod Searching
+pub mod Trimming
+pub mod Trims
 pub mod Walks

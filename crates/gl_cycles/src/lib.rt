@@ -26,6 +26,7 @@ mod ranks;
 mod reports;
 #[cfg(test)]
 mod tests;
+mod trims;
 mod ways;
 
 pub use found::{Cycles, Found, Report, ReportFault};
@@ -34,3 +35,4 @@ pub use laws::{
 };
 pub use paths::search;
 pub use reports::report_over;
+pub use trims::{Trimmed, trim};
