@@ -11,3 +11,4 @@ pub mod Level
 pub mod Off
 pub mod Back
 pub mod Beside
+pub mod Removing

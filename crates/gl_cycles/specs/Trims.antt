@@ -13,6 +13,10 @@ abbrev pub is_beside : (Segment → Segment → Bool) → Mode → Side → Edge
 is_beside before mode Follower e f = is_compatible before mode e f
 is_beside before mode Leader e f = is_compatible before mode f e
 
+-- the positions of edges that aren't among these, ascending
+abbrev pub others : List Edge → List ℕ → List ℕ
+others edges removed = filter (λ i. not (list_any (λ k. k == i) removed)) (range_with_len 0 (length edges))
+
 module _ (before : Segment → Segment → Bool) (mode : Mode) (edges : List Edge) where
   -- an edge that isn't gone may come beside this one
   pub record HasBeside (IsGone : ℕ → Type 0) (side : Side) (e : Edge) : Type 0 where
@@ -38,10 +42,6 @@ module _ (before : Segment → Segment → Bool) (mode : Mode) (edges : List Edg
   abbrev pub IsTrimOrder : List ℕ → Type 0
   IsTrimOrder removed = (n i : ℕ) → slice_get removed n ≡ Some i → IsFirstStuck (Contains (take n removed)) i
 
-  -- the positions that aren't among these, ascending
-  abbrev pub others : List ℕ → List ℕ
-  others removed = filter (λ i. not (list_any (λ k. k == i) removed)) (range_with_len 0 (length edges))
-
   -- what trimming leaves, and what it takes away
   pub record IsTrimmed (kept removed : List ℕ) : Type 0 where
     -- it takes away as long as an edge is stuck, always the first one
@@ -50,4 +50,4 @@ module _ (before : Segment → Segment → Bool) (mode : Mode) (edges : List Edg
     -- each edge that is left has a follower and a leader that are left
     pub stays : (i : ℕ) (e : Edge) (side : Side) → slice_get edges i ≡ Some e → ¬ Contains removed i → HasBeside (Contains removed) side e
     -- the others are kept
-    pub rest : kept ≡ others removed
+    pub rest : kept ≡ others edges removed

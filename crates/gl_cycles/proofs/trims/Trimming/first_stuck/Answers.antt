@@ -16,7 +16,7 @@ returns-then-not-is_settled-clause-found c =
     let s = c.args.self.now in
     let flag = slice_get-get_or c.args.gone.now c.loop-i.i false (omega (arith, c.loop-i-test.true, c.requires.flags)) ∙ ap Some c.if-not-gone-i.true in
     first_from (is_before s.order.now) s.mode (edges_of_table s.table.now) c.args.gone.now c.loop-i.i (c.requires.flags ∙ sym (length-map s.table.now (λ pair. pair.0))) flag c.loop-i.invariant.settled
-    ((c.if-not-is_settled.ensures tt).no refl)
+    (c.if-not-is_settled.ensures.no refl)
 
 -- one edge more is settled, or gone
 pub loop-i-preserved : goal.loop-i-preserved
