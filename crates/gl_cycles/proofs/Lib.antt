@@ -12,3 +12,4 @@ pub mod Off
 pub mod Back
 pub mod Beside
 pub mod Removing
+pub mod Surviving

@@ -31,7 +31,8 @@ mod ways;
 
 pub use found::{Cycles, Found, Report, ReportFault};
 pub use laws::{
-    cycles_are_all, cycles_are_level, cycles_ascend, cycles_ascend_by_edges, reports_are_unique,
+    cycles_are_all, cycles_are_level, cycles_ascend, cycles_ascend_by_edges, cycles_survive_trims,
+    reports_are_unique,
 };
 pub use paths::search;
 pub use reports::report_over;
