@@ -11,11 +11,11 @@ use Rattle.gl_filters.specs.Test.{is_path, is_cycle, can_follow, leads_back}
 use Rattle.gl_cycles.specs.AllCycles.{picked, all_cycles}
 use Rattle.gl_cycles.specs.Blocks.{block, upto, blocks_below}
 use Rattle.gl_cycles.specs.Followers.{IsNextWith, held_lock, both_locks}
-use Rattle.gl_cycles.specs.Loops.{IsOffLoops}
+use Rattle.gl_cycles.specs.OffCycles.{IsOffCycles}
 use Rattle.gl_cycles.proofs.Lists.{upto-more, upto-until, take-take_append, take-full}
 use Rattle.gl_cycles.proofs.Blocking.{all_cycles-block, block-zero, block-suc, block-stray, not_led_on, none_after_closed, picked-push}
 use Rattle.gl_filters.proofs.Paths.{is_path_push}
-use Rattle.gl_cycles.proofs.Level.{block-off}
+use Rattle.gl_cycles.proofs.Off.{block-off}
 use Rattle.gl_cycles.proofs.Fronts.{AreWithin, held_first, unclosed-push, wanted_after, element_at, length-picked}
 
 pub length-first : {X : Type 0} (n : ℕ) (xs : List X) → length (take n xs) ≤ n
@@ -32,9 +32,13 @@ module _ (before : Segment → Segment → Bool) (mode : Mode) (edges : List Edg
   abbrev pub OthersAreStray : {K : Type 0} → (Edge → K) → K → Type 0
   OthersAreStray key k = (i : ℕ) (f : Edge) → slice_get edges i ≡ Some f → key f ≢ k → block before mode edges n (front ++ i ∷ []) ≡ []
 
-  module _ {K : Type 0} (key : Edge → K) (k : K) (stray : OthersAreStray key k) where
+  -- nor does one that is left out
+  abbrev pub LeftOutAreStray : List Bool → Type 0
+  LeftOutAreStray kept = (i : ℕ) (f : Edge) → slice_get edges i ≡ Some f → slice_get kept i ≡ Some false → block before mode edges n (front ++ i ∷ []) ≡ []
+
+  module _ {K : Type 0} (key : Edge → K) (kept : List Bool) (k : K) (stray : OthersAreStray key k) (out : LeftOutAreStray kept) where
     -- what is passed over leads to no cycle
-    skipped_blocks : (m : ℕ) (next : Option ℕ) → IsNextWith key edges k m next
+    skipped_blocks : (m : ℕ) (next : Option ℕ) → IsNextWith key edges kept k m next
         → blocks_below before mode edges n front (unwrap_or next (length edges)) ≡ blocks_below before mode edges n front m
     skipped_blocks m next is =
         upto-until (λ i. block before mode edges n (front ++ i ∷ [])) m (unwrap_or next (length edges)) is.from
@@ -43,10 +47,10 @@ module _ (before : Segment → Segment → Bool) (mode : Mode) (edges : List Edg
         let here = element_at edges i (omega arith) in
         elim (is.skipped i here.0 from below here.1) [
           | inl other ↦ stray i here.0 here.1 other
-          | inr off ↦ block-off before mode edges n front i here.0 here.1 off
+          | inr left_out ↦ out i here.0 here.1 left_out
         ])
 
-    pub grow_begin : (old : List (List ℕ)) (next : Option ℕ) → length old ≤ cap → IsNextWith key edges k 0 next → HasGrown key k old old next
+    pub grow_begin : (old : List (List ℕ)) (next : Option ℕ) → length old ≤ cap → IsNextWith key edges kept k 0 next → HasGrown key k old old next
     grow_begin old next room is =
         record {
           reaches = is.within;
@@ -55,7 +59,7 @@ module _ (before : Segment → Segment → Bool) (mode : Mode) (edges : List Edg
         }
 
     pub grow_step : (old now more : List (List ℕ)) (i : ℕ) (next : Option ℕ) → HasGrown key k old now (Some i) → more ≡ take cap (now ++ block before mode edges n (front ++ i ∷ []))
-        → IsNextWith key edges k (i + 1) next → HasGrown key k old more next
+        → IsNextWith key edges kept k (i + 1) next → HasGrown key k old more next
     grow_step old now more i next had grown is =
         let f = λ (j : ℕ). block before mode edges n (front ++ j ∷ []) in
         record {
@@ -150,16 +154,16 @@ grown_room before mode edges n front cap key k old now next had =
     omega (arith, ap length had.grown)
 
 -- the next follower lies behind
-pub goes_on : {K : Type 0} (key : Edge → K) (edges : List Edge) (i : ℕ) (k : K) (next : Option ℕ) → IsNextWith key edges k (i + 1) next → (i < unwrap_or next (length edges)) × (unwrap_or next (length edges) ≤ length edges)
-goes_on key edges i k next is =
+pub goes_on : {K : Type 0} (key : Edge → K) (edges : List Edge) (kept : List Bool) (i : ℕ) (k : K) (next : Option ℕ) → IsNextWith key edges kept k (i + 1) next → (i < unwrap_or next (length edges)) × (unwrap_or next (length edges) ≤ length edges)
+goes_on key edges kept i k next is =
     let from = is.from in
     (omega arith, is.within)
 
--- an edge that lies on no loop adds nothing
-pub grow_off : (before : Segment → Segment → Bool) (mode : Mode) (edges : List Edge) (n : ℕ) (front : List ℕ) (cap : ℕ) (old : List (List ℕ)) (i : ℕ) (f : Edge)
-    → length old ≤ cap → slice_get edges i ≡ Some f → IsOffLoops edges f → old ≡ take cap (old ++ block before mode edges n (front ++ i ∷ []))
-grow_off before mode edges n front cap old i f room at off =
-    sym (ap (λ l. take cap (old ++ l)) (block-off before mode edges n front i f at off) ∙ ap (take cap) (append-nil old) ∙ take_all cap old room)
+-- an edge that is in no cycle adds nothing
+pub grow_off : (before : Segment → Segment → Bool) (mode : Mode) (edges : List Edge) (len n : ℕ) (front : List ℕ) (cap : ℕ) (old : List (List ℕ)) (i : ℕ) (f : Edge) → length front + suc n ≤ len
+    → length old ≤ cap → slice_get edges i ≡ Some f → IsOffCycles before mode len edges f → old ≡ take cap (old ++ block before mode edges n (front ++ i ∷ []))
+grow_off before mode edges len n front cap old i f short room at off =
+    sym (ap (λ l. take cap (old ++ l)) (block-off before mode edges len n front i f short at off) ∙ ap (take cap) (append-nil old) ∙ take_all cap old room)
 
 -- an edge that can't follow adds nothing
 pub grow_stray : (before : Segment → Segment → Bool) (mode : Mode) (edges : List Edge) (n : ℕ) (front : List ℕ) (cap : ℕ) (old : List (List ℕ)) (i : ℕ) (f : Edge)

@@ -8,7 +8,7 @@ use Rattle.gl_event.specs.declared.events.Segment.{Segment}
 use Rattle.gl_edges.specs.declared.edge.Edge.{Edge}
 use Rattle.gl_edges.proofs.Membership.{contains_cases, contains_none}
 use Rattle.gl_filters.specs.declared.query.Mode.{Mode}
-use Rattle.gl_filters.proofs.Cycling.{leads_same}
+use Rattle.gl_filters.proofs.Cycling.{leads_same, test_from_cycle}
 use Rattle.gl_filters.specs.Test.{lead_on, leads_back, last_of, is_path, is_cycle}
 use Rattle.std.specs.Option.{option_map}
 use Rattle.std.proofs.lemmas.Option.{slice_get_within, get_or_from_slice_get, slice_get-map, same_Some}
@@ -113,7 +113,7 @@ contains_at : (edges : List Edge) (i : ℕ) (e : Edge) → slice_get edges i ≡
 contains_at edges i e at = (i, slice_get_within edges i e at, get_or_from_slice_get edges i e e at)
 
 -- each edge that is picked is one of the edges
-picked_among : (edges : List Edge) (positions : List ℕ) → All (Contains edges) (picked edges positions)
+pub picked_among : (edges : List Edge) (positions : List ℕ) → All (Contains edges) (picked edges positions)
 picked_among edges [] = All-nil (Contains edges)
 picked_among edges (i ∷ positions) = by (slice_get edges i) refl (picked_among edges positions)
   where
@@ -123,31 +123,15 @@ picked_among edges (i ∷ positions) = by (slice_get edges i) refl (picked_among
 
 module _ (before : Segment → Segment → Bool) (mode : Mode) (edges : List Edge) where
   -- the edges of a cycle are a loop
-  cycle_is_loop : (positions : List ℕ) → is_cycle before mode (picked edges positions) ≡ true → IsLoop edges (picked edges positions)
+  pub loop_from_cycle : (cycle : List Edge) → All (Contains edges) cycle → is_cycle before mode cycle ≡ true → IsLoop edges cycle
   unfolding is_cycle is_path
-  cycle_is_loop positions is =
+  loop_from_cycle cycle among is =
       let parts = and_parts _ _ (and_parts _ _ is).1 in
-      record { among = picked_among edges positions; leads_on = (and_parts _ _ parts.0).0; leads_back = parts.1 }
+      record { among = among; leads_on = (and_parts _ _ parts.0).0; leads_back = parts.1 }
 
   -- the edges of a cycle are level
   pub cycle_is_level : (rank : ℕ → ℕ) (len : ℕ) (positions : List ℕ) → IsNeverFalling rank edges → Contains (all_cycles before mode len edges) positions
       → All (λ e. rank e.held ≡ rank e.wanted) (picked edges positions)
   cycle_is_level rank len positions certified at =
       let is = there_is_cycle before mode len edges positions at in
-      loop_is_level rank edges (picked edges positions) certified (cycle_is_loop positions is.cycle)
-
-  -- no cycle goes through an edge that lies on no loop
-  pub block-off : (n : ℕ) (front : List ℕ) (i : ℕ) (f : Edge) → slice_get edges i ≡ Some f → IsOffLoops edges f → block before mode edges n (front ++ i ∷ []) ≡ []
-  unfolding block
-  block-off n front i f at off =
-      filter-none (λ positions. is_cycle before mode (picked edges positions)) (front ++ i ∷ []) (lists_below (length edges) n)
-      (λ rest. by rest (is_cycle before mode (picked edges ((front ++ i ∷ []) ++ rest))) refl)
-    where
-      among : (rest : List ℕ) → Contains (picked edges ((front ++ i ∷ []) ++ rest)) f
-      among rest =
-          subst (λ es. Contains es f) (sym (picked-append edges (front ++ i ∷ []) rest ∙ ap (λ es. es ++ picked edges rest) (picked-push edges front i f at)))
-          (Contains-append_left (picked edges front ++ f ∷ []) (picked edges rest) f (Contains-push (picked edges front) f))
-
-      by : (rest : List ℕ) (b : Bool) → is_cycle before mode (picked edges ((front ++ i ∷ []) ++ rest)) ≡ b → is_cycle before mode (picked edges ((front ++ i ∷ []) ++ rest)) ≡ false
-      by rest true is = absurd (off (picked edges ((front ++ i ∷ []) ++ rest)) (cycle_is_loop ((front ++ i ∷ []) ++ rest) is) (among rest))
-      by rest false is = is
+      loop_is_level rank edges (picked edges positions) certified (loop_from_cycle (picked edges positions) (picked_among edges positions) (test_from_cycle before mode len (picked edges positions) is.cycle))

@@ -8,3 +8,8 @@ pub mod Members
 pub mod ByEdges
 pub mod Uniqueness
 pub mod Level
+pub mod Off
+pub mod Back
+pub mod Beside
+pub mod Removing
+pub mod Surviving

@@ -9,7 +9,6 @@ use Rattle.gl_edges.specs.declared.edge.Edge.{Edge}
 use Rattle.gl_edges.specs.declared.edge.Sample.{Sample}
 use Rattle.gl_cycles.specs.AllCycles.{edges_of_table}
 use Rattle.gl_cycles.specs.Followers.{IsNextWith, AreListed, AreHolders, AreClosers, IsIndexOf, held_lock, first_of_lock, same_locks}
-use Rattle.gl_cycles.specs.Loops.{IsOffLoops}
 use Rattle.gl_cycles.specs.declared.followers.Followers.{Followers}
 use Rattle.gl_cycles.specs.declared.followers.Holders.{Holders}
 use Rattle.gl_cycles.proofs.Fronts.{element_at}
@@ -33,8 +32,8 @@ tells_locks a b =
     ]
 
 -- past the end no edge has a key
-none_past : {K : Type 0} (key : Edge → K) (edges : List Edge) (k : K) (n : ℕ) → n ≡ length edges → IsNextWith key edges k n None
-none_past key edges k n at_end = record {
+none_past : {K : Type 0} (key : Edge → K) (edges : List Edge) (kept : List Bool) (k : K) (n : ℕ) → n ≡ length edges → IsNextWith key edges kept k n None
+none_past key edges kept k n at_end = record {
   from = omega arith;
   within = omega arith;
   holds = tt;
@@ -42,16 +41,16 @@ none_past key edges k n at_end = record {
 }
 
 -- before any edge is listed
-pub none_listed : {K : Type 0} (key : Edge → K) (edges : List Edge) (n : ℕ) (first : K → Option ℕ) (next : List (Option ℕ)) → n ≡ length edges → length next ≡ length edges → ((k : K) → first k ≡ None) → AreListed key edges n first next
-none_listed key edges n first next at_end long none = record {
+pub none_listed : {K : Type 0} (key : Edge → K) (edges : List Edge) (kept : List Bool) (n : ℕ) (first : K → Option ℕ) (next : List (Option ℕ)) → n ≡ length edges → length next ≡ length edges → ((k : K) → first k ≡ None) → AreListed key edges kept n first next
+none_listed key edges kept n first next at_end long none = record {
   long = long;
-  begins = λ k. subst (IsNextWith key edges k n) (sym (none k)) (none_past key edges k n at_end);
+  begins = λ k. subst (IsNextWith key edges kept k n) (sym (none k)) (none_past key edges kept k n at_end);
   goes_on = λ i e after from at there. let within = slice_get_within edges i e at in absurd (omega arith);
 }
 
-module _ {K : Type 0} (key : Edge → K) (edges : List Edge) (n : ℕ) (e : Edge) (at : slice_get edges n ≡ Some e) where
+module _ {K : Type 0} (key : Edge → K) (edges : List Edge) (kept : List Bool) (n : ℕ) (e : Edge) (at : slice_get edges n ≡ Some e) where
   -- an edge with the key is the first from its position on
-  next_here : (k : K) → key e ≡ k → IsNextWith key edges k n (Some n)
+  next_here : (k : K) → key e ≡ k → IsNextWith key edges kept k n (Some n)
   next_here k same =
       let within = slice_get_within edges n e at in
       record {
@@ -61,8 +60,8 @@ module _ {K : Type 0} (key : Edge → K) (edges : List Edge) (n : ℕ) (e : Edge
         skipped = λ i f from below there. absurd (omega arith);
       }
 
-  -- an edge with another one, or that lies on no loop, is passed over
-  next_later : (k : K) (next : Option ℕ) → (key e ≢ k) ⊎ IsOffLoops edges e → IsNextWith key edges k (n + 1) next → IsNextWith key edges k n next
+  -- an edge with another one, or that is left out, is passed over
+  next_later : (k : K) (next : Option ℕ) → (key e ≢ k) ⊎ (slice_get kept n ≡ Some false) → IsNextWith key edges kept k (n + 1) next → IsNextWith key edges kept k n next
   next_later k next over later =
       let from = later.from in
       record {
@@ -71,17 +70,19 @@ module _ {K : Type 0} (key : Edge → K) (edges : List Edge) (n : ℕ) (e : Edge
         holds = later.holds;
         skipped = λ i f from_n below there.
             elim (cases_eq i n) [
-              | inl same ↦ subst (λ x. (key x ≢ k) ⊎ IsOffLoops edges x) (same_Some e f (sym at ∙ ap (slice_get edges) (sym same) ∙ there)) over
+              | inl same ↦
+                  subst (λ m. (key f ≢ k) ⊎ (slice_get kept m ≡ Some false)) (sym same)
+                  (subst (λ x. (key x ≢ k) ⊎ (slice_get kept n ≡ Some false)) (same_Some e f (sym at ∙ ap (slice_get edges) (sym same) ∙ there)) over)
               | inr other ↦ later.skipped i f (omega arith) below there
             ];
       }
 
-  module _ (first more : K → Option ℕ) (next after : List (Option ℕ)) (had : AreListed key edges (n + 1) first next) (is_set : after ≡ set next n (first (key e))) where
+  module _ (first more : K → Option ℕ) (next after : List (Option ℕ)) (had : AreListed key edges kept (n + 1) first next) (is_set : after ≡ set next n (first (key e))) where
     has_long : length after ≡ length edges
     has_long = ap length is_set ∙ length-set next n (first (key e)) ∙ had.long
 
     -- where the key of each edge stands next, with one more edge
-    leads_from : (i : ℕ) (f : Edge) (later : Option ℕ) → n ≤ i → slice_get edges i ≡ Some f → slice_get after i ≡ Some later → IsNextWith key edges (key f) (i + 1) later
+    leads_from : (i : ℕ) (f : Edge) (later : Option ℕ) → n ≤ i → slice_get edges i ≡ Some f → slice_get after i ≡ Some later → IsNextWith key edges kept (key f) (i + 1) later
     leads_from i f later from at_i there =
         let found = first (key e) in
         let long = had.long in
@@ -96,37 +97,37 @@ module _ {K : Type 0} (key : Edge → K) (edges : List Edge) (n : ℕ) (e : Edge
               (sym (ap Some (get_or-set_same next n found found in_n)) ∙ sym (slice_get-get_or (set next n found) n found (omega (arith, length-set next n found)))
               ∙ ap (slice_get (set next n found)) (sym same) ∙ here) in
               let is_e : e ≡ f = same_Some e f (sym at ∙ ap (slice_get edges) (sym same) ∙ at_i) in
-              let began : IsNextWith key edges (key e) (n + 1) found = had.begins (key e) in
-              subst (λ m. IsNextWith key edges (key f) (m + 1) later) (sym same) (subst (λ x. IsNextWith key edges (key x) (n + 1) later) is_e (subst (IsNextWith key edges (key e) (n + 1)) is began))
+              let began : IsNextWith key edges kept (key e) (n + 1) found = had.begins (key e) in
+              subst (λ m. IsNextWith key edges kept (key f) (m + 1) later) (sym same) (subst (λ x. IsNextWith key edges kept (key x) (n + 1) later) is_e (subst (IsNextWith key edges kept (key e) (n + 1)) is began))
           | inr other ↦
               had.goes_on i f later (omega arith) at_i
               (slice_get-get_or next i later in_i ∙ ap Some (sym (get_or-set_other next n i found later other)) ∙ sym (slice_get-get_or (set next n found) i later in_set) ∙ here)
         ]
 
     -- an edge that is left out
-    pub listed_passed : ((k : K) → more k ≡ first k) → IsOffLoops edges e → AreListed key edges n more after
+    pub listed_passed : ((k : K) → more k ≡ first k) → slice_get kept n ≡ Some false → AreListed key edges kept n more after
     listed_passed same off = record {
       long = has_long;
-      begins = λ k. subst (IsNextWith key edges k n) (sym (same k)) (next_later k (first k) (inr off) (had.begins k));
+      begins = λ k. subst (IsNextWith key edges kept k n) (sym (same k)) (next_later k (first k) (inr off) (had.begins k));
       goes_on = leads_from;
     }
 
     -- an edge that is kept
-    pub listed_more : (same : K → K → Bool) → Tells same → ((k : K) → more k ≡ cond (same (key e) k) (Some n) (first k)) → AreListed key edges n more after
+    pub listed_more : (same : K → K → Bool) → Tells same → ((k : K) → more k ≡ cond (same (key e) k) (Some n) (first k)) → AreListed key edges kept n more after
     listed_more same tells updated = record {
       long = has_long;
       begins = λ k.
           elim (tells (key e) k) [
-            | inl is ↦ subst (IsNextWith key edges k n) (sym (updated k ∙ ap (λ b. cond b (Some n) (first k)) is.0)) (next_here k is.1)
-            | inr other ↦ subst (IsNextWith key edges k n) (sym (updated k ∙ ap (λ b. cond b (Some n) (first k)) other.0)) (next_later k (first k) (inl other.1) (had.begins k))
+            | inl is ↦ subst (IsNextWith key edges kept k n) (sym (updated k ∙ ap (λ b. cond b (Some n) (first k)) is.0)) (next_here k is.1)
+            | inr other ↦ subst (IsNextWith key edges kept k n) (sym (updated k ∙ ap (λ b. cond b (Some n) (first k)) other.0)) (next_later k (first k) (inl other.1) (had.begins k))
           ];
       goes_on = leads_from;
     }
 
 -- the index, where the first followers are those that the holders give
-pub index_of : (table : List (Edge × Sample)) (holders : Holders) (index : Followers) → AreHolders (edges_of_table table) 0 holders
-    → index.first.items ≡ map (λ pair. first_of_lock holders pair.0.wanted) table → index.next.items ≡ holders.next.items → AreClosers (edges_of_table table) 0 index.closers → IsIndexOf (edges_of_table table) index
-index_of table holders index are is_first is_next closers = record {
+pub index_of : (table : List (Edge × Sample)) (kept : List Bool) (holders : Holders) (index : Followers) → AreHolders (edges_of_table table) kept 0 holders
+    → index.first.items ≡ map (λ pair. first_of_lock holders pair.0.wanted) table → index.next.items ≡ holders.next.items → AreClosers (edges_of_table table) kept 0 index.closers → IsIndexOf (edges_of_table table) kept index
+index_of table kept holders index are is_first is_next closers = record {
   long = ap length is_first ∙ length-map table (λ pair. first_of_lock holders pair.0.wanted) ∙ sym (length-map table (λ pair. pair.0));
   as_long = ap length is_next ∙ are.long;
   begins = λ i e first at there.
@@ -136,7 +137,7 @@ index_of table holders index are is_first is_next closers = record {
       let is : first_of_lock holders pair.0.0.wanted ≡ first =
       same_Some _ _
       (sym (slice_get-map (λ p. first_of_lock holders p.0.wanted) table i ∙ ap (option_map (λ p. first_of_lock holders p.0.wanted)) pair.1) ∙ sym (ap (λ l. slice_get l i) is_first) ∙ there) in
-      subst (λ f. IsNextWith held_lock (edges_of_table table) f.wanted 0 first) is_e (subst (IsNextWith held_lock (edges_of_table table) pair.0.0.wanted 0) is (are.begins pair.0.0.wanted));
+      subst (λ f. IsNextWith held_lock (edges_of_table table) kept f.wanted 0 first) is_e (subst (IsNextWith held_lock (edges_of_table table) kept pair.0.0.wanted 0) is (are.begins pair.0.0.wanted));
   goes_on = λ i e next at there. are.goes_on i e next (omega arith) at (sym (ap (λ l. slice_get l i) is_next) ∙ there);
   closers = closers;
 }

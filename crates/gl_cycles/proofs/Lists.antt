@@ -35,7 +35,7 @@ pub filter-none : (p : List ℕ → Bool) (front : List ℕ) (ls : List (List �
 filter-none p front [] none = refl
 filter-none p front (l ∷ ls) none = rw (none l) (filter-none p front ls none)
 
-range-more : (a n : ℕ) → range_with_len a (n + 1) ≡ range_with_len a n ++ (a + n) ∷ []
+pub range-more : (a n : ℕ) → range_with_len a (n + 1) ≡ range_with_len a n ++ (a + n) ∷ []
 range-more a zero = let e : a ≡ a + 0 = omega arith in ap (λ k. k ∷ []) e
 range-more a (suc n) =
     let long : suc n + 1 ≡ suc (n + 1) = omega arith in

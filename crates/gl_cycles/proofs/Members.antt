@@ -10,6 +10,8 @@ use Rattle.gl_filters.specs.declared.query.Mode.{Mode}
 use Rattle.gl_filters.specs.Test.{is_cycle}
 use Rattle.gl_cycles.specs.AllCycles.{picked, lists_below, all_cycles}
 use Rattle.gl_cycles.specs.Laws.{IsCycleAt}
+use Rattle.gl_cycles.proofs.Fronts.{length-picked}
+use Rattle.gl_filters.proofs.Cycling.{cycle_from_test, test_from_cycle}
 
 -- an element that passes the test is kept
 filter_has : {X : Type 0} (p : X → Bool) (x : X) (xs : List X) → Contains xs x → p x ≡ true → Contains (filter p xs) x
@@ -56,7 +58,7 @@ lists_have size (suc n) (i ∷ rest) short within =
     (contains_map (λ tail. i ∷ tail) rest (lists_below size n) (lists_have size n rest (omega arith) (All-tail (λ i. i < size) i rest within))))
 
 -- and no other
-lists_from : (size n : ℕ) (positions : List ℕ) → Contains (lists_below size n) positions → (length positions ≤ n) × All (λ i. i < size) positions
+pub lists_from : (size n : ℕ) (positions : List ℕ) → Contains (lists_below size n) positions → (length positions ≤ n) × All (λ i. i < size) positions
 lists_from size zero positions at =
     elim (contains_cases [] positions [] at) [
       | inl is ↦ subst (λ l. (length l ≤ 0) × All (λ i. i < size) l) is (omega arith, All-nil (λ i. i < size))
@@ -80,7 +82,8 @@ module _ (before : Segment → Segment → Bool) (mode : Mode) (len : ℕ) (edge
   pub cycle_is_there : IsCycleAt before mode len edges positions → Contains (all_cycles before mode len edges) positions
   unfolding all_cycles
   cycle_is_there is =
-      filter_has (λ l. is_cycle before mode (picked edges l)) positions (lists_below (length edges) len) (lists_have (length edges) len positions is.not_too_long is.within) is.cycle
+      let short : length positions ≤ len = omega (arith, is.cycle.not_too_long, length-picked edges positions is.within) in
+      filter_has (λ l. is_cycle before mode (picked edges l)) positions (lists_below (length edges) len) (lists_have (length edges) len positions short is.within) (test_from_cycle before mode len (picked edges positions) is.cycle)
 
   -- and what is there is a cycle
   pub there_is_cycle : Contains (all_cycles before mode len edges) positions → IsCycleAt before mode len edges positions
@@ -88,4 +91,5 @@ module _ (before : Segment → Segment → Bool) (mode : Mode) (len : ℕ) (edge
   there_is_cycle at =
       let from = filter_from (λ l. is_cycle before mode (picked edges l)) positions (lists_below (length edges) len) at in
       let below = lists_from (length edges) len positions from.0 in
-      record { within = below.1; not_too_long = below.0; cycle = from.1 }
+      let short : length (picked edges positions) ≤ len = omega (arith, below.0, length-picked edges positions below.1) in
+      record { within = below.1; cycle = cycle_from_test before mode len (picked edges positions) short from.1 }

@@ -4,5 +4,10 @@ pub mod Faults
 pub mod Followers
 pub mod Laws
 pub mod Loops
+pub mod OffCycles
 pub mod Ranks
 pub mod Reports
+pub mod Searching
+pub mod Trimming
+pub mod Trims
+pub mod Walks

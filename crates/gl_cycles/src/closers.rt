@@ -2,7 +2,6 @@
 ghost use Rattle.std.specs.Prelude.{◌≡◌, ◌+◌, ◌<◌, ℕ, Bool, false, List, length, slice_get, vec_len, Some, IfOk, OnOk};
 ghost use Rattle.gl_cycles.specs.AllCycles.{edges_of_table};
 ghost use Rattle.gl_cycles.specs.Followers.{IsNextWith, AreClosers, both_locks};
-ghost use Rattle.gl_cycles.specs.Loops.{IsOffLoops, KeepsLoops};
 ghost use Rattle.gl_edges.specs.declared.edge.Edge.{Edge};
 
 use gl_edges::{Edge, Sample};
@@ -11,7 +10,7 @@ use std::alloc::Global;
 use std::collections::HashMap;
 
 /// Leads from two locks through the positions of the edges that hold the one and want the other,
-/// ascending, but for edges that lie on no loop.
+/// ascending, but for edges that are left out.
 #[derive(Drop)]
 pub(crate) struct Closers {
     // the first position of each two locks
@@ -28,8 +27,8 @@ impl Closers {
         table: &[(Edge, Sample)],
         kept: &[bool],
     ) -> Result<Closers, Memory>
-        requires { KeepsLoops (edges_of_table table.now) kept.now }
-        ensures { IfOk result (λ closers. AreClosers (edges_of_table table.now) 0 closers) }
+        requires { length kept.now ≡ length table.now }
+        ensures { IfOk result (λ closers. AreClosers (edges_of_table table.now) kept.now 0 closers) }
     {
         let mut closers = Closers {
             first: HashMap::new(alloc),
@@ -46,8 +45,8 @@ impl Closers {
     // leads on, but nothing leads to it.
     fn put(&mut self, i: usize, locks: (LockId, LockId), is_kept: bool) -> Result<(), Memory>
         requires { i < vec_len self.old.next }
-        ensures { (edges : List Edge) (e : Edge) → AreClosers edges (i + 1) self.old → slice_get edges i ≡ Some e → both_locks e ≡ locks
-            → (is_kept ≡ false → IsOffLoops edges e) → OnOk result (AreClosers edges i self.new) }
+        ensures { (edges : List Edge) (kept : List Bool) (e : Edge) → AreClosers edges kept (i + 1) self.old → slice_get edges i ≡ Some e → both_locks e ≡ locks
+            → slice_get kept i ≡ Some is_kept → OnOk result (AreClosers edges kept i self.new) }
     {
         self.next[i] = self.first.get(&locks).copied();
         if !is_kept {
@@ -59,7 +58,7 @@ impl Closers {
 
     /// The first position of an edge that holds the one lock and wants the other.
     pub(crate) fn begin(&self, held: LockId, wanted: LockId) -> Option<usize>
-        ensures { (edges : List Edge) → AreClosers edges 0 self.now → IsNextWith both_locks edges (held, wanted) 0 result }
+        ensures { (edges : List Edge) (kept : List Bool) → AreClosers edges kept 0 self.now → IsNextWith both_locks edges kept (held, wanted) 0 result }
     {
         self.first.get(&(held, wanted)).copied()
     }
@@ -67,7 +66,7 @@ impl Closers {
     /// The position after `i` of the next edge with the locks of the edge at `i`.
     pub(crate) fn after(&self, i: usize) -> Option<usize>
         requires { i < vec_len self.now.next }
-        ensures { (edges : List Edge) (e : Edge) → AreClosers edges 0 self.now → slice_get edges i ≡ Some e → IsNextWith both_locks edges (both_locks e) (i + 1) result }
+        ensures { (edges : List Edge) (kept : List Bool) (e : Edge) → AreClosers edges kept 0 self.now → slice_get edges i ≡ Some e → IsNextWith both_locks edges kept (both_locks e) (i + 1) result }
     {
         self.next[i]
     }

@@ -2,7 +2,6 @@
 ghost use Rattle.std.specs.Prelude.{◌≡◌, ◌+◌, ◌<◌, ℕ, Bool, true, false, List, length, map, slice_get, vec_len, Some, IfOk, OnOk};
 ghost use Rattle.gl_cycles.specs.AllCycles.{edges_of_table};
 ghost use Rattle.gl_cycles.specs.Followers.{IsNextWith, AreHolders, IsIndexOf, first_of_lock, held_lock};
-ghost use Rattle.gl_cycles.specs.Loops.{IsOffLoops, KeepsLoops};
 ghost use Rattle.gl_edges.specs.declared.edge.Edge.{Edge};
 
 use crate::closers::Closers;
@@ -12,7 +11,7 @@ use std::alloc::Global;
 use std::collections::HashMap;
 
 /// Leads from an edge through the positions of its followers, ascending. These are the edges that
-/// hold the lock which it wants, but for edges that lie on no loop.
+/// hold the lock which it wants, but for those that are left out.
 #[derive(Drop)]
 pub(crate) struct Followers {
     // for each position the first follower of the edge there
@@ -31,8 +30,8 @@ impl Followers {
         table: &[(Edge, Sample)],
         kept: &[bool],
     ) -> Result<Followers, Memory>
-        requires { KeepsLoops (edges_of_table table.now) kept.now }
-        ensures { IfOk result (λ index. IsIndexOf (edges_of_table table.now) index) }
+        requires { length kept.now ≡ length table.now }
+        ensures { IfOk result (λ index. IsIndexOf (edges_of_table table.now) kept.now index) }
     {
         let holders = Holders::of(alloc, table, kept)?;
         let first = holders.firsts(alloc, table)?;
@@ -46,7 +45,7 @@ impl Followers {
     /// The position of the first follower of the edge at `i`.
     pub(crate) fn begin(&self, i: usize) -> Option<usize>
         requires { i < vec_len self.now.first }
-        ensures { (edges : List Edge) (e : Edge) → IsIndexOf edges self.now → slice_get edges i ≡ Some e → IsNextWith held_lock edges e.wanted 0 result }
+        ensures { (edges : List Edge) (kept : List Bool) (e : Edge) → IsIndexOf edges kept self.now → slice_get edges i ≡ Some e → IsNextWith held_lock edges kept e.wanted 0 result }
     {
         self.first[i]
     }
@@ -54,7 +53,7 @@ impl Followers {
     /// The position after `i` of the next edge that holds the lock which the edge at `i` holds.
     pub(crate) fn after(&self, i: usize) -> Option<usize>
         requires { i < vec_len self.now.next }
-        ensures { (edges : List Edge) (e : Edge) → IsIndexOf edges self.now → slice_get edges i ≡ Some e → IsNextWith held_lock edges e.held (i + 1) result }
+        ensures { (edges : List Edge) (kept : List Bool) (e : Edge) → IsIndexOf edges kept self.now → slice_get edges i ≡ Some e → IsNextWith held_lock edges kept e.held (i + 1) result }
     {
         self.next[i]
     }
@@ -72,8 +71,8 @@ struct Holders {
 impl Holders {
     // The index of the edges of a table, but for those that are left out.
     fn of(alloc: Global, table: &[(Edge, Sample)], kept: &[bool]) -> Result<Holders, Memory>
-        requires { KeepsLoops (edges_of_table table.now) kept.now }
-        ensures { IfOk result (λ holders. AreHolders (edges_of_table table.now) 0 holders) }
+        requires { length kept.now ≡ length table.now }
+        ensures { IfOk result (λ holders. AreHolders (edges_of_table table.now) kept.now 0 holders) }
     {
         let mut holders = Holders {
             first: HashMap::new(alloc),
@@ -89,8 +88,8 @@ impl Holders {
     // leads on, but nothing leads to it.
     fn put(&mut self, i: usize, lock: LockId, is_kept: bool) -> Result<(), Memory>
         requires { i < vec_len self.old.next }
-        ensures { (edges : List Edge) (e : Edge) → AreHolders edges (i + 1) self.old → slice_get edges i ≡ Some e → e.held ≡ lock
-            → (is_kept ≡ false → IsOffLoops edges e) → OnOk result (AreHolders edges i self.new) }
+        ensures { (edges : List Edge) (kept : List Bool) (e : Edge) → AreHolders edges kept (i + 1) self.old → slice_get edges i ≡ Some e → e.held ≡ lock
+            → slice_get kept i ≡ Some is_kept → OnOk result (AreHolders edges kept i self.new) }
     {
         self.next[i] = self.first.get(&lock).copied();
         if !is_kept {

@@ -8,6 +8,7 @@ ghost use Rattle.std.specs.Ordering.{nat_cmp};
 ghost use Rattle.gl_cycles.specs.AllCycles.{picked, all_cycles};
 ghost use Rattle.gl_cycles.specs.Laws.{IsCycleAt};
 ghost use Rattle.gl_cycles.specs.Loops.{IsNeverFalling};
+ghost use Rattle.gl_cycles.specs.Trims.{IsTrimOrder};
 ghost use Rattle.gl_edges.specs.Order.{edge_cmp};
 ghost use Rattle.gl_edges.specs.declared.edge.Edge.{Edge};
 ghost use Rattle.gl_event.specs.declared.events.Segment.{Segment};
@@ -45,4 +46,11 @@ pub fn reports_are_unique()
 pub fn cycles_are_level()
     ensures { (before : Segment → Segment → Bool) (mode : Mode) (len : ℕ) (edges : List Edge) (rank : ℕ → ℕ) (positions : List ℕ) → IsNeverFalling rank edges
         → Contains (all_cycles before mode len edges) positions → All (λ e. rank e.held ≡ rank e.wanted) (picked edges positions) }
+{}
+
+/// Trimming takes away no edge of a cycle of its mode, of whatever length: each edge of a cycle has
+/// the next one as its follower and the one before as its leader, round, and none of them can go first.
+pub fn cycles_survive_trims()
+    ensures { (before : Segment → Segment → Bool) (mode : Mode) (len : ℕ) (edges : List Edge) (removed positions : List ℕ) → IsTrimOrder before mode edges removed
+        → Contains (all_cycles before mode len edges) positions → All (λ i. ¬ Contains removed i) positions }
 {}

@@ -19,15 +19,21 @@ mod followers;
 mod found;
 mod laws;
 mod loops;
+mod neighbours;
+mod numbers;
 mod paths;
 mod ranks;
 mod reports;
 #[cfg(test)]
 mod tests;
+mod trims;
+mod ways;
 
 pub use found::{Cycles, Found, Report, ReportFault};
 pub use laws::{
-    cycles_are_all, cycles_are_level, cycles_ascend, cycles_ascend_by_edges, reports_are_unique,
+    cycles_are_all, cycles_are_level, cycles_ascend, cycles_ascend_by_edges, cycles_survive_trims,
+    reports_are_unique,
 };
 pub use paths::search;
 pub use reports::report_over;
+pub use trims::{Trimmed, trim};

@@ -6,13 +6,12 @@ ghost use Rattle.std.specs.List.{list_all};
 ghost use Rattle.gl_filters.specs.Test.{can_follow, goes_with, leads_back, is_path};
 ghost use Rattle.gl_cycles.specs.AllCycles.{edges_of_table, picked, all_cycles};
 ghost use Rattle.gl_cycles.specs.Blocks.{block};
-ghost use Rattle.gl_cycles.specs.Followers.{IsIndexOf};
-ghost use Rattle.gl_cycles.specs.Loops.{KeepsLoops};
+ghost use Rattle.gl_cycles.specs.Searching.{IsReady};
 ghost use Rattle.gl_edges.specs.declared.edge.Edge.{Edge};
 
 use crate::followers::Followers;
 use crate::found::{Cycles, Found};
-use crate::loops::edges_on_loops;
+use crate::neighbours::Sought;
 use arrayvec::ArrayVec;
 use gl_edges::{Edge, EdgeList, Sample};
 use gl_event::Memory;
@@ -86,9 +85,7 @@ impl Searcher<'_> {
     // The first cycles, up to the cap.
     fn first_cycles(&self, alloc: Global) -> Result<Vec<Vec<usize>>, Memory>
         requires some { 0 < self.now.len }
-        requires fits { self.now.len ≤ PATH }
-        requires kept { KeepsLoops (edges_of_table self.now.table.now) self.now.kept.items }
-        requires indexed { IsIndexOf (edges_of_table self.now.table.now) self.now.index }
+        requires ready { IsReady self.now }
         ensures { IfOk result (λ found. map (λ cycle. cycle.items) found.items
             ≡ take self.now.cap (all_cycles (is_before self.now.order.now) self.now.mode self.now.len (edges_of_table self.now.table.now))) }
     {
@@ -107,10 +104,8 @@ impl Searcher<'_> {
         found: &mut Vec<Vec<usize>>,
     ) -> Result<(), Memory>
         requires some { 0 < self.now.len }
-        requires fits { self.now.len ≤ PATH }
         requires there { root < length self.now.table.now }
-        requires kept { KeepsLoops (edges_of_table self.now.table.now) self.now.kept.items }
-        requires indexed { IsIndexOf (edges_of_table self.now.table.now) self.now.index }
+        requires ready { IsReady self.now }
         requires room { length found.old.items ≤ self.now.cap }
         ensures { OnOk result (map (λ cycle. cycle.items) found.new.items ≡ take self.now.cap (map (λ cycle. cycle.items) found.old.items
             ++ block (is_before self.now.order.now) self.now.mode (edges_of_table self.now.table.now) (self.now.len - 1) (root ∷ []))) }
@@ -126,10 +121,9 @@ impl Searcher<'_> {
     fn grow(&self, alloc: Global, path: &[usize], found: &mut Vec<Vec<usize>>) -> Result<(), Memory>
         requires some { 0 < length path.now }
         requires short { length path.now ≤ self.now.len }
-        requires fits { self.now.len ≤ PATH }
         requires within { All (λ i. i < length self.now.table.now) path.now }
         requires is_path { is_path (is_before self.now.order.now) self.now.mode (picked (edges_of_table self.now.table.now) path.now) ≡ true }
-        requires indexed { IsIndexOf (edges_of_table self.now.table.now) self.now.index }
+        requires ready { IsReady self.now }
         requires room { length found.old.items ≤ self.now.cap }
         ensures { OnOk result (map (λ cycle. cycle.items) found.new.items ≡ take self.now.cap (map (λ cycle. cycle.items) found.old.items
             ++ block (is_before self.now.order.now) self.now.mode (edges_of_table self.now.table.now) (self.now.len - length path.now) path.now)) }
@@ -165,11 +159,10 @@ impl Searcher<'_> {
     ) -> Result<(), Memory>
         requires some { 0 < length path.now }
         requires one_left { length path.now + 1 ≡ self.now.len }
-        requires fits { self.now.len ≤ PATH }
         requires within { All (λ i. i < length self.now.table.now) path.now }
         requires is_path { is_path (is_before self.now.order.now) self.now.mode (picked (edges_of_table self.now.table.now) path.now) ≡ true }
         requires unclosed { leads_back (picked (edges_of_table self.now.table.now) path.now) ≡ false }
-        requires indexed { IsIndexOf (edges_of_table self.now.table.now) self.now.index }
+        requires ready { IsReady self.now }
         requires room { length found.old.items ≤ self.now.cap }
         ensures { OnOk result (map (λ cycle. cycle.items) found.new.items ≡ take self.now.cap (map (λ cycle. cycle.items) found.old.items
             ++ block (is_before self.now.order.now) self.now.mode (edges_of_table self.now.table.now) (self.now.len - length path.now) path.now)) }
@@ -196,11 +189,10 @@ impl Searcher<'_> {
     ) -> Result<(), Memory>
         requires some { 0 < length path.now }
         requires short { length path.now < self.now.len }
-        requires fits { self.now.len ≤ PATH }
         requires within { All (λ i. i < length self.now.table.now) path.now }
         requires there { next < length self.now.table.now }
         requires is_path { is_path (is_before self.now.order.now) self.now.mode (picked (edges_of_table self.now.table.now) path.now) ≡ true }
-        requires indexed { IsIndexOf (edges_of_table self.now.table.now) self.now.index }
+        requires ready { IsReady self.now }
         requires room { length found.old.items ≤ self.now.cap }
         ensures { OnOk result (map (λ cycle. cycle.items) found.new.items ≡ take self.now.cap (map (λ cycle. cycle.items) found.old.items
             ++ block (is_before self.now.order.now) self.now.mode (edges_of_table self.now.table.now) (self.now.len - length path.now - 1) (path.now ++ next ∷ []))) }
@@ -258,15 +250,23 @@ pub fn search(
 {
     let table = edges.entries();
     let max = query.max() as usize;
-    let kept = edges_on_loops(alloc, table)?;
+    let mode = query.mode();
+    let len = query.len() as usize;
+    let sought = Sought {
+        table,
+        order,
+        mode,
+        len,
+    };
+    let kept = sought.kept_edges(alloc)?;
     let index = Followers::of(alloc, table, &kept)?;
     let search = Searcher {
         table,
         order,
-        mode: query.mode(),
+        mode,
         kept,
         index,
-        len: query.len() as usize,
+        len,
         cap: max + 1,
     };
     let mut cycles = search.first_cycles(alloc)?;

@@ -69,11 +69,11 @@ pub leads_from : (e f : Edge) → LeadsOn e f → leads_to e f ≡ true
 leads_from e f leads = and_from (eqb e.wanted f.held) _ (eq-eqb e.wanted f.held leads.same_lock) leads.in_conflict
 
 -- what holds of two edges that may stand in one cycle
-record AreFit (before : Segment → Segment → Bool) (mode : Mode) (e f : Edge) : Type 0 where
-  locks : e.held ≢ f.held
-  threads : e.thread ≢ f.thread
-  apart : asks_guards mode ≡ true → AreApart e f
-  unordered : asks_order mode ≡ true → is_ordered before e f ≡ false
+pub record AreFit (before : Segment → Segment → Bool) (mode : Mode) (e f : Edge) : Type 0 where
+  pub locks : e.held ≢ f.held
+  pub threads : e.thread ≢ f.thread
+  pub apart : asks_guards mode ≡ true → AreApart e f
+  pub unordered : asks_order mode ≡ true → is_ordered before e f ≡ false
 
 -- a test that is not asked for passes, and one that is asked for tells its answer
 asked_tells : (asks b : Bool) → not (asks && b) ≡ true → asks ≡ true → b ≡ false
@@ -102,7 +102,7 @@ fit_tells before mode e f goes =
       unordered = asked_tells _ _ clear.1;
     }
 
-fit_from : (before : Segment → Segment → Bool) (mode : Mode) (e f : Edge) → AreFit before mode e f → goes_with before mode e f ≡ true
+pub fit_from : (before : Segment → Segment → Bool) (mode : Mode) (e f : Edge) → AreFit before mode e f → goes_with before mode e f ≡ true
 unfolding goes_with is_clear
 fit_from before mode e f fit =
     and_from _ _

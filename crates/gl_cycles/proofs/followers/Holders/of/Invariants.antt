@@ -4,4 +4,4 @@ use Rattle.gl_cycles.proofs.followers.Holders.of.Given as goal
 
 -- the edges from position i on are in the index
 abbrev pub invariant-loop-i : goal.invariant-loop-i
-invariant-loop-i l = AreHolders (edges_of_table l.table) l.i l.holders
+invariant-loop-i l = AreHolders (edges_of_table l.table) l.kept l.i l.holders

@@ -11,7 +11,9 @@ use Rattle.gl_edges.specs.declared.edge.Edge.{Edge}
 use Rattle.gl_cycles.specs.AllCycles.{edges_of_table, picked}
 use Rattle.gl_cycles.specs.Followers.{IsNextWith, held_lock, both_locks}
 use Rattle.gl_cycles.proofs.Fronts.{element_at, within_edges, wanted_after, wanted_last, held_first, wanted_by_table, held_by_table, some_picked}
-use Rattle.gl_cycles.proofs.Growing.{HasGrown, OthersAreStray, other_lock, other_locks, grow_begin, grow_step, grow_end, grow_short, grow_closed, grown_room, goes_on, grow_stray, joined_path}
+use Rattle.gl_cycles.specs.Searching.{IsReady}
+use Rattle.gl_cycles.proofs.Off.{block-off}
+use Rattle.gl_cycles.proofs.Growing.{HasGrown, OthersAreStray, LeftOutAreStray, other_lock, other_locks, grow_begin, grow_step, grow_end, grow_short, grow_closed, grown_room, goes_on, grow_stray, joined_path}
 use Rattle.gl_cycles.proofs.paths.Searcher.+grow.Goals as goal
 
 -- the path is closed
@@ -34,27 +36,32 @@ grow-returns-then-path-self t c =
 
 -- the index gives the first edge that may follow the path
 first_follower : (s : Searcher) (path : List ℕ) → All (λ i. i < length s.table.now) path → 0 < length path → (first : Option ℕ)
-    → ((e : Edge) → slice_get (edges_of_table s.table.now) (get_or path (length path - 1) 0) ≡ Some e → IsNextWith held_lock (edges_of_table s.table.now) e.wanted 0 first)
-    → IsNextWith held_lock (edges_of_table s.table.now) (wanted_after (picked (edges_of_table s.table.now) path)) 0 first
+    → ((e : Edge) → slice_get (edges_of_table s.table.now) (get_or path (length path - 1) 0) ≡ Some e → IsNextWith held_lock (edges_of_table s.table.now) s.kept.items e.wanted 0 first)
+    → IsNextWith held_lock (edges_of_table s.table.now) s.kept.items (wanted_after (picked (edges_of_table s.table.now) path)) 0 first
 first_follower s path within some first is =
     let last = element_at (edges_of_table s.table.now) (get_or path (length path - 1) 0) (within_edges s.table.now path within (length path - 1) 0 (omega arith)) in
-    subst (λ lock. IsNextWith held_lock (edges_of_table s.table.now) lock 0 first) (wanted_last (edges_of_table s.table.now) path last.0 (within_edges s.table.now path within) some last.1) (is last.0 last.1)
+    subst (λ lock. IsNextWith held_lock (edges_of_table s.table.now) s.kept.items lock 0 first) (wanted_last (edges_of_table s.table.now) path last.0 (within_edges s.table.now path within) some last.1) (is last.0 last.1)
 
 -- the path's last edge is in the index
 pub grow-begin-next-requires : goal.grow-begin-next-requires
 grow-begin-next-requires t c =
     let s = c.args.self.now in
     let within = c.requires.within (length c.args.path.now - 1) 0 (omega (arith, c.requires.some)) in
-    omega (arith, within, c.requires.indexed.long, length-map s.table.now (λ pair. pair.0), s.index.first.ok.0)
+    omega (arith, within, c.requires.ready.indexed.long, length-map s.table.now (λ pair. pair.0), s.index.first.ok.0)
+
+-- what is left out leads to no cycle
+left_outs : (s : Searcher) (path : List ℕ) → IsReady s → length path < s.len → LeftOutAreStray (is_before s.order.now) s.mode (edges_of_table s.table.now) (s.len - length path - 1) path s.cap s.kept.items
+left_outs s path ready short = λ i f at out.
+    block-off (is_before s.order.now) s.mode (edges_of_table s.table.now) s.len (s.len - length path - 1) path i f (omega (arith, short)) at (ready.kept.left_out i f at out)
 
 -- before the first follower
 pub grow-loop-next-init : goal.grow-loop-next-init
 grow-loop-next-init t c =
     let s = c.args.self.now in
-    grow_begin (is_before s.order.now) s.mode (edges_of_table s.table.now) (s.len - length c.args.path.now - 1) c.args.path.now s.cap held_lock _
-    (other_lock (is_before s.order.now) s.mode (edges_of_table s.table.now) (s.len - length c.args.path.now - 1) c.args.path.now s.cap (some_picked s.table.now c.args.path.now c.requires.within c.requires.some)) _ _
+    grow_begin (is_before s.order.now) s.mode (edges_of_table s.table.now) (s.len - length c.args.path.now - 1) c.args.path.now s.cap held_lock s.kept.items _
+    (other_lock (is_before s.order.now) s.mode (edges_of_table s.table.now) (s.len - length c.args.path.now - 1) c.args.path.now s.cap (some_picked s.table.now c.args.path.now c.requires.within c.requires.some)) (left_outs s c.args.path.now c.requires.ready (omega (arith, c.requires.short, c.if-path-self.false))) _ _
     (omega (arith, c.requires.room, length-map c.args.found.now.items (λ cycle. cycle.items)))
-    (first_follower s c.args.path.now c.requires.within c.requires.some c.begin-next.result (λ e at. c.begin-next.ensures (edges_of_table s.table.now) e c.requires.indexed at))
+    (first_follower s c.args.path.now c.requires.within c.requires.some c.begin-next.result (λ e at. c.begin-next.ensures (edges_of_table s.table.now) s.kept.items e c.requires.ready.indexed at))
 
 -- what has grown where the next follower is known
 abbrev Grown : (s : Searcher) → List ℕ → List (List ℕ) → List (List ℕ) → Option ℕ → Type 0
@@ -82,17 +89,14 @@ grow-grow_by-requires t c =
         (
           omega arith,
           (
-            c.requires.fits,
+            c.requires.within,
             (
-              c.requires.within,
+              omega (arith, had.holds.0, length-map s.table.now (λ pair. pair.0)),
               (
-                omega (arith, had.holds.0, length-map s.table.now (λ pair. pair.0)),
+                c.requires.is_path,
                 (
-                  c.requires.is_path,
-                  (
-                    c.requires.indexed,
-                    omega (arith, room, length-map c.loop-next.found.items (λ cycle. cycle.items)),
-                  ),
+                  c.requires.ready,
+                  omega (arith, room, length-map c.loop-next.found.items (λ cycle. cycle.items)),
                 ),
               ),
             ),
@@ -107,7 +111,7 @@ grow-after-next-requires t c =
     let s = c.args.self.now in
     let had : Grown s c.args.path.now (map (λ cycle. cycle.items) c.args.found.now.items) (map (λ cycle. cycle.items) c.loop-next.found.items) (Some c.in-Some.i) =
     subst (Grown s c.args.path.now (map (λ cycle. cycle.items) c.args.found.now.items) (map (λ cycle. cycle.items) c.loop-next.found.items)) c.in-Some.is c.loop-next.invariant in
-    omega (arith, had.holds.0, c.requires.indexed.as_long, s.index.next.ok.0)
+    omega (arith, had.holds.0, c.requires.ready.indexed.as_long, s.index.next.ok.0)
 
 pub grow-loop-next-smaller : goal.grow-loop-next-smaller
 grow-loop-next-smaller t c =
@@ -115,7 +119,7 @@ grow-loop-next-smaller t c =
     let had : Grown s c.args.path.now (map (λ cycle. cycle.items) c.args.found.now.items) (map (λ cycle. cycle.items) c.loop-next.found.items) (Some c.in-Some.i) =
     subst (Grown s c.args.path.now (map (λ cycle. cycle.items) c.args.found.now.items) (map (λ cycle. cycle.items) c.loop-next.found.items)) c.in-Some.is c.loop-next.invariant in
     let here = element_at (edges_of_table s.table.now) c.in-Some.i had.holds.0 in
-    let later = goes_on held_lock (edges_of_table s.table.now) c.in-Some.i here.0.held c.after-next.result (c.after-next.ensures (edges_of_table s.table.now) here.0 c.requires.indexed here.1) in
+    let later = goes_on held_lock (edges_of_table s.table.now) s.kept.items c.in-Some.i here.0.held c.after-next.result (c.after-next.ensures (edges_of_table s.table.now) s.kept.items here.0 c.requires.ready.indexed here.1) in
     let long = length-map s.table.now (λ pair. pair.0) in
     closer (length s.table.now) (length (edges_of_table s.table.now)) c.in-Some.i c.loop-next.next c.after-next.result long c.in-Some.is later.0 later.1
 
@@ -126,9 +130,9 @@ grow-loop-next-preserved t c =
     let had : Grown s c.args.path.now (map (λ cycle. cycle.items) c.args.found.now.items) (map (λ cycle. cycle.items) c.loop-next.found.items) (Some c.in-Some.i) =
     subst (Grown s c.args.path.now (map (λ cycle. cycle.items) c.args.found.now.items) (map (λ cycle. cycle.items) c.loop-next.found.items)) c.in-Some.is c.loop-next.invariant in
     let here = element_at (edges_of_table s.table.now) c.in-Some.i had.holds.0 in
-    grow_step (is_before s.order.now) s.mode (edges_of_table s.table.now) (s.len - length c.args.path.now - 1) c.args.path.now s.cap held_lock _
-    (other_lock (is_before s.order.now) s.mode (edges_of_table s.table.now) (s.len - length c.args.path.now - 1) c.args.path.now s.cap (some_picked s.table.now c.args.path.now c.requires.within c.requires.some)) _ _ _ c.in-Some.i _ had c.in_ok-grow_by.ensures
-    (subst (λ lock. IsNextWith held_lock (edges_of_table s.table.now) lock (c.in-Some.i + 1) c.after-next.result) (had.holds.1 here.0 here.1) (c.after-next.ensures (edges_of_table s.table.now) here.0 c.requires.indexed here.1))
+    grow_step (is_before s.order.now) s.mode (edges_of_table s.table.now) (s.len - length c.args.path.now - 1) c.args.path.now s.cap held_lock s.kept.items _
+    (other_lock (is_before s.order.now) s.mode (edges_of_table s.table.now) (s.len - length c.args.path.now - 1) c.args.path.now s.cap (some_picked s.table.now c.args.path.now c.requires.within c.requires.some)) (left_outs s c.args.path.now c.requires.ready (omega (arith, c.requires.short, c.if-path-self.false))) _ _ _ c.in-Some.i _ had c.in_ok-grow_by.ensures
+    (subst (λ lock. IsNextWith held_lock (edges_of_table s.table.now) s.kept.items lock (c.in-Some.i + 1) c.after-next.result) (had.holds.1 here.0 here.1) (c.after-next.ensures (edges_of_table s.table.now) s.kept.items here.0 c.requires.ready.indexed here.1))
 
 -- all followers are done
 pub grow-returns : goal.grow-returns
@@ -161,11 +165,8 @@ grow_by-grow-requires t c =
         (
           omega (arith, c.requires.short),
           (
-            c.requires.fits,
-            (
-              rw longer (All-push (λ i. i < length s.table.now) c.args.path.now c.args.next c.requires.within c.requires.there),
-              (rw longer (joined_path (is_before s.order.now) s.mode (edges_of_table s.table.now) c.args.path.now c.args.next here.0 here.1 c.requires.is_path joins), (c.requires.indexed, c.requires.room)),
-            ),
+            rw longer (All-push (λ i. i < length s.table.now) c.args.path.now c.args.next c.requires.within c.requires.there),
+            (rw longer (joined_path (is_before s.order.now) s.mode (edges_of_table s.table.now) c.args.path.now c.args.next here.0 here.1 c.requires.is_path joins), (c.requires.ready, c.requires.room)),
           ),
         ),
       ),
@@ -191,11 +192,11 @@ pub close-loop-next-init : goal.close-loop-next-init
 close-loop-next-init t c =
     let s = c.args.self.now in
     let path = c.args.path.now in
-    grow_begin (is_before s.order.now) s.mode (edges_of_table s.table.now) (s.len - length path - 1) path s.cap both_locks (closing s path) (others s path c.requires.within c.requires.some c.requires.one_left) _ _
+    grow_begin (is_before s.order.now) s.mode (edges_of_table s.table.now) (s.len - length path - 1) path s.cap both_locks s.kept.items (closing s path) (others s path c.requires.within c.requires.some c.requires.one_left) (left_outs s path c.requires.ready (omega (arith, c.requires.one_left))) _ _
     (omega (arith, c.requires.room, length-map c.args.found.now.items (λ cycle. cycle.items)))
-    (subst (λ locks. IsNextWith both_locks (edges_of_table s.table.now) locks 0 c.begin-next.result)
+    (subst (λ locks. IsNextWith both_locks (edges_of_table s.table.now) s.kept.items locks 0 c.begin-next.result)
     (λ i. (wanted_by_table s.table.now path c.requires.within c.index-self-last.result c.requires.some i, held_by_table s.table.now path c.requires.within c.index-self-first.result c.requires.some i))
-    (c.begin-next.ensures (edges_of_table s.table.now) c.requires.indexed.closers))
+    (c.begin-next.ensures (edges_of_table s.table.now) s.kept.items c.requires.ready.indexed.closers))
 
 pub close-grow_by-requires : goal.close-grow_by-requires
 close-grow_by-requires t c =
@@ -210,17 +211,14 @@ close-grow_by-requires t c =
         (
           omega arith,
           (
-            c.requires.fits,
+            c.requires.within,
             (
-              c.requires.within,
+              omega (arith, had.holds.0, length-map s.table.now (λ pair. pair.0)),
               (
-                omega (arith, had.holds.0, length-map s.table.now (λ pair. pair.0)),
+                c.requires.is_path,
                 (
-                  c.requires.is_path,
-                  (
-                    c.requires.indexed,
-                    omega (arith, room, length-map c.loop-next.found.items (λ cycle. cycle.items)),
-                  ),
+                  c.requires.ready,
+                  omega (arith, room, length-map c.loop-next.found.items (λ cycle. cycle.items)),
                 ),
               ),
             ),
@@ -234,7 +232,7 @@ close-after-next-requires t c =
     let s = c.args.self.now in
     let had : Closed s c.args.path.now (map (λ cycle. cycle.items) c.args.found.now.items) (map (λ cycle. cycle.items) c.loop-next.found.items) (Some c.in-Some.i) =
     subst (Closed s c.args.path.now (map (λ cycle. cycle.items) c.args.found.now.items) (map (λ cycle. cycle.items) c.loop-next.found.items)) c.in-Some.is c.loop-next.invariant in
-    omega (arith, had.holds.0, c.requires.indexed.closers.long, s.index.closers.next.ok.0)
+    omega (arith, had.holds.0, c.requires.ready.indexed.closers.long, s.index.closers.next.ok.0)
 
 pub close-loop-next-smaller : goal.close-loop-next-smaller
 close-loop-next-smaller t c =
@@ -242,7 +240,7 @@ close-loop-next-smaller t c =
     let had : Closed s c.args.path.now (map (λ cycle. cycle.items) c.args.found.now.items) (map (λ cycle. cycle.items) c.loop-next.found.items) (Some c.in-Some.i) =
     subst (Closed s c.args.path.now (map (λ cycle. cycle.items) c.args.found.now.items) (map (λ cycle. cycle.items) c.loop-next.found.items)) c.in-Some.is c.loop-next.invariant in
     let here = element_at (edges_of_table s.table.now) c.in-Some.i had.holds.0 in
-    let later = goes_on both_locks (edges_of_table s.table.now) c.in-Some.i (both_locks here.0) c.after-next.result (c.after-next.ensures (edges_of_table s.table.now) here.0 c.requires.indexed.closers here.1) in
+    let later = goes_on both_locks (edges_of_table s.table.now) s.kept.items c.in-Some.i (both_locks here.0) c.after-next.result (c.after-next.ensures (edges_of_table s.table.now) s.kept.items here.0 c.requires.ready.indexed.closers here.1) in
     let long = length-map s.table.now (λ pair. pair.0) in
     closer (length s.table.now) (length (edges_of_table s.table.now)) c.in-Some.i c.loop-next.next c.after-next.result long c.in-Some.is later.0 later.1
 
@@ -254,8 +252,8 @@ close-loop-next-preserved t c =
     let had : Closed s path (map (λ cycle. cycle.items) c.args.found.now.items) (map (λ cycle. cycle.items) c.loop-next.found.items) (Some c.in-Some.i) =
     subst (Closed s path (map (λ cycle. cycle.items) c.args.found.now.items) (map (λ cycle. cycle.items) c.loop-next.found.items)) c.in-Some.is c.loop-next.invariant in
     let here = element_at (edges_of_table s.table.now) c.in-Some.i had.holds.0 in
-    grow_step (is_before s.order.now) s.mode (edges_of_table s.table.now) (s.len - length path - 1) path s.cap both_locks (closing s path) (others s path c.requires.within c.requires.some c.requires.one_left) _ _ _ c.in-Some.i _ had c.in_ok-grow_by.ensures
-    (subst (λ locks. IsNextWith both_locks (edges_of_table s.table.now) locks (c.in-Some.i + 1) c.after-next.result) (had.holds.1 here.0 here.1) (c.after-next.ensures (edges_of_table s.table.now) here.0 c.requires.indexed.closers here.1))
+    grow_step (is_before s.order.now) s.mode (edges_of_table s.table.now) (s.len - length path - 1) path s.cap both_locks s.kept.items (closing s path) (others s path c.requires.within c.requires.some c.requires.one_left) (left_outs s path c.requires.ready (omega (arith, c.requires.one_left))) _ _ _ c.in-Some.i _ had c.in_ok-grow_by.ensures
+    (subst (λ locks. IsNextWith both_locks (edges_of_table s.table.now) s.kept.items locks (c.in-Some.i + 1) c.after-next.result) (had.holds.1 here.0 here.1) (c.after-next.ensures (edges_of_table s.table.now) s.kept.items here.0 c.requires.ready.indexed.closers here.1))
 
 -- all edges that close it are done
 pub close-returns : goal.close-returns

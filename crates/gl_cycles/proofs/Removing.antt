@@ -1,0 +1,173 @@
+-- One edge more is removed.
+use Rattle.std.proofs.Common.{◌≡◌, ◌≢◌, ℕ, zero, suc, ◌+◌, ◌-◌, ◌<◌, ◌≤◌, Bool, true, false, not, ◌||◌, cond, eqb, List, [], ◌∷◌, ◌++◌, length, filter, take, set, Some, refl, sym, ap, subst, ◌∙◌, arith, inl, inr}
+use Rattle.std.specs.Prelude.{slice_get, Contains}
+use Rattle.std.specs.List.{list_any, range_with_len}
+use Rattle.std.proofs.lemmas.Bool.{cases_eq, false≢true, ne_eqb, eq-eqb}
+use Rattle.std.proofs.lemmas.List.{length-set, length_push, take-append-le, take_all, append-nil}
+use Rattle.std.proofs.lemmas.Option.{slice_get_within, same_Some}
+use Rattle.gl_event.specs.declared.events.Segment.{Segment}
+use Rattle.gl_edges.specs.declared.edge.Edge.{Edge}
+use Rattle.gl_edges.proofs.Membership.{any_from_contains, contains_from_any}
+use Rattle.gl_filters.specs.declared.query.Mode.{Mode}
+use Rattle.gl_cycles.specs.declared.trims.Side.{Side}
+use Rattle.gl_cycles.specs.declared.trims.Hints.{Hints}
+use Rattle.gl_cycles.specs.Trims.{HasBeside, IsStuck, IsFirstStuck, IsTrimOrder}
+use Rattle.gl_cycles.specs.Trimming.{IsFlagged, AreFlagsOf, AreHints, AreBothHints, AreSettled}
+use Rattle.gl_cycles.proofs.Lists.{filter-append, range-more}
+use Rattle.gl_cycles.proofs.Fronts.{element_at}
+use Rattle.gl_cycles.proofs.Beside.{set_here, set_elsewhere, push_before, push_at_end, not_stuck}
+
+any_push : (p : ℕ → Bool) (xs : List ℕ) (x : ℕ) → list_any p (xs ++ x ∷ []) ≡ (list_any p xs || p x)
+any_push p [] x = by (p x)
+  where
+    by : (b : Bool) → (b || false) ≡ (false || b)
+    by true = refl
+    by false = refl
+any_push p (y ∷ xs) x = ap (λ b. p y || b) (any_push p xs x) ∙ by (p y) (list_any p xs) (p x)
+  where
+    by : (a b c : Bool) → (a || (b || c)) ≡ ((a || b) || c)
+    by true b c = refl
+    by false b c = refl
+
+or_true : (b : Bool) → true ≡ (b || true)
+or_true true = refl
+or_true false = refl
+
+or_false : (b : Bool) → b ≡ (b || false)
+or_false true = refl
+or_false false = refl
+
+-- the flag of one position more
+pub flags_more : (size : ℕ) (gone : List Bool) (removed : List ℕ) (i : ℕ) → i < size → AreFlagsOf size gone removed → AreFlagsOf size (set gone i true) (removed ++ i ∷ [])
+flags_more size gone removed i within are = record {
+  long = length-set gone i true ∙ are.long;
+  flags = λ j below.
+      elim (cases_eq j i) [
+        | inl same ↦
+            ap (slice_get (set gone i true)) same ∙ set_here gone i true (omega (arith, are.long))
+            ∙ ap Some (or_true (list_any (λ k. eqb k j) removed) ∙ ap (λ b. list_any (λ k. eqb k j) removed || b) (sym (eq-eqb i j (sym same))) ∙ sym (any_push (λ k. eqb k j) removed i))
+        | inr other ↦
+            set_elsewhere gone i j true other (omega (arith, are.long)) ∙ are.flags j below
+            ∙ ap Some (or_false (list_any (λ k. eqb k j) removed) ∙ ap (λ b. list_any (λ k. eqb k j) removed || b) (sym (ne_eqb i j (λ same. other (sym same)))) ∙ sym (any_push (λ k. eqb k j) removed i))
+      ];
+}
+
+-- at first none is set
+pub flags_none : (size : ℕ) (gone : List Bool) → length gone ≡ size → ((i : ℕ) → i < size → slice_get gone i ≡ Some false) → AreFlagsOf size gone []
+flags_none size gone long unset = record { long = long; flags = unset }
+
+-- fewer flags are left
+pub left : List Bool → ℕ
+left gone = length (filter not gone)
+
+pub fewer : (gone : List Bool) (i : ℕ) → slice_get gone i ≡ Some false → left (set gone i true) < left gone
+unfolding left
+fewer [] i at = absurd (cc)
+fewer (b ∷ gone) zero at = let is : b ≡ false = same_Some b false at in by b is
+  where
+    by : (b : Bool) → b ≡ false → length (filter not (true ∷ gone)) < length (filter not (b ∷ gone))
+    by true is = absurd (false≢true (sym is))
+    by false is = omega arith
+fewer (b ∷ gone) (suc i) at = by b (fewer gone i at)
+  where
+    by : (b : Bool) → length (filter not (set gone i true)) < length (filter not gone) → length (filter not (b ∷ set gone i true)) < length (filter not (b ∷ gone))
+    by true less = less
+    by false less = omega arith
+
+-- positions that are left over, one more
+pub others_more : (p : ℕ → Bool) (n : ℕ) → filter p (range_with_len 0 (n + 1)) ≡ filter p (range_with_len 0 n) ++ cond (p n) (n ∷ []) []
+others_more p n =
+    let end : 0 + n ≡ n = omega arith in
+    ap (filter p) (range-more 0 n) ∙ ap (λ k. filter p (range_with_len 0 n ++ k ∷ [])) end ∙ filter-append p (range_with_len 0 n) (n ∷ [])
+
+module _ (before : Segment → Segment → Bool) (mode : Mode) (edges : List Edge) where
+  -- two ways to say that an edge is gone
+  abbrev Agree : (ℕ → Type 0) → (ℕ → Type 0) → Type 0
+  Agree A B = (j : ℕ) → j < length edges → (A j → B j) × (B j → A j)
+
+  turned : (A B : ℕ → Type 0) → Agree A B → Agree B A
+  turned A B agree = λ j below. ((agree j below).1, (agree j below).0)
+
+  beside_to : (A B : ℕ → Type 0) → Agree A B → (side : Side) (e : Edge) → HasBeside before mode edges A side e → HasBeside before mode edges B side e
+  beside_to A B agree side e has = record {
+    place = has.place;
+    other = has.other;
+    stands = has.stands;
+    is_left = λ b. has.is_left ((agree has.place (slice_get_within edges has.place has.other has.stands)).1 b);
+    fits = has.fits;
+  }
+
+  stuck_to : (A B : ℕ → Type 0) → Agree A B → (i : ℕ) → IsStuck before mode edges A i → IsStuck before mode edges B i
+  stuck_to A B agree i is = record {
+    edge = is.edge;
+    stands = is.stands;
+    is_left = λ b. is.is_left ((agree i (slice_get_within edges i is.edge is.stands)).1 b);
+    side = is.side;
+    alone = λ has. is.alone (beside_to B A (turned A B agree) is.side is.edge has);
+  }
+
+  module _ (gone : List Bool) (removed : List ℕ) (are : AreFlagsOf (length edges) gone removed) where
+    agree : Agree (IsFlagged gone) (Contains removed)
+    agree j below =
+        (λ flagged. contains_from_any removed j (sym (same_Some _ _ (sym flagged ∙ are.flags j below))), λ among. are.flags j below ∙ ap Some (any_from_contains removed j among))
+
+    unflagged : (j : ℕ) → j < length edges → ¬ Contains removed j → slice_get gone j ≡ Some false
+    unflagged j below none = by (list_any (λ k. eqb k j) removed) refl
+      where
+        by : (b : Bool) → list_any (λ k. eqb k j) removed ≡ b → slice_get gone j ≡ Some false
+        by true is = absurd (none (contains_from_any removed j is))
+        by false is = are.flags j below ∙ ap Some is
+
+    -- it was left
+    pub was_left : (i : ℕ) → IsStuck before mode edges (IsFlagged gone) i → slice_get gone i ≡ Some false
+    was_left i is =
+        unflagged i (slice_get_within edges i is.edge is.stands) (λ among. is.is_left ((agree i (slice_get_within edges i is.edge is.stands)).1 among))
+
+    -- the first that is stuck goes on with the order
+    pub order_more : (i : ℕ) → IsTrimOrder before mode edges removed → IsFirstStuck before mode edges (IsFlagged gone) i → IsTrimOrder before mode edges (removed ++ i ∷ [])
+    order_more i had first = λ n j at.
+        let within = slice_get_within (removed ++ i ∷ []) n j at in
+        let short : n ≤ length removed = omega (arith, length_push removed i) in
+        elim (cases_eq n (length removed)) [
+          | inl same ↦
+              let is : i ≡ j = same_Some i j (sym (push_at_end removed i) ∙ ap (slice_get (removed ++ i ∷ [])) (sym same) ∙ at) in
+              let all : removed ≡ take n (removed ++ i ∷ []) = sym (take-append-le n removed (i ∷ []) short ∙ take_all n removed (omega arith)) in
+              subst (λ r. IsFirstStuck before mode edges (Contains r) j) all (subst (IsFirstStuck before mode edges (Contains removed)) is (
+                stuck_to (IsFlagged gone) (Contains removed) agree i first.0,
+                λ k below stuck. first.1 k below (stuck_to (Contains removed) (IsFlagged gone) (turned (IsFlagged gone) (Contains removed) agree) k stuck),
+              ))
+          | inr other ↦
+              let lower : n < length removed = omega arith in
+              subst (λ r. IsFirstStuck before mode edges (Contains r) j) (sym (take-append-le n removed (i ∷ []) short)) (had n j (sym (push_before removed i n lower) ∙ at))
+        ]
+
+    -- at the end none is stuck
+    pub done_at_end : AreSettled before mode edges gone (length edges) → (i : ℕ) → ¬ IsStuck before mode edges (Contains removed) i
+    done_at_end settled i is =
+        not_stuck before mode edges gone (length edges) i are.long settled (slice_get_within edges i is.edge is.stands) (stuck_to (Contains removed) (IsFlagged gone) (turned (IsFlagged gone) (Contains removed) agree) i is)
+
+    pub stays_at_end : AreSettled before mode edges gone (length edges) → (i : ℕ) (e : Edge) (side : Side) → slice_get edges i ≡ Some e → ¬ Contains removed i → HasBeside before mode edges (Contains removed) side e
+    stays_at_end settled i e side at kept =
+        let below = slice_get_within edges i e at in
+        beside_to (IsFlagged gone) (Contains removed) agree side e (settled i e side below at (unflagged i below kept))
+
+  -- hints stay hints
+  hints_gone : (gone : List Bool) (side : Side) (hints : List ℕ) (i : ℕ) → length gone ≡ length edges → AreHints before mode edges gone side hints → AreHints before mode edges (set gone i true) side hints
+  hints_gone gone side hints i long are = record {
+    long = are.long;
+    each = λ j place at.
+        let is = are.each j place at in
+        record {
+          within = is.within;
+          passed = λ q e f from below at_e at_f unset.
+              let there : q < length gone = omega (arith, slice_get_within edges q f at_f) in
+              elim (cases_eq q i) [
+                | inl same ↦ absurd (false≢true (same_Some false true (sym unset ∙ ap (slice_get (set gone i true)) same ∙ set_here gone i true (omega arith))))
+                | inr other ↦ is.passed q e f from below at_e at_f (sym (set_elsewhere gone i q true other there) ∙ unset)
+              ];
+          fits = is.fits;
+        };
+  }
+
+  pub both_gone : (gone : List Bool) (hints : Hints) (i : ℕ) → length gone ≡ length edges → AreBothHints before mode edges gone hints → AreBothHints before mode edges (set gone i true) hints
+  both_gone gone hints i long are = record { followers = hints_gone gone _ hints.followers.items i long are.followers; leaders = hints_gone gone _ hints.leaders.items i long are.leaders }

@@ -1,0 +1,17 @@
+-- What a search of paths relies on.
+use Rattle.std.specs.Prelude.{◌≤◌}
+use Rattle.gl_segments.specs.Clocks.{is_before}
+use Rattle.gl_cycles.specs.AllCycles.{edges_of_table}
+use Rattle.gl_cycles.specs.Followers.{IsIndexOf}
+use Rattle.gl_cycles.specs.OffCycles.{KeepsCycles}
+use Rattle.gl_cycles.specs.declared.paths.Searcher.{Searcher}
+use Rattle.gl_cycles.specs.declared.paths.TheConstants.{PATH}
+
+-- the search can begin
+pub record IsReady (s : Searcher) : Type 0 where
+  -- a path has room for the edges of a cycle
+  pub fits : s.len ≤ PATH
+  -- what is left out is in no cycle that is looked for
+  pub kept : KeepsCycles (is_before s.order.now) s.mode s.len (edges_of_table s.table.now) s.kept.items
+  -- and the index leads through the rest
+  pub indexed : IsIndexOf (edges_of_table s.table.now) s.kept.items s.index
