@@ -562,7 +562,8 @@ fn reading_goes_on_after_a_fault(rt: HostRuntime) -> Result<(), Fail> {
 
 // What is written of the text's trace.
 fn replayed(alloc: Global, text: &[u8]) -> Result<Vec<u8>, Fail> {
-    Ok(write_trace(alloc, &trace_of(alloc, text)?)?)
+    let trace = read_trace(alloc, text, &greatest()?)?;
+    Ok(write_trace(alloc, &trace)?)
 }
 
 #[test]
