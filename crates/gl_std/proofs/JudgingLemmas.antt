@@ -1,8 +1,8 @@
 -- What a judge of lines knows.
-use Rattle.std.proofs.Common.{◌≡◌, ℕ, zero, suc, ◌+◌, ◌-◌, ◌<◌, ◌≤◌, ◌^◌, Bool, true, false, cond, List, [], ◌∷◌, ◌++◌, length, replicate, Option, Some, None, All, Result, Ok, Err, get_or, is_none, unwrap_or, map, refl, sym, ap, subst, ◌∙◌, append_assoc, length-append, arith}
+use Rattle.std.proofs.Common.{◌≡◌, ℕ, zero, suc, ◌+◌, ◌-◌, ◌<◌, ◌≤◌, Bool, true, false, cond, List, [], ◌∷◌, ◌++◌, length, replicate, Option, Some, None, All, Result, Ok, Err, get_or, is_none, unwrap_or, map, refl, sym, ap, subst, ◌∙◌, append_assoc, length-append, arith}
 use Rattle.std.specs.Prelude.{slice_get, slice_set, IfSome}
 use Rattle.std.proofs.lemmas.List.{length-map, length-replicate, replicate_more, map-append, map-set}
-use Rattle.gl_event.specs.Bounds.{Bounds, AreWithinRange}
+use Rattle.gl_event.specs.Bounds.{Bounds}
 use Rattle.gl_event.specs.declared.events.Event.{Event}
 use Rattle.gl_event.specs.Lawful.{lock_refusal}
 use Rattle.gl_std.specs.Judging.{with_judged, HasJudged, IsSound}

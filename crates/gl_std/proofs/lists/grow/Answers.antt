@@ -1,4 +1,4 @@
-use Rattle.std.proofs.Common.{◌≡◌, ◌+◌, List, [], length, length-append, map, replicate, Vec, Global, ap, inr, ◌∙◌, arith}
+use Rattle.std.proofs.Common.{◌+◌, List, [], length, length-append, map, replicate, Vec, Global, ap, inr, arith}
 use Rattle.std.proofs.lemmas.List.{length-map, length-replicate}
 use Rattle.gl_event.specs.declared.events.Event.{Event}
 use Rattle.gl_std.proofs.JudgingLemmas.{grown_more}

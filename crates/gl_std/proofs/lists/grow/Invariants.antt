@@ -1,4 +1,4 @@
-use Rattle.std.proofs.Common.{◌≡◌, ◌+◌, ◌-◌, ◌≤◌, ◌⊎◌, ℕ, [], ◌++◌, length, map, replicate, vec_len}
+use Rattle.std.proofs.Common.{◌≡◌, ◌+◌, ◌-◌, ◌≤◌, ◌⊎◌, ℕ, [], ◌++◌, map, replicate, vec_len}
 use Rattle.gl_std.proofs.lists.grow.Given as goal
 
 abbrev pub invariant-loop-alloc : goal.invariant-loop-alloc
