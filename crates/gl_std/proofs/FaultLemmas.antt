@@ -17,8 +17,8 @@ use Rattle.gl_std.specs.declared.faults.ReadFault.TheVariants.{Line}
 use Rattle.gl_std.specs.declared.faults.StdKind.{StdKind}
 use Rattle.gl_std.specs.declared.faults.StdKind.TheVariants.{HeldFull, DepthFull, Upgrade, TooManyThreads, TooManyEvents, TooManyNames}
 use Rattle.gl_std.specs.declared.line.Operation.{Operation}
-use Rattle.gl_std.specs.declared.row.Verdict.{Verdict}
-use Rattle.gl_std.specs.declared.row.Verdict.TheVariants.{Kept, Stray, Fault}
+use Rattle.gl_std.specs.declared.standing.Verdict.{Verdict}
+use Rattle.gl_std.specs.declared.standing.Verdict.TheVariants.{Kept, Stray, Fault}
 use Rattle.gl_std.specs.declared.trace.Trace.{Trace}
 use Rattle.gl_std.proofs.KeptLemmas.{with_name-mention}
 use Rattle.gl_std.proofs.StepLemmas.{length-with_name}

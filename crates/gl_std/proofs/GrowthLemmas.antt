@@ -13,8 +13,8 @@ use Rattle.gl_std.specs.Trace.{found_in, with_name, with_event, event_told, afte
 use Rattle.gl_std.specs.declared.faults.ReadFault.{ReadFault}
 use Rattle.gl_std.specs.declared.faults.ReadFault.TheVariants.{Line}
 use Rattle.gl_std.specs.declared.line.Operation.{Operation}
-use Rattle.gl_std.specs.declared.row.Verdict.{Verdict}
-use Rattle.gl_std.specs.declared.row.Verdict.TheVariants.{Kept, Stray, Fault}
+use Rattle.gl_std.specs.declared.standing.Verdict.{Verdict}
+use Rattle.gl_std.specs.declared.standing.Verdict.TheVariants.{Kept, Stray, Fault}
 use Rattle.gl_std.specs.declared.trace.Trace.{Trace}
 use Rattle.gl_std.proofs.StepLemmas.{IsTrace, acting, place_of, threads_of, locks_of, lists_of, with_call, same_trace, no_trace, trace_of-append}
 

@@ -2,14 +2,16 @@ pub mod CutLemmas
 pub mod FaultLemmas
 mod GrowthLemmas
 pub mod HeardLemmas
+pub mod JudgingLemmas
 pub mod LinesLemmas
 pub mod KeptLemmas
 pub mod NameLemmas
 pub mod PieceLemmas
 pub mod PlaceLemmas
-pub mod RowLemmas
+pub mod ReadingLemmas
 pub mod SayingLemmas
 pub mod ShapeLemmas
+pub mod StandingLemmas
 pub mod StepLemmas
 pub mod ToldLemmas
 pub mod WrittenLemmas

@@ -207,12 +207,12 @@ some_of xs some e = some (ap length e)
 -- what is known after a fault stays
 pub knows_more : (fault : Option (ℕ × StdKind)) (r : PieceReader) (text more : List ℕ) → is_some fault ≡ true → Knows fault r text → Knows fault r (text ++ more)
 knows_more None r text more some known = absurd (false≢true some)
-knows_more (Some fault) r text more some known = faulty_more r.reader.limits text more fault.0 fault.1 known
+knows_more (Some fault) r text more some known = faulty_more r.reader.judge.limits text more fault.0 fault.1 known
 
 -- a fault in the lines that LF has ended is that of the text, whole or not
 pub faulty_judged : (limits : Bounds) (text : List ℕ) (at : ℕ) (kind : StdKind) (whole : Bool) → IsFaulty limits text at kind → trace_of limits (judged whole text) ≡ Err (Line at kind)
 faulty_judged limits text at kind true faulty = let rest = ended-part text in ap (trace_of limits) rest.1 ∙ faulty rest.0
 faulty_judged limits text at kind false faulty = ap (trace_of limits) (sym (append_nil (ended_lines text))) ∙ faulty []
 
-pub knows_fault : (fault : Option (ℕ × StdKind)) (r : PieceReader) (text : List ℕ) (at : ℕ) (kind : StdKind) (whole : Bool) → fault ≡ Some (at, kind) → Knows fault r text → trace_of r.reader.limits (judged whole text) ≡ Err (Line at kind)
-knows_fault fault r text at kind whole is known = faulty_judged r.reader.limits text at kind whole (subst (λ f. Knows f r text) is known)
+pub knows_fault : (fault : Option (ℕ × StdKind)) (r : PieceReader) (text : List ℕ) (at : ℕ) (kind : StdKind) (whole : Bool) → fault ≡ Some (at, kind) → Knows fault r text → trace_of r.reader.judge.limits (judged whole text) ≡ Err (Line at kind)
+knows_fault fault r text at kind whole is known = faulty_judged r.reader.judge.limits text at kind whole (subst (λ f. Knows f r text) is known)

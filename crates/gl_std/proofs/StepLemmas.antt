@@ -31,8 +31,8 @@ use Rattle.gl_std.specs.declared.faults.ReadFault.TheVariants.{Line}
 use Rattle.gl_std.specs.declared.line.Operation.{Operation}
 use Rattle.gl_std.specs.declared.line.Operation.TheVariants.{Acquire as AcquireOf, Release as ReleaseOf, TryAcquire as TryAcquireOf, Fork as ForkOf, Join as JoinOf}
 use Rattle.gl_std.specs.declared.names.Found.{Found}
-use Rattle.gl_std.specs.declared.row.Verdict.{Verdict}
-use Rattle.gl_std.specs.declared.row.Verdict.TheVariants.{Kept, Stray, Fault}
+use Rattle.gl_std.specs.declared.standing.Verdict.{Verdict}
+use Rattle.gl_std.specs.declared.standing.Verdict.TheVariants.{Kept, Stray, Fault}
 use Rattle.gl_std.specs.declared.trace.Trace.{Trace}
 use Rattle.gl_std.proofs.NameLemmas.{list_any-absent}
 
@@ -42,7 +42,7 @@ use Rattle.gl_std.proofs.NameLemmas.{list_any-absent}
 abbrev IsWithin : Option ℕ → ℕ → Type 0
 IsWithin number most = (i : ℕ) → number ≡ Some i → i < most
 
-found_within : (names : List (List ℕ)) (name : List ℕ) → IsWithin (position (bytes_eq name) names) (length names)
+pub found_within : (names : List (List ℕ)) (name : List ℕ) → IsWithin (position (bytes_eq name) names) (length names)
 found_within names name i is = (position-Some (bytes_eq name) names i [] is).0
 
 pub length-with_name : (names : List (List ℕ)) (number : Option ℕ) (name : List ℕ) → length (with_name names number name) ≡ length names + cond (is_none number) 1 0
@@ -181,7 +181,7 @@ locks_of on names thread operand = cond on names.locks (with_name names.locks (p
 abbrev pub lists_of : Bool → List (List Event) → Option ℕ → Option ℕ → Event → List (List Event)
 lists_of on lists number place e = cond on (with_list (with_event lists number e) place) (with_event lists number e)
 
-length-threads_of : (on : Bool) (names : NameLists) (thread operand : List ℕ) → length (threads_of on names thread operand) ≡ length names.threads + cond (is_none (position (bytes_eq thread) names.threads)) 1 0 + cond on (cond (is_none (place_of on names thread operand)) 1 0) 0
+pub length-threads_of : (on : Bool) (names : NameLists) (thread operand : List ℕ) → length (threads_of on names thread operand) ≡ length names.threads + cond (is_none (position (bytes_eq thread) names.threads)) 1 0 + cond on (cond (is_none (place_of on names thread operand)) 1 0) 0
 length-threads_of true names thread operand =
     omega (arith, length-with_name names.threads (position (bytes_eq thread) names.threads) thread, length-with_name (acting names thread) (place_of true names thread operand) operand)
 length-threads_of false names thread operand = omega (arith, length-with_name names.threads (position (bytes_eq thread) names.threads) thread)

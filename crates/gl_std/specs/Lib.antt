@@ -1,10 +1,13 @@
 pub mod Faults
 pub mod Heard
+pub mod Judging
 pub mod Laws
 pub mod Line
 pub mod Lines
+pub mod Listed
 pub mod Names
 pub mod Pieces
 pub mod Reading
+pub mod Standings
 pub mod Trace
 pub mod Written

@@ -22,7 +22,7 @@ IsFaulty limits text number kind = (rest : List ℕ) → trace_of limits (ended_
 
 -- this is known of the text
 abbrev pub Tells : PieceReader → List ℕ → Type 0
-Tells r text = IsTold r.reader.limits r.reader.line (told_by r.reader) r.unfinished.items text
+Tells r text = IsTold r.reader.judge.limits r.reader.judge.line (told_by r.reader) r.unfinished.items text
 
 -- the part of a text that is judged: all of it where it is whole, else the lines that LF has ended
 abbrev pub judged : Bool → List ℕ → List ℕ
@@ -31,4 +31,4 @@ judged whole text = if whole then text else ended_lines text
 -- this is known of the text: its trace so far, or its first fault
 abbrev pub Knows : Option (ℕ × StdKind) → PieceReader → List ℕ → Type 0
 Knows None r text = Tells r text
-Knows (Some fault) r text = IsFaulty r.reader.limits text fault.0 fault.1
+Knows (Some fault) r text = IsFaulty r.reader.judge.limits text fault.0 fault.1

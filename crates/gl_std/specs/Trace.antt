@@ -19,8 +19,8 @@ use Rattle.gl_std.specs.declared.faults.ReadFault.TheVariants.{Line}
 use Rattle.gl_std.specs.declared.line.Operation.{Operation}
 use Rattle.gl_std.specs.declared.line.Operation.TheVariants.{Acquire as AcquireOf, Release as ReleaseOf, TryAcquire as TryAcquireOf, Fork as ForkOf, Join as JoinOf}
 use Rattle.gl_std.specs.declared.names.Found.{Found}
-use Rattle.gl_std.specs.declared.row.Verdict.{Verdict}
-use Rattle.gl_std.specs.declared.row.Verdict.TheVariants.{Kept, Stray, Fault}
+use Rattle.gl_std.specs.declared.standing.Verdict.{Verdict}
+use Rattle.gl_std.specs.declared.standing.Verdict.TheVariants.{Kept, Stray, Fault}
 use Rattle.gl_std.specs.declared.trace.Trace.{Trace}
 
 -- the names, with this one at the end if it has no number
@@ -86,14 +86,18 @@ operand_number names operation found =
 abbrev pub event_told : NameLists → Operation → Found → Event
 event_told names operation found = event_of operation (operand_number names operation found) (unwrap_or found.loc (length names.locs))
 
+-- the first limit that doesn't allow an event, where there are these names and the thread has so many events
+abbrev pub limit_reached : Bounds → NameLists → ℕ → Operation → Found → Option StdKind
+limit_reached limits names events operation found =
+    if nat_lt limits.threads (threads_after names operation found) then Some TooManyThreads
+    else (if nat_le limits.events events then Some TooManyEvents
+    else (if nat_lt limits.names (locks_after names operation found) then Some TooManyNames
+    else (if nat_lt limits.names (length names.locs + if_new found.loc) then Some TooManyNames
+    else None)))
+
 -- the first limit that doesn't allow the event
 abbrev pub limit_fault : Bounds → Trace → Operation → Found → Option StdKind
-limit_fault limits told operation found =
-    if nat_lt limits.threads (threads_after told.names operation found) then Some TooManyThreads
-    else (if nat_le limits.events (length (events_of told.lists found.thread)) then Some TooManyEvents
-    else (if nat_lt limits.names (locks_after told.names operation found) then Some TooManyNames
-    else (if nat_lt limits.names (length told.names.locs + if_new found.loc) then Some TooManyNames
-    else None)))
+limit_fault limits told operation found = limit_reached limits told.names (length (events_of told.lists found.thread)) operation found
 
 -- what becomes of an event: the locks' reasons come before the limits', and the last one is that a lock that is
 -- released isn't held

@@ -36,6 +36,7 @@
 #![tactic(auto)]
 
 mod faults;
+mod judge;
 mod laws;
 mod line;
 mod lines;
@@ -45,7 +46,7 @@ mod names;
 mod pieces;
 mod read;
 mod reader;
-mod row;
+mod standing;
 #[cfg(test)]
 mod tests;
 mod text;

@@ -300,6 +300,16 @@ impl Names {
         }
     }
 
+    /// The number of the acting thread, or the next one for a new thread.
+    pub(crate) fn thread_or_next(&self, found: &Found) -> ThreadId
+        ensures { result ≡ unwrap_or found.now.thread (length self.now.threads) }
+    {
+        match found.thread {
+            Some(number) => number,
+            None => ThreadId::new(self.threads.len()),
+        }
+    }
+
     /// The number of the location, or the next one for a new location.
     pub(crate) fn loc_or_next(&self, found: &Found) -> LocId
         ensures { result ≡ unwrap_or found.now.loc (length self.now.locs) }

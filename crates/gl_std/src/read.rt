@@ -26,5 +26,5 @@ pub fn read_trace(alloc: Global, bytes: &[u8], limits: &Limits) -> Result<Trace,
         reader.take(line)?;
         rest = after;
     }
-    Ok(reader.into_trace()?)
+    Ok(reader.into_trace())
 }

@@ -1,10 +1,12 @@
-ghost use Rattle.std.specs.Prelude.{◌≡◌, false, None};
+ghost use Rattle.std.specs.Prelude.{◌≡◌, ◌≤◌, false, None};
 
 use crate::{
-    Failed, Lists, ReadFault, Source, StdKind, Trace, read_source, read_trace, write_trace,
+    Failed, Heard, Lists, Names, ReadFault, Source, StdKind, Trace, read_source, read_trace,
+    write_trace,
 };
 use gl_event::{Event, Limits, LocId, LockId, LockMode, ThreadId};
 use std::alloc::Global;
+use std::fmt::Debug;
 use std::process::Abort;
 use std::test::Fail;
 
@@ -58,6 +60,11 @@ fn greatest() -> Result<Limits, Fail> {
     Ok(Limits::new(1_024, 65_536, 4_000_000_000, 4_000_000_000)?)
 }
 
+// Both are the same.
+fn expect<T: PartialEq + Debug>(rt: &impl Abort, found: &T, expected: &T) {
+    assert_eq!(rt; found, expected);
+}
+
 // The thread's events are these.
 fn expect_list(rt: &impl Abort, trace: &Trace, thread: usize, events: &[Event]) {
     match trace.lists.as_slice().get(thread) {
@@ -66,8 +73,58 @@ fn expect_list(rt: &impl Abort, trace: &Trace, thread: usize, events: &[Event]) 
     }
 }
 
-// The text's first fault is this one.
-fn expect_fault(
+// So many threads have a list.
+fn expect_lists(rt: &impl Abort, trace: &Trace, count: usize) {
+    expect(rt, &trace.lists.as_slice().len(), &count);
+}
+
+// There are so many names of threads, of locks and of locations.
+fn expect_names(rt: &impl Abort, names: &Names, threads: u32, locks: u32, locs: u32) {
+    expect(rt, &names.threads(), &threads);
+    expect(rt, &names.locks(), &locks);
+    expect(rt, &names.locs(), &locs);
+}
+
+// The name has this number among the threads, or none.
+fn expect_thread(rt: &impl Abort, names: &Names, name: &[u8], number: Option<u32>) {
+    expect(rt, &names.find_thread(name).map(ThreadId::number), &number);
+}
+
+// The name has this number among the locks, or none.
+fn expect_lock(rt: &impl Abort, names: &Names, name: &[u8], number: Option<u32>) {
+    expect(rt, &names.find_lock(name).map(LockId::number), &number);
+}
+
+// The name has this number among the locations, or none.
+fn expect_loc(rt: &impl Abort, names: &Names, name: &[u8], number: Option<u32>) {
+    expect(rt, &names.find_loc(name).map(LocId::number), &number);
+}
+
+// So many lines were skipped, and so many releases were strays.
+fn expect_dropped(rt: &impl Abort, trace: &Trace, skipped: u64, stray: u64) {
+    expect(rt, &trace.skipped, &skipped);
+    expect(rt, &trace.stray, &stray);
+}
+
+// The bytes are these.
+fn expect_bytes(rt: &impl Abort, found: &[u8], expected: &[u8]) {
+    assert_eq!(rt; found, expected);
+}
+
+// The names with the last numbers are these.
+fn expect_last_names(rt: &impl Abort, names: &Names, thread: &[u8], lock: &[u8], loc: &[u8]) {
+    let (threads, locks, locs) = (names.threads(), names.locks(), names.locs());
+    if threads == 0 || locks == 0 || locs == 0 {
+        assert!(rt; false, "no names");
+        return;
+    }
+    expect_bytes(rt, names.thread(ThreadId::new(threads - 1)), thread);
+    expect_bytes(rt, names.lock(LockId::new(locks - 1)), lock);
+    expect_bytes(rt, names.loc(LocId::new(locs - 1)), loc);
+}
+
+// The text's first fault under these limits is this one.
+fn expect_fault_within(
     rt: &impl Abort,
     alloc: Global,
     text: &[u8],
@@ -77,29 +134,43 @@ fn expect_fault(
 ) {
     match read_trace(alloc, text, limits) {
         Ok(_) => assert!(rt; false, "a trace, not {kind}"),
-        Err(fault) => assert_eq!(rt; fault, ReadFault::Line { line, kind }),
+        Err(fault) => expect(rt, &fault, &ReadFault::Line { line, kind }),
     }
+}
+
+// The text's first fault is this one.
+fn expect_fault(
+    rt: &impl Abort,
+    alloc: Global,
+    text: &[u8],
+    line: u64,
+    kind: StdKind,
+) -> Result<(), Fail> {
+    expect_fault_within(rt, alloc, text, &greatest()?, line, kind);
+    Ok(())
+}
+
+// The text's trace.
+fn trace_of(alloc: Global, text: &[u8]) -> Result<Trace, Fail> {
+    Ok(read_trace(alloc, text, &greatest()?)?)
+}
+
+// The lists of T0's and T1's events, which take two locks in opposite order.
+fn expect_opposite_order(rt: &impl Abort, trace: &Trace) {
+    let first = [acquire(0, 0), acquire(1, 1), release(1, 2), release(0, 3)];
+    expect_lists(rt, trace, 2);
+    expect_list(rt, trace, 0, &first);
+    expect_list(rt, trace, 1, &[acquire(1, 4), acquire(0, 5)]);
 }
 
 #[test]
 fn opposite_order(rt: HostRuntime) -> Result<(), Fail> {
     let text = b"T0|acq(a)|1\nT0|acq(b)|2\nT0|rel(b)|3\nT0|rel(a)|4\nT1|acq(b)|5\nT1|acq(a)|6\n";
-    let trace = read_trace(rt.alloc(), text, &greatest()?)?;
-    assert_eq!(rt; trace.lists.as_slice().len(), 2);
-    expect_list(
-        &rt,
-        &trace,
-        0,
-        &[acquire(0, 0), acquire(1, 1), release(1, 2), release(0, 3)],
-    );
-    expect_list(&rt, &trace, 1, &[acquire(1, 4), acquire(0, 5)]);
-    assert_eq!(rt; trace.names.threads(), 2);
-    assert_eq!(rt; trace.names.locks(), 2);
-    assert_eq!(rt; trace.names.locs(), 6);
-    assert_eq!(rt; trace.names.thread(ThreadId::new(1)), b"T1".as_slice());
-    assert_eq!(rt; trace.names.lock(LockId::new(1)), b"b".as_slice());
-    assert_eq!(rt; trace.names.loc(LocId::new(5)), b"6".as_slice());
-    assert_eq!(rt; (trace.skipped, trace.stray), (0, 0));
+    let trace = trace_of(rt.alloc(), text)?;
+    expect_opposite_order(&rt, &trace);
+    expect_names(&rt, &trace.names, 2, 2, 6);
+    expect_last_names(&rt, &trace.names, b"T1", b"b", b"6");
+    expect_dropped(&rt, &trace, 0, 0);
     Ok(())
 }
 
@@ -107,191 +178,202 @@ fn opposite_order(rt: HostRuntime) -> Result<(), Fail> {
 fn crlf_and_skipped(rt: HostRuntime) -> Result<(), Fail> {
     let text =
         b"T0|acq(a)|1\r\n\r\nT0|r(x)|9\r\nT0|acq(b)|A.java:7|x\r\nT0|rel(b)|3\r\nT0|rel(a)|4\r\nT0|begin|3\r\nT1|acq(b)|5\r\nT1|acq(a)|6";
-    let trace = read_trace(rt.alloc(), text, &greatest()?)?;
-    expect_list(
-        &rt,
-        &trace,
-        0,
-        &[acquire(0, 0), acquire(1, 1), release(1, 2), release(0, 3)],
-    );
-    expect_list(&rt, &trace, 1, &[acquire(1, 4), acquire(0, 5)]);
-    assert_eq!(rt; (trace.skipped, trace.stray), (2, 0));
-    assert_eq!(rt; trace.names.find_loc(b"A.java:7|x"), Some(LocId::new(1)));
-    assert_eq!(rt; trace.names.find_loc(b"9"), None);
-    assert_eq!(rt; trace.names.find_lock(b"x"), None);
-    assert_eq!(rt; trace.names.find_thread(b"T1"), Some(ThreadId::new(1)));
+    let trace = trace_of(rt.alloc(), text)?;
+    expect_opposite_order(&rt, &trace);
+    expect_dropped(&rt, &trace, 2, 0);
+    expect_loc(&rt, &trace.names, b"A.java:7|x", Some(1));
+    expect_loc(&rt, &trace.names, b"9", None);
+    expect_lock(&rt, &trace.names, b"x", None);
+    expect_thread(&rt, &trace.names, b"T1", Some(1));
+    Ok(())
+}
+
+#[test]
+fn lists_given_back(rt: HostRuntime) -> Result<(), Fail> {
+    let trace = trace_of(rt.alloc(), b"T0|acq(a)|1\nT1|acq(b)|2\n")?;
     let lists = Lists::new(trace.lists.into_vec());
-    assert_eq!(rt; lists.as_slice().len(), 2);
+    expect(&rt, &lists.as_slice().len(), &2);
     Ok(())
 }
 
 #[test]
 fn bad_lines(rt: HostRuntime) -> Result<(), Fail> {
-    let limits = greatest()?;
-    expect_fault(
-        &rt,
-        rt.alloc(),
-        b"T0|acq(|3",
-        &limits,
-        1,
-        StdKind::BadOperand,
-    );
-    expect_fault(
-        &rt,
-        rt.alloc(),
-        b"T0|acq|3",
-        &limits,
-        1,
-        StdKind::BadOperand,
-    );
-    expect_fault(
-        &rt,
-        rt.alloc(),
-        b"T0|acq(a)",
-        &limits,
-        1,
-        StdKind::NoLocation,
-    );
-    expect_fault(&rt, rt.alloc(), b"|acq(a)|1", &limits, 1, StdKind::NoThread);
-    expect_fault(&rt, rt.alloc(), b"T0", &limits, 1, StdKind::NoBar);
-    expect_fault(
-        &rt,
-        rt.alloc(),
-        b"T0|fork(T0)|1",
-        &limits,
-        1,
-        StdKind::OnItself,
-    );
+    let alloc = rt.alloc();
+    expect_fault(&rt, alloc, b"T0|acq(|3", 1, StdKind::BadOperand)?;
+    expect_fault(&rt, alloc, b"T0|acq|3", 1, StdKind::BadOperand)?;
+    expect_fault(&rt, alloc, b"T0|acq(a)", 1, StdKind::NoLocation)?;
+    expect_fault(&rt, alloc, b"|acq(a)|1", 1, StdKind::NoThread)?;
+    expect_fault(&rt, alloc, b"T0", 1, StdKind::NoBar)?;
+    expect_fault(&rt, alloc, b"T0|fork(T0)|1", 1, StdKind::OnItself)?;
     Ok(())
+}
+
+// The faults are different.
+fn expect_other(rt: &impl Abort, one: ReadFault, other: ReadFault) {
+    assert_ne!(rt; one, other);
 }
 
 #[test]
 fn faults_differ(rt: HostRuntime) -> Result<(), Fail> {
     let fault = |line, kind| ReadFault::Line { line, kind };
     let one = fault(1, StdKind::NoBar);
-    assert_ne!(rt; one, fault(2, StdKind::NoBar));
-    assert_ne!(rt; one, fault(1, StdKind::NoLocation));
-    assert_ne!(rt; one, ReadFault::Memory);
+    expect_other(&rt, one, fault(2, StdKind::NoBar));
+    expect_other(&rt, one, fault(1, StdKind::NoLocation));
+    expect_other(&rt, one, ReadFault::Memory);
     Ok(())
+}
+
+// One thread forks, joins and forks.
+fn expect_forks(rt: &impl Abort, trace: &Trace) {
+    expect_lists(rt, trace, 3);
+    expect_list(rt, trace, 0, &[fork(1, 0), join(1, 1), fork(2, 2)]);
+}
+
+// The thread has no events.
+fn expect_none(rt: &impl Abort, trace: &Trace, thread: usize) {
+    expect_list(rt, trace, thread, &[]);
 }
 
 #[test]
 fn forks_and_joins(rt: HostRuntime) -> Result<(), Fail> {
     let text = b"M|fork(T0)|1\nM|join(T0)|2\nM|fork(T1)|3\n";
-    let trace = read_trace(rt.alloc(), text, &greatest()?)?;
-    assert_eq!(rt; trace.names.find_thread(b"M"), Some(ThreadId::new(0)));
-    assert_eq!(rt; trace.names.find_thread(b"T0"), Some(ThreadId::new(1)));
-    assert_eq!(rt; trace.names.find_thread(b"T1"), Some(ThreadId::new(2)));
-    assert_eq!(rt;
-        (
-            trace.names.threads(),
-            trace.names.locks(),
-            trace.names.locs()
-        ),
-        (3, 0, 3)
-    );
-    assert_eq!(rt; trace.lists.as_slice().len(), 3);
-    expect_list(&rt, &trace, 0, &[fork(1, 0), join(1, 1), fork(2, 2)]);
-    expect_list(&rt, &trace, 1, &[]);
-    expect_list(&rt, &trace, 2, &[]);
+    let trace = trace_of(rt.alloc(), text)?;
+    expect_thread(&rt, &trace.names, b"M", Some(0));
+    expect_thread(&rt, &trace.names, b"T0", Some(1));
+    expect_thread(&rt, &trace.names, b"T1", Some(2));
+    expect_names(&rt, &trace.names, 3, 0, 3);
+    expect_forks(&rt, &trace);
+    expect_none(&rt, &trace, 1);
+    expect_none(&rt, &trace, 2);
     Ok(())
+}
+
+// What the forked threads do.
+fn expect_forked(rt: &impl Abort, trace: &Trace) {
+    let first = [acquire(0, 0), acquire(1, 1), release(1, 2), release(0, 3)];
+    expect_list(rt, trace, 1, &first);
+    expect_list(rt, trace, 2, &[acquire(1, 4), acquire(0, 5)]);
 }
 
 #[test]
 fn joined_before(rt: HostRuntime) -> Result<(), Fail> {
-    let mut text = Vec::from_slice(rt.alloc(), b"M|fork(T0)|1\nM|join(T0)|2\nM|fork(T1)|3\n")?;
-    text.extend_from_slice(b"T0|acq(a)|1\nT0|acq(b)|2\nT0|rel(b)|3\nT0|rel(a)|4\n")?;
-    text.extend_from_slice(b"T1|acq(b)|5\nT1|acq(a)|6\n")?;
-    let trace = read_trace(rt.alloc(), &text, &greatest()?)?;
-    assert_eq!(rt; trace.lists.as_slice().len(), 3);
-    expect_list(&rt, &trace, 0, &[fork(1, 0), join(1, 1), fork(2, 2)]);
-    expect_list(
-        &rt,
-        &trace,
-        1,
-        &[acquire(0, 0), acquire(1, 1), release(1, 2), release(0, 3)],
-    );
-    expect_list(&rt, &trace, 2, &[acquire(1, 4), acquire(0, 5)]);
-    assert_eq!(rt; (trace.skipped, trace.stray), (0, 0));
+    let text =
+        b"M|fork(T0)|1\nM|join(T0)|2\nM|fork(T1)|3\nT0|acq(a)|1\nT0|acq(b)|2\nT0|rel(b)|3\nT0|rel(a)|4\nT1|acq(b)|5\nT1|acq(a)|6\n";
+    let trace = trace_of(rt.alloc(), text)?;
+    expect_forks(&rt, &trace);
+    expect_forked(&rt, &trace);
+    expect_dropped(&rt, &trace, 0, 0);
     Ok(())
+}
+
+// Two threads join each other.
+fn expect_joins(rt: &impl Abort, trace: &Trace) {
+    expect_lists(rt, trace, 2);
+    expect_list(rt, trace, 0, &[join(1, 0)]);
+    expect_list(rt, trace, 1, &[join(0, 1)]);
 }
 
 #[test]
 fn join_loop(rt: HostRuntime) -> Result<(), Fail> {
-    let trace = read_trace(rt.alloc(), b"T0|join(T1)|1\nT1|join(T0)|2\n", &greatest()?)?;
-    assert_eq!(rt; trace.lists.as_slice().len(), 2);
-    expect_list(&rt, &trace, 0, &[join(1, 0)]);
-    expect_list(&rt, &trace, 1, &[join(0, 1)]);
+    let trace = trace_of(rt.alloc(), b"T0|join(T1)|1\nT1|join(T0)|2\n")?;
+    expect_joins(&rt, &trace);
     Ok(())
+}
+
+// The only list has one acquire.
+fn expect_acquire(rt: &impl Abort, trace: &Trace) {
+    expect_lists(rt, trace, 1);
+    expect_list(rt, trace, 0, &[acquire(0, 0)]);
 }
 
 #[test]
 fn stray_release(rt: HostRuntime) -> Result<(), Fail> {
-    let trace = read_trace(rt.alloc(), b"T0|rel(a)|1\nT0|acq(b)|2\n", &greatest()?)?;
-    expect_list(&rt, &trace, 0, &[acquire(0, 0)]);
-    assert_eq!(rt; (trace.skipped, trace.stray), (0, 1));
-    assert_eq!(rt; (trace.names.threads(), trace.names.locks()), (1, 1));
-    assert_eq!(rt; trace.names.find_lock(b"a"), None);
+    let trace = trace_of(rt.alloc(), b"T0|rel(a)|1\nT0|acq(b)|2\n")?;
+    expect_acquire(&rt, &trace);
+    expect_dropped(&rt, &trace, 0, 1);
+    expect_names(&rt, &trace.names, 1, 1, 1);
+    expect_lock(&rt, &trace.names, b"a", None);
     Ok(())
 }
 
 #[test]
 fn upgrade_refused(rt: HostRuntime) -> Result<(), Fail> {
-    let limits = greatest()?;
     let waiting = b"T0|racq(a)|1\nT0|acq(a)|2\n";
-    expect_fault(&rt, rt.alloc(), waiting, &limits, 2, StdKind::Upgrade);
+    expect_fault(&rt, rt.alloc(), waiting, 2, StdKind::Upgrade)?;
     let tried = b"T0|tryracq(a)|1\nT0|tryacq(a)|2\n";
-    expect_fault(&rt, rt.alloc(), tried, &limits, 2, StdKind::Upgrade);
+    expect_fault(&rt, rt.alloc(), tried, 2, StdKind::Upgrade)?;
     Ok(())
+}
+
+// A lock is acquired in shared mode and released.
+fn expect_shared(rt: &impl Abort, trace: &Trace) {
+    let events = [acquire_in(LockMode::Shared, 0, 0), release(0, 1)];
+    expect_list(rt, trace, 0, &events);
 }
 
 #[test]
 fn either_release_word(rt: HostRuntime) -> Result<(), Fail> {
     let text = b"T0|racq(a)|1\nT0|rel(a)|2\nT0|rrel(a)|3\n";
-    let trace = read_trace(rt.alloc(), text, &greatest()?)?;
-    let events = [acquire_in(LockMode::Shared, 0, 0), release(0, 1)];
-    expect_list(&rt, &trace, 0, &events);
-    assert_eq!(rt; (trace.skipped, trace.stray), (0, 1));
+    let trace = trace_of(rt.alloc(), text)?;
+    expect_shared(&rt, &trace);
+    expect_dropped(&rt, &trace, 0, 1);
     Ok(())
+}
+
+// A lock that is held is acquired in shared mode and released once.
+fn expect_reentrant(rt: &impl Abort, trace: &Trace) {
+    let again = acquire_in(LockMode::Shared, 0, 1);
+    let less = release_in(LockMode::Shared, 0, 2);
+    expect_list(rt, trace, 0, &[acquire(0, 0), again, less, acquire(1, 3)]);
 }
 
 #[test]
 fn reentrant_shared(rt: HostRuntime) -> Result<(), Fail> {
     let text = b"T0|acq(a)|1\nT0|racq(a)|2\nT0|rrel(a)|3\nT0|acq(b)|4\n";
-    let trace = read_trace(rt.alloc(), text, &greatest()?)?;
-    let events = [
-        acquire(0, 0),
-        acquire_in(LockMode::Shared, 0, 1),
-        release_in(LockMode::Shared, 0, 2),
-        acquire(1, 3),
-    ];
-    expect_list(&rt, &trace, 0, &events);
+    let trace = trace_of(rt.alloc(), text)?;
+    expect_reentrant(&rt, &trace);
     Ok(())
+}
+
+// Two locks are tried, one in each mode.
+fn expect_tried(rt: &impl Abort, trace: &Trace) {
+    let first = try_acquire(LockMode::Exclusive, 0, 0);
+    let second = try_acquire(LockMode::Shared, 1, 1);
+    expect_list(rt, trace, 0, &[first, second]);
 }
 
 #[test]
 fn tried_acquires(rt: HostRuntime) -> Result<(), Fail> {
     let text = b"T0|tryacq(a)|1\nT0|tryracq(b)|2\nT0|tryrel(a)|3\n";
-    let trace = read_trace(rt.alloc(), text, &greatest()?)?;
-    let events = [
-        try_acquire(LockMode::Exclusive, 0, 0),
-        try_acquire(LockMode::Shared, 1, 1),
-    ];
-    expect_list(&rt, &trace, 0, &events);
-    assert_eq!(rt; trace.skipped, 1);
+    let trace = trace_of(rt.alloc(), text)?;
+    expect_tried(&rt, &trace);
+    expect_dropped(&rt, &trace, 1, 0);
     Ok(())
+}
+
+// The text is read.
+fn expect_read(rt: &impl Abort, alloc: Global, text: &[u8], limits: &Limits) {
+    expect(rt, &read_trace(alloc, text, limits).is_ok(), &true);
 }
 
 #[test]
 fn longest_line(rt: HostRuntime) -> Result<(), Fail> {
-    let limits = greatest()?;
-    for (length, end) in [(65_526, b"\n".as_slice()), (65_526, b"\r\n".as_slice())] {
-        let text = long_line(rt.alloc(), length, end)?;
-        assert!(rt; read_trace(rt.alloc(), &text, &limits).is_ok());
-    }
-    let text = long_line(rt.alloc(), 65_527, b"\n")?;
-    expect_fault(&rt, rt.alloc(), &text, &limits, 1, StdKind::TooLong);
+    let text = long_line(rt.alloc(), 65_526, b"\n")?;
+    expect_read(&rt, rt.alloc(), &text, &greatest()?);
     Ok(())
+}
+
+#[test]
+fn longest_line_by_cr_lf(rt: HostRuntime) -> Result<(), Fail> {
+    let text = long_line(rt.alloc(), 65_526, b"\r\n")?;
+    expect_read(&rt, rt.alloc(), &text, &greatest()?);
+    Ok(())
+}
+
+#[test]
+fn line_too_long(rt: HostRuntime) -> Result<(), Fail> {
+    let text = long_line(rt.alloc(), 65_527, b"\n")?;
+    expect_fault(&rt, rt.alloc(), &text, 1, StdKind::TooLong)
 }
 
 // An acquire at a location of so many bytes.
@@ -304,40 +386,34 @@ fn long_line(alloc: Global, length: usize, end: &[u8]) -> Result<Vec<u8>, Fail> 
     Ok(text)
 }
 
+// Acquires of so many locks, one after the other.
+fn nested(alloc: Global, locks: u32) -> Result<Vec<u8>, Fail> {
+    let mut text = Vec::new(alloc);
+    for lock in 0..locks {
+        text.extend_from_slice(format!(in alloc; "T0|acq({lock})|1\n")?.as_bytes())?;
+    }
+    Ok(text)
+}
+
+#[test]
+fn held_limit_reached(rt: HostRuntime) -> Result<(), Fail> {
+    let text = nested(rt.alloc(), 65)?;
+    expect_fault(&rt, rt.alloc(), &text, 65, StdKind::HeldFull)?;
+    Ok(())
+}
+
 #[test]
 fn limits_reached(rt: HostRuntime) -> Result<(), Fail> {
-    let mut text = Vec::new(rt.alloc());
-    for lock in 0..65 {
-        text.extend_from_slice(format!(in rt.alloc(); "T0|acq({lock})|1\n")?.as_bytes())?;
-    }
-    expect_fault(&rt, rt.alloc(), &text, &greatest()?, 65, StdKind::HeldFull);
+    let alloc = rt.alloc();
     let two_threads = Limits::new(2, 65_536, 4_000_000_000, 4_000_000_000)?;
-    expect_fault(
-        &rt,
-        rt.alloc(),
-        b"T0|acq(a)|1\nT0|fork(T1)|2\nT2|acq(a)|3\n",
-        &two_threads,
-        3,
-        StdKind::TooManyThreads,
-    );
+    let text = b"T0|acq(a)|1\nT0|fork(T1)|2\nT2|acq(a)|3\n";
+    expect_fault_within(&rt, alloc, text, &two_threads, 3, StdKind::TooManyThreads);
     let one_event = Limits::new(1_024, 65_536, 1, 4_000_000_000)?;
-    expect_fault(
-        &rt,
-        rt.alloc(),
-        b"T0|acq(a)|1\nT0|acq(a)|2\n",
-        &one_event,
-        2,
-        StdKind::TooManyEvents,
-    );
+    let text = b"T0|acq(a)|1\nT0|acq(a)|2\n";
+    expect_fault_within(&rt, alloc, text, &one_event, 2, StdKind::TooManyEvents);
     let one_name = Limits::new(1_024, 65_536, 4_000_000_000, 1)?;
-    expect_fault(
-        &rt,
-        rt.alloc(),
-        b"T0|acq(a)|1\nT0|acq(b)|1\n",
-        &one_name,
-        2,
-        StdKind::TooManyNames,
-    );
+    let text = b"T0|acq(a)|1\nT0|acq(b)|1\n";
+    expect_fault_within(&rt, alloc, text, &one_name, 2, StdKind::TooManyNames);
     Ok(())
 }
 
@@ -383,54 +459,94 @@ impl Source for Pieces<'_> {
     }
 }
 
+// What is read of the pieces.
+fn hear(alloc: Global, input: &mut Pieces<'_>, turns: u64) -> Result<Heard, Fail>
+    requires sound { input.old.is_failed ≡ false }
+    requires few { turns ≤ 100 }
+{
+    let limits = greatest()?;
+    Ok(read_source(alloc, input, turns, &limits)?)
+}
+
+// Five lines that tell three events of one thread.
+fn expect_five_lines(rt: &impl Abort, heard: &Heard) {
+    expect(rt, &heard.is_whole, &true);
+    match &heard.trace {
+        Ok(trace) => {
+            expect_list(rt, trace, 0, &[acquire(0, 0), acquire(1, 1), release(1, 2)]);
+            expect_lists(rt, trace, 1);
+            expect_loc(rt, &trace.names, b"1", Some(0));
+            expect_dropped(rt, trace, 1, 0);
+        }
+        Err(fault) => assert!(rt; false, "{fault}"),
+    }
+}
+
+// Five lines, read so many bytes at a time.
+fn expect_joined(rt: &impl Abort, alloc: Global, piece: usize) -> Result<(), Fail> {
+    let text = b"T0|acq(a)|1\r\nT0|acq(b)|2\nT1|r(x)|3\n\nT0|rel(b)|4";
+    let mut input = Pieces::new(text, piece, false);
+    expect_five_lines(rt, &hear(alloc, &mut input, 100)?);
+    Ok(())
+}
+
 #[test]
 fn pieces_are_joined(rt: HostRuntime) -> Result<(), Fail> {
-    for piece in [1, 7, 1_000] {
-        let text = b"T0|acq(a)|1\r\nT0|acq(b)|2\nT1|r(x)|3\n\nT0|rel(b)|4";
-        let mut input = Pieces::new(text, piece, false);
-        let heard = read_source(rt.alloc(), &mut input, 100, &greatest()?)?;
-        assert!(rt; heard.is_whole, "in pieces of {piece}");
-        let trace = heard.trace?;
-        expect_list(
-            &rt,
-            &trace,
-            0,
-            &[acquire(0, 0), acquire(1, 1), release(1, 2)],
-        );
-        assert_eq!(rt; trace.lists.as_slice().len(), 1);
-        assert_eq!(rt; trace.names.find_loc(b"1"), Some(LocId::new(0)));
-        assert_eq!(rt; trace.skipped, 1);
-    }
+    expect_joined(&rt, rt.alloc(), 1)?;
+    expect_joined(&rt, rt.alloc(), 7)?;
+    expect_joined(&rt, rt.alloc(), 1_000)?;
     Ok(())
+}
+
+// How many of so many turns read a text that two reads give, and whether it was read whole.
+fn reads_of(alloc: Global, turns: u64) -> Result<(u64, bool), Fail>
+    requires { turns ≤ 100 }
+{
+    let mut input = Pieces::new(b"T0|acq(a)|1\n", 6, false);
+    let is_whole = hear(alloc, &mut input, turns)?.is_whole;
+    Ok((input.reads, is_whole))
 }
 
 #[test]
 fn turns_used_up(rt: HostRuntime) -> Result<(), Fail> {
-    // two reads give the text, and a third one meets the end
-    for (turns, reads, is_whole) in [(0, 0, false), (2, 2, false), (3, 3, true), (9, 3, true)] {
-        let mut input = Pieces::new(b"T0|acq(a)|1\n", 6, false);
-        let heard = read_source(rt.alloc(), &mut input, turns, &greatest()?)?;
-        assert_eq!(rt; heard.is_whole, is_whole, "in {turns} turns");
-        assert_eq!(rt; input.reads, reads, "in {turns} turns");
-    }
+    // a third read meets the end
+    expect(&rt, &reads_of(rt.alloc(), 0)?, &(0, false));
+    expect(&rt, &reads_of(rt.alloc(), 2)?, &(2, false));
+    expect(&rt, &reads_of(rt.alloc(), 3)?, &(3, true));
+    expect(&rt, &reads_of(rt.alloc(), 9)?, &(3, true));
     Ok(())
+}
+
+// What was heard is one acquire, and not all.
+fn expect_front(rt: &impl Abort, heard: &Heard) {
+    expect(rt, &heard.is_whole, &false);
+    match &heard.trace {
+        Ok(trace) => expect_acquire(rt, trace),
+        Err(fault) => assert!(rt; false, "{fault}"),
+    }
+}
+
+#[test]
+fn lines_before_a_failed_read(rt: HostRuntime) -> Result<(), Fail> {
+    let mut input = Pieces::new(b"T0|acq(a)|1\nT0", 5, true);
+    expect_front(&rt, &hear(rt.alloc(), &mut input, 100)?);
+    Ok(())
+}
+
+// What was heard is all, and has this fault.
+fn expect_bad(rt: &impl Abort, heard: &Heard, line: u64, kind: StdKind) {
+    expect(rt, &heard.is_whole, &true);
+    match &heard.trace {
+        Ok(_) => assert!(rt; false, "a trace"),
+        Err(fault) => expect(rt, fault, &ReadFault::Line { line, kind }),
+    }
 }
 
 #[test]
 fn only_ended_lines_are_judged(rt: HostRuntime) -> Result<(), Fail> {
-    let text = b"T0|acq(a)|1\nT0";
-    let mut input = Pieces::new(text, 5, true);
-    let heard = read_source(rt.alloc(), &mut input, 100, &greatest()?)?;
-    assert!(rt; !heard.is_whole);
-    expect_list(&rt, &heard.trace?, 0, &[acquire(0, 0)]);
-    input = Pieces::new(text, 5, false);
-    let heard = read_source(rt.alloc(), &mut input, 100, &greatest()?)?;
-    assert!(rt; heard.is_whole);
-    let fault = ReadFault::Line {
-        line: 2,
-        kind: StdKind::NoBar,
-    };
-    assert_eq!(rt; heard.trace.err(), Some(fault));
+    let mut input = Pieces::new(b"T0|acq(a)|1\nT0", 5, false);
+    let heard = hear(rt.alloc(), &mut input, 100)?;
+    expect_bad(&rt, &heard, 2, StdKind::NoBar);
     Ok(())
 }
 
@@ -438,14 +554,9 @@ fn only_ended_lines_are_judged(rt: HostRuntime) -> Result<(), Fail> {
 fn reading_goes_on_after_a_fault(rt: HostRuntime) -> Result<(), Fail> {
     let text = b"\nT0|acq(a)\n|acq(a)|1\nT0|acq(a)|1\n";
     let mut input = Pieces::new(text, 6, false);
-    let heard = read_source(rt.alloc(), &mut input, 100, &greatest()?)?;
-    assert!(rt; heard.is_whole);
-    let fault = ReadFault::Line {
-        line: 2,
-        kind: StdKind::NoLocation,
-    };
-    assert_eq!(rt; heard.trace.err(), Some(fault));
-    assert!(rt; input.rest.is_empty());
+    let heard = hear(rt.alloc(), &mut input, 100)?;
+    expect_bad(&rt, &heard, 2, StdKind::NoLocation);
+    expect(&rt, &input.rest.len(), &0);
     Ok(())
 }
 
@@ -459,8 +570,8 @@ fn replayed(alloc: Global, text: &[u8]) -> Result<Vec<u8>, Fail> {
 fn replayed_lists(rt: HostRuntime) -> Result<(), Fail> {
     let text = b"T1|acq(b)|5\nT0|acq(a)|1\nT1|rel(b)|6\nT1|r(x)|9\n";
     let lists = b"T1|acq(b)|5\nT1|rel(b)|6\nT0|acq(a)|1\n";
-    assert_eq!(rt; replayed(rt.alloc(), text)?.as_slice(), lists.as_slice());
+    expect_bytes(&rt, &replayed(rt.alloc(), text)?, lists);
     let ends_with_cr = replayed(rt.alloc(), b"T0|acq(a)|x\r")?;
-    assert_eq!(rt; ends_with_cr.as_slice(), b"T0|acq(a)|x\r\r\n".as_slice());
+    expect_bytes(&rt, &ends_with_cr, b"T0|acq(a)|x\r\r\n");
     Ok(())
 }

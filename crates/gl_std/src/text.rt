@@ -36,8 +36,8 @@ impl TextReader {
     fn new(alloc: Global, limits: Limits) -> TextReader
         ensures knows { Knows result.fault result.pieces [] }
         ensures ready { IsReady result.pieces.reader }
-        ensures limits { result.pieces.reader.limits ≡ limits }
-        ensures line { result.pieces.reader.line ≡ 1 }
+        ensures limits { result.pieces.reader.judge.limits ≡ limits }
+        ensures line { result.pieces.reader.judge.line ≡ 1 }
     {
         TextReader {
             pieces: PieceReader::new(alloc, limits),
@@ -48,11 +48,11 @@ impl TextReader {
     /// Reads the next piece, if there was no fault.
     fn take(&mut self, piece: &[u8]) -> Result<(), AllocError>
         requires ready { self.old.fault ≡ None → IsReady self.old.pieces.reader }
-        requires countable { self.old.fault ≡ None → self.old.pieces.reader.line + length piece.now + 1 < 2 ^ 64 }
+        requires countable { self.old.fault ≡ None → self.old.pieces.reader.judge.line + length piece.now + 1 < 2 ^ 64 }
         ensures knows { OnOk result ((text : List ℕ) → Knows self.old.fault self.old.pieces text → Knows self.new.fault self.new.pieces (text ++ piece.now)) }
         ensures ready { OnOk result (self.new.fault ≡ None → IsReady self.new.pieces.reader) }
-        ensures line { OnOk result (self.new.fault ≡ None → (self.old.fault ≡ None) × (self.new.pieces.reader.line ≤ self.old.pieces.reader.line + length piece.now)) }
-        ensures limits { self.new.pieces.reader.limits ≡ self.old.pieces.reader.limits }
+        ensures line { OnOk result (self.new.fault ≡ None → (self.old.fault ≡ None) × (self.new.pieces.reader.judge.line ≤ self.old.pieces.reader.judge.line + length piece.now)) }
+        ensures limits { self.new.pieces.reader.judge.limits ≡ self.old.pieces.reader.judge.limits }
     {
         if self.fault.is_some() {
             return Ok(());
@@ -70,8 +70,8 @@ impl TextReader {
     /// What was heard, where no more comes.
     fn finish(self, is_whole: bool) -> Result<Heard, AllocError>
         requires ready { self.fault ≡ None → IsReady self.pieces.reader }
-        requires countable { self.fault ≡ None → self.pieces.reader.line + 1 < 2 ^ 64 }
-        ensures trace { IfOk result (λ h. (text : List ℕ) → Knows self.fault self.pieces text → trace_of self.pieces.reader.limits (judged is_whole text) ≡ h.trace) }
+        requires countable { self.fault ≡ None → self.pieces.reader.judge.line + 1 < 2 ^ 64 }
+        ensures trace { IfOk result (λ h. (text : List ℕ) → Knows self.fault self.pieces text → trace_of self.pieces.reader.judge.limits (judged is_whole text) ≡ h.trace) }
         ensures whole { IfOk result (λ h. h.is_whole ≡ is_whole) }
     {
         if let Some((line, kind)) = self.fault {
@@ -109,11 +109,11 @@ fn take_turn<R: Source>(
     requires not_failed { R.failed input.old ≡ false }
     requires room { length buffer.old ≡ CHUNK }
     requires ready { reader.old.fault ≡ None → IsReady reader.old.pieces.reader }
-    requires countable { reader.old.fault ≡ None → reader.old.pieces.reader.line + CHUNK + 1 < 2 ^ 64 }
+    requires countable { reader.old.fault ≡ None → reader.old.pieces.reader.judge.line + CHUNK + 1 < 2 ^ 64 }
     ensures taken { IfOk result (λ turn. HasTaken turn (R.remaining input.old) (R.remaining input.new) (R.failed input.new) reader.old reader.new) }
     ensures ready { OnOk result (reader.new.fault ≡ None → IsReady reader.new.pieces.reader) }
-    ensures line { OnOk result (reader.new.fault ≡ None → (reader.old.fault ≡ None) × (reader.new.pieces.reader.line ≤ reader.old.pieces.reader.line + CHUNK)) }
-    ensures limits { reader.new.pieces.reader.limits ≡ reader.old.pieces.reader.limits }
+    ensures line { OnOk result (reader.new.fault ≡ None → (reader.old.fault ≡ None) × (reader.new.pieces.reader.judge.line ≤ reader.old.pieces.reader.judge.line + CHUNK)) }
+    ensures limits { reader.new.pieces.reader.judge.limits ≡ reader.old.pieces.reader.judge.limits }
 {
     match input.read(buffer) {
         Ok(0) => Ok(Turn::End),

@@ -1,8 +1,8 @@
-use Rattle.std.proofs.Common.{sym, ap, subst, ◌∙◌, arith}
+use Rattle.std.proofs.Common.{ap, ◌∙◌, arith}
 use Rattle.gl_std.specs.Lines.{lines}
 use Rattle.gl_std.specs.Reading.{told_by}
-use Rattle.gl_std.specs.Trace.{read_from, IsTraceOver}
-use Rattle.gl_std.proofs.StepLemmas.{nothing_over, trace_of-lines}
+use Rattle.gl_std.specs.Trace.{read_from}
+use Rattle.gl_std.proofs.StepLemmas.{trace_of-lines}
 use Rattle.gl_std.proofs.read.read_trace.Goals as goal
 
 pub loop-line-init : goal.loop-line-init
@@ -14,11 +14,7 @@ loop-line-init c =
     let first = c.new-reader.ensures.line in
     record {
       rest_of_text = ap (λ n. read_from limits n (told_by reader) (lines text)) first ∙ ap (λ t. read_from limits 1 t (lines text)) told ∙ trace_of-lines limits text;
-      ready = record {
-        sound = subst (IsTraceOver reader.limits) (sym told) (nothing_over reader.limits);
-        few_skipped = omega (arith, first, ap (λ t. t.skipped) told);
-        few_stray = omega (arith, first, ap (λ t. t.stray) told);
-      };
+      ready = c.new-reader.ensures.ready;
       limits = c.new-reader.ensures.limits;
       countable = omega (arith, first);
     }

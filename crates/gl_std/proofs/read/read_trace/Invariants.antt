@@ -7,10 +7,10 @@ use Rattle.gl_std.proofs.read.read_trace.Given as goal
 abbrev pub invariant-loop-line : goal.invariant-loop-line
 invariant-loop-line l =
     record {
-      rest_of_text : read_from l.limits l.reader.line (told_by l.reader) (lines l.rest) ≡ trace_of l.limits l.bytes;
+      rest_of_text : read_from l.limits l.reader.judge.line (told_by l.reader) (lines l.rest) ≡ trace_of l.limits l.bytes;
       ready : IsReady l.reader;
-      limits : l.reader.limits ≡ l.limits;
-      countable : l.reader.line + length l.rest ≤ length l.bytes + 1;
+      limits : l.reader.judge.limits ≡ l.limits;
+      countable : l.reader.judge.line + length l.rest ≤ length l.bytes + 1;
     }
 
 abbrev pub decreases-loop-line : goal.decreases-loop-line

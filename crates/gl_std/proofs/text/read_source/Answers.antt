@@ -40,7 +40,7 @@ returns-in-End-clause-heard g c =
       cut = λ e. absurd (false≢true (sym e));
       within = omega (arith, so_far.within, none, length-append so_far.text taken.piece, c.loop-turn-test.true);
     } in
-    heard_so new.fault new.pieces c.args.limits.now new.pieces.reader.limits c.args.turns _ _ _ true (so_far.text ++ taken.piece) c.finish.result
+    heard_so new.fault new.pieces c.args.limits.now new.pieces.reader.judge.limits c.args.turns _ _ _ true (so_far.text ++ taken.piece) c.finish.result
     (c.take_turn.ensures.limits ∙ so_far.limits) read
     (taken.knows so_far.text so_far.knows) c.finish.ensures.trace c.finish.ensures.whole
 
@@ -66,7 +66,7 @@ returns-in-Broke-clause-heard g c =
       cut = λ e. inl taken.heard.1;
       within = omega (arith, so_far.within, none, length-append so_far.text taken.piece, c.loop-turn-test.true);
     } in
-    heard_so new.fault new.pieces c.args.limits.now new.pieces.reader.limits c.args.turns _ _ _ false (so_far.text ++ taken.piece) c.finish-in-Broke.result
+    heard_so new.fault new.pieces c.args.limits.now new.pieces.reader.judge.limits c.args.turns _ _ _ false (so_far.text ++ taken.piece) c.finish-in-Broke.result
     (c.take_turn.ensures.limits ∙ so_far.limits) read
     (taken.knows so_far.text so_far.knows) c.finish-in-Broke.ensures.trace c.finish-in-Broke.ensures.whole
 
@@ -104,7 +104,7 @@ returns-clause-heard g c =
       cut = λ e. inr (omega (arith, so_far.some, c.loop-turn.auto.turn-end));
       within = omega (arith, so_far.within, c.loop-turn.auto.turn-end);
     } in
-    heard_so last.fault last.pieces c.args.limits.now last.pieces.reader.limits c.args.turns _ _ _ false so_far.text c.finish-2.result
+    heard_so last.fault last.pieces c.args.limits.now last.pieces.reader.judge.limits c.args.turns _ _ _ false so_far.text c.finish-2.result
     so_far.limits read
     so_far.knows c.finish-2.ensures.trace c.finish-2.ensures.whole
 

@@ -11,8 +11,8 @@ invariant-loop-turn g l = record {
   bytes : Consumes (g.R.Source.remaining l.initial.input) (g.R.Source.remaining l.input) text;
   knows : Knows l.reader.fault l.reader.pieces text;
   ready : l.reader.fault ≡ None → IsReady l.reader.pieces.reader;
-  few : l.reader.fault ≡ None → l.reader.pieces.reader.line ≤ l.turn * CHUNK + 1;
-  limits : l.reader.pieces.reader.limits ≡ l.limits;
+  few : l.reader.fault ≡ None → l.reader.pieces.reader.judge.line ≤ l.turn * CHUNK + 1;
+  limits : l.reader.pieces.reader.judge.limits ≡ l.limits;
   room : vec_len l.buffer ≡ CHUNK;
   sound : g.R.Source.failed l.input ≡ false;
   some : l.turn ≤ length text;

@@ -12,20 +12,20 @@ pub returns-then-is_empty-clause-trace : goal.returns-then-is_empty-clause-trace
 returns-then-is_empty-clause-trace c = λ text told.
     let old = c.args.self in
     let none : length old.unfinished.items ≡ 0 = grind (arith, nat_tests, c.is_empty.ensures, c.if-is_empty.true) in
-    told_whole old.reader.limits old.reader.line (told_by old.reader) old.unfinished.items text told (nil_of old.unfinished.items none) ∙ ap (λ t. Ok t) (sym c.in_ok-into_trace.ensures)
+    told_whole old.reader.judge.limits old.reader.judge.line (told_by old.reader) old.unfinished.items text told (nil_of old.unfinished.items none) ∙ ap (λ t. Ok t) (sym c.into_trace.ensures)
 
 -- it didn't
 pub returns-in_err-take-clause-fault : goal.returns-in_err-take-clause-fault
 returns-in_err-take-clause-fault c = λ number kind is text told.
     let old = c.args.self in
     let some : length old.unfinished.items ≢ 0 = grind (arith, nat_tests, c.is_empty.ensures, c.if-is_empty.false) in
-    let failed : c.take.result ≡ Err (Line number kind) = let was = c.in_err-take.was in let of = c.from_residual-in_err-take.ensures in grind (arith, common_steps, was, of, is) in
-    let after = ap (after_line old.reader.limits old.reader.line (told_by old.reader)) (sym c.as_slice.ensures.value) ∙ c.take.ensures.fault number kind failed in
-    told_last old.reader.limits old.reader.line (told_by old.reader) old.unfinished.items text (Err (Line number kind)) told (some_of old.unfinished.items some) after
+    let failed : c.take.result ≡ Err (Line number kind) = let was = c.in_err-take.was in let of = c.from_residual.ensures in grind (arith, common_steps, was, of, is) in
+    let after = ap (after_line old.reader.judge.limits old.reader.judge.line (told_by old.reader)) (sym c.as_slice.ensures.value) ∙ c.take.ensures.fault number kind failed in
+    told_last old.reader.judge.limits old.reader.judge.line (told_by old.reader) old.unfinished.items text (Err (Line number kind)) told (some_of old.unfinished.items some) after
 
 pub returns-clause-trace : goal.returns-clause-trace
 returns-clause-trace c = λ text told.
     let old = c.args.self in
     let some : length old.unfinished.items ≢ 0 = grind (arith, nat_tests, c.is_empty.ensures, c.if-is_empty.false) in
-    let after = ap (after_line old.reader.limits old.reader.line (told_by old.reader)) (sym c.as_slice.ensures.value) ∙ c.in_ok-take.ensures.ok in
-    told_last old.reader.limits old.reader.line (told_by old.reader) old.unfinished.items text _ told (some_of old.unfinished.items some) after ∙ ap (λ t. Ok t) (sym c.in_ok-into_trace-2.ensures)
+    let after = ap (after_line old.reader.judge.limits old.reader.judge.line (told_by old.reader)) (sym c.as_slice.ensures.value) ∙ c.in_ok-take.ensures.ok in
+    told_last old.reader.judge.limits old.reader.judge.line (told_by old.reader) old.unfinished.items text _ told (some_of old.unfinished.items some) after ∙ ap (λ t. Ok t) (sym c.into_trace-2.ensures)

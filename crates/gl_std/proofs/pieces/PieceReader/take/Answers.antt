@@ -14,7 +14,7 @@ returns-in_err-end_line-clause-fault c = λ number kind is text told.
     let so_far = c.loop-end.invariant in
     let cut = first_end c.loop-end.rest.now c.in-Some.end.now c.in-Some.after.now c.in-Some.ensures in
     let failed : c.end_line.result ≡ Err (Line number kind) = let was = c.in_err-end_line.was in let of = c.from_residual.ensures in grind (arith, common_steps, was, of, is) in
-    faulty_piece c.args.self.now.reader.limits c.loop-end.self.reader.limits text c.args.piece.now so_far.read c.loop-end.rest.now c.in-Some.end.now c.in-Some.after.now number kind so_far.limits so_far.parts cut.0
+    faulty_piece c.args.self.now.reader.judge.limits c.loop-end.self.reader.judge.limits text c.args.piece.now so_far.read c.loop-end.rest.now c.in-Some.end.now c.in-Some.after.now number kind so_far.limits so_far.parts cut.0
     (c.end_line.ensures.fault number kind failed (text ++ so_far.read) (so_far.tells text told))
 
 pub loop-end-smaller : goal.loop-end-smaller
@@ -30,7 +30,7 @@ loop-end-preserved c =
     record {
       read = with_end so_far.read c.in-Some.end.now;
       parts = more_read c.args.piece.now so_far.read c.loop-end.rest.now c.in-Some.end.now c.in-Some.after.now so_far.parts cut.0;
-      tells = λ text told. subst (IsTold new.reader.limits new.reader.line (told_by new.reader) new.unfinished.items) (end_behind text so_far.read c.in-Some.end.now) (c.in_ok-end_line.ensures.tells (text ++ so_far.read) (so_far.tells text told));
+      tells = λ text told. subst (IsTold new.reader.judge.limits new.reader.judge.line (told_by new.reader) new.unfinished.items) (end_behind text so_far.read c.in-Some.end.now) (c.in_ok-end_line.ensures.tells (text ++ so_far.read) (so_far.tells text told));
       ready = c.in_ok-end_line.ensures.ready;
       limits = c.end_line.ensures.limits ∙ so_far.limits;
       countable = omega (arith, so_far.countable, c.in_ok-end_line.ensures.line, lengths c.loop-end.rest.now c.in-Some.end.now c.in-Some.after.now cut.0);
@@ -40,4 +40,4 @@ pub returns-clause-tells : goal.returns-clause-tells
 returns-clause-tells c = λ text told.
     let so_far = c.loop-end.invariant in
     let old = c.loop-end.self in
-    told_piece old.reader.limits old.reader.line (told_by old.reader) old.unfinished.items c.extend_from_slice.new.self.items text c.args.piece.now so_far.read c.loop-end.rest.now so_far.parts (so_far.tells text told) (no_end c.loop-end.rest.now c.in_default.ensures) c.in_ok-extend_from_slice.ensures.items
+    told_piece old.reader.judge.limits old.reader.judge.line (told_by old.reader) old.unfinished.items c.extend_from_slice.new.self.items text c.args.piece.now so_far.read c.loop-end.rest.now so_far.parts (so_far.tells text told) (no_end c.loop-end.rest.now c.in_default.ensures) c.in_ok-extend_from_slice.ensures.items

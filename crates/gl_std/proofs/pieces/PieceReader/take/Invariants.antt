@@ -10,8 +10,8 @@ invariant-loop-end l =
       parts : l.piece ≡ read ++ l.rest;
       tells : (text : List ℕ) → Tells l.initial.self text → Tells l.self (text ++ read);
       ready : IsReady l.self.reader;
-      limits : l.self.reader.limits ≡ l.initial.self.reader.limits;
-      countable : l.self.reader.line + length l.rest ≤ l.initial.self.reader.line + length l.piece;
+      limits : l.self.reader.judge.limits ≡ l.initial.self.reader.judge.limits;
+      countable : l.self.reader.judge.line + length l.rest ≤ l.initial.self.reader.judge.line + length l.piece;
     }
 
 abbrev pub decreases-loop-end : goal.decreases-loop-end

@@ -1,16 +1,43 @@
-use Rattle.std.proofs.Common.{sym, ap, subst, ◌∙◌, arith}
+use Rattle.std.proofs.Common.{sym, ap, ◌∙◌}
+use Rattle.gl_std.specs.Judging.{with_judged}
+use Rattle.gl_std.specs.Listed.{listed}
 use Rattle.gl_std.specs.Reading.{told_by}
-use Rattle.gl_std.specs.Trace.{after_shape, IsTraceOver}
-use Rattle.gl_std.proofs.StepLemmas.{after_line_over}
+use Rattle.gl_std.proofs.ReadingLemmas.{line_ready}
 use Rattle.gl_std.proofs.reader.Reader.take.Goals as goal
 
-pub returns-clause-ready : goal.returns-clause-ready
-returns-clause-ready c =
+pub returns-in-Blank-clause-ready : goal.returns-in-Blank-clause-ready
+returns-in-Blank-clause-ready c =
     let old = c.args.self.now in
-    let new = c.take_shape.new.self in
-    let is = ap (after_shape old.limits old.line (told_by old)) (sym c.shape_of.ensures) ∙ c.in_ok-take_shape.ensures.ok in
-    record {
-      sound = subst (λ limits. IsTraceOver limits (told_by new)) (sym c.take_shape.ensures.limits) (after_line_over old.limits old.line (told_by old) (told_by new) c.args.line.now c.requires.ready.sound is);
-      few_skipped = omega (arith, c.requires.ready.few_skipped, c.take_shape.ensures.few_skipped, c.take_shape.ensures.line);
-      few_stray = omega (arith, c.requires.ready.few_stray, c.take_shape.ensures.few_stray, c.take_shape.ensures.line);
-    }
+    let ready = c.requires.ready in
+    let told = told_by old in
+    let judge = c.take.new.self in
+    line_ready old _ c.args.line.now c.in_ok-take.field-0 ready (c.in_ok-take.ensures.ok told ready.judged) (c.in_ok-take.ensures.judged told ready.judged)
+    (ap (λ j. (with_judged j judge.names told).lists) (sym c.in-Blank.is)) c.in_ok-take.ensures.sound c.take.ensures.limits
+
+pub returns-in-Skipped-clause-ready : goal.returns-in-Skipped-clause-ready
+returns-in-Skipped-clause-ready c =
+    let old = c.args.self.now in
+    let ready = c.requires.ready in
+    let told = told_by old in
+    let judge = c.take.new.self in
+    line_ready old _ c.args.line.now c.in_ok-take.field-0 ready (c.in_ok-take.ensures.ok told ready.judged) (c.in_ok-take.ensures.judged told ready.judged)
+    (ap (λ j. (with_judged j judge.names told).lists) (sym c.in-Skipped.is)) c.in_ok-take.ensures.sound c.take.ensures.limits
+
+pub returns-in-Stray-clause-ready : goal.returns-in-Stray-clause-ready
+returns-in-Stray-clause-ready c =
+    let old = c.args.self.now in
+    let ready = c.requires.ready in
+    let told = told_by old in
+    let judge = c.take.new.self in
+    line_ready old _ c.args.line.now c.in_ok-take.field-0 ready (c.in_ok-take.ensures.ok told ready.judged) (c.in_ok-take.ensures.judged told ready.judged)
+    (ap (λ j. (with_judged j judge.names told).lists) (sym c.in-Stray.is)) c.in_ok-take.ensures.sound c.take.ensures.limits
+
+pub returns-in_ok-put-in-Event-clause-ready : goal.returns-in_ok-put-in-Event-clause-ready
+returns-in_ok-put-in-Event-clause-ready c =
+    let old = c.args.self.now in
+    let ready = c.requires.ready in
+    let told = told_by old in
+    let judge = c.take.new.self in
+    line_ready old _ c.args.line.now c.in_ok-take.field-0 ready (c.in_ok-take.ensures.ok told ready.judged) (c.in_ok-take.ensures.judged told ready.judged)
+    (c.in_ok-put-in-Event.ensures ∙ ap (λ n. listed n old.lists c.in-Event.thread c.in-Event.event) c.threads-threads.ensures ∙ ap (λ j. (with_judged j judge.names told).lists) (sym c.in-Event.is))
+    c.in_ok-take.ensures.sound c.take.ensures.limits

@@ -1,4 +1,4 @@
-use Rattle.gl_std.proofs.reader.Reader.take_shape.Goals as goal
+use Rattle.gl_std.proofs.judge.Judge.take_shape.Goals as goal
 
 pub returns-in-Call-clause-ok : goal.returns-in-Call-clause-ok
 returns-in-Call-clause-ok c = rw c.in-Call.is c.take_call.ensures.ok

@@ -1,0 +1,20 @@
+use Rattle.std.proofs.Common.{sym, ap, subst, ◌∙◌, arith}
+use Rattle.gl_std.specs.Judging.{with_judged}
+use Rattle.gl_std.specs.Trace.{after_shape, IsTraceOver}
+use Rattle.gl_std.proofs.JudgingLemmas.{sound_of}
+use Rattle.gl_std.proofs.StepLemmas.{after_line_over}
+use Rattle.gl_std.proofs.judge.Judge.take.Goals as goal
+
+pub returns-clause-sound : goal.returns-clause-sound
+returns-clause-sound c =
+    let old = c.args.self.now in
+    let new = c.take_shape.new.self in
+    let was = c.requires.sound in
+    let told = with_judged c.in_ok-judged.judged new.names was.told in
+    let is = ap (after_shape old.limits old.line was.told) (sym c.shape_of.ensures) ∙ c.in_ok-judged.ensures.ok was.told was.judged in
+    let over = after_line_over old.limits old.line was.told told c.args.line.now was.sound is in
+    let judged = c.in_ok-judged.ensures.judged was.told was.judged in
+    sound_of _ told (record { names = judged.names; states = judged.states; skipped = judged.skipped; stray = judged.stray })
+    (subst (λ limits. IsTraceOver limits told) (sym c.take_shape.ensures.limits) over)
+    (omega (arith, was.few_skipped, c.take_shape.ensures.few_skipped, c.take_shape.ensures.line))
+    (omega (arith, was.few_stray, c.take_shape.ensures.few_stray, c.take_shape.ensures.line))

@@ -1,0 +1,353 @@
+//! Judging a text line by line. The judge keeps names and what each thread holds, and no events.
+ghost use Rattle.std.specs.Prelude.{◌≡◌, ℕ, ◌+◌, ◌^◌, ◌<◌, ◌≤◌, List, [], ◌∷◌, ◌++◌, All, Ok, Err, Option, OnOk, IfOk, IfSome, length, unwrap_or, vec_len, if◌then◌else◌};
+ghost use Rattle.gl_event.specs.Lawful.{lock_refusal};
+ghost use Rattle.gl_event.specs.declared.events.Event.{Event};
+ghost use Rattle.gl_std.specs.Standings.{AreStanding};
+ghost use Rattle.gl_std.specs.Line.{is_on_thread};
+ghost use Rattle.gl_std.specs.Trace.{event_of, events_of, verdict_of, with_event, with_list, with_lists};
+ghost use Rattle.gl_std.specs.declared.judge.Judged.TheVariants.{Event as Told};
+ghost use Rattle.gl_std.specs.declared.standing.Verdict.TheVariants.{Kept, Stray};
+
+use crate::faults::{ReadFault, StdKind};
+use crate::line::{Operation, Shape, shape_of};
+use crate::names::{Found, Names};
+use crate::standing::{Standing, Verdict};
+use gl_event::{Event, Limits, LocId, LockId, ThreadId};
+use std::alloc::{AllocError, Global};
+
+/// What a line is that isn't at fault.
+#[derive(Clone, Copy, Debug)]
+pub(crate) enum Judged {
+    /// It is empty.
+    Blank,
+    /// Its operation is none that is watched.
+    Skipped,
+    /// It releases a lock that its thread doesn't hold.
+    Stray,
+    /// It tells an event of a thread.
+    Event { thread: ThreadId, event: Event },
+}
+
+/// What is known of the trace of the lines so far, but for the events. It stands for every trace
+/// with these names and counts whose threads hold what it says.
+#[derive(Drop)]
+pub(crate) struct Judge {
+    alloc: Global,
+    limits: Limits,
+    names: Names,
+    standings: Vec<Standing>,
+    // The thread of the latest event, which is likely to be that of the next one.
+    latest: Option<ThreadId>,
+    skipped: u64,
+    stray: u64,
+    line: u64,
+}
+
+impl Judge {
+    ghost use Rattle.gl_event.specs.Bounds.{AreWithinRange};
+    ghost use Rattle.std.specs.Prelude.{false};
+    ghost use Rattle.gl_std.specs.Line.{is_on_itself, shown};
+    ghost use Rattle.gl_std.specs.Standings.{count_of};
+    ghost use Rattle.gl_std.specs.Judging.{with_judged, HasJudged, IsKnown, IsSound};
+    ghost use Rattle.gl_std.specs.Reading.{AreApart};
+    ghost use Rattle.gl_std.specs.Trace.{after_line, after_shape, after_call, found_in, limit_reached, nothing};
+    ghost use Rattle.gl_std.specs.declared.faults.StdKind.{StdKind};
+    ghost use Rattle.gl_std.specs.declared.trace.Trace.{Trace};
+
+    /// No line was judged.
+    pub(crate) fn new(alloc: Global, limits: Limits) -> Judge
+        ensures judged { HasJudged result nothing }
+        ensures sound { IsSound result }
+        ensures limits { result.limits ≡ limits }
+        ensures line { result.line ≡ 1 }
+    {
+        Judge {
+            alloc,
+            limits,
+            names: Names::new(alloc),
+            standings: Vec::new(alloc),
+            latest: None,
+            skipped: 0,
+            stray: 0,
+            line: 1,
+        }
+    }
+
+    /// What the next line is. After a fault the judge is of no use.
+    pub(crate) fn take(&mut self, line: &[u8]) -> Result<Judged, ReadFault>
+        requires sound { IsSound self.old }
+        requires countable { self.old.line + 1 < 2 ^ 64 }
+        ensures ok { IfOk result (λ judged. (told : Trace) → HasJudged self.old told → after_line self.old.limits self.old.line told line.now ≡ Ok (with_judged judged self.new.names told)) }
+        ensures judged { IfOk result (λ judged. (told : Trace) → HasJudged self.old told → HasJudged self.new (with_judged judged self.new.names told)) }
+        ensures known { IfOk result (λ judged. IsKnown judged (length self.new.names.threads)) }
+        ensures fault { (number : ℕ) (kind : StdKind) → result ≡ Err (ReadFault.Line number kind) → (told : Trace) → HasJudged self.old told
+            → after_line self.old.limits self.old.line told line.now ≡ Err (ReadFault.Line number kind) }
+        ensures sound { OnOk result (IsSound self.new) }
+        ensures limits { self.new.limits ≡ self.old.limits }
+        ensures line { OnOk result (self.new.line ≡ self.old.line + 1) }
+    {
+        let judged = self.take_shape(shape_of(line))?;
+        self.line += 1;
+        Ok(judged)
+    }
+
+    // `take`, for a line that says this.
+    fn take_shape(&mut self, shape: Shape<'_>) -> Result<Judged, ReadFault>
+        requires sound { IsSound self.old }
+        requires apart { AreApart (shown shape) }
+        requires countable { self.old.line + 1 < 2 ^ 64 }
+        ensures ok { IfOk result (λ judged. (told : Trace) → HasJudged self.old told → after_shape self.old.limits self.old.line told (shown shape.entry) ≡ Ok (with_judged judged self.new.names told)) }
+        ensures judged { IfOk result (λ judged. (told : Trace) → HasJudged self.old told → HasJudged self.new (with_judged judged self.new.names told)) }
+        ensures known { IfOk result (λ judged. IsKnown judged (length self.new.names.threads)) }
+        ensures fault { (number : ℕ) (kind : StdKind) → result ≡ Err (ReadFault.Line number kind) → (told : Trace) → HasJudged self.old told
+            → after_shape self.old.limits self.old.line told (shown shape.entry) ≡ Err (ReadFault.Line number kind) }
+        ensures limits { self.new.limits ≡ self.old.limits }
+        ensures line { self.new.line ≡ self.old.line }
+        ensures few_skipped { self.new.skipped ≤ self.old.skipped + 1 }
+        ensures few_stray { self.new.stray ≤ self.old.stray + 1 }
+    {
+        match shape {
+            Shape::Blank => Ok(Judged::Blank),
+            Shape::Bad(kind) => Err(ReadFault::Line {
+                line: self.line,
+                kind,
+            }),
+            Shape::Other => {
+                self.skipped += 1;
+                Ok(Judged::Skipped)
+            }
+            Shape::Call {
+                operation,
+                thread,
+                operand,
+                location,
+            } => self.take_call(operation, thread, operand, location),
+        }
+    }
+
+    // `take`, for a line that tells an event.
+    fn take_call(
+        &mut self,
+        operation: Operation,
+        thread: &[u8],
+        operand: &[u8],
+        location: &[u8],
+    ) -> Result<Judged, ReadFault>
+        requires sound { IsSound self.old }
+        requires apart { is_on_itself operation thread.now operand.now ≡ false }
+        requires countable { self.old.line + 1 < 2 ^ 64 }
+        ensures ok { IfOk result (λ judged. (told : Trace) → HasJudged self.old told → after_call self.old.limits self.old.line told operation thread.now operand.now location.now ≡ Ok (with_judged judged self.new.names told)) }
+        ensures judged { IfOk result (λ judged. (told : Trace) → HasJudged self.old told → HasJudged self.new (with_judged judged self.new.names told)) }
+        ensures known { IfOk result (λ judged. IsKnown judged (length self.new.names.threads)) }
+        ensures fault { (number : ℕ) (kind : StdKind) → result ≡ Err (ReadFault.Line number kind) → (told : Trace) → HasJudged self.old told
+            → after_call self.old.limits self.old.line told operation thread.now operand.now location.now ≡ Err (ReadFault.Line number kind) }
+        ensures limits { self.new.limits ≡ self.old.limits }
+        ensures line { self.new.line ≡ self.old.line }
+        ensures few_skipped { self.new.skipped ≡ self.old.skipped }
+        ensures few_stray { self.new.stray ≤ self.old.stray + 1 }
+    {
+        let alloc = self.alloc;
+        let found = self
+            .names
+            .find(self.latest, operation, thread, operand, location);
+        self.latest = found.thread;
+        let limit = self.limit_reached(operation, &found);
+        let number = self.names.operand_or_next(operation, &found);
+        let loc = self.names.loc_or_next(&found);
+        let own = self.names.thread_or_next(&found);
+        let event = event_of(operation, number, loc);
+        match stand(&mut self.standings, operation, &found, event, limit)? {
+            Verdict::Kept => {
+                self.names
+                    .tell(alloc, operation, &found, thread, operand, location)?;
+                Ok(kept_event(&own, &event))
+            }
+            Verdict::Stray => {
+                self.stray += 1;
+                Ok(Judged::Stray)
+            }
+            Verdict::Fault(kind) => Err(ReadFault::Line {
+                line: self.line,
+                kind,
+            }),
+        }
+    }
+
+    // The first limit that doesn't allow an event of these names.
+    fn limit_reached(&self, operation: Operation, found: &Found) -> Option<StdKind>
+        requires { IfSome found.now.thread (λ i. i < length self.now.standings.items) }
+        ensures fault { result ≡ limit_reached self.now.limits self.now.names (count_of self.now.standings.items found.now.thread) operation found.now }
+        ensures within { AreWithinRange self.now.limits }
+    {
+        let threads = u64::from(self.names.threads()) + found.new_threads(operation);
+        if threads > u64::from(self.limits.threads()) {
+            return Some(StdKind::TooManyThreads);
+        }
+        if self.events(found.thread) >= self.limits.events() {
+            return Some(StdKind::TooManyEvents);
+        }
+        let locks = u64::from(self.names.locks()) + found.new_locks(operation);
+        if locks > u64::from(self.limits.names()) {
+            return Some(StdKind::TooManyNames);
+        }
+        let locs = u64::from(self.names.locs()) + u64::from(found.loc.is_none());
+        if locs > u64::from(self.limits.names()) {
+            return Some(StdKind::TooManyNames);
+        }
+        None
+    }
+
+    // How many events the thread has.
+    fn events(&self, thread: Option<ThreadId>) -> u32
+        requires { IfSome thread (λ i. i < length self.now.standings.items) }
+        ensures { result ≡ count_of self.now.standings.items thread }
+    {
+        match thread {
+            Some(number) => self.standings[number.number() as usize].events(),
+            None => 0,
+        }
+    }
+
+    /// The names, how many lines were skipped, and how many were strays.
+    pub(crate) fn into_parts(self) -> (Names, u64, u64)
+        ensures { result ≡ (self.names, self.skipped, self.stray) }
+    {
+        (self.names, self.skipped, self.stray)
+    }
+
+    /// How many threads have names.
+    pub(crate) fn threads(&self) -> usize
+        ensures { result ≡ length self.now.names.threads }
+    {
+        self.names.threads() as usize
+    }
+}
+
+// The line that tells this event of this thread.
+fn kept_event(thread: &ThreadId, event: &Event) -> Judged
+    ensures { result ≡ Told thread.now event.now }
+{
+    Judged::Event {
+        thread: *thread,
+        event: *event,
+    }
+}
+
+// The event of an operation on the lock or thread with this number.
+fn event_of(operation: Operation, operand: u32, loc: LocId) -> Event
+    ensures { result ≡ event_of operation operand loc }
+{
+    match operation {
+        Operation::Acquire(mode) => Event::Acquire {
+            lock: LockId::new(operand),
+            mode,
+            loc,
+        },
+        Operation::Release(mode) => Event::Release {
+            lock: LockId::new(operand),
+            mode,
+            loc,
+        },
+        Operation::TryAcquire(mode) => Event::TryAcquire {
+            lock: LockId::new(operand),
+            mode,
+            loc,
+        },
+        Operation::Fork => Event::Fork {
+            thread: ThreadId::new(operand),
+            loc,
+        },
+        Operation::Join => Event::Join {
+            thread: ThreadId::new(operand),
+            loc,
+        },
+    }
+}
+
+// Lets the thread of the event stand after it, and a new thread that it forks or joins after nothing,
+// unless the held locks or `limit` refuse the event.
+fn stand(
+    standings: &mut Vec<Standing>,
+    operation: Operation,
+    found: &Found,
+    event: Event,
+    limit: Option<StdKind>,
+) -> Result<Verdict, AllocError>
+    requires known { IfSome found.now.thread (λ i. i < vec_len standings.old) }
+    requires fits { All (λ s. s.events + 1 < 2 ^ 32) standings.old.items }
+    ensures verdict { IfOk result (λ v. (lists : List (List Event)) → AreStanding lists standings.old.items → v ≡ verdict_of (lock_refusal (events_of lists found.now.thread) event) limit) }
+    ensures kept { result ≡ Ok Kept → (lists : List (List Event)) → AreStanding lists standings.old.items → AreStanding (with_lists lists operation found.now event) standings.new.items }
+    ensures stray { result ≡ Ok Stray → standings.new.items ≡ standings.old.items }
+{
+    match stand_own(standings, found, event, limit)? {
+        Verdict::Kept => {
+            add_partner(standings, operation, found)?;
+            Ok(Verdict::Kept)
+        }
+        Verdict::Stray => Ok(Verdict::Stray),
+        Verdict::Fault(kind) => Ok(Verdict::Fault(kind)),
+    }
+}
+
+// `stand`, for the acting thread, known or new.
+fn stand_own(
+    standings: &mut Vec<Standing>,
+    found: &Found,
+    event: Event,
+    limit: Option<StdKind>,
+) -> Result<Verdict, AllocError>
+    requires known { IfSome found.now.thread (λ i. i < vec_len standings.old) }
+    requires fits { All (λ s. s.events + 1 < 2 ^ 32) standings.old.items }
+    ensures verdict { IfOk result (λ v. (lists : List (List Event)) → AreStanding lists standings.old.items → v ≡ verdict_of (lock_refusal (events_of lists found.now.thread) event) limit) }
+    ensures kept { result ≡ Ok Kept → (lists : List (List Event)) → AreStanding lists standings.old.items → AreStanding (with_event lists found.now.thread event) standings.new.items }
+    ensures stray { result ≡ Ok Stray → standings.new.items ≡ standings.old.items }
+{
+    match found.thread {
+        Some(number) => {
+            let standing = &mut standings[number.number() as usize];
+            Ok(standing.take(event, limit))
+        }
+        None => stand_first(standings, event, limit),
+    }
+}
+
+// Lets a new thread that the event forks or joins stand after nothing.
+fn add_partner(
+    standings: &mut Vec<Standing>,
+    operation: Operation,
+    found: &Found,
+) -> Result<(), AllocError>
+    ensures { OnOk result ((lists : List (List Event)) → AreStanding lists standings.old.items → AreStanding (if is_on_thread operation then with_list lists found.now.operand else lists) standings.new.items) }
+{
+    if !operation.is_on_thread() {
+        return Ok(());
+    }
+    match found.operand {
+        Some(_) => Ok(()),
+        None => {
+            standings.push(Standing::new())?;
+            Ok(())
+        }
+    }
+}
+
+// `stand_own`, for the first event of a thread.
+fn stand_first(
+    standings: &mut Vec<Standing>,
+    event: Event,
+    limit: Option<StdKind>,
+) -> Result<Verdict, AllocError>
+    ensures verdict { IfOk result (λ v. v ≡ verdict_of (lock_refusal [] event) limit) }
+    ensures kept { result ≡ Ok Kept → (lists : List (List Event)) → AreStanding lists standings.old.items → AreStanding (lists ++ (event ∷ []) ∷ []) standings.new.items }
+    ensures stray { result ≡ Ok Stray → standings.new.items ≡ standings.old.items }
+{
+    let mut standing = Standing::new();
+    match standing.take(event, limit) {
+        Verdict::Kept => {
+            standings.push(standing)?;
+            Ok(Verdict::Kept)
+        }
+        Verdict::Stray => Ok(Verdict::Stray),
+        Verdict::Fault(kind) => Ok(Verdict::Fault(kind)),
+    }
+}
