@@ -19,7 +19,9 @@
 //!
 //! The steps are defined in `specs/Machine.antt` and `specs/Dispatch.antt`, and what a drained
 //! machine reports in `specs/Headline.antt`. [`every_schedule_keeps_order`] and
-//! [`every_drained_schedule_reports_what_was_taken`] say it for all lists of steps.
+//! [`every_drained_schedule_reports_what_was_taken`] say it for all lists of steps. For states that
+//! come about in another way, [`every_step_keeps_a_state_sound`] and
+//! [`sound_drained_states_report_what_was_taken`] say what has to be shown of them.
 #![tactic(auto)]
 
 mod dispatcher;

@@ -134,7 +134,8 @@ impl World {
     }
 
     /// Makes one step, and answers what it did; `Memory` only where a list had to grow for a step
-    /// that is enabled, and could not. Nothing changes then.
+    /// that is enabled, and could not. Nothing changes then. A wish that is passed over and a note
+    /// that is refused take no memory.
     ///
     /// A step looks through the at most 64 locks that the thread holds, and appends to lists. The pull
     /// of an acquire takes a step for each pair of held locks, and a worker's step a look-up among the
