@@ -1,7 +1,7 @@
 //! Edges through feeds, in one thread and in several.
 ghost use Rattle.std.specs.Prelude.{◌≡◌, IfSome};
 
-use super::{at, edge};
+use super::{are_as_wanted, at, edge};
 use crate::{Gate, Gone, Inlet, Open, Outlet, Sent, Served, feed, merge, serve};
 use gl_edges::{Edge, Sample};
 use gl_event::{MAX_RING, Memory};
@@ -210,6 +210,14 @@ impl Meeting {
             alone: AtomicU64::new(0),
         }
     }
+
+    // How often each worker passed.
+    fn passes(&self) -> (u64, u64) {
+        (
+            self.first.load(Ordering::SeqCst),
+            self.second.load(Ordering::SeqCst),
+        )
+    }
 }
 
 impl Gate for Meeting {
@@ -268,18 +276,15 @@ fn workers_at_once(rt: HostRuntime) -> Result<(), Fail> {
 
     let gate = Meeting::new();
     let (first, second) = work_at_once(&rt, alloc, first, second, &gate);
-    assert!(rt; gate.alone.load(Ordering::SeqCst) == 0);
-    assert!(rt; gate.first.load(Ordering::SeqCst) == 1);
-    assert!(rt; gate.second.load(Ordering::SeqCst) == 1);
+    assert!(rt; gate.passes() == (1, 1));
     assert!(rt; gate.passed.load(Ordering::SeqCst) == 1_001);
+    assert!(rt; gate.alone.load(Ordering::SeqCst) == 0);
 
     let first = first.settle(one).expect(&rt, "the end mark came");
     let second = second.settle(two).expect(&rt, "the end mark came");
     assert!(rt; first.len() == 1);
     assert!(rt; second.len() == 1);
     let list = merge(alloc, vec![in alloc; first, second]?)?;
-    assert!(rt; list.entries().len() == 2);
-    assert!(rt; list.entries()[0] == (edge(alloc, 0, 2, 3)?, at(4)));
-    assert!(rt; list.entries()[1] == (edge(alloc, 1, 3, 2)?, at(5)));
+    assert!(rt; are_as_wanted(list.entries(), &[(2, 4), (3, 5)]));
     Ok(())
 }
