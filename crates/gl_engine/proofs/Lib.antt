@@ -2,3 +2,4 @@ pub mod Notes
 pub mod Sides
 pub mod Opening
 pub mod Agreeing
+pub mod Unpulled
