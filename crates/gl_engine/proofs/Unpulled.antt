@@ -1,10 +1,10 @@
 -- Pulls that take no note off a lane.
-use Rattle.std.proofs.Common.{◌≡◌, ℕ, zero, suc, List, [], ◌∷◌, set, Option, Some, None, Result, Ok, Err, refl, sym, ap, ◌∙◌, ◌⊎◌, inl, inr}
+use Rattle.std.proofs.Common.{◌≡◌, ℕ, zero, suc, List, [], ◌∷◌, set, Some, None, Result, Ok, Err, refl, sym, ap, ◌∙◌, inl, inr}
 use Rattle.std.specs.Prelude.{slice_get}
 use Rattle.gl_event.specs.Bounds.{Bounds}
 use Rattle.gl_intake.specs.declared.notes.Refused.{Refused}
 use Rattle.gl_world.proofs.Lists.{same_some}
-use Rattle.gl_engine.specs.Collecting.{Collecting, Pulling, Side, side_of, with_side, IsSidePull, IsPull, UnpulledIsUnchanged}
+use Rattle.gl_engine.specs.Collecting.{Collecting, Pulling, Side, side_of, with_side, IsSidePull, UnpulledIsUnchanged}
 use Rattle.gl_engine.specs.declared.pulled.Pulled.{Pulled}
 use Rattle.gl_engine.specs.declared.pulled.Pulled.TheVariants.{Empty, Event, Ended}
 use Rattle.gl_engine.specs.declared.pulled.PullFault.{PullFault}
