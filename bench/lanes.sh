@@ -5,7 +5,7 @@
 #
 # BENCH_DIR   folder for a copy of the crates, in which bench/lanes is proved, built and run   (/tmp/goodlock-bench)
 #
-# The first line is of one thread that records 50,000 events and then pulls them, 40 times over, and of 2,000,000 times
+# The first line is of one thread that records 1,000 events and then pulls them, 2,000 times over, and of 2,000,000 times
 # locking and unlocking a mutex. The other lines are of two threads that run at once. It needs rt on PATH.
 set -eu
 

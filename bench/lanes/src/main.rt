@@ -13,10 +13,10 @@ use std::thread::Threads;
 use std::time::{Clock, Duration, Instant};
 
 // Events that are recorded, and then pulled, in one go.
-const BATCH: u32 = 50_000;
+const BATCH: u32 = 1_000;
 
 // How many goes.
-const BATCHES: u32 = 40;
+const BATCHES: u32 = 2_000;
 
 // Events of the running pair of threads.
 const EVENTS: u32 = 2_000_000;
@@ -84,7 +84,7 @@ fn pull_soon(collector: &mut Collector) -> bool
 
 // The time that recording and pulling took, in batches of one thread; nothing where something failed.
 fn alternating<R: Clock + AllocGlobal>(rt: &R) -> Option<(Duration, Duration)> {
-    let limits = Limits::new(1, 65_536, 4_000_000_000, 1).ok()?;
+    let limits = Limits::new(1, 1_024, 4_000_000_000, 1).ok()?;
     let (mut recorders, mut collector) = open(rt.alloc(), 1, &limits).ok()?;
     let mut recorder = recorders.pop()?;
     let (mut recording, mut pulling) = (Duration::ZERO, Duration::ZERO);
