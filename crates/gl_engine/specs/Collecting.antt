@@ -121,3 +121,10 @@ pub record IsPull (old : Collecting) (thread : ℕ) (row : Pulling) (answer : Re
   pub side : Side
   pub tells : IsSidePull old.limits thread (side_of old row) answer side
   pub moved : new ≡ with_side old thread side
+
+-- where a lane is broken, the answer is that it is; and where it is, or where a pull finds no note or no memory, nothing changes
+pub record UnpulledIsUnchanged : Type 0 where
+  pub broken : (old : Collecting) (thread : ℕ) (row : Pulling) (answer : Result Pulled PullFault) (new : Collecting) (why : Refused) → slice_get old.rows thread ≡ Some row → row.broken ≡ Some why
+      → IsPull old thread row answer new → (answer ≡ Err (Broken why)) × (new ≡ old)
+  pub empty : (old : Collecting) (thread : ℕ) (row : Pulling) (new : Collecting) → slice_get old.rows thread ≡ Some row → IsPull old thread row (Ok Empty) new → new ≡ old
+  pub memory : (old : Collecting) (thread : ℕ) (row : Pulling) (new : Collecting) → slice_get old.rows thread ≡ Some row → IsPull old thread row (Err Memory) new → new ≡ old

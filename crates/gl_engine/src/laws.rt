@@ -1,4 +1,5 @@
 //! The laws of running calls, each the contract of a function that does nothing.
+ghost use Rattle.gl_engine.specs.Collecting.{UnpulledIsUnchanged};
 ghost use Rattle.gl_engine.specs.Steps.{RecordIsTake, CloseIsEnd, PullIsPull};
 
 /// **What a running call does is a step of the core's machine.** An event is recorded as the machine's
@@ -11,4 +12,10 @@ pub fn running_calls_are_steps()
     ensures record { RecordIsTake }
     ensures close { CloseIsEnd }
     ensures pull { PullIsPull }
+{}
+
+/// A pull that takes no note off the lane changes nothing, but that a refused note breaks the lane; and
+/// a broken lane answers the same to every later pull.
+pub fn unpulled_is_unchanged()
+    ensures { UnpulledIsUnchanged }
 {}

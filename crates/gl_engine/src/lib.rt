@@ -1,23 +1,33 @@
 //! Sessions: recorders in running threads, and the collector of what they record.
 //!
-//! [`open`] makes a recorder for each thread, to be moved to it, and one collector. A thread records
-//! its events one by one and closes; the collector pulls them in between or later, and reports.
+//! [`open`] makes a recorder for each thread, to be moved to it, and one collector:
 //!
 //! ```text
-//! let (recorders, mut collector) = open(alloc, 7, &limits)?;
-//! let place = recorder.record(event)?;             // in each thread: the event's place
-//! let receipt = recorder.close()?;                 // the thread records no more
-//! while collector.pull(thread)? != Pulled::Empty { .. }
-//! let report = collector.report_so_far(&query)?;   // of the events collected so far
+//! let (recorders, mut collector) = open(alloc, 7, &Limits::new(2, 256, 1_000_000, 1_000)?)?;
+//!
+//! // in each thread, with its recorder
+//! recorder.record(Event::Acquire { lock, mode, loc })?;      // its place; Full where the lane has no room
+//! recorder.record_wait(&rt, Event::Release { lock, mode, loc })?;
+//! let receipt = recorder.close()?;                            // the thread records no more
+//!
+//! // where they are collected
+//! match collector.pull(thread)? {
+//!     Pulled::Event { place } => ..                           // it stands in the thread's log now
+//!     Pulled::Ended { count } => ..                           // the thread has closed
+//!     Pulled::Empty => ..                                     // nothing is seen in its lane
+//! }
+//! let report = collector.report_so_far(&query)?;              // of all that was pulled
 //! ```
 //!
 //! [`Recorder::record`], [`Recorder::close`] and [`Collector::pull`] never wait for another thread: a
-//! full lane hands the event back, and an empty one answers [`Pulled::Empty`]. Only
-//! [`Recorder::record_wait`] waits for room. Recording takes no memory; a pull makes every growth
+//! full lane hands the event or the recorder back, and an empty one answers [`Pulled::Empty`]. Only
+//! [`Recorder::record_wait`] waits, for room. Recording takes no memory; a pull makes every growth
 //! before it pops, so that no event is lost where memory is refused.
 //!
-//! Each call is a step of the machine that gl_world defines, and is said in its words: `record` takes,
-//! `close` ends, `pull` pulls.
+//! What each call does is a step of the machine that gl_world defines, and is said in its words
+//! ([`running_calls_are_steps`]): a recorder takes and ends, the collector pulls. That `Full` comes only
+//! from a full lane and `Empty` only from an empty one, and that a recorder which closes while its
+//! collector is there gets a receipt, is tested and not proved.
 #![tactic(auto)]
 
 mod collector;
@@ -38,7 +48,7 @@ mod throw;
 pub use collector::Collector;
 pub use faults::{RunFault, SettleFault};
 pub use gathered::Gathered;
-pub use laws::running_calls_are_steps;
+pub use laws::{running_calls_are_steps, unpulled_is_unchanged};
 pub use pulled::{PullFault, Pulled};
 pub use receipt::Receipt;
 pub use recorder::{CloseFault, RecordFault, Recorder};

@@ -5,6 +5,7 @@ use crate::{CloseFault, Collector, Pulled, Receipt, RecordFault, Recorder, open}
 use gl_cycles::{Report, ReportFault};
 use gl_event::{Event, Limits, LocId, LockId, LockMode, Refusal, ThreadId};
 use gl_filters::{Mode, Query};
+use std::sync::Wait;
 use std::test::Fail;
 use std::thread;
 
@@ -279,5 +280,63 @@ fn ten_thousand_events(rt: HostRuntime) -> Result<(), Fail> {
     assert_eq!(rt; receipt.taken(), EVENTS);
     assert!(rt; in_order);
     assert!(rt; has_all(collector.log(ThreadId::new(0))));
+    Ok(())
+}
+
+// Records the events, waiting for room, and closes.
+fn record_and_close<R: Wait>(rt: &R, recorder: Recorder, events: &[Event]) -> Option<Receipt> {
+    let mut recorder = recorder;
+    for event in events {
+        if recorder.record_wait(rt, *event).is_err() {
+            return None;
+        }
+    }
+    close_soon(recorder)
+}
+
+// Pulls the thread's notes until its end mark came. Whether it came.
+fn pulls_to_end(collector: &mut Collector, number: u32) -> bool
+    requires known { number < collector.old.limits.threads }
+    ensures limits { collector.new.limits ≡ collector.old.limits }
+{
+    for _ in 0..TRIES {
+        match collector.pull(ThreadId::new(number)) {
+            Ok(Pulled::Ended { .. }) => return true,
+            Ok(Pulled::Event { .. }) => {}
+            Ok(Pulled::Empty) => thread::yield_now(),
+            Err(_) => return false,
+        }
+    }
+    false
+}
+
+fn pull_both(collector: &mut Collector) -> bool
+    requires known { collector.old.limits.threads ≡ 2 }
+    ensures limits { collector.new.limits ≡ collector.old.limits }
+{
+    pulls_to_end(collector, 1) && pulls_to_end(collector, 0)
+}
+
+// A whole session: two running threads that take two locks in opposite orders, while a third one
+// collects what they record and then reports it.
+#[test]
+fn opposite_order(rt: HostRuntime) -> Result<(), Fail> {
+    let (mut recorders, mut collector) = open(rt.alloc(), 7, &Limits::new(2, 1, 100, 100)?)?;
+    let second = recorders.pop().expect(&rt, "a recorder");
+    let first = recorders.pop().expect(&rt, "a recorder");
+    let ((one, other), collected) = thread::join(
+        &rt,
+        || {
+            thread::join(
+                &rt,
+                move || record_and_close(&rt, first, &[acquire(0, 1), acquire(1, 2)]),
+                move || record_and_close(&rt, second, &[acquire(1, 3), acquire(0, 4)]),
+            )
+        },
+        || pull_both(&mut collector),
+    );
+    assert!(rt; collected && one.is_some() && other.is_some());
+    let query = Query::new(Mode::Full, 4, 1_000)?;
+    assert_eq!(rt; cycles(&collector.report_so_far(&query)), Some((1, false)));
     Ok(())
 }

@@ -1,0 +1,21 @@
+#!/bin/bash
+# Times `record` and `pull` for an event, beside a mutex that no other thread wants.
+#
+#     bench/lanes.sh
+#
+# BENCH_DIR   folder for a copy of the crates, in which bench/lanes is proved, built and run   (/tmp/goodlock-bench)
+#
+# The first line is of one thread that records 1,000 events and then pulls them, 2,000 times over, and of 2,000,000 times
+# locking and unlocking a mutex. The other lines are of two threads that run at once. It needs rt on PATH.
+set -eu
+
+top=$(cd "$(dirname "$0")/.." && pwd)
+copy=${BENCH_DIR:-/tmp/goodlock-bench}/lanes
+mkdir -p "$copy"
+cp -a "$top/crates" "$top/HANDLES" "$copy"
+rm -rf "$copy/crates/lanes/src" "$copy/crates/lanes/proofs"
+mkdir -p "$copy/crates/lanes"
+cp -a "$top/bench/lanes/src" "$top/bench/lanes/proofs" "$copy/crates/lanes"
+{ cat "$top/crates.txt"; echo "lanes: gl_engine gl_event"; } >"$copy/crates.txt"
+cd "$copy/crates/lanes"
+rt run
