@@ -7,6 +7,7 @@ ghost use Rattle.gl_event.specs.declared.events.Event.{Event};
 use crate::components::{Step, components};
 use crate::found::{Cycles, Found, Report, ReportFault};
 use crate::neighbours::Sought;
+use crate::parallel::search_parallel;
 use crate::paths::search;
 use crate::reports::report_over;
 use crate::trims::{Trimmed, trim};
@@ -630,5 +631,36 @@ fn no_way_back(rt: HostRuntime) -> Result<(), Fail> {
     sought.len = 16;
     sought.mode = Mode::Guarded;
     assert!(rt; sought.kept_edges(alloc)?.as_slice() == none.as_slice());
+    Ok(())
+}
+
+// Cycles that begin with several edges, of which some are asked for: the same on several threads.
+#[test]
+fn parallel_as_search(rt: HostRuntime) -> Result<(), Fail> {
+    let alloc = rt.alloc();
+    let mut lists = Vec::new(alloc);
+    for _ in 0..3 {
+        lists.push(vec![in alloc; acq(0, 1), acq(1, 2)]?)?;
+    }
+    for _ in 0..3 {
+        lists.push(vec![in alloc; acq(1, 3), acq(0, 4)]?)?;
+    }
+    assert!(rt; are_lawful(&lists));
+    let edges = edges_of(alloc, &lists)?;
+    let order = Order::of(alloc, &lists)?;
+    let first = search_parallel(&rt, alloc, &edges, &order, &Query::new(Mode::Full, 4, 1)?)?;
+    assert!(rt; are_listed(first.cycles.as_slice(), &[&[0, 3]]));
+    assert!(rt; first.more);
+    let four = search_parallel(&rt, alloc, &edges, &order, &Query::new(Mode::Full, 4, 4)?)?;
+    assert!(rt;
+        are_listed(
+            four.cycles.as_slice(),
+            &[&[0, 3], &[0, 4], &[0, 5], &[1, 3]]
+        )
+    );
+    assert!(rt; four.more);
+    let nine = search_parallel(&rt, alloc, &edges, &order, &Query::new(Mode::Full, 4, 9)?)?;
+    assert!(rt; nine.cycles.as_slice().len() == 9);
+    assert!(rt; !nine.more);
     Ok(())
 }
