@@ -39,7 +39,7 @@ module _ (before : Segment → Segment → Bool) (mode : Mode) (len : ℕ) (edge
         by i there false flag below is_e = absurd (keeps.left_out i e there flag cycle among is (j, below, is_e))
 
     module _ (number : ℕ → ℕ) (ends : List Ends) (are : AreEnds number edges ends) (labels : List ℕ) (x : ℕ) (shows : ShowsNoWay before mode len edges kept ends labels x)
-      (f : Edge) (at : slice_get edges x ≡ Some f) (k : ℕ) (here : slice_get cycle k ≡ Some f) where
+        (f : Edge) (at : slice_get edges x ≡ Some f) (k : ℕ) (here : slice_get cycle k ≡ Some f) where
       abbrev L : ℕ → ℕ
       L lock = label_at labels (number lock)
 

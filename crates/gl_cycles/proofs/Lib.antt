@@ -13,3 +13,4 @@ pub mod Back
 pub mod Beside
 pub mod Removing
 pub mod Surviving
+pub mod Joining

@@ -1,7 +1,8 @@
 -- What a search of paths relies on.
-use Rattle.std.specs.Prelude.{◌≤◌}
+use Rattle.std.specs.Prelude.{ℕ, ◌≤◌, ◌-◌, List, [], ◌∷◌, take}
 use Rattle.gl_segments.specs.Clocks.{is_before}
 use Rattle.gl_cycles.specs.AllCycles.{edges_of_table}
+use Rattle.gl_cycles.specs.Blocks.{block}
 use Rattle.gl_cycles.specs.Followers.{IsIndexOf}
 use Rattle.gl_cycles.specs.OffCycles.{KeepsCycles}
 use Rattle.gl_cycles.specs.declared.paths.Searcher.{Searcher}
@@ -15,3 +16,7 @@ pub record IsReady (s : Searcher) : Type 0 where
   pub kept : KeepsCycles (is_before s.order.now) s.mode s.len (edges_of_table s.table.now) s.kept.items
   -- and the index leads through the rest
   pub indexed : IsIndexOf (edges_of_table s.table.now) s.kept.items s.index
+
+-- the cycles that begin with the edge at a position, up to the cap
+abbrev pub first_from : Searcher → ℕ → List (List ℕ)
+first_from s root = take s.cap (block (is_before s.order.now) s.mode (edges_of_table s.table.now) (s.len - 1) (root ∷ []))

@@ -8,9 +8,14 @@
 //! That it has exactly the cycles, and in which order, is what [`cycles_are_all`],
 //! [`cycles_ascend`] and [`cycles_ascend_by_edges`] say.
 //!
-//! The search leaves out edges that lie on no loop of the lock-order graph. That these are in no
-//! cycle is seen by ranks of locks which fall along no edge: round a loop they stay the same, as
-//! [`cycles_are_level`] says. How the ranks are found is not proved; they are checked.
+//! The search leaves out edges that are in no cycle. Some lie on no loop of the lock-order graph, which
+//! is seen by ranks of locks that fall along no edge: round a loop they stay the same, as
+//! [`cycles_are_level`] says. Others have no way back: from the lock that such an edge wants no walk of
+//! edges that go with it leads to the lock that it holds. How ranks and ways are found is not proved;
+//! what is found is checked.
+//!
+//! [`trim`] takes away edges that nothing may follow in a cycle, or that may follow nothing, one by one
+//! in a fixed order. No edge of a cycle is among them, as [`cycles_survive_trims`] says.
 #![tactic(auto)]
 
 mod closers;
@@ -21,6 +26,7 @@ mod laws;
 mod loops;
 mod neighbours;
 mod numbers;
+mod parallel;
 mod paths;
 mod ranks;
 mod reports;
@@ -34,6 +40,7 @@ pub use laws::{
     cycles_are_all, cycles_are_level, cycles_ascend, cycles_ascend_by_edges, cycles_survive_trims,
     reports_are_unique,
 };
+pub use parallel::search_parallel;
 pub use paths::search;
 pub use reports::report_over;
 pub use trims::{Trimmed, trim};

@@ -24,6 +24,7 @@ use std::alloc::Global;
 
 // How many times all edges are looked at, and how many links of ways in all.
 const ROUNDS: usize = 1_000;
+
 const BUDGET: usize = 100_000_000;
 
 /// What is looked for: cycles of a mode, of so many edges at most.

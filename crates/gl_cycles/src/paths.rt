@@ -1,12 +1,12 @@
 //! The search for cycles: paths of edges that lead on from each other, grown from each edge.
-ghost use Rattle.std.specs.Prelude.{◌≡◌, ◌+◌, ◌-◌, ◌<◌, ◌≤◌, [], ◌∷◌, ◌++◌, ◌↔◌, true, false, List, Some, length, map, take, slice_get, nat_le, if◌then◌else◌, IsTrue, IfOk, OnOk, All};
+ghost use Rattle.std.specs.Prelude.{◌≡◌, ◌+◌, ◌-◌, ◌<◌, ◌≤◌, [], ◌∷◌, ◌++◌, ◌↔◌, true, false, ℕ, List, Some, length, map, take, slice_get, nat_le, if◌then◌else◌, IsTrue, IfOk, OnOk, All};
 ghost use Rattle.gl_cycles.specs.declared.paths.TheConstants.{PATH};
 ghost use Rattle.gl_segments.specs.Clocks.{is_before};
 ghost use Rattle.std.specs.List.{list_all};
 ghost use Rattle.gl_filters.specs.Test.{can_follow, goes_with, leads_back, is_path};
 ghost use Rattle.gl_cycles.specs.AllCycles.{edges_of_table, picked, all_cycles};
 ghost use Rattle.gl_cycles.specs.Blocks.{block};
-ghost use Rattle.gl_cycles.specs.Searching.{IsReady};
+ghost use Rattle.gl_cycles.specs.Searching.{IsReady, first_from};
 ghost use Rattle.gl_edges.specs.declared.edge.Edge.{Edge};
 
 use crate::followers::Followers;
@@ -24,8 +24,8 @@ const PATH: usize = 16;
 
 // What a search looks at, and when it has enough.
 #[derive(Drop)]
-struct Searcher<'a> {
-    table: &'a [(Edge, Sample)],
+pub(crate) struct Searcher<'a> {
+    pub(crate) table: &'a [(Edge, Sample)],
     order: &'a Order,
     mode: Mode,
     // which edges may lie on a loop
@@ -34,7 +34,43 @@ struct Searcher<'a> {
     // how many edges a cycle may have
     len: usize,
     // how many cycles are looked for: one more than are listed
-    cap: usize,
+    pub(crate) cap: usize,
+}
+
+impl<'a> Searcher<'a> {
+    // The search for what a query asks. Edges that are in no cycle are left out.
+    pub(crate) fn of(
+        alloc: Global,
+        edges: &'a EdgeList,
+        order: &'a Order,
+        query: &Query,
+    ) -> Result<Searcher<'a>, Memory>
+        ensures some { IfOk result (λ s. 0 < s.len) }
+        ensures ready { IfOk result IsReady }
+        ensures cap { IfOk result (λ s. s.cap ≡ query.now.max + 1) }
+        ensures asked { IfOk result (λ s. all_cycles (is_before s.order.now) s.mode s.len (edges_of_table s.table.now) ≡ all_cycles (is_before order.now) query.now.mode query.now.len (edges_of_table edges.now)) }
+    {
+        let table = edges.entries();
+        let mode = query.mode();
+        let len = query.len() as usize;
+        let sought = Sought {
+            table,
+            order,
+            mode,
+            len,
+        };
+        let kept = sought.kept_edges(alloc)?;
+        let index = Followers::of(alloc, table, &kept)?;
+        Ok(Searcher {
+            table,
+            order,
+            mode,
+            kept,
+            index,
+            len,
+            cap: query.max() as usize + 1,
+        })
+    }
 }
 
 impl Searcher<'_> {
@@ -93,6 +129,18 @@ impl Searcher<'_> {
         for root in 0..self.table.len() {
             self.grow_from(alloc, root, &mut found)?;
         }
+        Ok(found)
+    }
+
+    // The cycles that begin with the edge at a position, up to the cap.
+    pub(crate) fn cycles_from(&self, alloc: Global, root: usize) -> Result<Vec<Vec<usize>>, Memory>
+        requires some { 0 < self.now.len }
+        requires ready { IsReady self.now }
+        requires there { root < length self.now.table.now }
+        ensures { IfOk result (λ found. map (λ cycle. cycle.items) found.items ≡ first_from self.now root) }
+    {
+        let mut found = Vec::new(alloc);
+        self.grow_from(alloc, root, &mut found)?;
         Ok(found)
     }
 
@@ -230,13 +278,30 @@ fn keep_closed(alloc: Global, path: &[usize], found: &mut Vec<Vec<usize>>) -> Re
     Ok(())
 }
 
+// The first of these cycles, and whether there are more.
+pub(crate) fn listed(cycles: Vec<Vec<usize>>, max: usize) -> Found
+    ensures cycles { (all : List (List ℕ)) → map (λ cycle. cycle.items) cycles.items ≡ take (max + 1) all → result.cycles ≡ take max all }
+    ensures more { (all : List (List ℕ)) → map (λ cycle. cycle.items) cycles.items ≡ take (max + 1) all → IsTrue result.more ↔ (max < length all) }
+{
+    let mut cycles = cycles;
+    let more = cycles.len() > max;
+    cycles.truncate(max);
+    Found {
+        cycles: Cycles::from_vec(cycles),
+        more,
+    }
+}
+
 /// The first cycles of a query over these edges, in the order of their edges, and whether there are
 /// more. Each edge in turn is the first of paths, which grow by every edge that may follow, but edges
-/// that lie on no loop of the lock-order graph are left out before. The search ends where one cycle
-/// more than are listed was found.
+/// that lie on no loop of the lock-order graph are left out before, and those that have no way back:
+/// no walk of edges which go with them from the lock that they want to the one that they hold. The
+/// search ends where one cycle more than are listed was found.
 ///
-/// To find the edges on loops takes some look-ups for each edge. There may be as many paths as these
-/// edges to the power of the greatest length of a cycle less one.
+/// To find the edges on loops takes some look-ups for each edge. To find those without a way back
+/// takes time as there are edges on loops, for each that is left out once more, and ends early where
+/// it takes long. There may be as many paths as the edges that stay to the power of the greatest
+/// length of a cycle less one.
 ///
 /// Err where memory was refused.
 pub fn search(
@@ -248,32 +313,7 @@ pub fn search(
     ensures cycles { IfOk result (λ found. found.cycles ≡ take query.now.max (all_cycles (is_before order.now) query.now.mode query.now.len (edges_of_table edges.now))) }
     ensures more { IfOk result (λ found. IsTrue found.more ↔ (query.now.max < length (all_cycles (is_before order.now) query.now.mode query.now.len (edges_of_table edges.now)))) }
 {
-    let table = edges.entries();
-    let max = query.max() as usize;
-    let mode = query.mode();
-    let len = query.len() as usize;
-    let sought = Sought {
-        table,
-        order,
-        mode,
-        len,
-    };
-    let kept = sought.kept_edges(alloc)?;
-    let index = Followers::of(alloc, table, &kept)?;
-    let search = Searcher {
-        table,
-        order,
-        mode,
-        kept,
-        index,
-        len,
-        cap: max + 1,
-    };
-    let mut cycles = search.first_cycles(alloc)?;
-    let more = cycles.len() > max;
-    cycles.truncate(max);
-    Ok(Found {
-        cycles: Cycles::from_vec(cycles),
-        more,
-    })
+    let search = Searcher::of(alloc, edges, order, query)?;
+    let cycles = search.first_cycles(alloc)?;
+    Ok(listed(cycles, query.max() as usize))
 }

@@ -6,8 +6,11 @@ ghost use Rattle.gl_event.specs.declared.events.Event.{Event};
 
 use crate::components::{Step, components};
 use crate::found::{Cycles, Found, Report, ReportFault};
+use crate::neighbours::Sought;
+use crate::parallel::search_parallel;
 use crate::paths::search;
 use crate::reports::report_over;
+use crate::trims::{Trimmed, trim};
 use gl_edges::{EdgeList, edges_of};
 use gl_event::{Event, Limits, LocId, LockId, LockMode, Memory, ThreadId};
 use gl_filters::{Mode, Query};
@@ -73,6 +76,11 @@ fn are_listed(cycles: &[Vec<usize>], wanted: &[&[usize]]) -> bool {
 // Whether these cycles were found and no more.
 fn are_all(found: &Found, wanted: &[&[usize]]) -> bool {
     are_listed(found.cycles.as_slice(), wanted) && !found.more
+}
+
+// Whether these edges are kept and those are removed.
+fn is_trimmed(trimmed: &Trimmed, kept: &[usize], removed: &[usize]) -> bool {
+    trimmed.kept.as_slice() == kept && trimmed.removed.as_slice() == removed
 }
 
 // No lists.
@@ -479,5 +487,180 @@ fn report_over_no_edges(rt: HostRuntime) -> Result<(), Fail> {
     assert!(rt; are_lawful(&waiting));
     let answer = report_over(alloc, EdgeList::new(alloc), &waiting, &query);
     assert!(rt; is_loop_of_joins(&answer));
+    Ok(())
+}
+
+// A lock is released while one that was acquired after it is still held: each edge alone. The first
+// has no leader, and the second has none either once that is gone.
+#[test]
+fn crossed_releases(rt: HostRuntime) -> Result<(), Fail> {
+    let alloc = rt.alloc();
+    let lists = vec![in alloc; vec![in alloc; acq(0, 1), acq(1, 2), rel(0, 3), acq(2, 4)]?]?;
+    assert!(rt; are_lawful(&lists));
+    let edges = edges_of(alloc, &lists)?;
+    let order = Order::of(alloc, &lists)?;
+    let trimmed = trim(alloc, &edges, &order, Mode::Full)?;
+    assert!(rt; is_trimmed(&trimmed, &[], &[0, 1]));
+    Ok(())
+}
+
+// The edges from lock 0 to 2 and on the way to it are stuck, and the two of the cycle are not.
+#[test]
+fn trimmed_to_the_cycle(rt: HostRuntime) -> Result<(), Fail> {
+    let alloc = rt.alloc();
+    let lists = vec![in alloc;
+        vec![in alloc; acq(0, 1), acq(0, 2), acq(1, 3), rel(0, 4), acq(2, 5)]?,
+        vec![in alloc; acq(2, 6), acq(0, 7)]?,
+    ]?;
+    assert!(rt; are_lawful(&lists));
+    let edges = edges_of(alloc, &lists)?;
+    let order = Order::of(alloc, &lists)?;
+    let trimmed = trim(alloc, &edges, &order, Mode::Full)?;
+    assert!(rt; is_trimmed(&trimmed, &[1, 3], &[0, 2]));
+    Ok(())
+}
+
+// An edge of the same thread is no follower.
+#[test]
+fn one_thread_trimmed(rt: HostRuntime) -> Result<(), Fail> {
+    let alloc = rt.alloc();
+    let lists = vec![in alloc;
+        vec![in alloc;
+            acq(0, 1),
+            acq(1, 2),
+            rel(1, 3),
+            rel(0, 4),
+            acq(1, 5),
+            acq(0, 6)
+        ]?,
+    ]?;
+    assert!(rt; are_lawful(&lists));
+    let edges = edges_of(alloc, &lists)?;
+    let order = Order::of(alloc, &lists)?;
+    for mode in [Mode::Basic, Mode::Guarded, Mode::Full] {
+        let trimmed = trim(alloc, &edges, &order, mode)?;
+        assert!(rt; is_trimmed(&trimmed, &[], &[0, 1]));
+    }
+    Ok(())
+}
+
+// Sixteen threads, each of which takes its own lock and then the next one's, round.
+#[test]
+fn ring_of_sixteen(rt: HostRuntime) -> Result<(), Fail> {
+    let alloc = rt.alloc();
+    let mut lists = Vec::new(alloc);
+    for i in 0..16u32 {
+        lists.push(vec![in alloc; acq(i, 1), acq((i + 1) % 16, 2)]?)?;
+    }
+    assert!(rt; are_lawful(&lists));
+    let edges = edges_of(alloc, &lists)?;
+    let order = Order::of(alloc, &lists)?;
+    let all = [0, 1, 2, 3, 4, 5, 6, 7, 8, 9, 10, 11, 12, 13, 14, 15];
+    let trimmed = trim(alloc, &edges, &order, Mode::Full)?;
+    assert!(rt; is_trimmed(&trimmed, &all, &[]));
+    let sixteen = search(alloc, &edges, &order, &Query::new(Mode::Full, 16, 1_000)?)?;
+    assert!(rt; are_all(&sixteen, &[&all]));
+    let fifteen = search(alloc, &edges, &order, &Query::new(Mode::Full, 15, 1_000)?)?;
+    assert!(rt; are_all(&fifteen, &[]));
+    Ok(())
+}
+
+// Three threads take two locks in one order, and three in the other: each two of them are a cycle.
+#[test]
+fn nine_cycles(rt: HostRuntime) -> Result<(), Fail> {
+    let alloc = rt.alloc();
+    let mut lists = Vec::new(alloc);
+    for _ in 0..3 {
+        lists.push(vec![in alloc; acq(0, 1), acq(1, 2)]?)?;
+    }
+    for _ in 0..3 {
+        lists.push(vec![in alloc; acq(1, 3), acq(0, 4)]?)?;
+    }
+    assert!(rt; are_lawful(&lists));
+    let edges = edges_of(alloc, &lists)?;
+    let order = Order::of(alloc, &lists)?;
+    let four = search(alloc, &edges, &order, &Query::new(Mode::Full, 4, 4)?)?;
+    assert!(rt;
+        are_listed(
+            four.cycles.as_slice(),
+            &[&[0, 3], &[0, 4], &[0, 5], &[1, 3]]
+        )
+    );
+    assert!(rt; four.more);
+    let nine = search(alloc, &edges, &order, &Query::new(Mode::Full, 4, 9)?)?;
+    let all: [&[usize]; 9] = [
+        &[0, 3],
+        &[0, 4],
+        &[0, 5],
+        &[1, 3],
+        &[1, 4],
+        &[1, 5],
+        &[2, 3],
+        &[2, 4],
+        &[2, 5],
+    ];
+    assert!(rt; are_all(&nine, &all));
+    Ok(())
+}
+
+// Two edges of a ring of four have a gate lock, and are no neighbours: from Guarded on none of the
+// four has a way back of edges that go with it.
+#[test]
+fn no_way_back(rt: HostRuntime) -> Result<(), Fail> {
+    let alloc = rt.alloc();
+    let lists = vec![in alloc;
+        vec![in alloc; acq(0, 1), acq(1, 2), acq(2, 3)]?,
+        vec![in alloc; acq(2, 4), acq(3, 5)]?,
+        vec![in alloc; acq(0, 6), acq(3, 7), acq(4, 8)]?,
+        vec![in alloc; acq(4, 9), acq(1, 10)]?,
+    ]?;
+    assert!(rt; are_lawful(&lists));
+    let edges = edges_of(alloc, &lists)?;
+    let order = Order::of(alloc, &lists)?;
+    let mut sought = Sought {
+        table: edges.entries(),
+        order: &order,
+        mode: Mode::Basic,
+        len: 4,
+    };
+    let none = [false; 8];
+    let ring = [false, false, true, true, false, false, true, true];
+    assert!(rt; sought.kept_edges(alloc)?.as_slice() == ring.as_slice());
+    sought.len = 3;
+    assert!(rt; sought.kept_edges(alloc)?.as_slice() == none.as_slice());
+    sought.len = 16;
+    sought.mode = Mode::Guarded;
+    assert!(rt; sought.kept_edges(alloc)?.as_slice() == none.as_slice());
+    Ok(())
+}
+
+// Cycles that begin with several edges, of which some are asked for: the same on several threads.
+#[test]
+fn parallel_as_search(rt: HostRuntime) -> Result<(), Fail> {
+    let alloc = rt.alloc();
+    let mut lists = Vec::new(alloc);
+    for _ in 0..3 {
+        lists.push(vec![in alloc; acq(0, 1), acq(1, 2)]?)?;
+    }
+    for _ in 0..3 {
+        lists.push(vec![in alloc; acq(1, 3), acq(0, 4)]?)?;
+    }
+    assert!(rt; are_lawful(&lists));
+    let edges = edges_of(alloc, &lists)?;
+    let order = Order::of(alloc, &lists)?;
+    let first = search_parallel(&rt, alloc, &edges, &order, &Query::new(Mode::Full, 4, 1)?)?;
+    assert!(rt; are_listed(first.cycles.as_slice(), &[&[0, 3]]));
+    assert!(rt; first.more);
+    let four = search_parallel(&rt, alloc, &edges, &order, &Query::new(Mode::Full, 4, 4)?)?;
+    assert!(rt;
+        are_listed(
+            four.cycles.as_slice(),
+            &[&[0, 3], &[0, 4], &[0, 5], &[1, 3]]
+        )
+    );
+    assert!(rt; four.more);
+    let nine = search_parallel(&rt, alloc, &edges, &order, &Query::new(Mode::Full, 4, 9)?)?;
+    assert!(rt; nine.cycles.as_slice().len() == 9);
+    assert!(rt; !nine.more);
     Ok(())
 }

@@ -180,12 +180,7 @@ fn left_of(alloc: Global, gone: &[bool]) -> Result<Vec<usize>, Memory>
 /// looked at once.
 ///
 /// Err where memory was refused.
-pub fn trim(
-    alloc: Global,
-    edges: &EdgeList,
-    order: &Order,
-    mode: Mode,
-) -> Result<Trimmed, Memory>
+pub fn trim(alloc: Global, edges: &EdgeList, order: &Order, mode: Mode) -> Result<Trimmed, Memory>
     ensures { IfOk result (λ trimmed. IsTrimmed (is_before order.now) mode (edges_of_table edges.now) trimmed.kept.items trimmed.removed.items) }
 {
     let trimming = Trimming {

@@ -24,9 +24,9 @@ loop-i-preserved c =
     let s = c.args.self.now in
     elim c.else-not-gone-i.branch [
       | else-not-gone-i-via-then-not-gone-i+else-not-is_settled w ↦ record {
-          hints = subst (AreBothHints (is_before s.order.now) s.mode (edges_of_table s.table.now) c.args.gone.now) (sym w.hints-is) w.is_settled.ensures.hints;
-          settled = settled_more (is_before s.order.now) s.mode (edges_of_table s.table.now) c.args.gone.now c.loop-i.i c.loop-i.invariant.settled (λ e side at_e left. w.is_settled.ensures.yes w.if-not-is_settled.false e side at_e);
-        }
+        hints = subst (AreBothHints (is_before s.order.now) s.mode (edges_of_table s.table.now) c.args.gone.now) (sym w.hints-is) w.is_settled.ensures.hints;
+        settled = settled_more (is_before s.order.now) s.mode (edges_of_table s.table.now) c.args.gone.now c.loop-i.i c.loop-i.invariant.settled (λ e side at_e left. w.is_settled.ensures.yes w.if-not-is_settled.false e side at_e);
+      }
       | else-not-gone-i-via-else-not-gone-i w ↦
           let flag = slice_get-get_or c.args.gone.now c.loop-i.i false (omega (arith, c.loop-i-test.true, c.requires.flags)) ∙ ap Some w.if-not-gone-i.false in
           record {

@@ -25,10 +25,10 @@ loop-i-preserved c =
     let hints : AreBothHints before s.mode edges c.loop-i.gone.items c.first_stuck.new.hints = rw c.deref-in-loop-i.ensures.value at c.first_stuck.ensures.hints in
     record {
       flags = subst (AreFlagsOf (length edges) (set c.loop-i.gone.items c.in-Some.i true)) (sym c.in_ok-push.ensures.items)
-      (flags_more (length edges) c.loop-i.gone.items c.loop-i.removed.items c.in-Some.i (slice_get_within edges c.in-Some.i first.0.edge first.0.stands) c.loop-i.invariant.flags);
+          (flags_more (length edges) c.loop-i.gone.items c.loop-i.removed.items c.in-Some.i (slice_get_within edges c.in-Some.i first.0.edge first.0.stands) c.loop-i.invariant.flags);
       hints = both_gone before s.mode edges c.loop-i.gone.items c.first_stuck.new.hints c.in-Some.i c.loop-i.invariant.flags.long hints;
       in_order = subst (IsTrimOrder before s.mode edges) (sym c.in_ok-push.ensures.items)
-      (order_more before s.mode edges c.loop-i.gone.items c.loop-i.removed.items c.loop-i.invariant.flags c.in-Some.i c.loop-i.invariant.in_order first);
+          (order_more before s.mode edges c.loop-i.gone.items c.loop-i.removed.items c.loop-i.invariant.flags c.in-Some.i c.loop-i.invariant.in_order first);
     }
 
 -- none is stuck any more

@@ -1,0 +1,59 @@
+-- What is found root by root, joined.
+use Rattle.std.proofs.Common.{◌≡◌, ℕ, zero, suc, ◌+◌, ◌-◌, ◌<◌, ◌≤◌, List, [], ◌∷◌, ◌++◌, length, map, take, refl, sym, ap, ◌∙◌, arith}
+use Rattle.std.specs.Prelude.{IfOk, MatchResult}
+use Rattle.std.specs.List.{flat_map, range_with_len, AllZip}
+use Rattle.std.specs.declared.result.Result.{Result}
+use Rattle.std.specs.declared.result.Result.TheVariants.{Ok, Err}
+use Rattle.std.proofs.lemmas.List.{take-take, length-map}
+use Rattle.gl_segments.specs.Clocks.{is_before}
+use Rattle.gl_cycles.specs.declared.paths.Searcher.{Searcher}
+use Rattle.gl_cycles.specs.AllCycles.{edges_of_table, all_cycles}
+use Rattle.gl_cycles.specs.Blocks.{block, blocks_below}
+use Rattle.gl_cycles.specs.Searching.{first_from}
+use Rattle.gl_cycles.proofs.Lists.{take-take_append}
+use Rattle.gl_cycles.proofs.Growing.{all_from_roots}
+
+-- the first of joined lists, where only the first of the second one are known
+take_append-take : {X : Type 0} (n m : ℕ) (xs ys : List X) → n ≤ m → take n (xs ++ ys) ≡ take n (xs ++ take m ys)
+take_append-take n m [] ys le = sym (take-take n m ys le)
+take_append-take zero m (x ∷ xs) ys le = refl
+take_append-take (suc n) m (x ∷ xs) ys le = ap (λ l. x ∷ l) (take_append-take n m xs ys (omega arith))
+
+-- the first of each are enough for the first of all
+pub flat-take : {X Y : Type 0} (cap : ℕ) (f : X → List Y) (xs : List X) → take cap (flat_map (λ x. take cap (f x)) xs) ≡ take cap (flat_map f xs)
+flat-take cap f [] = refl
+flat-take cap f (x ∷ xs) =
+    take-take_append cap (f x) (flat_map (λ x. take cap (f x)) xs) ∙ take_append-take cap cap (f x) (flat_map (λ x. take cap (f x)) xs) (omega arith)
+    ∙ ap (λ l. take cap (f x ++ l)) (flat-take cap f xs) ∙ sym (take_append-take cap cap (f x) (flat_map f xs) (omega arith))
+
+flat-map : {X Y : Type 0} (f : X → List Y) (xs : List X) → flat_map f xs ≡ flat_map (λ l. l) (map f xs)
+flat-map f [] = refl
+flat-map f (x ∷ xs) = ap (λ l. f x ++ l) (flat-map f xs)
+
+-- lists that are the same one by one are the same joined
+pub flat-same : {X Y Z : Type 0} (f : X → List Z) (g : Y → List Z) (xs : List X) (ys : List Y) → map f xs ≡ map g ys → flat_map f xs ≡ flat_map g ys
+flat-same f g xs ys same = flat-map f xs ∙ ap (flat_map (λ l. l)) same ∙ sym (flat-map g ys)
+
+-- what the roots give, up to the cap, is the first of all
+pub of_roots : (s : Searcher) → 0 < s.len → take s.cap (flat_map (first_from s) (range_with_len 0 (length s.table.now))) ≡ take s.cap (all_cycles (is_before s.order.now) s.mode s.len (edges_of_table s.table.now))
+of_roots s some =
+    let before = is_before s.order.now in
+    let edges = edges_of_table s.table.now in
+    let len : suc (s.len - 1) ≡ s.len = omega (arith, some) in
+    flat-take s.cap (λ root. block before s.mode edges (s.len - 1) (root ∷ [])) (range_with_len 0 (length s.table.now))
+    ∙ ap (λ n. take s.cap (blocks_below before s.mode edges (s.len - 1) [] n)) (sym (length-map s.table.now (λ pair. pair.0)))
+    ∙ ap (take s.cap) (sym (all_from_roots before s.mode edges (s.len - 1)))
+    ∙ ap (λ n. take s.cap (all_cycles before s.mode n edges)) len
+
+-- what each piece has, where each of the answers has it
+pub pieces_are : {V : Type 0} (E : Type 0) (view : V → List (List ℕ)) (first : ℕ → List (List ℕ)) (roots : List ℕ) (ys : List V)
+    → AllZip (λ (root : ℕ) (r : Result V E). IfOk r (λ found. view found ≡ first root)) roots (map Ok ys) → map view ys ≡ map first roots
+pieces_are E view first [] [] all = refl
+pieces_are E view first [] (y ∷ ys) all = absurd all
+pieces_are E view first (x ∷ roots) [] all = absurd all
+pieces_are E view first (x ∷ roots) (y ∷ ys) all = (λ i. all.0 i ∷ pieces_are E view first roots ys all.1 i)
+
+-- of an answer that is one
+pub if_ok : {V E : Type 0} (r : Result V E) (P R : V → Type 0) (Q : E → Type 0) → MatchResult r P Q → ((v : V) → P v → R v) → IfOk r R
+if_ok (Ok v) P R Q is then = then v is
+if_ok (Err e) P R Q is then = tt
