@@ -1,5 +1,5 @@
 -- What is answered to a text: what a command prints of its trace, or why it prints nothing.
-use Rattle.std.specs.Prelude.{◌≡◌, ◌++◌, ℕ, Bool, List, Ok, Err, length, take, nat_lt, if◌then◌else◌, codes}
+use Rattle.std.specs.Prelude.{◌≡◌, ◌++◌, ℕ, Bool, List, Ok, Err, length, nat_lt, if◌then◌else◌, codes}
 use Rattle.serde_json.specs.Written.{compact_text}
 use Rattle.gl_event.specs.Bounds.{greatest}
 use Rattle.gl_event.specs.declared.events.Event.{Event}
@@ -14,7 +14,7 @@ use Rattle.gl_edges.specs.Edges.{edges}
 use Rattle.gl_segments.specs.Laws.{DecidesBefore}
 use Rattle.gl_segments.specs.Segments.{Before, IsBelow, IsConsistent}
 use Rattle.gl_filters.specs.Asked.{Asked}
-use Rattle.gl_cycles.specs.AllCycles.{edges_of_table, all_cycles}
+use Rattle.gl_cycles.specs.Reports.{report_by}
 use Rattle.gl_cycles.specs.declared.found.Report.{Report}
 use Rattle.gl_report.specs.Counts.{stats_of, stats_text}
 use Rattle.gl_report.specs.Text.{report_text}
@@ -37,15 +37,9 @@ pub record IsLeastBeforeItself (lists : List (List Event)) (at : Segment) : Type
 
 -- ---- what is printed of a trace, by a test of which segment is before which
 
--- the cycles of the lists that the query asks for
-abbrev pub cycles_asked : Asked → (Segment → Segment → Bool) → List (List Event) → List (List ℕ)
-cycles_asked asked before lists = all_cycles before asked.mode asked.len (edges_of_table (edges lists))
-
--- the report of a trace: the first of the cycles that are asked for, and whether there are more
+-- the report of a trace: the one over the edges of its lists
 abbrev pub report_of : Asked → (Segment → Segment → Bool) → Trace → Report
-report_of asked before trace =
-    let cycles = cycles_asked asked before trace.lists in
-    record { query = asked; edges = edges trace.lists; found = record { cycles = take asked.max cycles; more = nat_lt asked.max (length cycles) } }
+report_of asked before trace = report_by asked before (edges trace.lists)
 
 -- a report in the form that is asked for
 abbrev pub printed_report : Form → NameLists → Report → List ℕ

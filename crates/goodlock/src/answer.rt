@@ -109,7 +109,7 @@ fn print(alloc: Global, form: Form, names: &Names, report: &Report) -> Result<Ve
 }
 
 // The report of a trace whose segments have this order.
-fn report_over(alloc: Global, trace: &Trace, order: &Order, query: &Query) -> Result<Report, Memory>
+fn report_by(alloc: Global, trace: &Trace, order: &Order, query: &Query) -> Result<Report, Memory>
     requires { IsTraceOver greatest trace.now }
     ensures { IfOk result (λ r. r ≡ report_of query.now (is_before order.now) trace.now) }
 {
@@ -135,7 +135,7 @@ fn trace_and_report(
 {
     let trace = trace_or_line(alloc, read)?;
     let order = order_or_line(alloc, &trace)?;
-    let report = report_over(alloc, &trace, &order, query)?;
+    let report = report_by(alloc, &trace, &order, query)?;
     Ok(Reported { trace, report })
 }
 

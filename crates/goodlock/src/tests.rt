@@ -416,28 +416,26 @@ fn replayed_lists(rt: HostRuntime) {
     expect_replay(&rt, loops, loops);
 }
 
+// Neither is counted nor replayed: this line says why.
+fn expect_line<R: Abort>(rt: &R, ended: Ended, said: &[u8]) {
+    match ended {
+        Ended::Refused(line) => assert_eq!(rt; line.as_slice(), said),
+        other => assert!(rt; false, "{other:?}"),
+    }
+}
+
 #[test]
 fn counts_and_replays_refused(rt: HostRuntime) -> Result<(), Fail> {
     let mut output = FromStd::new(Vec::new(rt.alloc()));
     let mut input = FromStd::new(b"T0|join(T1)|1\nT1|join(T0)|2\n".as_slice());
-    match stats(&rt, &mut input, &mut output, TURNS, &full()?) {
-        Ended::Refused(line) => {
-            assert_eq!(rt;
-                line.as_slice(),
-                b"goodlock: inconsistent: T0.1 precedes itself\n"
-            )
-        }
-        other => assert!(rt; false, "{other:?}"),
-    }
+    let counted = stats(&rt, &mut input, &mut output, TURNS, &full()?);
+    let said = b"goodlock: inconsistent: T0.1 precedes itself\n";
+    expect_line(&rt, counted, said);
     assert!(rt; output.into_inner().is_empty());
     let mut output = FromStd::new(Vec::new(rt.alloc()));
     let mut input = FromStd::new(b"T0|acq(|3".as_slice());
-    match replay(&rt, &mut input, &mut output, TURNS) {
-        Ended::Refused(line) => {
-            assert_eq!(rt; line.as_slice(), b"goodlock: line 1: bad operand\n".as_slice())
-        }
-        other => assert!(rt; false, "{other:?}"),
-    }
+    let replayed = replay(&rt, &mut input, &mut output, TURNS);
+    expect_line(&rt, replayed, b"goodlock: line 1: bad operand\n");
     assert!(rt; output.into_inner().is_empty());
     Ok(())
 }

@@ -5,7 +5,7 @@ use Rattle.gl_edges.specs.Edges.{edges}
 use Rattle.gl_edges.specs.declared.edge.Edge.{Edge}
 use Rattle.gl_edges.specs.declared.edge.Sample.{Sample}
 use Rattle.gl_cycles.specs.AllCycles.{edges_of_table, all_cycles}
-use Rattle.goodlock.proofs.answer.report_over.Goals as goal
+use Rattle.goodlock.proofs.answer.report_by.Goals as goal
 
 pub returns : goal.returns
 returns c =
