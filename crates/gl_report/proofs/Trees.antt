@@ -1,5 +1,5 @@
 -- Lists of JSON values that grow, and values that have no float.
-use Rattle.std.proofs.Common.{◌≡◌, ℕ, ◌+◌, ◌<◌, Bool, false, ◌||◌, List, [], ◌∷◌, ◌++◌, length, take, get_or, map, Option, Some, None, refl, sym, ap, ◌∙◌}
+use Rattle.std.proofs.Common.{◌≡◌, ℕ, ◌+◌, ◌<◌, false, ◌||◌, List, [], ◌∷◌, ◌++◌, length, take, get_or, map, Option, Some, None, refl, sym, ap, ◌∙◌}
 use Rattle.std.specs.List.{filter_map, cons_option}
 use Rattle.std.specs.Option.{option_map_or}
 use Rattle.std.proofs.lemmas.List.{take_more, map_more, map-append}
@@ -9,7 +9,6 @@ use Rattle.serde_json.specs.Written.{has_float, items_have_float}
 use Rattle.gl_std.specs.Names.{NameLists}
 use Rattle.gl_edges.specs.declared.edge.Edge.{Edge}
 use Rattle.gl_edges.specs.declared.edge.Sample.{Sample}
-use Rattle.gl_edges.specs.declared.guards.Guard.{Guard}
 use Rattle.gl_cycles.specs.declared.found.Report.{Report}
 use Rattle.gl_report.specs.Tree.{name_tree, edge_tree, cycle_tree, report_tree}
 

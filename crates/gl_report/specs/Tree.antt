@@ -1,5 +1,5 @@
 -- The report as JSON: which values stand under which keys.
-use Rattle.std.specs.Prelude.{ℕ, Bool, List, map, slice_get, codes}
+use Rattle.std.specs.Prelude.{ℕ, List, map, slice_get, codes}
 use Rattle.std.specs.List.{filter_map}
 use Rattle.serde_json.specs.Data.{Data, unsigned, boolean, number, string, array, object, member, no_members}
 use Rattle.serde_json.specs.View.{items_of}

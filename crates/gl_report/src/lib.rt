@@ -1,12 +1,14 @@
-//! Printed reports: as text, and as JSON.
+//! Printed reports: as text, and as JSON. And counts of traces and their reports.
 #![tactic(auto)]
 
 mod escapes;
 mod printing;
+mod stats;
 mod tree;
 
 pub use escapes::escaped_name;
 pub use printing::text;
+pub use stats::{Stats, stats_text};
 pub use tree::{json, json_text};
 
 #[cfg(test)]

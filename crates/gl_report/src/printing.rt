@@ -85,7 +85,7 @@ fn put_edge(
 }
 
 // Adds a number.
-fn put_number(out: &mut Vec<u8>, number: usize) -> Result<(), Memory>
+pub(crate) fn put_number(out: &mut Vec<u8>, number: u64) -> Result<(), Memory>
     ensures { OnOk result (out.new.items ≡ out.old.items ++ decimal number) }
 {
     let mut buffer = Buffer::new();
@@ -98,9 +98,9 @@ fn put_cycle_line(out: &mut Vec<u8>, number: usize, size: usize) -> Result<(), M
     ensures { OnOk result (out.new.items ≡ out.old.items ++ cycle_line number size) }
 {
     out.extend_from_slice(b"cycle ")?;
-    put_number(out, number)?;
+    put_number(out, number as u64)?;
     out.extend_from_slice(b": ")?;
-    put_number(out, size)?;
+    put_number(out, size as u64)?;
     out.extend_from_slice(b" edges\n")?;
     Ok(())
 }
@@ -127,7 +127,7 @@ fn put_last_line(out: &mut Vec<u8>, count: usize, more: bool) -> Result<(), Memo
     ensures { OnOk result (out.new.items ≡ out.old.items ++ last_line count more) }
 {
     out.extend_from_slice(b"cycles: ")?;
-    put_number(out, count)?;
+    put_number(out, count as u64)?;
     if more {
         out.extend_from_slice(b" (more)\n")?;
         return Ok(());

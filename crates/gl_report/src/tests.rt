@@ -1,23 +1,32 @@
 //! Worked reports, with edges and cycles as they are found in the texts that give the names.
-ghost use Rattle.std.specs.Prelude.{IsTrue};
+ghost use Rattle.std.specs.Prelude.{IsTrue, IfOk};
 ghost use Rattle.gl_edges.specs.Order.{IsAboveLast};
+ghost use Rattle.gl_event.specs.Bounds.{greatest};
+ghost use Rattle.gl_std.specs.Trace.{IsTraceOver};
 
-use crate::{escaped_name, json_text, text};
+use crate::{Stats, escaped_name, json_text, stats_text, text};
 use gl_cycles::{Cycles, Found, Report};
 use gl_edges::{Edge, EdgeList, Guard, Guards, Sample};
 use gl_event::{Limits, LocId, LockId, LockMode, Memory, ThreadId};
 use gl_filters::{Mode, Query};
-use gl_std::{Names, read_trace};
+use gl_std::{Names, Trace, read_trace};
 use serde_json::Value;
 use std::alloc::Global;
 use std::cmp::Ordering;
 use std::process::Abort;
 use std::test::Fail;
 
+// The trace of a text.
+fn trace_of(alloc: Global, lines: &[u8]) -> Result<Trace, Fail>
+    ensures { IfOk result (IsTraceOver greatest) }
+{
+    let limits = Limits::new(1_024, 65_536, 4_000_000_000, 4_000_000_000)?;
+    Ok(read_trace(alloc, lines, &limits)?)
+}
+
 // The names that a text gives.
 fn names_of(alloc: Global, lines: &[u8]) -> Result<Names, Fail> {
-    let limits = Limits::new(1_024, 65_536, 4_000_000_000, 4_000_000_000)?;
-    Ok(read_trace(alloc, lines, &limits)?.names)
+    Ok(trace_of(alloc, lines)?.names)
 }
 
 // An edge with its locations: thread, held lock, wanted lock, and where each was acquired.
@@ -236,4 +245,86 @@ fn odd_names_are_escaped(rt: HostRuntime) -> Result<(), Fail> {
     let quoted = Value::from(accent).to_string(alloc)?;
     assert!(rt; quoted.as_str() == "\"\\\\xc3\\\\xa9\"");
     Ok(())
+}
+
+// The trace of the lines, and a report of these edges and these cycles, have these counts.
+fn expect_counts(
+    rt: &impl Abort,
+    alloc: Global,
+    lines: &[u8],
+    rows: &[EdgeRow],
+    cycles: Vec<Vec<usize>>,
+    want: &[u8],
+) -> Result<(), Fail> {
+    let trace = trace_of(alloc, lines)?;
+    let report = report_of(rt, alloc, rows, cycles, false)?;
+    let printed = stats_text(alloc, &Stats::of(&trace, &report))?;
+    assert_eq!(rt; printed.as_slice(), want);
+    Ok(())
+}
+
+#[test]
+fn counts_of_empty_input(rt: HostRuntime) -> Result<(), Fail> {
+    let alloc = rt.alloc();
+    expect_counts(
+        &rt,
+        alloc,
+        b"",
+        &[],
+        Vec::new(alloc),
+        b"events: 0\nskipped: 0\nstray: 0\nthreads: 0\nlocks: 0\nsegments: 0\nedges: 0\ncycles: 0\n",
+    )
+}
+
+#[test]
+fn counts_of_opposite_order(rt: HostRuntime) -> Result<(), Fail> {
+    let alloc = rt.alloc();
+    expect_counts(
+        &rt,
+        alloc,
+        b"T0|acq(a)|1\nT0|acq(b)|2\nT0|rel(b)|3\nT0|rel(a)|4\nT1|acq(b)|5\nT1|acq(a)|6\n",
+        &[row(0, 0, 1, 0, 1), row(1, 1, 0, 4, 5)],
+        vec![in alloc; vec![in alloc; 0, 1]?]?,
+        b"events: 6\nskipped: 0\nstray: 0\nthreads: 2\nlocks: 2\nsegments: 2\nedges: 2\ncycles: 1\n",
+    )
+}
+
+// A skipped line and an empty one, a stray release, a fork and a thread that is only forked.
+#[test]
+fn counts_that_differ(rt: HostRuntime) -> Result<(), Fail> {
+    let alloc = rt.alloc();
+    expect_counts(
+        &rt,
+        alloc,
+        b"M|r(x)|1\n\nM|w(x)|1\nM|rel(z)|2\nM|fork(T1)|3\nM|acq(a)|4\nM|acq(b)|5\nM|acq(c)|6\nM|join(T1)|7\n",
+        &[row(0, 0, 1, 1, 2), row(0, 0, 2, 1, 3), row(0, 1, 2, 2, 3)],
+        Vec::new(alloc),
+        b"events: 5\nskipped: 2\nstray: 1\nthreads: 2\nlocks: 3\nsegments: 4\nedges: 3\ncycles: 0\n",
+    )
+}
+
+#[test]
+fn counts_of_fork_while_holding(rt: HostRuntime) -> Result<(), Fail> {
+    let alloc = rt.alloc();
+    expect_counts(
+        &rt,
+        alloc,
+        b"M|acq(a)|1\nM|fork(T1)|2\nM|acq(b)|3\nT1|acq(b)|4\nT1|acq(a)|5\n",
+        &[row(0, 0, 1, 0, 2), row(1, 1, 0, 3, 4)],
+        vec![in alloc; vec![in alloc; 0, 1]?]?,
+        b"events: 5\nskipped: 0\nstray: 0\nthreads: 2\nlocks: 2\nsegments: 3\nedges: 2\ncycles: 1\n",
+    )
+}
+
+#[test]
+fn counts_of_stray_release(rt: HostRuntime) -> Result<(), Fail> {
+    let alloc = rt.alloc();
+    expect_counts(
+        &rt,
+        alloc,
+        b"T0|rel(a)|1\nT0|acq(b)|2\n",
+        &[],
+        Vec::new(alloc),
+        b"events: 1\nskipped: 0\nstray: 1\nthreads: 1\nlocks: 1\nsegments: 1\nedges: 0\ncycles: 0\n",
+    )
 }

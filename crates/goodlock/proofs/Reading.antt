@@ -1,6 +1,6 @@
 -- Numbers and queries that are read of options.
-use Rattle.std.proofs.Common.{◌≡◌, ◌<◌, ◌≤◌, ◌∙◌, ◌⊎◌, inl, inr, ℕ, Bool, true, false, List, [], Option, Some, None, Result, Ok, Err, refl, sym, ap, subst, arith, nat_lt, IfSome, option_map}
-use Rattle.std.specs.Prelude.{unwrap_or}
+use Rattle.std.proofs.Common.{◌≡◌, length, ◌<◌, ◌≤◌, ◌∙◌, ◌⊎◌, inl, inr, ℕ, Bool, true, false, List, [], Option, Some, None, Result, Ok, Err, refl, sym, ap, subst, arith, nat_lt, IfSome, option_map}
+use Rattle.std.specs.Prelude.{◌==◌, unwrap_or}
 use Rattle.std.specs.Str.Parse.{ParsesUnsigned, IsNumeral, digits_value, without_leading_plus}
 use Rattle.clap.specs.Matches.{ReadsOne}
 use Rattle.std.specs.Prelude.{codes}
@@ -12,9 +12,9 @@ use Rattle.clap.proofs.OnLiterals.{clap_on_literals}
 use Rattle.clap.specs.declared.error.kind.ErrorKind.{ErrorKind}
 use Rattle.clap.specs.declared.error.kind.ErrorKind.TheVariants as kind
 use Rattle.gl_filters.specs.Asked.{Asked}
-use Rattle.goodlock.specs.Options.{Asks, AsksIn, IsNumberAt, IsUsageFor, IsUsageOf, goodlock}
+use Rattle.goodlock.specs.Options.{Asks, AsksIn, IsCommand, IsEntered, IsNumberAt, IsUsageFor, IsUsageOf, goodlock}
 use Rattle.goodlock.specs.declared.options.Command.{Command}
-use Rattle.goodlock.specs.declared.options.Command.TheVariants.{Predict}
+use Rattle.goodlock.specs.declared.options.Command.TheVariants.{Predict, Stats, Replay}
 use Rattle.goodlock.specs.declared.options.Usage.{Usage}
 use Rattle.goodlock.specs.declared.options.Usage.TheVariants.{Shown, Refused, Memory}
 
@@ -66,18 +66,48 @@ pub entered_as : (m : ArgMatches) (name : Text) (rows : List Row) → subcommand
     → option_map (λ p. p.1) (subcommand_rows_of m) ≡ Some rows → subcommand_rows_of m ≡ Some (name, rows)
 entered_as m name rows named had = both_parts (subcommand_rows_of m) name rows (sym (name_of_rows m) ∙ named) had
 
--- words that enter no `predict` ask for nothing
-pub unentered : (m : ArgMatches) (words : List Text) → subcommand_rows_of m ≡ subcommand_of goodlock words
-    → (subcommand_name_of m ≡ Some (codes "predict") → ⊥) → (c : Command) → Asks words c → ⊥
-unentered m words entered none (Predict q form) asks = none (name_of_rows m ∙ ap (option_map (λ p. p.0)) (entered ∙ asks.command))
+-- a command that was entered with these values of its options
+pub if_entered : (m : ArgMatches) (name : Text) (rows : List Row) (r : Option Command) → subcommand_rows_of m ≡ Some (name, rows)
+    → IfSome r (IsCommand name rows) → IfSome r (IsEntered (subcommand_rows_of m))
+if_entered m name rows None there is = tt
+if_entered m name rows (Some c) there is = record { name = name; rows = rows; is_there = there; is_command = is }
 
--- and so do words whose options give no query
-pub unread : (m : ArgMatches) (words : List Text) (rows : List Row) → subcommand_rows_of m ≡ subcommand_of goodlock words
-    → option_map (λ p. p.1) (subcommand_rows_of m) ≡ Some rows → ((q : Asked) → AsksIn rows q → ⊥) → (c : Command) → Asks words c → ⊥
-unread m words rows entered had none (Predict q form) asks =
-    let second : option_map (λ p. p.1) (subcommand_rows_of m) ≡ Some asks.rows = ap (option_map (λ p. p.1)) (entered ∙ asks.command) in
-    let same : asks.rows ≡ rows = ap (λ o. unwrap_or o rows) (sym second ∙ had) in
-    none q (subst (λ r. AsksIn r q) same asks.options)
+-- and where they give none
+pub unread : (m : ArgMatches) (name : Text) (rows : List Row) → subcommand_rows_of m ≡ Some (name, rows)
+    → ((c : Command) → IsCommand name rows c → ⊥) → (c : Command) → IsEntered (subcommand_rows_of m) c → ⊥
+unread m name rows there none c of =
+    let same : (of.name, of.rows) ≡ (name, rows) = ap (λ o. unwrap_or o (name, rows)) (sym of.is_there ∙ there) in
+    none c (subst (λ (p : Text × List Row). IsCommand p.0 p.1 c) same of.is_command)
+
+-- the name of the command that was entered
+entered_name : (m : ArgMatches) (c : Command) (name : Text) (of : IsEntered (subcommand_rows_of m) c) → of.name ≡ name → subcommand_name_of m ≡ Some name
+entered_name m c name of is = name_of_rows m ∙ ap (option_map (λ p. p.0)) of.is_there ∙ ap Some is
+
+-- no command was entered
+pub unentered : (m : ArgMatches) → (subcommand_name_of m ≡ Some (codes "predict") → ⊥) → (subcommand_name_of m ≡ Some (codes "stats") → ⊥)
+    → (subcommand_name_of m ≡ Some (codes "replay") → ⊥) → (c : Command) → IsEntered (subcommand_rows_of m) c → ⊥
+unentered m no_predict no_stats no_replay (Predict q form) of = no_predict (entered_name m (Predict q form) (codes "predict") of of.is_command.0)
+unentered m no_predict no_stats no_replay (Stats q) of = no_stats (entered_name m (Stats q) (codes "stats") of of.is_command.0)
+unentered m no_predict no_stats no_replay Replay of = no_replay (entered_name m Replay (codes "replay") of of.is_command)
+
+-- options that give no query
+pub no_prediction : (rows : List Row) → ((q : Asked) → AsksIn rows q → ⊥) → (c : Command) → IsCommand (codes "predict") rows c → ⊥
+no_prediction rows none (Predict q form) is = none q is.1
+no_prediction rows none (Stats q) is =
+    let bad : true ≡ false = ap (λ (name : Text). length name == 7) is.0 in
+    cc
+no_prediction rows none Replay is =
+    let bad : true ≡ false = ap (λ (name : Text). length name == 7) is in
+    cc
+
+pub no_stats : (rows : List Row) → ((q : Asked) → AsksIn rows q → ⊥) → (c : Command) → IsCommand (codes "stats") rows c → ⊥
+no_stats rows none (Predict q form) is =
+    let bad : true ≡ false = ap (λ (name : Text). length name == 5) is.0 in
+    cc
+no_stats rows none (Stats q) is = none q is.1
+no_stats rows none Replay is =
+    let bad : true ≡ false = ap (λ (name : Text). length name == 5) is in
+    cc
 
 -- a value that no option takes
 pub refused_value : (words : List Text) (u : Usage) → IsUsageFor kind.InvalidValue u → ((c : Command) → Asks words c → ⊥)
@@ -87,7 +117,7 @@ refused_value words (Refused t) says none fits = (none, inl fits)
 refused_value words Memory says none fits = tt
 
 no_fault : (words : List Text) (k : ErrorKind) → IsAmong k (fault_of goodlock words) → (c : Command) → Asks words c → ⊥
-no_fault words k among (Predict query form) asks = subst (λ ks. IsAmong k ks) asks.fits among
+no_fault words k among c asks = subst (λ ks. IsAmong k ks) asks.fits among
 
 -- a parse that failed
 pub failed_parse : (words : List Text) (k : ErrorKind) (u : Usage) → IsUsageFor k u

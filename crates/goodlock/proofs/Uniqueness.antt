@@ -10,12 +10,11 @@ use Rattle.gl_std.specs.declared.trace.Trace.{Trace}
 use Rattle.gl_segments.specs.Laws.{DecidesBefore}
 use Rattle.gl_segments.specs.Segments.{Before, IsBelow}
 use Rattle.gl_segments.proofs.LawLemmas.{agree}
-use Rattle.gl_filters.specs.Asked.{Asked}
 use Rattle.gl_cycles.proofs.Uniqueness.{same_segment}
-use Rattle.goodlock.specs.Answer.{IsLeastBeforeItself, AnswersAreUnique, report_of}
+use Rattle.goodlock.specs.Answer.{Answer, IsLeastBeforeItself, AnswersAreUnique, PlainAnswersAreUnique}
 use Rattle.goodlock.specs.Answer.Answer.{Refusal}
-use Rattle.goodlock.specs.Answer.IsAnswer.{bad_line, no_order, reported}
-use Rattle.goodlock.specs.declared.ended.Form.{Form}
+use Rattle.goodlock.specs.Answer.IsAnswer.{bad_line, no_order, ordered}
+use Rattle.goodlock.specs.Answer.IsPlainAnswer.{bad_line as plain_fault, plain}
 use Rattle.goodlock.specs.Lines.{fault_line, inconsistent_line}
 
 abbrev trace_in : Trace → Result Trace ReadFault → Trace
@@ -38,21 +37,28 @@ loops_agree s t a b e of_a of_b =
     let same : a ≡ b = same_least s.lists a b of_a (subst (λ (u : Trace). IsLeastBeforeItself u.lists b) (sym e) of_b) in
     (λ i. inconsistent_line (e i).names (same i))
 
-reports_agree : (asked : Asked) (form : Form) (s t : Trace) (p q : Segment → Segment → Bool) → s ≡ t → DecidesBefore s.lists p → DecidesBefore t.lists q → report_of asked form p s ≡ report_of asked form q t
-reports_agree asked form s t p q e of_p of_q =
+printed_agree : (printed : (Segment → Segment → Bool) → Trace → Answer) (s t : Trace) (p q : Segment → Segment → Bool) → s ≡ t → DecidesBefore s.lists p → DecidesBefore t.lists q
+    → printed p s ≡ printed q t
+printed_agree printed s t p q e of_p of_q =
     let here = subst (λ (u : Trace). DecidesBefore u.lists q) (sym e) of_q in
-    (λ i. report_of asked form (λ a b. agree s.lists p q of_p here a b i) (e i))
+    (λ i. printed (λ a b. agree s.lists p q of_p here a b i) (e i))
 
 pub unique : AnswersAreUnique
-unique asked form text _ _ (bad_line l k p) (bad_line m n q) = ap Refusal (ap said_of (sym p ∙ q))
-unique asked form text _ _ (bad_line l k p) (no_order t at q least) = cc
-unique asked form text _ _ (bad_line l k p) (reported t before q fine decides) = cc
-unique asked form text _ _ (no_order s at p least) (bad_line m n q) = cc
-unique asked form text _ _ (no_order s at p least) (no_order t there q lowest) = ap Refusal (loops_agree s t at there (same_trace (trace_of greatest text) s t p q) least lowest)
-unique asked form text _ _ (no_order s at p least) (reported t before q fine decides) =
+unique printed text _ _ (bad_line l k p) (bad_line m n q) = ap Refusal (ap said_of (sym p ∙ q))
+unique printed text _ _ (bad_line l k p) (no_order t at q least) = cc
+unique printed text _ _ (bad_line l k p) (ordered t before q fine decides) = cc
+unique printed text _ _ (no_order s at p least) (bad_line m n q) = cc
+unique printed text _ _ (no_order s at p least) (no_order t there q lowest) = ap Refusal (loops_agree s t at there (same_trace (trace_of greatest text) s t p q) least lowest)
+unique printed text _ _ (no_order s at p least) (ordered t before q fine decides) =
     absurd (fine.each at (subst (λ (u : Trace). Before u.lists at at) (same_trace (trace_of greatest text) s t p q) least.loops))
-unique asked form text _ _ (reported s before p fine decides) (bad_line m n q) = cc
-unique asked form text _ _ (reported s before p fine decides) (no_order t at q least) =
+unique printed text _ _ (ordered s before p fine decides) (bad_line m n q) = cc
+unique printed text _ _ (ordered s before p fine decides) (no_order t at q least) =
     absurd (fine.each at (subst (λ (u : Trace). Before u.lists at at) (sym (same_trace (trace_of greatest text) s t p q)) least.loops))
-unique asked form text _ _ (reported s before p fine decides) (reported t other q sound settles) =
-    reports_agree asked form s t before other (same_trace (trace_of greatest text) s t p q) decides settles
+unique printed text _ _ (ordered s before p fine decides) (ordered t other q sound settles) =
+    printed_agree printed s t before other (same_trace (trace_of greatest text) s t p q) decides settles
+
+pub plain_unique : PlainAnswersAreUnique
+plain_unique printed text _ _ (plain_fault l k p) (plain_fault m n q) = ap Refusal (ap said_of (sym p ∙ q))
+plain_unique printed text _ _ (plain_fault l k p) (plain t q) = cc
+plain_unique printed text _ _ (plain s p) (plain_fault m n q) = cc
+plain_unique printed text _ _ (plain s p) (plain t q) = ap printed (same_trace (trace_of greatest text) s t p q)

@@ -1,10 +1,12 @@
--- What is answered to a text: the report of its trace, or why there is none.
-use Rattle.std.specs.Prelude.{◌≡◌, ◌++◌, ℕ, Bool, List, Ok, Err, length, take, nat_lt, codes}
+-- What is answered to a text: what a command prints of its trace, or why it prints nothing.
+use Rattle.std.specs.Prelude.{◌≡◌, ◌++◌, ℕ, Bool, List, Ok, Err, length, nat_lt, if◌then◌else◌, codes}
 use Rattle.serde_json.specs.Written.{compact_text}
 use Rattle.gl_event.specs.Bounds.{greatest}
 use Rattle.gl_event.specs.declared.events.Event.{Event}
 use Rattle.gl_event.specs.declared.events.Segment.{Segment}
+use Rattle.gl_std.specs.Names.{NameLists}
 use Rattle.gl_std.specs.Trace.{trace_of}
+use Rattle.gl_std.specs.Written.{written}
 use Rattle.gl_std.specs.declared.faults.StdKind.{StdKind}
 use Rattle.gl_std.specs.declared.faults.ReadFault.TheVariants.{Line}
 use Rattle.gl_std.specs.declared.trace.Trace.{Trace}
@@ -12,18 +14,20 @@ use Rattle.gl_edges.specs.Edges.{edges}
 use Rattle.gl_segments.specs.Laws.{DecidesBefore}
 use Rattle.gl_segments.specs.Segments.{Before, IsBelow, IsConsistent}
 use Rattle.gl_filters.specs.Asked.{Asked}
-use Rattle.gl_cycles.specs.AllCycles.{edges_of_table, all_cycles}
-use Rattle.gl_std.specs.Names.{NameLists}
-use Rattle.gl_cycles.specs.declared.found.Report.{Report as Listing}
+use Rattle.gl_cycles.specs.Reports.{report_by}
+use Rattle.gl_cycles.specs.declared.found.Report.{Report}
+use Rattle.gl_report.specs.Counts.{stats_of, stats_text}
 use Rattle.gl_report.specs.Text.{report_text}
 use Rattle.gl_report.specs.Tree.{report_tree}
 use Rattle.goodlock.specs.Lines.{fault_line, inconsistent_line}
 use Rattle.goodlock.specs.declared.ended.Form.{Form}
 use Rattle.goodlock.specs.declared.ended.Form.TheVariants.{Text, Json}
+use Rattle.goodlock.specs.declared.ended.Outcome.{Outcome}
+use Rattle.goodlock.specs.declared.ended.Outcome.TheVariants.{Clean, Cycles, Done}
 
--- a report to be printed, with whether it lists a cycle, or a line that says why there is none
+-- a text to be printed, with what becomes of the command once it is, or a line that says why there is none
 pub data Answer : Type 0 where
-  Report : (text : List ℕ) (lists_cycle : Bool) → Answer
+  Prints : (text : List ℕ) (outcome : Outcome) → Answer
   Refusal : (line : List ℕ) → Answer
 
 -- the segment is before itself, and no lesser one is
@@ -31,31 +35,57 @@ pub record IsLeastBeforeItself (lists : List (List Event)) (at : Segment) : Type
   pub loops : Before lists at at
   pub least : (s : Segment) → Before lists s s → ¬ IsBelow s at
 
--- the cycles of the lists that the query asks for, by a test of which segment is before which
-abbrev pub cycles_asked : Asked → (Segment → Segment → Bool) → List (List Event) → List (List ℕ)
-cycles_asked asked before lists = all_cycles before asked.mode asked.len (edges_of_table (edges lists))
+-- ---- what is printed of a trace, by a test of which segment is before which
+
+-- the report of a trace: the one over the edges of its lists
+abbrev pub report_of : Asked → (Segment → Segment → Bool) → Trace → Report
+report_of asked before trace = report_by asked before (edges trace.lists)
 
 -- a report in the form that is asked for
-abbrev pub printed_report : Form → NameLists → Listing → List ℕ
+abbrev pub printed_report : Form → NameLists → Report → List ℕ
 printed_report Text names report = report_text names report.edges report.found.cycles report.found.more
 printed_report Json names report = compact_text (report_tree names report) ++ codes "\n"
 
--- the report of a trace: the first of the cycles that are asked for, and whether there are more
-abbrev pub report_of : Asked → Form → (Segment → Segment → Bool) → Trace → Answer
-report_of asked form before trace =
-    let cycles = cycles_asked asked before trace.lists in
-    let listed = take asked.max cycles in
-    Report (printed_report form trace.names (record { query = asked; edges = edges trace.lists; found = record { cycles = listed; more = nat_lt asked.max (length cycles) } })) (nat_lt 0 (length listed))
+-- whether a report lists a cycle
+abbrev pub outcome_of : Report → Outcome
+outcome_of report = if nat_lt 0 (length report.found.cycles) then Cycles else Clean
 
--- what is answered to this text
-pub data IsAnswer (asked : Asked) (form : Form) (text : List ℕ) : Answer → Type 0 where
+-- `predict` prints the report
+abbrev pub prediction : Asked → Form → (Segment → Segment → Bool) → Trace → Answer
+prediction asked form before trace =
+    let report = report_of asked before trace in
+    Prints (printed_report form trace.names report) (outcome_of report)
+
+-- `stats` prints the counts of the trace and of the report
+abbrev pub counts : Asked → (Segment → Segment → Bool) → Trace → Answer
+counts asked before trace = Prints (stats_text (stats_of trace (report_of asked before trace))) Done
+
+-- `replay` prints the trace as a text, and needs no order of segments
+abbrev pub replay : Trace → Answer
+replay trace = Prints (written trace.names trace.lists) Done
+
+-- ---- what is answered to a text
+
+-- by a command that prints this of a trace and of the order of its segments
+pub data IsAnswer (printed : (Segment → Segment → Bool) → Trace → Answer) (text : List ℕ) : Answer → Type 0 where
   -- the first line with a fault
-  bad_line : (line : ℕ) (kind : StdKind) → trace_of greatest text ≡ Err (Line line kind) → IsAnswer asked form text (Refusal (fault_line line kind))
+  bad_line : (line : ℕ) (kind : StdKind) → trace_of greatest text ≡ Err (Line line kind) → IsAnswer printed text (Refusal (fault_line line kind))
   -- forks and joins that can't have happened
-  no_order : (trace : Trace) (at : Segment) → trace_of greatest text ≡ Ok trace → IsLeastBeforeItself trace.lists at → IsAnswer asked form text (Refusal (inconsistent_line trace.names at))
-  -- the report of the trace
-  reported : (trace : Trace) (before : Segment → Segment → Bool) → trace_of greatest text ≡ Ok trace → IsConsistent trace.lists → DecidesBefore trace.lists before → IsAnswer asked form text (report_of asked form before trace)
+  no_order : (trace : Trace) (at : Segment) → trace_of greatest text ≡ Ok trace → IsLeastBeforeItself trace.lists at → IsAnswer printed text (Refusal (inconsistent_line trace.names at))
+  -- what is printed of the trace
+  ordered : (trace : Trace) (before : Segment → Segment → Bool) → trace_of greatest text ≡ Ok trace → IsConsistent trace.lists → DecidesBefore trace.lists before → IsAnswer printed text (printed before trace)
+
+-- by a command that prints this of a trace, be there an order of its segments or not
+pub data IsPlainAnswer (printed : Trace → Answer) (text : List ℕ) : Answer → Type 0 where
+  -- the first line with a fault
+  bad_line : (line : ℕ) (kind : StdKind) → trace_of greatest text ≡ Err (Line line kind) → IsPlainAnswer printed text (Refusal (fault_line line kind))
+  -- what is printed of the trace
+  plain : (trace : Trace) → trace_of greatest text ≡ Ok trace → IsPlainAnswer printed text (printed trace)
 
 -- a text has one answer
 abbrev pub AnswersAreUnique : Type 0
-AnswersAreUnique = (asked : Asked) (form : Form) (text : List ℕ) (a b : Answer) → IsAnswer asked form text a → IsAnswer asked form text b → a ≡ b
+AnswersAreUnique =
+    (printed : (Segment → Segment → Bool) → Trace → Answer) (text : List ℕ) (a b : Answer) → IsAnswer printed text a → IsAnswer printed text b → a ≡ b
+
+abbrev pub PlainAnswersAreUnique : Type 0
+PlainAnswersAreUnique = (printed : Trace → Answer) (text : List ℕ) (a b : Answer) → IsPlainAnswer printed text a → IsPlainAnswer printed text b → a ≡ b

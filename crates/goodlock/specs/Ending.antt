@@ -1,34 +1,54 @@
--- How a prediction ends: what was read, what was written, and what is answered.
-use Rattle.std.specs.Prelude.{◌≡◌, ◌≢◌, ℕ, ◌<◌, Bool, true, false, List, Option, Err, length, take}
+-- How a command ends: what was read, what was written, and what is answered.
+use Rattle.std.specs.Prelude.{◌≡◌, ◌≢◌, ℕ, ◌<◌, Bool, true, false, List, Option, Result, Ok, Err, length, take}
 use Rattle.std.specs.Io.KnownBytes.{Appends, Keeps}
 use Rattle.gl_event.specs.Bounds.{greatest}
 use Rattle.gl_io.specs.Reads.{HasRead}
 use Rattle.gl_std.specs.Lines.{ended_lines}
 use Rattle.gl_std.specs.Trace.{trace_of}
 use Rattle.gl_std.specs.declared.faults.StdKind.{StdKind}
+use Rattle.gl_std.specs.declared.faults.ReadFault.{ReadFault}
 use Rattle.gl_std.specs.declared.faults.ReadFault.TheVariants.{Line}
-use Rattle.gl_filters.specs.Asked.{Asked}
-use Rattle.goodlock.specs.Answer.{IsAnswer}
-use Rattle.goodlock.specs.Answer.Answer.{Report, Refusal}
+use Rattle.gl_std.specs.declared.trace.Trace.{Trace}
+use Rattle.goodlock.specs.Answer.{Answer}
+use Rattle.goodlock.specs.Answer.Answer.{Prints, Refusal}
 use Rattle.goodlock.specs.Lines.{fault_line}
+use Rattle.goodlock.specs.declared.answer.Printed.{Printed}
+use Rattle.goodlock.specs.declared.answer.Stop.{Stop}
+use Rattle.goodlock.specs.declared.answer.Stop.TheVariants as stop
 use Rattle.goodlock.specs.declared.ended.Ended.{Ended}
-use Rattle.goodlock.specs.declared.ended.Form.{Form}
-use Rattle.goodlock.specs.declared.ended.Ended.TheVariants.{Clean, Cycles, Refused, Memory, ReadFailed, WriteFailed}
+use Rattle.goodlock.specs.declared.ended.Ended.TheVariants.{Clean, Cycles, Done, Refused, Memory, ReadFailed, WriteFailed}
+use Rattle.goodlock.specs.declared.ended.Outcome.{Outcome}
+use Rattle.goodlock.specs.declared.ended.Outcome.TheVariants as outcome
 
--- the report was written whole, and nothing else
-pub record HasWritten (asked : Asked) (form : Form) (text : List ℕ) (lists_cycle : Bool) (old new : Option (List ℕ)) : Type 0 where
+-- ---- the input was read whole
+
+-- what is answered was written whole, and nothing else
+pub record HasWritten (IsAnswered : List ℕ → Answer → Type 0) (text : List ℕ) (outcome : Outcome) (old new : Option (List ℕ)) : Type 0 where
   pub printed : List ℕ
-  pub answer : IsAnswer asked form text (Report printed lists_cycle)
+  pub answer : IsAnswered text (Prints printed outcome)
   pub written : Appends old new printed
 
--- only a front of the report was written, and the writer failed
-pub record HasWrittenFront (asked : Asked) (form : Form) (text : List ℕ) (count : ℕ) (old new : Option (List ℕ)) (failed : Bool) : Type 0 where
+-- only a front of what is answered was written, and the writer failed
+pub record HasWrittenFront (IsAnswered : List ℕ → Answer → Type 0) (text : List ℕ) (count : ℕ) (old new : Option (List ℕ)) (failed : Bool) : Type 0 where
   pub printed : List ℕ
-  pub lists_cycle : Bool
-  pub answer : IsAnswer asked form text (Report printed lists_cycle)
+  pub outcome : Outcome
+  pub answer : IsAnswered text (Prints printed outcome)
   pub written : Appends old new (take count printed)
   pub part : count < length printed
   pub broke : failed ≡ true
+
+-- how it ended, where this is what is answered to a text, and the writer held the old bytes before and the new ones after. The writer
+-- has failed only where it is answered
+abbrev pub EndsAs : (List ℕ → Answer → Type 0) → List ℕ → Option (List ℕ) → Option (List ℕ) → Bool → Ended → Type 0
+EndsAs IsAnswered text old new failed Clean = HasWritten IsAnswered text outcome.Clean old new × (failed ≡ false)
+EndsAs IsAnswered text old new failed Cycles = HasWritten IsAnswered text outcome.Cycles old new × (failed ≡ false)
+EndsAs IsAnswered text old new failed Done = HasWritten IsAnswered text outcome.Done old new × (failed ≡ false)
+EndsAs IsAnswered text old new failed (Refused line) = Keeps old new × IsAnswered text (Refusal line.items) × (failed ≡ false)
+EndsAs IsAnswered text old new failed (WriteFailed count) = HasWrittenFront IsAnswered text count old new failed
+EndsAs IsAnswered text old new failed Memory = Keeps old new × (failed ≡ false)
+EndsAs IsAnswered text old new failed ReadFailed = ⊥
+
+-- ---- it wasn't
 
 -- the line is that of the first fault in the lines that LF had ended
 pub record IsFaultBefore (text line : List ℕ) : Type 0 where
@@ -41,33 +61,50 @@ pub record IsFaultBefore (text line : List ℕ) : Type 0 where
 abbrev pub HasNoFault : List ℕ → Type 0
 HasNoFault text = (number : ℕ) (kind : StdKind) → trace_of greatest (ended_lines text) ≢ Err (Line number kind)
 
--- why nothing was written: the text's own refusal, or where it wasn't read whole the first fault of its ended lines
-abbrev pub IsRefusalOf : Asked → Form → List ℕ → Bool → List ℕ → Type 0
-IsRefusalOf asked form text true line = IsAnswer asked form text (Refusal line)
-IsRefusalOf asked form text false line = IsFaultBefore text line
+-- how it ended, where no more than this text was read
+abbrev pub EndsEarlyAs : List ℕ → Ended → Type 0
+EndsEarlyAs text (Refused line) = IsFaultBefore text line.items
+EndsEarlyAs text ReadFailed = HasNoFault text
+EndsEarlyAs text Memory = Unit {0}
+EndsEarlyAs text other = ⊥
 
--- how it ended, where this text was read, whole or not, and the writer held the old bytes before and the new ones after. The
--- writer has failed only where it is answered
-abbrev pub EndsAs : Asked → Form → List ℕ → Bool → Option (List ℕ) → Option (List ℕ) → Bool → Ended → Type 0
-EndsAs asked form text whole old new failed Clean = (whole ≡ true) × HasWritten asked form text false old new × (failed ≡ false)
-EndsAs asked form text whole old new failed Cycles = (whole ≡ true) × HasWritten asked form text true old new × (failed ≡ false)
-EndsAs asked form text whole old new failed (Refused line) = Keeps old new × IsRefusalOf asked form text whole line.items × (failed ≡ false)
-EndsAs asked form text whole old new failed ReadFailed = Keeps old new × (whole ≡ false) × HasNoFault text × (failed ≡ false)
-EndsAs asked form text whole old new failed (WriteFailed count) = (whole ≡ true) × HasWrittenFront asked form text count old new failed
-EndsAs asked form text whole old new failed Memory = Keeps old new × (failed ≡ false)
-
--- a prediction of what is asked, in this form and in at most so many turns: the reader had the bytes `old` left and then `new`, the writer held
--- `before` and then `after`; each may have failed
-pub data HasPredicted (asked : Asked) (form : Form) (turns : ℕ) (old new : Option (List ℕ)) (read_failed : Bool) (before after : Option (List ℕ)) (write_failed : Bool) : Ended → Type 0 where
+-- the reads ended before the text was read whole, or before there was memory for it
+pub data HasEndedEarly (turns : ℕ) (old new : Option (List ℕ)) (read_failed : Bool) : Ended → Type 0 where
   -- memory for the text was refused while it was read
-  out_of_memory : Keeps before after → write_failed ≡ false → HasPredicted asked form turns old new read_failed before after write_failed Memory
-  -- a text was read, whole or not
-  ended_so : (text : List ℕ) (whole : Bool) (ended : Ended) → HasRead turns old new read_failed text whole → EndsAs asked form text whole before after write_failed ended
-      → HasPredicted asked form turns old new read_failed before after write_failed ended
+  out_of_memory : HasEndedEarly turns old new read_failed Memory
+  -- only this text was read
+  cut_short : (text : List ℕ) (ended : Ended) → HasRead turns old new read_failed text false → EndsEarlyAs text ended → HasEndedEarly turns old new read_failed ended
 
--- what became of this report
-abbrev pub HasWrittenReport : List ℕ → Bool → Option (List ℕ) → Option (List ℕ) → Bool → Ended → Type 0
-HasWrittenReport printed lists_cycle old new failed Clean = (lists_cycle ≡ false) × Appends old new printed × (failed ≡ false)
-HasWrittenReport printed lists_cycle old new failed Cycles = (lists_cycle ≡ true) × Appends old new printed × (failed ≡ false)
-HasWrittenReport printed lists_cycle old new failed (WriteFailed count) = Appends old new (take count printed) × (count < length printed) × (failed ≡ true)
-HasWrittenReport printed lists_cycle old new failed other = ⊥
+-- ---- either
+
+-- the end of a command that answers so to a text, after at most so many turns: the reader had the bytes `old` left and then `new`, the writer
+-- held `before` and then `after`; each may have failed
+pub data HasEnded (IsAnswered : List ℕ → Answer → Type 0) (turns : ℕ) (old new : Option (List ℕ)) (read_failed : Bool) (before after : Option (List ℕ)) (write_failed : Bool) : Ended → Type 0 where
+  -- nothing was written
+  early : (ended : Ended) → HasEndedEarly turns old new read_failed ended → Keeps before after → write_failed ≡ false
+      → HasEnded IsAnswered turns old new read_failed before after write_failed ended
+  -- a text was read whole
+  ended_so : (text : List ℕ) (ended : Ended) → HasRead turns old new read_failed text true → EndsAs IsAnswered text before after write_failed ended
+      → HasEnded IsAnswered turns old new read_failed before after write_failed ended
+
+-- ---- the two halves
+
+-- a text was read whole, and this is its trace or its first fault
+pub record HasHeardAll (turns : ℕ) (old new : Option (List ℕ)) (read_failed : Bool) (read : Result Trace ReadFault) : Type 0 where
+  pub text : List ℕ
+  pub whole : HasRead turns old new read_failed text true
+  pub trace : trace_of greatest text ≡ read
+
+-- what became of a text to be printed
+abbrev pub HasWrittenText : List ℕ → Outcome → Option (List ℕ) → Option (List ℕ) → Bool → Ended → Type 0
+HasWrittenText printed told old new failed Clean = (told ≡ outcome.Clean) × Appends old new printed × (failed ≡ false)
+HasWrittenText printed told old new failed Cycles = (told ≡ outcome.Cycles) × Appends old new printed × (failed ≡ false)
+HasWrittenText printed told old new failed Done = (told ≡ outcome.Done) × Appends old new printed × (failed ≡ false)
+HasWrittenText printed told old new failed (WriteFailed count) = Appends old new (take count printed) × (count < length printed) × (failed ≡ true)
+HasWrittenText printed told old new failed other = ⊥
+
+-- what became of an answer
+abbrev pub EndsWith : Result Printed Stop → Option (List ℕ) → Option (List ℕ) → Bool → Ended → Type 0
+EndsWith (Ok printed) old new failed ended = HasWrittenText printed.text.items printed.outcome old new failed ended
+EndsWith (Err (stop.Refused line)) old new failed ended = (ended ≡ Refused line) × Keeps old new × (failed ≡ false)
+EndsWith (Err stop.Memory) old new failed ended = (ended ≡ Memory) × Keeps old new × (failed ≡ false)

@@ -13,7 +13,7 @@ use Rattle.clap.specs.declared.builder.action.ArgAction.TheVariants.{SetTrue}
 use Rattle.goodlock.specs.declared.ended.Form.{Form}
 use Rattle.goodlock.specs.declared.ended.Form.TheVariants.{Text as Plain, Json}
 use Rattle.goodlock.specs.declared.options.Command.{Command}
-use Rattle.goodlock.specs.declared.options.Command.TheVariants.{Predict}
+use Rattle.goodlock.specs.declared.options.Command.TheVariants.{Predict, Stats, Replay}
 use Rattle.goodlock.specs.declared.options.Usage.{Usage}
 use Rattle.goodlock.specs.declared.options.Usage.TheVariants.{Shown, Refused, Memory}
 
@@ -42,24 +42,36 @@ max_rule = record (option_rule (codes "max") (codes "1000")) { parser = Some (ta
 abbrev pub json_rule : Rule
 json_rule = record (new_rule (codes "json")) { long = Some (codes "json"); action = Some SetTrue }
 
--- the options of a query
-abbrev pub query_app : App
-query_app = with_rule (with_rule (with_rule (new_app (codes "predict")) mode_rule) len_rule) max_rule
+-- a command of this name with the options of a query
+abbrev pub query_app : Text → App
+query_app name = with_rule (with_rule (with_rule (new_app name) mode_rule) len_rule) max_rule
 
--- and the form of the report
+-- the command that predicts, with the form of its report
 abbrev pub predict : App
-predict = with_rule query_app json_rule
+predict = with_rule (query_app (codes "predict")) json_rule
 
--- the program: a subcommand is required, and `predict` is the one that there is
-abbrev pub goodlock : App
-goodlock = with_subcommand (record {
+-- the command that counts
+abbrev pub stats : App
+stats = query_app (codes "stats")
+
+-- the command that writes the trace: it has no options
+abbrev pub replay : App
+replay = new_app (codes "replay")
+
+-- the program: a subcommand is required
+abbrev pub program : App
+program = record {
   top = record (new_app (codes "goodlock")).top {
     has_version = true;
     subcommand_required = true;
     disable_help_subcommand = true;
   };
   subs = [];
-}) predict.top
+}
+
+-- with its commands
+abbrev pub goodlock : App
+goodlock = with_subcommand (with_subcommand (with_subcommand program predict.top) stats.top) replay.top
 
 -- ---- what words ask for
 
@@ -88,17 +100,23 @@ pub record IsFormIn (rows : List Row) (form : Form) : Type 0 where
   pub given : one_of (codes "json") rows ≡ Some (codes "true") → form ≡ Json
   pub left_out : one_of (codes "json") rows ≡ Some (codes "false") → form ≡ Plain
 
--- the words fit the command line, and ask for this query in this form
-pub record AsksToPredict (words : List Text) (asked : Asked) (form : Form) : Type 0 where
-  pub fits : fault_of goodlock words ≡ []
-  pub rows : List Row
-  pub command : subcommand_of goodlock words ≡ Some (codes "predict", rows)
-  pub options : AsksIn rows asked
-  pub form_in : IsFormIn rows form
+-- a command of this name, whose options have these values, is this
+abbrev pub IsCommand : Text → List Row → Command → Type 0
+IsCommand name rows (Predict query form) = (name ≡ codes "predict") × AsksIn rows query × IsFormIn rows form
+IsCommand name rows (Stats query) = (name ≡ codes "stats") × AsksIn rows query
+IsCommand name rows Replay = name ≡ codes "replay"
 
--- the words ask for this
-abbrev pub Asks : List Text → Command → Type 0
-Asks words (Predict query form) = AsksToPredict words query form
+-- the subcommand that was entered is this
+pub record IsEntered (entered : Option (Text × List Row)) (command : Command) : Type 0 where
+  pub name : Text
+  pub rows : List Row
+  pub is_there : entered ≡ Some (name, rows)
+  pub is_command : IsCommand name rows command
+
+-- the words fit the command line, and ask for this
+pub record Asks (words : List Text) (command : Command) : Type 0 where
+  pub fits : fault_of goodlock words ≡ []
+  pub enters : IsEntered (subcommand_of goodlock words) command
 
 -- ---- what is answered to other words
 

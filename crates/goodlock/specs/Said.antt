@@ -1,17 +1,18 @@
--- What the program says of how a prediction ended, or of words that ask for nothing to be done: what goes to standard output
+-- What the program says of how a command ended, or of words that ask for nothing to be done: what goes to standard output
 -- and to standard error, and its exit status.
 use Rattle.std.specs.Prelude.{ℕ, List, [], codes, string_bytes}
 use Rattle.goodlock.specs.declared.ended.Ended.{Ended}
-use Rattle.goodlock.specs.declared.ended.Ended.TheVariants.{Clean, Cycles, Refused, Memory, ReadFailed, WriteFailed}
+use Rattle.goodlock.specs.declared.ended.Ended.TheVariants.{Clean, Cycles, Done, Refused, Memory, ReadFailed, WriteFailed}
 use Rattle.goodlock.specs.declared.options.Usage.{Usage}
 use Rattle.goodlock.specs.declared.options.Usage.TheVariants as usage
 
--- ---- of a prediction
+-- ---- of a command
 
 -- the line for standard error
 abbrev pub line_of : Ended → List ℕ
 line_of Clean = []
 line_of Cycles = []
+line_of Done = []
 line_of (Refused line) = line.items
 line_of Memory = codes "goodlock: out of memory\n"
 line_of ReadFailed = codes "goodlock: read failed\n"
@@ -21,6 +22,7 @@ line_of (WriteFailed written) = codes "goodlock: write failed\n"
 abbrev pub status_of : Ended → ℕ
 status_of Clean = 0
 status_of Cycles = 1
+status_of Done = 0
 status_of (Refused line) = 2
 status_of Memory = 3
 status_of ReadFailed = 4

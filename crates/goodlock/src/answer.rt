@@ -4,33 +4,40 @@ ghost use Rattle.gl_event.specs.Bounds.{greatest};
 ghost use Rattle.gl_std.specs.Trace.{trace_of, IsTraceOver};
 ghost use Rattle.gl_segments.specs.Clocks.{is_before, OrdersBy};
 ghost use Rattle.gl_segments.specs.Segments.{IsConsistent};
-ghost use Rattle.goodlock.specs.Answer.{IsAnswer, printed_report, report_of};
-ghost use Rattle.goodlock.specs.Answer.Answer.{Report as Reports, Refusal};
-ghost use Rattle.goodlock.specs.Stops.{IfRefused, IsFaultIn, IsLoopOf};
+ghost use Rattle.goodlock.specs.Answer.{IsAnswer, IsPlainAnswer, counts, outcome_of, prediction, printed_report, replay, report_of};
+ghost use Rattle.goodlock.specs.Answer.Answer.{Prints, Refusal};
+ghost use Rattle.goodlock.specs.Stops.{IfRefused, IsFaultIn, IsLoopOf, IsReportOf, SaysWhyNoReport};
 ghost use Rattle.gl_std.specs.declared.faults.StdKind.{StdKind};
 ghost use Rattle.gl_std.specs.declared.faults.ReadFault.TheVariants.{Line};
 
-use crate::ended::Form;
+use crate::ended::{Form, Outcome};
 use crate::lines::{fault_line, inconsistent_line};
 use gl_cycles::{Report, search};
 use gl_edges::edges_of;
 use gl_event::{Limits, MAX_EVENTS, MAX_NAMES, MAX_RING, MAX_THREADS, Memory};
 use gl_filters::Query;
-use gl_report::{json_text, text};
+use gl_report::{Stats, json_text, stats_text, text};
 use gl_segments::{Order, OrderFault};
-use gl_std::{Names, ReadFault, Trace};
+use gl_std::{Names, ReadFault, Trace, write_trace};
 use std::alloc::{AllocError, Global};
 
-/// What is printed of a text.
+/// What a command prints of a text.
 #[derive(Drop, Debug)]
 pub(crate) struct Printed {
-    /// The report.
+    /// What is printed.
     pub(crate) text: Vec<u8>,
-    /// Whether it lists a cycle.
-    pub(crate) lists_cycle: bool,
+    /// What becomes of the command once it is.
+    pub(crate) outcome: Outcome,
 }
 
-/// Why a text has no report.
+// A trace with its report.
+#[derive(Drop)]
+struct Reported {
+    trace: Trace,
+    report: Report,
+}
+
+/// Why nothing is printed of a text.
 #[derive(Drop, Debug)]
 pub(crate) enum Stop {
     /// This line for standard error says it.
@@ -101,44 +108,95 @@ fn print(alloc: Global, form: Form, names: &Names, report: &Report) -> Result<Ve
     }
 }
 
-// The report, in this form, of a trace whose segments have this order.
-fn print_report(
-    alloc: Global,
-    trace: &Trace,
-    order: &Order,
-    query: &Query,
-    form: Form,
-) -> Result<Printed, Memory>
+// The report of a trace whose segments have this order.
+fn report_by(alloc: Global, trace: &Trace, order: &Order, query: &Query) -> Result<Report, Memory>
     requires { IsTraceOver greatest trace.now }
-    ensures { IfOk result (λ p. Reports p.text.items p.lists_cycle ≡ report_of query.now form (is_before order.now) trace.now) }
+    ensures { IfOk result (λ r. r ≡ report_of query.now (is_before order.now) trace.now) }
 {
     let edges = edges_of(alloc, trace.lists.as_slice())?;
     let found = search(alloc, &edges, order, query)?;
-    let lists_cycle = !found.cycles.as_slice().is_empty();
-    let report = Report {
+    Ok(Report {
         query: *query,
         edges,
         found,
-    };
-    let text = print(alloc, form, &trace.names, &report)?;
-    Ok(Printed { text, lists_cycle })
+    })
 }
 
-/// What is printed of the texts that have this trace or first fault, or why they have no report.
-pub(crate) fn answer(
+// The report of the trace that was read, or why there is none.
+fn trace_and_report(
+    alloc: Global,
+    read: Result<Trace, ReadFault>,
+    query: &Query,
+) -> Result<Reported, Stop>
+    requires { IfOk read (IsTraceOver greatest) }
+    ensures report { IfOk result (λ r. IsReportOf query.now read r.trace r.report) }
+    ensures over { IfOk result (λ r. IsTraceOver greatest r.trace) }
+    ensures refused { IfErr result (λ stop. IfRefused stop (SaysWhyNoReport read)) }
+{
+    let trace = trace_or_line(alloc, read)?;
+    let order = order_or_line(alloc, &trace)?;
+    let report = report_by(alloc, &trace, &order, query)?;
+    Ok(Reported { trace, report })
+}
+
+// Whether a report lists a cycle.
+fn outcome_of(report: &Report) -> Outcome
+    ensures { result ≡ outcome_of report.now }
+{
+    if report.found.cycles.as_slice().is_empty() {
+        return Outcome::Clean;
+    }
+    Outcome::Cycles
+}
+
+/// The report of the texts that have this trace or first fault, in this form, or why they have none.
+pub(crate) fn predicted(
     alloc: Global,
     read: Result<Trace, ReadFault>,
     query: &Query,
     form: Form,
 ) -> Result<Printed, Stop>
     requires { IfOk read (IsTraceOver greatest) }
-    ensures printed { IfOk result (λ p. (text : List ℕ) → trace_of greatest text ≡ read → IsAnswer query.now form text (Reports p.text.items p.lists_cycle)) }
-    ensures refused { IfErr result (λ stop. IfRefused stop (λ line. (text : List ℕ) → trace_of greatest text ≡ read → IsAnswer query.now form text (Refusal line))) }
+    ensures printed { IfOk result (λ p. (text : List ℕ) → trace_of greatest text ≡ read → IsAnswer (prediction query.now form) text (Prints p.text.items p.outcome)) }
+    ensures refused { IfErr result (λ stop. IfRefused stop (λ line. (text : List ℕ) → trace_of greatest text ≡ read → IsAnswer (prediction query.now form) text (Refusal line))) }
+{
+    let Reported { trace, report } = trace_and_report(alloc, read, query)?;
+    let outcome = outcome_of(&report);
+    let text = print(alloc, form, &trace.names, &report)?;
+    Ok(Printed { text, outcome })
+}
+
+/// The counts of the texts that have this trace or first fault, and of their report, or why they have
+/// none.
+pub(crate) fn counted(
+    alloc: Global,
+    read: Result<Trace, ReadFault>,
+    query: &Query,
+) -> Result<Printed, Stop>
+    requires { IfOk read (IsTraceOver greatest) }
+    ensures printed { IfOk result (λ p. (text : List ℕ) → trace_of greatest text ≡ read → IsAnswer (counts query.now) text (Prints p.text.items p.outcome)) }
+    ensures refused { IfErr result (λ stop. IfRefused stop (λ line. (text : List ℕ) → trace_of greatest text ≡ read → IsAnswer (counts query.now) text (Refusal line))) }
+{
+    let Reported { trace, report } = trace_and_report(alloc, read, query)?;
+    let text = stats_text(alloc, &Stats::of(&trace, &report))?;
+    Ok(Printed {
+        text,
+        outcome: Outcome::Done,
+    })
+}
+
+/// The trace of the texts that have this trace or first fault, written, or their first fault.
+pub(crate) fn replayed(alloc: Global, read: Result<Trace, ReadFault>) -> Result<Printed, Stop>
+    requires { IfOk read (IsTraceOver greatest) }
+    ensures printed { IfOk result (λ p. (text : List ℕ) → trace_of greatest text ≡ read → IsPlainAnswer replay text (Prints p.text.items p.outcome)) }
+    ensures refused { IfErr result (λ stop. IfRefused stop (λ line. (text : List ℕ) → trace_of greatest text ≡ read → IsPlainAnswer replay text (Refusal line))) }
 {
     let trace = trace_or_line(alloc, read)?;
-    let order = order_or_line(alloc, &trace)?;
-    let report = print_report(alloc, &trace, &order, query, form)?;
-    Ok(report)
+    let text = write_trace(alloc, &trace)?;
+    Ok(Printed {
+        text,
+        outcome: Outcome::Done,
+    })
 }
 
 /// Says the fault that was read in a trace's place, if one was.

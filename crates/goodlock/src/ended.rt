@@ -1,13 +1,15 @@
-//! How a prediction ends.
+//! How a command ends.
 
-/// How a prediction ended.
+/// How a command ended.
 #[derive(Drop, Debug)]
 pub enum Ended {
     /// The report was written. It lists no cycle.
     Clean,
     /// The report was written. It lists a cycle or more.
     Cycles,
-    /// The text has no report: this is the line for standard error that says why. Nothing was
+    /// What was asked for was written, and it is no report.
+    Done,
+    /// Nothing can be printed of the text: this is the line for standard error that says why. Nothing was
     /// written.
     Refused(Vec<u8>),
     /// Memory was refused. Nothing was written.
@@ -15,8 +17,19 @@ pub enum Ended {
     /// The input wasn't read to its end, and no line that was ended before has a fault. Nothing was
     /// written.
     ReadFailed,
-    /// The writer failed after this many bytes of the report.
+    /// The writer failed after this many bytes of what was to be written.
     WriteFailed { written: usize },
+}
+
+/// How a command ends once what it prints is written.
+#[derive(Clone, Copy, Debug, PartialEq, Eq, Hash)]
+pub enum Outcome {
+    /// It is a report that lists no cycle.
+    Clean,
+    /// It is a report that lists a cycle or more.
+    Cycles,
+    /// It is no report.
+    Done,
 }
 
 /// The form of a report.

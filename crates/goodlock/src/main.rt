@@ -1,24 +1,24 @@
 //! `goodlock` reads a trace of lock events from standard input and prints the deadlocks that it
-//! predicts.
+//! predicts, counts of the trace, or the trace itself.
 #![tactic(auto)]
 
 ghost use Rattle.std.specs.Prelude.{◌≡◌};
 ghost use Rattle.goodlock.specs.Said.{line_of, status_of, shown_text, refused_text, usage_status};
 
+use commands::{predict, replay, stats};
 use ended::Ended;
 use gl_io::FromStd;
 use options::{Command, Usage, parse};
-use prediction::predict;
 use std::env;
 use std::io::{ErrorKind, Write};
 use std::process::ExitCode;
 
 mod answer;
+mod commands;
 mod ended;
 mod laws;
 mod lines;
 mod options;
-mod prediction;
 #[cfg(test)]
 mod tests;
 
@@ -36,6 +36,7 @@ fn said(ended: &Ended) -> (&[u8], u8)
     match ended {
         Ended::Clean => (b"", 0),
         Ended::Cycles => (b"", 1),
+        Ended::Done => (b"", 0),
         Ended::Refused(line) => (line.as_slice(), 2),
         Ended::Memory => (b"goodlock: out of memory\n", 3),
         Ended::ReadFailed => (b"goodlock: read failed\n", 4),
@@ -68,10 +69,15 @@ fn words(rt: &HostRuntime) -> Result<Vec<String>, Usage> {
 
 // Does what the words ask for, from standard input to standard output.
 fn run(rt: &HostRuntime, command: &Command) -> ExitCode {
-    let Command::Predict { query, form } = command;
     let mut input = FromStd::new(rt.stdin());
     let mut output = FromStd::new(rt.stdout());
-    let ended = predict(rt, &mut input, &mut output, TURNS, query, *form);
+    let ended = match command {
+        Command::Predict { query, form } => {
+            predict(rt, &mut input, &mut output, TURNS, query, *form)
+        }
+        Command::Stats { query } => stats(rt, &mut input, &mut output, TURNS, query),
+        Command::Replay => replay(rt, &mut input, &mut output, TURNS),
+    };
     let (line, status) = said(&ended);
     let _ = rt.stderr().write_all(line);
     ExitCode::from(status)

@@ -1,11 +1,11 @@
 //! What the words of the command line ask for.
 ghost use Rattle.std.specs.Prelude.{◌≡◌, ◌<◌, ◌^◌, ℕ, false, map, Some, None, codes, option_and_then, IfOk, IfErr, IfSome};
 ghost use Rattle.clap.specs.declared.error.kind.ErrorKind.TheVariants.{InvalidValue};
-ghost use Rattle.clap.specs.Words.{app_of, first_of, found_of, kind_of, rows_of, rule_of};
+ghost use Rattle.clap.specs.Words.{app_of, first_of, found_of, kind_of, rows_of, rule_of, subcommand_rows_of, with_subcommand};
 ghost use Rattle.clap.specs.declared.builder.command.Command.TheViews.{out-Command as fields_of};
 ghost use Rattle.gl_filters.specs.Asked.{Asked};
-ghost use Rattle.goodlock.specs.Options.{goodlock, predict, query_app, mode_rule, len_rule, max_rule, json_rule};
-ghost use Rattle.goodlock.specs.Options.{Asks, AsksIn, IsFormIn, IsNumberAt, IsUsageFor, IsUsageOf, mode_named};
+ghost use Rattle.goodlock.specs.Options.{goodlock, program, predict, stats, replay, query_app, mode_rule, len_rule, max_rule, json_rule};
+ghost use Rattle.goodlock.specs.Options.{Asks, AsksIn, IsCommand, IsEntered, IsFormIn, IsNumberAt, IsUsageFor, IsUsageOf, mode_named};
 
 use crate::ended::Form;
 use clap::error::ErrorKind;
@@ -16,13 +16,17 @@ use std::convert::AsStr;
 
 // What is said of a value that no option takes.
 const REFUSED: &str =
-    "error: --mode takes basic, guarded or full\n\nFor more information, try 'goodlock predict --help'.\n";
+    "error: --mode takes basic, guarded or full\n\nFor more information, try '--help'.\n";
 
 /// What the program is to do.
 #[derive(Clone, Copy, Debug, PartialEq, Eq)]
 pub enum Command {
     /// Read a trace and print the cycles that this query asks for, in this form.
     Predict { query: Query, form: Form },
+    /// Read a trace and print counts of it and of the cycles that this query asks for.
+    Stats { query: Query },
+    /// Read a trace and print it as a text.
+    Replay,
 }
 
 /// Why words ask for nothing that is to be done.
@@ -97,16 +101,12 @@ fn json_option<'a>(alloc: Global) -> Arg<'a>
         .help("Prints the report as JSON, one object on a line")
 }
 
-// The command that predicts, with the options of its query.
-fn query_command<'a>(alloc: Global) -> Result<clap::Command<'a>, AllocError>
-    ensures shape { IfOk result (λ c. app_of c ≡ query_app) }
+// A command of this name with the options of a query.
+fn query_command<'a>(alloc: Global, name: &'a str) -> Result<clap::Command<'a>, AllocError>
+    ensures shape { IfOk result (λ c. app_of c ≡ query_app name.entry.now) }
     ensures local { IfOk result (λ c. (fields_of c).has_globals ≡ false) }
 {
-    clap::Command::new(alloc, "predict")
-        .about("Reads a trace from standard input and prints the deadlocks that it predicts")
-        .after_help(
-            "Examples:\n  goodlock predict < trace.std\n  goodlock predict --mode guarded --len 3 --json < trace.std",
-        )
+    clap::Command::new(alloc, name)
         .arg(mode_option(alloc))?
         .arg(len_option(alloc))?
         .arg(max_option(alloc))
@@ -117,22 +117,70 @@ fn predict_command<'a>(alloc: Global) -> Result<clap::Command<'a>, AllocError>
     ensures shape { IfOk result (λ c. app_of c ≡ predict) }
     ensures local { IfOk result (λ c. (fields_of c).has_globals ≡ false) }
 {
-    query_command(alloc)?.arg(json_option(alloc))
+    query_command(alloc, "predict")?
+        .about("Reads a trace from standard input and prints the deadlocks that it predicts")
+        .after_help(
+            "Examples:\n  goodlock predict < trace.std\n  goodlock predict --mode guarded --len 3 --json < trace.std",
+        )
+        .arg(json_option(alloc))
+}
+
+// The command that counts.
+fn stats_command<'a>(alloc: Global) -> Result<clap::Command<'a>, AllocError>
+    ensures shape { IfOk result (λ c. app_of c ≡ stats) }
+    ensures local { IfOk result (λ c. (fields_of c).has_globals ≡ false) }
+{
+    let command = query_command(alloc, "stats")?
+        .about(
+            "Reads a trace from standard input and counts its events, names, segments, edges and cycles",
+        )
+        .after_help(
+            "Examples:\n  goodlock stats < trace.std\n  goodlock stats --mode basic --max 100000 < trace.std",
+        );
+    Ok(command)
+}
+
+// The command that writes the trace.
+fn replay_command<'a>(alloc: Global) -> clap::Command<'a>
+    ensures shape { app_of result ≡ replay }
+    ensures local { (fields_of result).has_globals ≡ false }
+{
+    clap::Command::new(alloc, "replay")
+        .about(
+            "Reads a trace from standard input and prints its events again, thread by thread, each as a line",
+        )
+        .after_help(
+            "Examples:\n  goodlock replay < trace.std\n  goodlock replay < trace.std | goodlock predict",
+        )
+}
+
+// The program with the command that predicts.
+fn predicting<'a>(alloc: Global) -> Result<clap::Command<'a>, AllocError>
+    ensures { IfOk result (λ c. app_of c ≡ with_subcommand program predict.top) }
+{
+    clap::Command::new(alloc, "goodlock")
+        .about("Predicts deadlocks from a trace of lock events")
+        .version("0.1.0")
+        .after_help(
+            "Examples:\n  goodlock predict < trace.std\n  goodlock stats --mode guarded < trace.std",
+        )
+        .subcommand_required(true)
+        .disable_help_subcommand(true)
+        .subcommand(predict_command(alloc)?)
+}
+
+// And with the one that counts.
+fn counting<'a>(alloc: Global) -> Result<clap::Command<'a>, AllocError>
+    ensures { IfOk result (λ c. app_of c ≡ with_subcommand (with_subcommand program predict.top) stats.top) }
+{
+    predicting(alloc)?.subcommand(stats_command(alloc)?)
 }
 
 // The whole command line.
 fn command_line<'a>(alloc: Global) -> Result<clap::Command<'a>, AllocError>
     ensures { IfOk result (λ c. app_of c ≡ goodlock) }
 {
-    clap::Command::new(alloc, "goodlock")
-        .about("Predicts deadlocks from a trace of lock events")
-        .version("0.1.0")
-        .after_help(
-            "Examples:\n  goodlock predict < trace.std\n  goodlock predict --mode guarded --len 3 --json < trace.std",
-        )
-        .subcommand_required(true)
-        .disable_help_subcommand(true)
-        .subcommand(predict_command(alloc)?)
+    counting(alloc)?.subcommand(replay_command(alloc))
 }
 
 // The mode of this name.
@@ -220,12 +268,50 @@ fn refused(alloc: Global) -> Usage
     }
 }
 
+// The command that these values of its options ask for.
+fn predict_in(options: &ArgMatches<'_>) -> Option<Command>
+    ensures some { IfSome result (IsCommand (codes "predict") (rows_of (found_of options.now))) }
+    ensures none { result ≡ None → (c : Command) → IsCommand (codes "predict") (rows_of (found_of options.now)) c → ⊥ }
+{
+    let query = query_in(options)?;
+    Some(Command::Predict {
+        query,
+        form: form_in(options),
+    })
+}
+
+// The command that these values of its options ask for.
+fn stats_in(options: &ArgMatches<'_>) -> Option<Command>
+    ensures some { IfSome result (IsCommand (codes "stats") (rows_of (found_of options.now))) }
+    ensures none { result ≡ None → (c : Command) → IsCommand (codes "stats") (rows_of (found_of options.now)) c → ⊥ }
+{
+    let query = query_in(options)?;
+    Some(Command::Stats { query })
+}
+
+// The command that was entered, where its options have values in their ranges.
+fn command_in(matches: &ArgMatches<'_>) -> Option<Command>
+    ensures some { IfSome result (IsEntered (subcommand_rows_of matches.now)) }
+    ensures none { result ≡ None → (c : Command) → IsEntered (subcommand_rows_of matches.now) c → ⊥ }
+{
+    if let Some(options) = matches.subcommand_matches("predict") {
+        return predict_in(options);
+    }
+    if let Some(options) = matches.subcommand_matches("stats") {
+        return stats_in(options);
+    }
+    match matches.subcommand_matches("replay") {
+        Some(_) => Some(Command::Replay),
+        None => None,
+    }
+}
+
 /// What these words ask for, of which the first is the program's name, or why they ask for nothing.
 ///
-/// The words are `goodlock predict`, then any of `--mode` with `basic`, `guarded` or `full` (the
-/// default), `--len` with a number from 2 to 16 (4), and `--max` with one from 1 to 100,000
-/// (1,000), and `--json`, each once at the most. `--help`, of the program or of the command, and `--version` ask
-/// for a text.
+/// The words are `goodlock predict` or `goodlock stats`, then any of `--mode` with `basic`,
+/// `guarded` or `full` (the default), `--len` with a number from 2 to 16 (4), and `--max` with one
+/// from 1 to 100,000 (1,000), and of `predict` also `--json`, each once at the most; or `goodlock
+/// replay`. `--help`, of the program or of a command, and `--version` ask for a text.
 pub fn parse<'a, S: AsStr>(alloc: Global, words: &'a [S]) -> Result<Command, Usage>
     ensures asks { IfOk result (Asks (map S.text words.entry.now)) }
     ensures usage { IfErr result (IsUsageOf (map S.text words.entry.now)) }
@@ -234,14 +320,8 @@ pub fn parse<'a, S: AsStr>(alloc: Global, words: &'a [S]) -> Result<Command, Usa
         Ok(matches) => matches,
         Err(error) => return Err(usage_of(alloc, &error)),
     };
-    let Some(options) = matches.subcommand_matches("predict") else {
-        return Err(refused(alloc));
-    };
-    match query_in(options) {
-        Some(query) => Ok(Command::Predict {
-            query,
-            form: form_in(options),
-        }),
+    match command_in(&matches) {
+        Some(command) => Ok(command),
         None => Err(refused(alloc)),
     }
 }

@@ -1,9 +1,9 @@
-//! Whole traces, and how predicting from them ends.
+//! Whole traces, and how commands end over them.
 ghost use Rattle.std.specs.Prelude.{◌≡◌, None, false};
 
+use crate::commands::{predict, replay, stats};
 use crate::ended::{Ended, Form};
 use crate::options::{Command, Usage, parse};
-use crate::prediction::predict;
 use gl_filters::{Mode, Query};
 use gl_io::{Failed, FromStd, Source};
 use itoa::Buffer;
@@ -351,18 +351,128 @@ fn writer_and_reader_fail(rt: HostRuntime) -> Result<(), Fail> {
     Ok(())
 }
 
-// The command predicts by this query.
-fn asks_for(command: &Command, wanted: &Query, wanted_form: Form) -> bool {
-    let Command::Predict { query, form } = command;
-    query == wanted && *form == wanted_form
+// The counts of the text and of its report are these.
+fn expect_counts<R: Abort + AllocGlobal>(rt: &R, query: &Query, text: &[u8], counts: &[u8]) {
+    let mut input = FromStd::new(text);
+    let mut output = FromStd::new(Vec::new(rt.alloc()));
+    match stats(rt, &mut input, &mut output, TURNS, query) {
+        Ended::Done => assert_eq!(rt; output.into_inner().as_slice(), counts),
+        other => assert!(rt; false, "{other:?}"),
+    }
 }
 
-// The words ask for this query in this form.
-fn expect_query<R: Abort + AllocGlobal>(rt: &R, words: &[&str], wanted: &Query, form: Form) {
+#[test]
+fn counted_texts(rt: HostRuntime) -> Result<(), Fail> {
+    let asked = full()?;
+    let zeros =
+        b"events: 0\nskipped: 0\nstray: 0\nthreads: 0\nlocks: 0\nsegments: 0\nedges: 0\ncycles: 0\n";
+    expect_counts(&rt, &asked, b"", zeros);
+    let opposite =
+        b"events: 6\nskipped: 0\nstray: 0\nthreads: 2\nlocks: 2\nsegments: 2\nedges: 2\ncycles: 1\n";
+    expect_counts(&rt, &asked, OPPOSITE_ORDER, opposite);
+    let forked = b"M|acq(a)|1\nM|fork(T1)|2\nM|acq(b)|3\nT1|acq(b)|4\nT1|acq(a)|5\n";
+    let counts =
+        b"events: 5\nskipped: 0\nstray: 0\nthreads: 2\nlocks: 2\nsegments: 3\nedges: 2\ncycles: 1\n";
+    expect_counts(&rt, &asked, forked, counts);
+    Ok(())
+}
+
+#[test]
+fn counted_lines_and_cycles(rt: HostRuntime) -> Result<(), Fail> {
+    let skipped =
+        b"T0|acq(a)|1\r\n\r\nT0|r(x)|9\r\nT0|acq(b)|A.java:7|x\r\nT0|rel(b)|3\r\nT0|rel(a)|4\r\nT0|begin|3\r\nT1|acq(b)|5\r\nT1|acq(a)|6";
+    let counts =
+        b"events: 6\nskipped: 2\nstray: 0\nthreads: 2\nlocks: 2\nsegments: 2\nedges: 2\ncycles: 1\n";
+    expect_counts(&rt, &full()?, skipped, counts);
+    let stray = b"T0|rel(a)|1\nT0|acq(b)|2\n";
+    let counts =
+        b"events: 1\nskipped: 0\nstray: 1\nthreads: 1\nlocks: 1\nsegments: 1\nedges: 0\ncycles: 0\n";
+    expect_counts(&rt, &full()?, stray, counts);
+    let two =
+        b"T0|acq(a)|1\nT0|acq(b)|2\nT0|rel(b)|3\nT0|rel(a)|4\nT0|acq(c)|5\nT0|acq(d)|6\nT0|rel(d)|7\nT0|rel(c)|8\nT1|acq(b)|9\nT1|acq(a)|10\nT1|rel(a)|11\nT1|rel(b)|12\nT1|acq(d)|13\nT1|acq(c)|14\n";
+    let counts =
+        b"events: 14\nskipped: 0\nstray: 0\nthreads: 2\nlocks: 4\nsegments: 2\nedges: 4\ncycles: 1\n";
+    expect_counts(&rt, &query(Mode::Full, 4, 1)?, two, counts);
+    Ok(())
+}
+
+// The text is replayed so.
+fn expect_replay<R: Abort + AllocGlobal>(rt: &R, text: &[u8], replayed: &[u8]) {
+    let mut input = FromStd::new(text);
+    let mut output = FromStd::new(Vec::new(rt.alloc()));
+    match replay(rt, &mut input, &mut output, TURNS) {
+        Ended::Done => assert_eq!(rt; output.into_inner().as_slice(), replayed),
+        other => assert!(rt; false, "{other:?}"),
+    }
+}
+
+#[test]
+fn replayed_lists(rt: HostRuntime) {
+    let text = b"T1|acq(b)|5\nT0|acq(a)|1\nT1|rel(b)|6\nT1|r(x)|9\n";
+    expect_replay(&rt, text, b"T1|acq(b)|5\nT1|rel(b)|6\nT0|acq(a)|1\n");
+    expect_replay(&rt, b"T0|acq(a)|x\r", b"T0|acq(a)|x\r\r\n");
+    // forks and joins that can't have happened
+    let loops = b"T0|join(T1)|1\nT1|join(T0)|2\n";
+    expect_replay(&rt, loops, loops);
+}
+
+// Neither is counted nor replayed: this line says why.
+fn expect_line<R: Abort>(rt: &R, ended: Ended, said: &[u8]) {
+    match ended {
+        Ended::Refused(line) => assert_eq!(rt; line.as_slice(), said),
+        other => assert!(rt; false, "{other:?}"),
+    }
+}
+
+#[test]
+fn counts_and_replays_refused(rt: HostRuntime) -> Result<(), Fail> {
+    let mut output = FromStd::new(Vec::new(rt.alloc()));
+    let mut input = FromStd::new(b"T0|join(T1)|1\nT1|join(T0)|2\n".as_slice());
+    let counted = stats(&rt, &mut input, &mut output, TURNS, &full()?);
+    let said = b"goodlock: inconsistent: T0.1 precedes itself\n";
+    expect_line(&rt, counted, said);
+    assert!(rt; output.into_inner().is_empty());
+    let mut output = FromStd::new(Vec::new(rt.alloc()));
+    let mut input = FromStd::new(b"T0|acq(|3".as_slice());
+    let replayed = replay(&rt, &mut input, &mut output, TURNS);
+    expect_line(&rt, replayed, b"goodlock: line 1: bad operand\n");
+    assert!(rt; output.into_inner().is_empty());
+    Ok(())
+}
+
+#[test]
+fn counts_and_replays_cut(rt: HostRuntime) -> Result<(), Fail> {
+    let mut output = FromStd::new(Cursor::new([0u8; 9]));
+    let mut input = FromStd::new(OPPOSITE_ORDER);
+    match stats(&rt, &mut input, &mut output, TURNS, &full()?) {
+        Ended::WriteFailed { written } => assert_eq!(rt; written, 9),
+        other => assert!(rt; false, "{other:?}"),
+    }
+    assert_eq!(rt; output.into_inner().into_inner(), *b"events: 6");
+    let mut input = Cut {
+        rest: OPPOSITE_ORDER,
+        is_failed: false,
+    };
+    let mut output = FromStd::new(Vec::new(rt.alloc()));
+    match replay(&rt, &mut input, &mut output, TURNS) {
+        Ended::ReadFailed => assert!(rt; output.into_inner().is_empty()),
+        other => assert!(rt; false, "{other:?}"),
+    }
+    Ok(())
+}
+
+// The words ask for this.
+fn expect_command<R: Abort + AllocGlobal>(rt: &R, words: &[&str], wanted: &Command) {
     match parse(rt.alloc(), words) {
-        Ok(command) => assert!(rt; asks_for(&command, wanted, form)),
+        Ok(command) => assert!(rt; command == *wanted),
         Err(usage) => assert!(rt; false, "{usage:?}"),
     }
+}
+
+// The words ask for a prediction by this query in this form.
+fn expect_query<R: Abort + AllocGlobal>(rt: &R, words: &[&str], wanted: &Query, form: Form) {
+    let query = *wanted;
+    expect_command(rt, words, &Command::Predict { query, form });
 }
 
 // The words are refused, or answered with a text.
@@ -403,6 +513,23 @@ fn options_and_defaults(rt: HostRuntime) -> Result<(), Fail> {
 }
 
 #[test]
+fn counting_and_replaying(rt: HostRuntime) -> Result<(), Fail> {
+    let defaults = full()?;
+    expect_command(
+        &rt,
+        &["goodlock", "stats"],
+        &Command::Stats { query: defaults },
+    );
+    let query = query(Mode::Basic, 3, 7)?;
+    let words = [
+        "goodlock", "stats", "--len=3", "--max", "7", "--mode", "basic",
+    ];
+    expect_command(&rt, &words, &Command::Stats { query });
+    expect_command(&rt, &["goodlock", "replay"], &Command::Replay);
+    Ok(())
+}
+
+#[test]
 fn usage_faults(rt: HostRuntime) {
     expect_usage(&rt, &["goodlock"], false);
     expect_usage(&rt, &["goodlock", "check"], false);
@@ -411,6 +538,11 @@ fn usage_faults(rt: HostRuntime) {
     expect_usage(&rt, &["goodlock", "predict", "--len", "17"], false);
     expect_usage(&rt, &["goodlock", "predict", "--max", "0"], false);
     expect_usage(&rt, &["goodlock", "predict", "--mode", "Full"], false);
+    expect_usage(&rt, &["goodlock", "stats", "--json"], false);
+    expect_usage(&rt, &["goodlock", "stats", "--mode", "none"], false);
+    expect_usage(&rt, &["goodlock", "replay", "--len", "4"], false);
     expect_usage(&rt, &["goodlock", "--help"], true);
     expect_usage(&rt, &["goodlock", "predict", "--help"], true);
+    expect_usage(&rt, &["goodlock", "stats", "--help"], true);
+    expect_usage(&rt, &["goodlock", "replay", "--help"], true);
 }

@@ -1,0 +1,66 @@
+-- What is answered to a text of which the trace, or the first fault, is known.
+use Rattle.std.proofs.Common.{◌≡◌, ◌∙◌, ℕ, Bool, List, Option, Result, Ok, Err, IfOk, IfErr, sym, ap, subst, inl, inr}
+use Rattle.gl_event.specs.Bounds.{greatest}
+use Rattle.gl_event.specs.declared.events.Segment.{Segment}
+use Rattle.gl_std.specs.Trace.{trace_of}
+use Rattle.gl_std.specs.declared.faults.ReadFault.{ReadFault}
+use Rattle.gl_std.specs.declared.trace.Trace.{Trace}
+use Rattle.gl_filters.specs.Asked.{Asked}
+use Rattle.gl_cycles.specs.declared.found.Report.{Report}
+use Rattle.goodlock.specs.Answer.{Answer, IsAnswer, IsPlainAnswer, report_of}
+use Rattle.goodlock.specs.Answer.Answer.{Prints, Refusal}
+use Rattle.goodlock.specs.Answer.IsAnswer.{bad_line, no_order, ordered}
+use Rattle.goodlock.specs.Answer.IsPlainAnswer.{bad_line as plain_fault}
+use Rattle.goodlock.specs.Ending.{EndsAs, EndsWith, HasEnded, HasHeardAll}
+use Rattle.goodlock.specs.Ending.HasEnded.{ended_so}
+use Rattle.goodlock.specs.Stops.{IfRefused, IsFaultIn, IsReportOf, SaysWhyNoReport}
+use Rattle.goodlock.specs.declared.answer.Printed.{Printed}
+use Rattle.goodlock.specs.declared.answer.Stop.{Stop}
+use Rattle.goodlock.specs.declared.answer.Stop.TheVariants.{Refused, Memory}
+use Rattle.goodlock.specs.declared.ended.Ended.{Ended}
+use Rattle.goodlock.specs.declared.ended.Ended.TheVariants as variant
+
+-- what follows from what is said of the line
+pub refused_then : (stop : Stop) (P Q : List ℕ → Type 0) → ((line : List ℕ) → P line → Q line) → IfRefused stop P → IfRefused stop Q
+refused_then (Refused line) P Q then said = then line.items said
+refused_then Memory P Q then said = tt
+
+-- a line that says why there is no report
+pub no_report : (printed : (Segment → Segment → Bool) → Trace → Answer) (read : Result Trace ReadFault) (line : List ℕ) → SaysWhyNoReport read line
+    → (text : List ℕ) → trace_of greatest text ≡ read → IsAnswer printed text (Refusal line)
+no_report printed read line (inl fault) text is = subst (λ l. IsAnswer printed text (Refusal l)) (sym fault.said) (bad_line fault.number fault.kind (is ∙ fault.first))
+no_report printed read line (inr loop) text is = subst (λ l. IsAnswer printed text (Refusal l)) (sym loop.2.said) (no_order loop.0 loop.2.at (is ∙ loop.1) loop.2.least)
+
+-- a line that says a fault
+pub no_trace : (printed : Trace → Answer) (read : Result Trace ReadFault) (line : List ℕ) → IsFaultIn read line
+    → (text : List ℕ) → trace_of greatest text ≡ read → IsPlainAnswer printed text (Refusal line)
+no_trace printed read line fault text is = subst (λ l. IsPlainAnswer printed text (Refusal l)) (sym fault.said) (plain_fault fault.number fault.kind (is ∙ fault.first))
+
+-- what is printed of a trace and its report
+pub with_report : (printed : (Segment → Segment → Bool) → Trace → Answer) (from : Report → Answer) (asked : Asked) (read : Result Trace ReadFault) (trace : Trace) (report : Report)
+    → IsReportOf asked read trace report → ((before : Segment → Segment → Bool) → printed before trace ≡ from (report_of asked before trace))
+    → (text : List ℕ) → trace_of greatest text ≡ read → IsAnswer printed text (from report)
+with_report printed from asked read trace report of same text is =
+    subst (IsAnswer printed text) (same of.before ∙ ap from (sym of.is_report)) (ordered trace of.before (is ∙ of.is_read) of.consistent of.decides)
+
+-- an answer to the text that was read whole, written or refused, ends a command
+pub ends : (IsAnswered : List ℕ → Answer → Type 0) (turns : ℕ) (given left : Option (List ℕ)) (read_failed : Bool) (read : Result Trace ReadFault) (answered : Result Printed Stop) (old new : Option (List ℕ)) (failed : Bool) (ended : Ended)
+    → HasHeardAll turns given left read_failed read
+    → IfOk answered (λ p. (text : List ℕ) → trace_of greatest text ≡ read → IsAnswered text (Prints p.text.items p.outcome))
+    → IfErr answered (λ stop. IfRefused stop (λ line. (text : List ℕ) → trace_of greatest text ≡ read → IsAnswered text (Refusal line)))
+    → EndsWith answered old new failed ended → HasEnded IsAnswered turns given left read_failed old new failed ended
+ends A turns given left read_failed read answered old new failed ended heard good bad how = ended_so heard.text ended heard.whole (go answered ended good bad how)
+  where
+    go : (answered : Result Printed Stop) (ended : Ended) → IfOk answered (λ p. (text : List ℕ) → trace_of greatest text ≡ read → A text (Prints p.text.items p.outcome))
+        → IfErr answered (λ stop. IfRefused stop (λ line. (text : List ℕ) → trace_of greatest text ≡ read → A text (Refusal line)))
+        → EndsWith answered old new failed ended → EndsAs A heard.text old new failed ended
+    go (Ok p) variant.Clean good bad how = (record { printed = p.text.items; answer = subst (λ o. A heard.text (Prints p.text.items o)) how.0 (good heard.text heard.trace); written = how.1 }, how.2)
+    go (Ok p) variant.Cycles good bad how = (record { printed = p.text.items; answer = subst (λ o. A heard.text (Prints p.text.items o)) how.0 (good heard.text heard.trace); written = how.1 }, how.2)
+    go (Ok p) variant.Done good bad how = (record { printed = p.text.items; answer = subst (λ o. A heard.text (Prints p.text.items o)) how.0 (good heard.text heard.trace); written = how.1 }, how.2)
+    go (Ok p) (variant.WriteFailed count) good bad how =
+        record { printed = p.text.items; outcome = p.outcome; answer = good heard.text heard.trace; written = how.0; part = how.1; broke = how.2 }
+    go (Ok p) (variant.Refused line) good bad how = absurd how
+    go (Ok p) variant.Memory good bad how = absurd how
+    go (Ok p) variant.ReadFailed good bad how = absurd how
+    go (Err (Refused line)) end good bad how = subst (EndsAs A heard.text old new failed) (sym how.0) (how.1, bad heard.text heard.trace, how.2)
+    go (Err Memory) end good bad how = subst (EndsAs A heard.text old new failed) (sym how.0) (how.1, how.2)

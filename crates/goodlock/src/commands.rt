@@ -1,0 +1,155 @@
+//! The commands, over a reader and a writer.
+//!
+//! Each hears the trace of its input, makes what it prints of it, and writes that.
+ghost use Rattle.std.specs.Prelude.{◌≡◌, ◌≤◌, ◌^◌, ℕ, false, List, Option, IfOk, IfErr};
+ghost use Rattle.std.specs.Io.KnownBytes.{Appends};
+ghost use Rattle.gl_event.specs.Bounds.{greatest};
+ghost use Rattle.gl_std.specs.Lines.{ended_lines};
+ghost use Rattle.gl_std.specs.Trace.{trace_of, IsTraceOver};
+ghost use Rattle.goodlock.specs.Answer.{IsAnswer, IsPlainAnswer, counts, prediction, replay};
+ghost use Rattle.goodlock.specs.Ending.{EndsEarlyAs, EndsWith, HasEnded, HasEndedEarly, HasHeardAll, HasWrittenText};
+
+use crate::answer::{Printed, Stop, counted, greatest_limits, judge, predicted, replayed};
+use crate::ended::{Ended, Form, Outcome};
+use gl_filters::Query;
+use gl_io::{Sink, Source, WriteFault, write_out};
+use gl_std::{ReadFault, Trace, read_source};
+use std::alloc::Global;
+
+// How a command ends over a text that wasn't read whole, with this trace or first fault of the
+// lines that LF has ended.
+fn end_early(alloc: Global, read: Result<Trace, ReadFault>) -> Ended
+    ensures { (text : List ℕ) → trace_of greatest (ended_lines text) ≡ read → EndsEarlyAs text result }
+{
+    match judge(alloc, read) {
+        Ok(()) => Ended::ReadFailed,
+        Err(Stop::Refused(line)) => Ended::Refused(line),
+        Err(Stop::Memory) => Ended::Memory,
+    }
+}
+
+// Reads the input to its end: the trace of its text or the first fault, or how a command ends where
+// it can't be read so far.
+fn hear<I: Source>(
+    alloc: Global,
+    input: &mut I,
+    turns: u64,
+) -> Result<Result<Trace, ReadFault>, Ended>
+    requires readable { I.failed input.old ≡ false }
+    requires few_turns { turns ≤ 2 ^ 40 }
+    ensures heard { IfOk result (HasHeardAll turns (I.remaining input.old) (I.remaining input.new) (I.failed input.new)) }
+    ensures over { IfOk result (λ read. IfOk read (IsTraceOver greatest)) }
+    ensures early { IfErr result (HasEndedEarly turns (I.remaining input.old) (I.remaining input.new) (I.failed input.new)) }
+{
+    let Ok(heard) = read_source(alloc, input, turns, &greatest_limits()) else {
+        return Err(Ended::Memory);
+    };
+    if heard.is_whole {
+        return Ok(heard.trace);
+    }
+    Err(end_early(alloc, heard.trace))
+}
+
+// How a command ends that has written all.
+fn end_written(outcome: Outcome) -> Ended
+    ensures { (before after : Option (List ℕ)) (text : List ℕ) → Appends before after text → HasWrittenText text outcome before after false result }
+{
+    match outcome {
+        Outcome::Clean => Ended::Clean,
+        Outcome::Cycles => Ended::Cycles,
+        Outcome::Done => Ended::Done,
+    }
+}
+
+// Writes a text.
+fn write<O: Sink>(output: &mut O, printed: &Printed) -> Ended
+    requires { O.failed output.old ≡ false }
+    ensures { HasWrittenText printed.now.text.items printed.now.outcome (O.contents output.old) (O.contents output.new) (O.failed output.new) result }
+{
+    match write_out(output, printed.text.as_slice()) {
+        Ok(()) => end_written(printed.outcome),
+        Err(WriteFault { written }) => Ended::WriteFailed { written },
+    }
+}
+
+// Writes what is answered, if it is a text to be printed.
+fn end<O: Sink>(output: &mut O, answered: Result<Printed, Stop>) -> Ended
+    requires { O.failed output.old ≡ false }
+    ensures { EndsWith answered (O.contents output.old) (O.contents output.new) (O.failed output.new) result }
+{
+    match answered {
+        Ok(printed) => write(output, &printed),
+        Err(Stop::Refused(line)) => Ended::Refused(line),
+        Err(Stop::Memory) => Ended::Memory,
+    }
+}
+
+/// Reads a trace, predicts its deadlocks and writes the report in the form asked for.
+///
+/// The input is read to its end, in at most `turns` reads, before anything else; its text isn't kept.
+/// The report is made whole before its first byte is written. Where the input can't be read to its
+/// end, the first fault in the lines that were ended before is answered, else
+/// [`Ended::ReadFailed`]. Each reader and writer is used only while it hasn't failed.
+pub fn predict<R: AllocGlobal, I: Source, O: Sink>(
+    rt: &R,
+    input: &mut I,
+    output: &mut O,
+    turns: u64,
+    query: &Query,
+    form: Form,
+) -> Ended
+    requires readable { I.failed input.old ≡ false }
+    requires writable { O.failed output.old ≡ false }
+    requires few_turns { turns ≤ 2 ^ 40 }
+    ensures { HasEnded (IsAnswer (prediction query.now form)) turns (I.remaining input.old) (I.remaining input.new) (I.failed input.new) (O.contents output.old) (O.contents output.new) (O.failed output.new) result }
+{
+    let alloc = rt.alloc();
+    match hear(alloc, input, turns) {
+        Ok(read) => end(output, predicted(alloc, read, query, form)),
+        Err(ended) => ended,
+    }
+}
+
+/// Reads a trace and writes eight counts of it and of its report, each on a line.
+///
+/// Reads, refuses and fails as [`predict`] does.
+pub fn stats<R: AllocGlobal, I: Source, O: Sink>(
+    rt: &R,
+    input: &mut I,
+    output: &mut O,
+    turns: u64,
+    query: &Query,
+) -> Ended
+    requires readable { I.failed input.old ≡ false }
+    requires writable { O.failed output.old ≡ false }
+    requires few_turns { turns ≤ 2 ^ 40 }
+    ensures { HasEnded (IsAnswer (counts query.now)) turns (I.remaining input.old) (I.remaining input.new) (I.failed input.new) (O.contents output.old) (O.contents output.new) (O.failed output.new) result }
+{
+    let alloc = rt.alloc();
+    match hear(alloc, input, turns) {
+        Ok(read) => end(output, counted(alloc, read, query)),
+        Err(ended) => ended,
+    }
+}
+
+/// Reads a trace and writes it as a text, thread by thread: its events alone, each as a line.
+///
+/// Reads and fails as [`predict`] does, and refuses lines at fault alone: whether its forks and joins
+/// can have happened isn't asked.
+pub fn replay<R: AllocGlobal, I: Source, O: Sink>(
+    rt: &R,
+    input: &mut I,
+    output: &mut O,
+    turns: u64,
+) -> Ended
+    requires readable { I.failed input.old ≡ false }
+    requires writable { O.failed output.old ≡ false }
+    requires few_turns { turns ≤ 2 ^ 40 }
+    ensures { HasEnded (IsPlainAnswer replay) turns (I.remaining input.old) (I.remaining input.new) (I.failed input.new) (O.contents output.old) (O.contents output.new) (O.failed output.new) result }
+{
+    let alloc = rt.alloc();
+    match hear(alloc, input, turns) {
+        Ok(read) => end(output, replayed(alloc, read)),
+        Err(ended) => ended,
+    }
+}
