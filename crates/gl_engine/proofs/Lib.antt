@@ -5,4 +5,5 @@ pub mod Dealt
 pub mod Confirming
 pub mod Running
 pub mod Agreeing
+pub mod Alone
 pub mod Unpulled
