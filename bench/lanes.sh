@@ -14,8 +14,11 @@ copy=${BENCH_DIR:-/tmp/goodlock-bench}/lanes
 mkdir -p "$copy"
 cp -a "$top/crates" "$top/HANDLES" "$copy"
 rm -rf "$copy/crates/lanes/src" "$copy/crates/lanes/proofs"
-mkdir -p "$copy/crates/lanes"
-cp -a "$top/bench/lanes/src" "$top/bench/lanes/proofs" "$copy/crates/lanes"
+# the crate's files end in .in, since rt reads no source outside of crates/
+(cd "$top/bench/lanes" && find . -name '*.in') | while read -r file; do
+    mkdir -p "$copy/crates/lanes/$(dirname "$file")"
+    cp "$top/bench/lanes/$file" "$copy/crates/lanes/${file%.in}"
+done
 { cat "$top/crates.txt"; echo "lanes: gl_engine gl_event"; } >"$copy/crates.txt"
 cd "$copy/crates/lanes"
 rt run
