@@ -5,3 +5,4 @@ pub mod Dealt
 pub mod Confirming
 pub mod Running
 pub mod Agreeing
+pub mod Alone

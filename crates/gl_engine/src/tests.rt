@@ -1,6 +1,8 @@
 //! Sessions, in one thread and in two.
 ghost use Rattle.std.specs.Prelude.{◌≡◌, ◌<◌};
 
+mod settling;
+
 use crate::{CloseFault, Collector, Pulled, Receipt, RecordFault, Recorder, open};
 use gl_cycles::{Report, ReportFault};
 use gl_event::{Event, Limits, LocId, LockId, LockMode, Refusal, ThreadId};
