@@ -147,8 +147,29 @@ fn nothing_recorded<R: Wait>(
     Ok(Some((receipt, gathered, inlet)))
 }
 
+// A session of one thread that has an edge to ship, run where the worker is gone.
+fn worker_gone<R: Wait>(
+    rt: &R,
+    alloc: Global,
+    limits: &Limits,
+) -> Result<Option<(Receipt, Gathered)>, Memory>
+    requires one { limits.now.threads ≡ 1 }
+    ensures limits { IfOk result (λ done. IfSome done (λ d. d.0.limits ≡ d.1.limits)) }
+    ensures lane { IfOk result (λ done. IfSome done (λ d. d.1.lanes ≡ d.0.lane ∷ [])) }
+{
+    let events = [acquire(0, 1), acquire(1, 2)];
+    let Some((receipt, collector)) = recorded_alone(alloc, 7, limits, events.as_slice())? else {
+        return Ok(None);
+    };
+    let (outlet, inlet) = feed(alloc, 1)?;
+    drop(inlet);
+    let gathered = run_alone(rt, alloc, collector, outlet)?;
+    Ok(Some((receipt, gathered)))
+}
+
 // A receipt of another session is strange.
 #[test]
+#[tactic(auto, using(crate::proofs::Alone::none_ours, crate::proofs::Alone::one_ours, crate::proofs::Alone::foreign_ours))]
 fn foreign_receipt(rt: HostRuntime) -> Result<(), Fail> {
     let alloc = rt.alloc();
     let limits = Limits::new(1, 8, 100, 100)?;
@@ -162,6 +183,7 @@ fn foreign_receipt(rt: HostRuntime) -> Result<(), Fail> {
 
 // A session without an event, settled with no receipt, and with its own.
 #[test]
+#[tactic(auto, using(crate::proofs::Alone::none_ours, crate::proofs::Alone::one_ours, crate::proofs::Alone::foreign_ours))]
 fn settle_receipts(rt: HostRuntime) -> Result<(), Fail> {
     let alloc = rt.alloc();
     let limits = Limits::new(1, 8, 100, 100)?;
@@ -177,5 +199,20 @@ fn settle_receipts(rt: HostRuntime) -> Result<(), Fail> {
     let query = Query::new(Mode::Full, 4, 1_000)?;
     let report = settled.report(vec![in alloc; table]?, &query);
     assert_eq!(rt; cycles(&report), Some((0, false)));
+    Ok(())
+}
+
+// The worker's end was dropped before the run: that is answered where the receipt is there, and else
+// that it is missing.
+#[test]
+#[tactic(auto, using(crate::proofs::Alone::none_ours, crate::proofs::Alone::one_ours, crate::proofs::Alone::foreign_ours))]
+fn inlet_dropped(rt: HostRuntime) -> Result<(), Fail> {
+    let alloc = rt.alloc();
+    let limits = Limits::new(1, 8, 100, 100)?;
+    let (own, gathered) = worker_gone(&rt, alloc, &limits)?.expect(&rt, "a session");
+    let mut none: Vec<Receipt> = Vec::new(alloc);
+    let gathered = missing(gathered, none.as_mut_slice()).expect(&rt, "no receipt");
+    let mut own = vec![in alloc; own]?;
+    assert_eq!(rt; gone(gathered, own.as_mut_slice()), Some(0));
     Ok(())
 }
