@@ -65,7 +65,7 @@ all_recorded limits thread stream popped r its same is told ended =
     let notes : AreNotesOf limits thread r.pushed = subst (λ t. AreNotesOf limits t r.pushed) its (subst (λ b. AreNotesOf b r.thread r.pushed) same is.notes) in
     let front : take (length popped) r.pushed ≡ popped = ap (take (length popped)) (sym is.begins.1) ∙ take-append_seam popped is.begins.0 in
     let own : (place : ℕ) (note : Note) → slice_get popped place ≡ Some note → note.thread ≡ thread =
-        λ place note at. notes.own place note (get_of_take r.pushed (length popped) place note (ap (λ xs. slice_get xs place) front ∙ at)) in
+    λ place note at. notes.own place note (get_of_take r.pushed (length popped) place note (ap (λ xs. slice_get xs place) front ∙ at)) in
     let lane : Lane = record { wishes = []; used = 0; pushed = r.pushed; popped = length popped } in
     let within : length popped ≤ length r.pushed = omega (arith, ap length is.begins.1, length-append popped is.begins.0) in
     let of_lane : IsLaneOf limits thread stream lane = record { own = notes.own; in_order = notes.in_order; within = within; told = told ∙ as_own thread popped own ∙ sym front } in

@@ -19,7 +19,10 @@ pub enum RunFault {
 pub enum SettleFault {
     /// The receipt at this place is of another session, of an unknown thread, or the second one of its
     /// thread. It is the first such one.
-    Strange { at: usize, gathered: Gathered },
+    Strange {
+        at: usize,
+        gathered: Gathered,
+    },
     /// There is no receipt of this thread. It is the first such one.
     Missing {
         thread: ThreadId,
@@ -28,7 +31,12 @@ pub enum SettleFault {
     /// The run had no memory.
     Memory,
     /// The worker's end of this shard's feed was dropped.
-    Gone { shard: u32 },
+    Gone {
+        shard: u32,
+    },
     /// A note of the thread's lane may not come next, for this reason.
-    Broken { thread: ThreadId, refused: Refused },
+    Broken {
+        thread: ThreadId,
+        refused: Refused,
+    },
 }

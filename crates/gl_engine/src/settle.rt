@@ -33,10 +33,7 @@ impl Gathered {
     ///
     /// In this order: [`SettleFault::Strange`], [`SettleFault::Missing`], both with what was gathered as it
     /// was; then what went wrong in the run.
-    pub fn settle(
-        self,
-        receipts: &mut [Receipt],
-    ) -> Result<(Settled, Vec<Sent>), SettleFault>
+    pub fn settle(self, receipts: &mut [Receipt]) -> Result<(Settled, Vec<Sent>), SettleFault>
         requires ours { AreOurs self receipts.old }
         ensures receipts { receipts.new ≡ receipts.old }
         ensures lists { IfOk result (λ settled. settled.0 ≡ logs_of self.limits.threads self.stream) }
@@ -58,10 +55,7 @@ impl Gathered {
     }
 
     // Settles what was gathered, where there is one receipt of each thread and no other.
-    fn settle_all(
-        self,
-        receipts: &mut [Receipt],
-    ) -> Result<(Settled, Vec<Sent>), SettleFault>
+    fn settle_all(self, receipts: &mut [Receipt]) -> Result<(Settled, Vec<Sent>), SettleFault>
         requires ours { AreOurs self receipts.old }
         requires own { AreOwnBelow self receipts.old (length receipts.old) }
         requires all { AreThereBelow receipts.old self.limits.threads }

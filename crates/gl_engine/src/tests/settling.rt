@@ -187,13 +187,14 @@ fn foreign_receipt(rt: HostRuntime) -> Result<(), Fail> {
 fn settle_receipts(rt: HostRuntime) -> Result<(), Fail> {
     let alloc = rt.alloc();
     let limits = Limits::new(1, 8, 100, 100)?;
-    let (own, gathered, inlet) =
-        nothing_recorded(&rt, alloc, 7, &limits)?.expect(&rt, "a session");
+    let (own, gathered, inlet) = nothing_recorded(&rt, alloc, 7, &limits)?.expect(&rt, "a session");
     let mut none: Vec<Receipt> = Vec::new(alloc);
     let gathered = missing(gathered, none.as_mut_slice()).expect(&rt, "no receipt");
     let mut own = vec![in alloc; own]?;
-    let (settled, table) = settled_alone(&rt, alloc, gathered, own.as_mut_slice(), inlet)
-        .expect(&rt, "the receipt is that of the thread");
+    let (settled, table) = settled_alone(&rt, alloc, gathered, own.as_mut_slice(), inlet).expect(
+        &rt,
+        "the receipt is that of the thread",
+    );
     assert_eq!(rt; table.len(), 0);
     assert_eq!(rt; settled.lists().len(), 1);
     let query = Query::new(Mode::Full, 4, 1_000)?;
