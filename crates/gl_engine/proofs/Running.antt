@@ -20,7 +20,7 @@ use Rattle.gl_shards.specs.Tables.{of_shard}
 use Rattle.gl_world.proofs.Lists.{same_some, get_at, found_within}
 use Rattle.gl_engine.specs.Collecting.{Pulling, Side, as_of, pull_note, HasPulled, IsSidePull}
 use Rattle.gl_engine.specs.Dealing.{dealt, made_by}
-use Rattle.gl_engine.specs.Keeping.{IsCollector, pulling_of}
+use Rattle.gl_engine.specs.Keeping.{BreaksForCause, IsCollector, pulling_of}
 use Rattle.gl_engine.specs.Whole.{lane_of, KeepsUp, IsWhole, IsGathered}
 use Rattle.std.proofs.lemmas.Simd.{map-map}
 use Rattle.gl_engine.specs.declared.faults.RunFault.{RunFault}
@@ -58,7 +58,7 @@ module _ (limits : Bounds) (thread : ℕ) (before : List (Edge × Sample)) (old 
 
 module _ (limits : Bounds) (rows : List Row) (stream : List Note) (is : IsCollector limits rows stream (made_by stream) limits)
     (thread : ℕ) (was new : Row) (within : thread < length rows) (here : was ≡ get_or rows thread was) (later : List Note) (due : List (Edge × Sample))
-    (follows : Follows thread (events_of thread later) new.tracker) (answer : Result Pulled PullFault)
+    (follows : Follows thread (events_of thread later) new.tracker) (cause : BreaksForCause limits thread later new) (answer : Result Pulled PullFault)
     (tells : IsSidePull limits thread (record { row = pulling_of was; stream = stream; made = [] }) answer (record { row = pulling_of new; stream = later; made = due })) where
   told_after : IsSidePull limits thread (record { row = pulling_of was; stream = stream; made = made_by stream }) answer (record { row = pulling_of new; stream = later; made = made_by stream ++ due })
   told_after =
@@ -66,7 +66,7 @@ module _ (limits : Bounds) (rows : List Row) (stream : List Note) (is : IsCollec
       (pull_after limits thread (made_by stream) (record { row = pulling_of was; stream = stream; made = [] }) (record { row = pulling_of new; stream = later; made = due }) answer tells)
 
   after : IsCollector limits (set rows thread new) later (made_by stream ++ due) limits
-  after = collector_after limits rows stream (made_by stream) limits is thread was new within here later (made_by stream ++ due) follows answer told_after
+  after = collector_after limits rows stream (made_by stream) limits is thread was new within here later (made_by stream ++ due) follows cause answer told_after
 
   -- the edges due are those that the stream makes beside those before
   pub due_later : made_by stream ++ due ≡ made_by later

@@ -14,31 +14,39 @@ returns-clause-keeps c =
     let here = rw c.number.ensures at c.index_mut-row.ensures.value in
     let within : c.args.thread < length c.args.rows.now.items = omega (arith, c.requires.known, c.requires.keeps.rows_are.count) in
     let tells = rw c.requires.none at c.pull-pulled.ensures.pull in
+    let row_at = get_at c.args.rows.now.items c.args.thread c.index_mut-row.result.now within here in
+    let cause = c.pull-pulled.ensures.cause (c.requires.keeps.rows_are.cause c.args.thread c.index_mut-row.result.now row_at) in
     rw c.number.ensures
     (kept_later c.args.intake.now.limits c.args.rows.now.items c.args.intake.now.stream c.requires.keeps c.args.thread c.index_mut-row.result.now c.pull-pulled.new.self within here
-    c.pull-pulled.new.intake.stream c.pull-pulled.new.made.items c.pull-pulled.ensures.follows c.pull-pulled.result tells)
+    c.pull-pulled.new.intake.stream c.pull-pulled.new.made.items c.pull-pulled.ensures.follows cause c.pull-pulled.result tells)
 
 pub returns-clause-made : goal.returns-clause-made
 returns-clause-made c =
     let here = rw c.number.ensures at c.index_mut-row.ensures.value in
     let within : c.args.thread < length c.args.rows.now.items = omega (arith, c.requires.known, c.requires.keeps.rows_are.count) in
     let tells = rw c.requires.none at c.pull-pulled.ensures.pull in
+    let row_at = get_at c.args.rows.now.items c.args.thread c.index_mut-row.result.now within here in
+    let cause = c.pull-pulled.ensures.cause (c.requires.keeps.rows_are.cause c.args.thread c.index_mut-row.result.now row_at) in
     due_later c.args.intake.now.limits c.args.rows.now.items c.args.intake.now.stream c.requires.keeps c.args.thread c.index_mut-row.result.now c.pull-pulled.new.self within here
-    c.pull-pulled.new.intake.stream c.pull-pulled.new.made.items c.pull-pulled.ensures.follows c.pull-pulled.result tells
+    c.pull-pulled.new.intake.stream c.pull-pulled.new.made.items c.pull-pulled.ensures.follows cause c.pull-pulled.result tells
 
 pub returns-clause-lanes : goal.returns-clause-lanes
 returns-clause-lanes c =
     let here = rw c.number.ensures at c.index_mut-row.ensures.value in
     let within : c.args.thread < length c.args.rows.now.items = omega (arith, c.requires.known, c.requires.keeps.rows_are.count) in
     let tells = rw c.requires.none at c.pull-pulled.ensures.pull in
+    let row_at = get_at c.args.rows.now.items c.args.thread c.index_mut-row.result.now within here in
+    let cause = c.pull-pulled.ensures.cause (c.requires.keeps.rows_are.cause c.args.thread c.index_mut-row.result.now row_at) in
     rw c.number.ensures
     (lanes_later c.args.intake.now.limits c.args.rows.now.items c.args.intake.now.stream c.requires.keeps c.args.thread c.index_mut-row.result.now c.pull-pulled.new.self within here
-    c.pull-pulled.new.intake.stream c.pull-pulled.new.made.items c.pull-pulled.ensures.follows c.pull-pulled.result tells)
+    c.pull-pulled.new.intake.stream c.pull-pulled.new.made.items c.pull-pulled.ensures.follows cause c.pull-pulled.result tells)
 
 pub returns-clause-grown : goal.returns-clause-grown
 returns-clause-grown c =
     let here = rw c.number.ensures at c.index_mut-row.ensures.value in
     let within : c.args.thread < length c.args.rows.now.items = omega (arith, c.requires.known, c.requires.keeps.rows_are.count) in
     let tells = rw c.requires.none at c.pull-pulled.ensures.pull in
+    let row_at = get_at c.args.rows.now.items c.args.thread c.index_mut-row.result.now within here in
+    let cause = c.pull-pulled.ensures.cause (c.requires.keeps.rows_are.cause c.args.thread c.index_mut-row.result.now row_at) in
     grown_later c.args.intake.now.limits c.args.rows.now.items c.args.intake.now.stream c.requires.keeps c.args.thread c.index_mut-row.result.now c.pull-pulled.new.self within here
-    c.pull-pulled.new.intake.stream c.pull-pulled.new.made.items c.pull-pulled.ensures.follows c.pull-pulled.result tells
+    c.pull-pulled.new.intake.stream c.pull-pulled.new.made.items c.pull-pulled.ensures.follows cause c.pull-pulled.result tells
