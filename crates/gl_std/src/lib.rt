@@ -61,7 +61,7 @@ pub use laws::{
     traces_grow, traces_obey_limits, traces_tell_lines, written_lines_say_events,
     written_texts_say_traces,
 };
-pub use line::MAX_LINE;
+pub use line::{MAX_LINE, limits_in_numbers};
 pub use lists::Lists;
 pub use names::Names;
 pub use read::read_trace;
