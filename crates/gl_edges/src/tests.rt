@@ -289,6 +289,45 @@ fn tracker_steps(rt: HostRuntime) -> Result<(), Fail> {
     Ok(())
 }
 
+// The edges of the last of the thread's events, after a step for each of those before it.
+fn last_step(alloc: Global, thread: ThreadId, list: &[Event]) -> Result<Vec<(Edge, Sample)>, Memory>
+    requires { IsLawful greatest thread list.now }
+{
+    let mut tracker = Tracker::new(thread);
+    let mut last = Vec::new(alloc);
+    for event in list {
+        last = tracker.step(alloc, *event)?;
+    }
+    Ok(last)
+}
+
+// Lock 1 taken inside lock 0 again and again, and then, at place 10,000, lock 3 inside the locks 0 and 2.
+fn long_list(alloc: Global) -> Result<Vec<Event>, Memory> {
+    let mut list = vec![in alloc; acq(0, 1)]?;
+    for turn in 0..4_999 {
+        list.push(acq(1, 2))?;
+        list.push(rel(1, 3))?;
+    }
+    list.push(acq(2, 4))?;
+    list.push(acq(3, 5))?;
+    Ok(list)
+}
+
+// A step at place 10,000 makes its edges as a first one does.
+#[test]
+fn ten_thousand_steps(rt: HostRuntime) -> Result<(), Fail> {
+    let alloc = rt.alloc();
+    let list = long_list(alloc)?;
+    assert!(rt; is_lawful(ThreadId::new(0), &list));
+    let found = last_step(alloc, ThreadId::new(0), &list)?;
+    let wants = [
+        plain(0, 0, 3, &[0, 2], 10_000, (1, 5)),
+        plain(0, 2, 3, &[0, 2], 10_000, (4, 5)),
+    ];
+    assert!(rt; are_as_wanted(&found, &wants));
+    Ok(())
+}
+
 // A set of locks has each of them once in each mode, ascending, exclusive before shared.
 #[test]
 fn guards_of_locks(rt: HostRuntime) -> Result<(), Fail> {
