@@ -19,7 +19,7 @@ use Rattle.gl_shards.specs.Feeds.{AllSent, Sending}
 use Rattle.gl_shards.specs.Shards.{shard_of}
 use Rattle.gl_shards.specs.Tables.{of_shard}
 use Rattle.gl_world.proofs.Lists.{same_some, get_at, found_within, get_set_same}
-use Rattle.gl_engine.specs.Collecting.{Pulling, Side, as_of, pull_note, HasPulled, IsSidePull}
+use Rattle.gl_engine.specs.Collecting.{Pulling, Side, as_of, with_pulled, HasPulled, IsSidePull}
 use Rattle.gl_intake.specs.declared.notes.Refused.{Refused}
 use Rattle.gl_engine.specs.Breaking.{IsBlamed, IsGone, IsKeptFor}
 use Rattle.gl_engine.specs.Dealing.{dealt, made_by}
@@ -49,7 +49,7 @@ module _ (limits : Bounds) (thread : ℕ) (before : List (Edge × Sample)) (old 
     next = has.next;
     answer_is = has.answer_is;
     moved = ap (side_after before) has.moved
-        ∙ ap (λ pairs. let side : Side = record { row = (pull_note thread old has.note).row; stream = (pull_note thread old has.note).stream; made = pairs } in side) (sym (append_assoc before old.made _));
+        ∙ ap (λ pairs. let side : Side = record { row = (with_pulled thread old has.note).row; stream = (with_pulled thread old has.note).stream; made = pairs } in side) (sym (append_assoc before old.made _));
   }
 
   -- the same pull, with these edges made before
