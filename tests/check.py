@@ -91,8 +91,8 @@ class Trace:
         self.links = []  # word, thread, its segment, the other thread
         ended = text.split(b"\n")
         last = ended.pop()
-        lines = [line[:-1] if line.endswith(b"\r") else line for line in ended] + [last] * (last != b"")
-        for number, line in enumerate(lines, 1):
+        lines = [line[:-1] if line.endswith(b"\r") else line for line in ended]
+        for number, line in enumerate([*lines, last], 1):  # an empty last one is passed over like others
             problem = self.read(line)
             if problem is not None:
                 raise Fault("Line", number, problem)
@@ -272,7 +272,7 @@ STRING = re.compile(r'"(?:[^"\\]|\\.)*"')
 
 
 def read_json(text):
-    """The value of a JSON text. A whole number that 64 bits don't hold is a float, as -0 is."""
+    """The value of a JSON text. A whole number that is too long is a float, as -0 is."""
 
     def real(digits):
         number = float(digits)
@@ -281,8 +281,7 @@ def read_json(text):
         return number
 
     def whole(digits):
-        fits = len(digits) <= 20 and digits != "-0" and -(2**63) <= int(digits) < 2**64
-        return int(digits) if fits else real(digits)
+        return int(digits) if len(digits) <= 20 and digits != "-0" else real(digits)
 
     def refused(word):
         raise ValueError(f"no JSON: {word}")

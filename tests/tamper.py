@@ -69,6 +69,8 @@ CROSSED_LINE = (
 EMPTY_LINE = b'{"cycles":[],"edges":[],"format":2,"len":4,"max":1000,"mode":"full","more":false,"trim":[]}'
 JSON, SHAPE = "report is not JSON", "report has the wrong shape"
 NONE = "ok, cycles: 0, none of any length"
+TABLE = "table entry 0 is wrong"
+TOO_MANY = "line 1024: too many threads"
 
 
 def changed(tree, **keys):
@@ -188,6 +190,7 @@ def worked_shapes():
         *[(f"len {value!r}", changed(whole, len=value), SHAPE) for value in (0, 1, 17, -4, 4.0, "4", 2**32 + 4, 2**64 + 4)],
         *[(f"len {value}", changed(whole, len=value), "ok, cycles: 1") for value in (2, 16)],
         *[(f"max {value!r}", changed(whole, max=value), SHAPE) for value in (0, 100_001, -1, 1.0, True)],
+        ("max 0, no cycle", changed(whole, cycles=[], max=0), SHAPE),
         *[(f"max {value}", changed(whole, max=value), "ok, cycles: 1") for value in (1, 100_000)],
         ("more cycles than max", changed(whole, cycles=[[0, 1]] * 2, max=1), SHAPE),
         ("more cycles than max, format 1", changed(plain, cycles=[PLAIN_EDGES] * 3, max=2), SHAPE),
@@ -227,6 +230,12 @@ def worked_others():
         return changed(report([cycle], nested_edges), **keys)
 
     joined = compare.lines("M fork T0 @1", "M join T0 @2", "M fork T1 @3", *compare.OPPOSITE)
+    # T1's part is over before T0's, which is the thread that is named first, begins.
+    later_first = compare.lines("T0 fork T1 @0", "T1 acq b @1", "T1 acq a @2", "T0 join T1 @3", "T0 acq a @4")
+    later_first += compare.lines("T0 acq b @5")
+    later_edges = [edge("T0", "a", "4", "b", "5", 3, first=2, second=2), edge("T1", "b", "1", "a", "2", 1)]
+    later_edges = sorted(later_edges, key=lambda edge_: edge_["thread"])
+    loop_of_three = compare.lines("T0 join T1 @1", "T1 join T0 @2", "T1 fork X @3")
     gate = compare.lines(*compare.GATE)
     gate_edges = [
         edge("T0", "g", "1", "a", "2", 1), edge("T0", "g", "1", "b", "3", 2, ["g", "a"]),
@@ -279,6 +288,9 @@ def worked_others():
         ("ordered, trimmed", spelled(report([], OPPOSITE_EDGES, [0, 1])), joined, NONE),
         ("ordered, trimmed in guarded", spelled(report([], OPPOSITE_EDGES, [0, 1], "guarded")), joined,
          "trim entry 0 is wrong"),
+        ("ordered, the first one later", spelled(report([[0, 1]], later_edges)), later_first, invalid, ("Ordered", 0, 1)),
+        ("ordered, the first one later, trimmed", spelled(report([], later_edges, [1, 0])), later_first, NONE),
+        ("a loop, its least segment the thread's last", EMPTY_LINE, loop_of_three, "inconsistent: T0.1 precedes itself"),
         ("gate, guarded", spelled(report([[2, 5]], gate_edges, mode="guarded")), gate, invalid, ("SharedGuard", 0, 1, 0)),
         ("gate, basic", spelled(report([[2, 5]], gate_edges, mode="basic")), gate, "ok, cycles: 1"),
         ("gate, trimmed", spelled(report([], gate_edges, [5, 0, 2, 1, 3, 4], "guarded")), gate, NONE),
@@ -303,9 +315,21 @@ def worked_others():
     ]  # fmt: skip
 
 
+def worked_traces():
+    """Each trace that predict refuses, with the empty report. A trace with other limits kept isn't refused."""
+    for name, text, by_hand_, _ in compare.worked("full"):
+        if by_hand_ is not None and by_hand_[2] == 2:
+            yield name, EMPTY_LINE, text, by_hand_[1].decode()[len("goodlock: ") : -1]
+    yield "64 locks held", EMPTY_LINE, compare.lines(*[f"T{i % 2} acq l{i // 2} @{i}" for i in range(128)]), TABLE
+    yield "a depth of 1,000,000", EMPTY_LINE, compare.lines("T0 acq a @1") * 1_000_000, NONE
+    yield "1,024 threads", EMPTY_LINE, compare.lines(*[f"T{i} fork T{i + 1} @1" for i in range(1023)]), NONE
+    yield "1,025 threads", EMPTY_LINE, compare.lines(*[f"T{i} fork T{i + 1} @1" for i in range(1024)]), TOO_MANY
+
+
 def worked():
     """Name, report, trace, the line of the answer, and for some the verdict."""
-    return [(*row, None)[:5] for row in worked_opposite() + worked_shapes() + worked_others()]
+    rows = [*worked_opposite(), *worked_shapes(), *worked_others(), *worked_traces()]
+    return [(*row, None)[:5] for row in rows]
 
 
 def by_hand(line):
