@@ -1,5 +1,5 @@
 //! What `live` prints: the bytes of `predict`.
-ghost use Rattle.std.specs.Prelude.{◌≡◌};
+ghost use Rattle.std.specs.Prelude.{◌≡◌, ◌≤◌};
 ghost use Rattle.goodlock.specs.Sessions.{AreOfSession};
 
 use super::{
@@ -77,6 +77,8 @@ fn live_refused(rt: HostRuntime) -> Result<(), Fail> {
     let ended = live(&rt, &mut input, &mut output, TURNS, &options);
     let said = b"goodlock: inconsistent: T0.1 precedes itself\n";
     expect_line(&rt, ended, said);
+    assert!(rt; output.into_inner().is_empty());
+    let mut output = FromStd::new(Vec::new(rt.alloc()));
     let mut input = FromStd::new(b"T0|acq(|3".as_slice());
     let ended = live(&rt, &mut input, &mut output, TURNS, &options);
     expect_line(&rt, ended, b"goodlock: line 1: bad operand\n");
