@@ -195,7 +195,10 @@ fn lock_ring(alloc: Global) -> Result<Vec<u8>, AllocError> {
 }
 
 // The report of the ring by `predict`: one cycle of 16 edges.
-fn ring_report<R: Abort + AllocGlobal>(rt: &R, text: &[u8]) -> Result<Vec<u8>, Fail> {
+fn ring_report<R: Abort + AllocGlobal + Threads + Sync>(
+    rt: &R,
+    text: &[u8],
+) -> Result<Vec<u8>, Fail> {
     let mut input = FromStd::new(text);
     let mut output = FromStd::new(Vec::new(rt.alloc()));
     let asked = query(Mode::Full, 16, 1_000)?;
