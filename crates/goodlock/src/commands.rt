@@ -8,11 +8,13 @@ ghost use Rattle.gl_std.specs.Lines.{ended_lines};
 ghost use Rattle.gl_std.specs.Trace.{trace_of, IsTraceOver};
 ghost use Rattle.goodlock.specs.Answer.{IsAnswer, IsPlainAnswer, counts, prediction, replay};
 ghost use Rattle.goodlock.specs.Ending.{EndsEarlyAs, EndsLiveWith, EndsWith, HasEnded, HasEndedEarly, HasEndedLive, HasHeardAll, HasWrittenText};
-ghost use Rattle.goodlock.specs.Sessions.{AreOfSession};
+ghost use Rattle.goodlock.specs.Performed.{HasPerformed};
+ghost use Rattle.goodlock.specs.Sessions.{AreOfSession, CanRun};
 
 use crate::answer::{Printed, Stop, counted, greatest_limits, judge, predicted, replayed};
 use crate::ended::{Ended, Form, Outcome};
 use crate::live_options::LiveOptions;
+use crate::options::Command;
 use crate::recorded::{LiveStop, recorded};
 use gl_filters::Query;
 use gl_io::{Sink, Source, WriteFault, write_out};
@@ -21,6 +23,9 @@ use gl_std::{ReadFault, Trace, read_source};
 use std::alloc::Global;
 use std::sync::Wait;
 use std::thread::Threads;
+
+// The most reads of the program's input.
+const TURNS: u64 = 1_000_000_000;
 
 // How a command ends over a text that wasn't read whole, with this trace or first fault of the
 // lines that LF has ended.
@@ -107,8 +112,9 @@ fn end_live<O: Sink>(output: &mut O, answered: Result<Printed, LiveStop>) -> End
 /// The input is read to its end, in at most `turns` reads, before anything else; its text isn't kept.
 /// The report is made whole before its first byte is written. Where the input can't be read to its
 /// end, the first fault in the lines that were ended before is answered, else
-/// [`Ended::ReadFailed`]. Each reader and writer is used only while it hasn't failed.
-pub fn predict<R: AllocGlobal, I: Source, O: Sink>(
+/// [`Ended::ReadFailed`]. Each reader and writer is used only while it hasn't failed. Cycles are sought in
+/// several threads.
+pub fn predict<R: AllocGlobal + Threads + Sync, I: Source, O: Sink>(
     rt: &R,
     input: &mut I,
     output: &mut O,
@@ -123,7 +129,7 @@ pub fn predict<R: AllocGlobal, I: Source, O: Sink>(
 {
     let alloc = rt.alloc();
     match hear(alloc, input, turns) {
-        Ok(read) => end(output, predicted(alloc, read, query, form)),
+        Ok(read) => end(output, predicted(rt, alloc, read, query, form)),
         Err(ended) => ended,
     }
 }
@@ -178,7 +184,7 @@ pub fn live_gated<R: AllocGlobal + Threads + Wait + Sync, I: Source, O: Sink, G:
 /// Reads a trace and writes eight counts of it and of its report, each on a line.
 ///
 /// Reads, refuses and fails as [`predict`] does.
-pub fn stats<R: AllocGlobal, I: Source, O: Sink>(
+pub fn stats<R: AllocGlobal + Threads + Sync, I: Source, O: Sink>(
     rt: &R,
     input: &mut I,
     output: &mut O,
@@ -192,7 +198,7 @@ pub fn stats<R: AllocGlobal, I: Source, O: Sink>(
 {
     let alloc = rt.alloc();
     match hear(alloc, input, turns) {
-        Ok(read) => end(output, counted(alloc, read, query)),
+        Ok(read) => end(output, counted(rt, alloc, read, query)),
         Err(ended) => ended,
     }
 }
@@ -216,5 +222,26 @@ pub fn replay<R: AllocGlobal, I: Source, O: Sink>(
     match hear(alloc, input, turns) {
         Ok(read) => end(output, replayed(alloc, read)),
         Err(ended) => ended,
+    }
+}
+
+/// Does what the words of the command line ask for, from the input to the output, in at most
+/// 1,000,000,000 reads.
+pub fn perform<R: AllocGlobal + Threads + Wait + Sync, I: Source, O: Sink>(
+    rt: &R,
+    input: &mut I,
+    output: &mut O,
+    command: &Command,
+) -> Ended
+    requires readable { I.failed input.old ≡ false }
+    requires writable { O.failed output.old ≡ false }
+    requires runs { CanRun command.now }
+    ensures { HasPerformed command.now 1000000000 (I.remaining input.old) (I.remaining input.new) (I.failed input.new) (O.contents output.old) (O.contents output.new) (O.failed output.new) result }
+{
+    match command {
+        Command::Predict { query, form } => predict(rt, input, output, TURNS, query, *form),
+        Command::Live(options) => live(rt, input, output, TURNS, options),
+        Command::Stats { query } => stats(rt, input, output, TURNS, query),
+        Command::Replay => replay(rt, input, output, TURNS),
     }
 }

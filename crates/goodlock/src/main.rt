@@ -6,7 +6,7 @@ ghost use Rattle.std.specs.Prelude.{◌≡◌};
 ghost use Rattle.goodlock.specs.Said.{line_of, status_of, shown_text, refused_text, usage_status};
 ghost use Rattle.goodlock.specs.Sessions.{CanRun};
 
-use commands::{live, predict, replay, stats};
+use commands::perform;
 use ended::Ended;
 use gl_io::FromStd;
 use options::{Command, Usage, parse};
@@ -27,9 +27,6 @@ mod options;
 mod recorded;
 #[cfg(test)]
 mod tests;
-
-// The most reads of standard input.
-const TURNS: u64 = 1_000_000_000;
 
 // What is said of words that are no text.
 const NOT_TEXT: &str = "error: the words of the command line are no UTF-8 text\n";
@@ -74,8 +71,8 @@ fn words(rt: &HostRuntime) -> Result<Vec<String>, Usage> {
     }
 }
 
-// Does what the words ask for, from standard input to standard output. A session's threads are started
-// with the second handle.
+// Does what the words ask for, from standard input to standard output. Threads are started with the
+// second handle.
 fn run<T: AllocGlobal + Threads + Wait + Sync>(
     rt: &HostRuntime,
     threads: &T,
@@ -85,14 +82,7 @@ fn run<T: AllocGlobal + Threads + Wait + Sync>(
 {
     let mut input = FromStd::new(rt.stdin());
     let mut output = FromStd::new(rt.stdout());
-    let ended = match command {
-        Command::Predict { query, form } => {
-            predict(rt, &mut input, &mut output, TURNS, query, *form)
-        }
-        Command::Live(options) => live(threads, &mut input, &mut output, TURNS, options),
-        Command::Stats { query } => stats(rt, &mut input, &mut output, TURNS, query),
-        Command::Replay => replay(rt, &mut input, &mut output, TURNS),
-    };
+    let ended = perform(threads, &mut input, &mut output, command);
     let (line, status) = said(&ended);
     let _ = rt.stderr().write_all(line);
     ExitCode::from(status)

@@ -10,6 +10,7 @@ use itoa::Buffer;
 use std::io::Cursor;
 use std::process::Abort;
 use std::test::Fail;
+use std::thread::Threads;
 
 mod sessions;
 
@@ -32,7 +33,7 @@ fn query(mode: Mode, len: u32, max: u32) -> Result<Query, Fail> {
 }
 
 // The text's report is this one, and it lists cycles or doesn't.
-fn expect_report<R: Abort + AllocGlobal>(
+fn expect_report<R: Abort + AllocGlobal + Threads + Sync>(
     rt: &R,
     query: &Query,
     text: &[u8],
@@ -50,7 +51,12 @@ fn expect_report<R: Abort + AllocGlobal>(
 }
 
 // The text is refused with this line, and nothing is written.
-fn expect_refused<R: Abort + AllocGlobal>(rt: &R, query: &Query, text: &[u8], said: &[u8]) {
+fn expect_refused<R: Abort + AllocGlobal + Threads + Sync>(
+    rt: &R,
+    query: &Query,
+    text: &[u8],
+    said: &[u8],
+) {
     let mut input = FromStd::new(text);
     let mut output = FromStd::new(Vec::new(rt.alloc()));
     match predict(rt, &mut input, &mut output, TURNS, query, Form::Text) {
@@ -354,7 +360,12 @@ fn writer_and_reader_fail(rt: HostRuntime) -> Result<(), Fail> {
 }
 
 // The counts of the text and of its report are these.
-fn expect_counts<R: Abort + AllocGlobal>(rt: &R, query: &Query, text: &[u8], counts: &[u8]) {
+fn expect_counts<R: Abort + AllocGlobal + Threads + Sync>(
+    rt: &R,
+    query: &Query,
+    text: &[u8],
+    counts: &[u8],
+) {
     let mut input = FromStd::new(text);
     let mut output = FromStd::new(Vec::new(rt.alloc()));
     match stats(rt, &mut input, &mut output, TURNS, query) {

@@ -1,5 +1,5 @@
 //! What `live` prints: the bytes of `predict`.
-ghost use Rattle.std.specs.Prelude.{◌≡◌};
+ghost use Rattle.std.specs.Prelude.{◌≡◌, ◌≤◌};
 ghost use Rattle.goodlock.specs.Sessions.{AreOfSession};
 
 use super::{
@@ -77,6 +77,8 @@ fn live_refused(rt: HostRuntime) -> Result<(), Fail> {
     let ended = live(&rt, &mut input, &mut output, TURNS, &options);
     let said = b"goodlock: inconsistent: T0.1 precedes itself\n";
     expect_line(&rt, ended, said);
+    assert!(rt; output.into_inner().is_empty());
+    let mut output = FromStd::new(Vec::new(rt.alloc()));
     let mut input = FromStd::new(b"T0|acq(|3".as_slice());
     let ended = live(&rt, &mut input, &mut output, TURNS, &options);
     expect_line(&rt, ended, b"goodlock: line 1: bad operand\n");
@@ -193,7 +195,10 @@ fn lock_ring(alloc: Global) -> Result<Vec<u8>, AllocError> {
 }
 
 // The report of the ring by `predict`: one cycle of 16 edges.
-fn ring_report<R: Abort + AllocGlobal>(rt: &R, text: &[u8]) -> Result<Vec<u8>, Fail> {
+fn ring_report<R: Abort + AllocGlobal + Threads + Sync>(
+    rt: &R,
+    text: &[u8],
+) -> Result<Vec<u8>, Fail> {
     let mut input = FromStd::new(text);
     let mut output = FromStd::new(Vec::new(rt.alloc()));
     let asked = query(Mode::Full, 16, 1_000)?;
