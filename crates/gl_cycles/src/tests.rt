@@ -4,6 +4,8 @@ ghost use Rattle.gl_event.specs.Bounds.{greatest};
 ghost use Rattle.gl_event.specs.Lawful.{IsLawful};
 ghost use Rattle.gl_event.specs.declared.events.Event.{Event};
 
+mod pruning;
+
 use crate::components::{Step, components};
 use crate::found::{Cycles, Found, Report, ReportFault};
 use crate::neighbours::Sought;
