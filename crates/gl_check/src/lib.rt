@@ -1,0 +1,4 @@
+//! A checker of reports.
+#![tactic(auto)]
+
+mod fields;
