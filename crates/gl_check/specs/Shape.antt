@@ -75,9 +75,13 @@ mode_under d = unwrap_or (option_and_then mode_said (option_and_then as_str (get
 abbrev pub asked_in : Data → Asked
 asked_in d = record { mode = mode_under d; len = number_under (codes "len") d; max = number_under (codes "max") d }
 
+-- what stands in the array under `cycles`
+abbrev pub under_cycles : Data → List Data
+under_cycles d = unwrap_or (option_map items_in (get (codes "cycles") d)) []
+
 -- the cycles, each with the edges that it lists
 abbrev pub cycles_in : Data → List (List Data)
-cycles_in d = map items_in (unwrap_or (option_map items_in (get (codes "cycles") d)) [])
+cycles_in d = map items_in (under_cycles d)
 
 -- an array of edges
 abbrev pub is_edges : Data → Bool
@@ -88,5 +92,5 @@ unfoldable pub is_report : Data → Bool
 is_report d =
     has_fields report_fields d
     && (is_none (first_out_of_range (asked_in d))
-    && (nat_le (length (cycles_in d)) (asked_in d).max
-    && list_all is_edges (unwrap_or (option_map items_in (get (codes "cycles") d)) [])))
+    && (nat_le (length (under_cycles d)) (asked_in d).max
+    && list_all is_edges (under_cycles d)))

@@ -39,8 +39,8 @@ pub(crate) fn items_in(value: &Value) -> &[Value]
     }
 }
 
-// The mode that a word stands for.
-fn mode_said(word: &str) -> Option<Mode>
+/// The mode that a word stands for.
+pub(crate) fn mode_said(word: &str) -> Option<Mode>
     ensures { result ≡ mode_said word.now }
 {
     if word == "basic" {
@@ -142,8 +142,8 @@ fn is_edge(value: &Value) -> bool
     has_fields(value, &EDGE_FIELDS)
 }
 
-// Whether the value has the keys of a report of format 1.
-fn has_report_fields(value: &Value) -> bool
+/// Whether the value has the keys of a report of format 1.
+pub(crate) fn has_report_fields(value: &Value) -> bool
     ensures { result ≡ has_fields report_fields (view value.now) }
 {
     has_fields(value, &REPORT_FIELDS)
@@ -168,8 +168,8 @@ fn is_cycle(value: &Value) -> bool
     value.is_array() && are_edges(items_in(value))
 }
 
-// Whether these are arrays of edges.
-fn are_cycles(values: &[Value]) -> bool
+/// Whether these are arrays of edges.
+pub(crate) fn are_cycles(values: &[Value]) -> bool
     ensures { result ≡ list_all is_edges (map view values.now) }
 {
     for value in values {

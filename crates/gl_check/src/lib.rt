@@ -1,4 +1,6 @@
 //! A checker of reports.
 #![tactic(auto)]
 
+mod claims;
+mod edges;
 mod fields;
