@@ -1,2 +1,3 @@
+pub mod Cycles
 pub mod Edges
 pub mod Shape

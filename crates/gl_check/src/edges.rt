@@ -78,8 +78,8 @@ fn is_print_of(
     are_same(alloc, value, &printed)
 }
 
-// The first position whose edge has this JSON.
-fn first_position(
+/// The first position whose edge has this JSON.
+pub(crate) fn first_position(
     alloc: Global,
     names: &Names,
     table: &[(Edge, Sample)],

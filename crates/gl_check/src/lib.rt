@@ -2,5 +2,9 @@
 #![tactic(auto)]
 
 mod claims;
+mod cycles;
 mod edges;
+mod faults;
 mod fields;
+
+pub use faults::CheckFault;
