@@ -1,5 +1,6 @@
 //! Listed cycles: which edges they name, and whether they are cycles that were asked for.
 ghost use Rattle.std.specs.Prelude.{◌≡◌, ◌<◌, true, map, length, ℕ, ◌⊎◌, All, IfOk, IfErr};
+ghost use Rattle.std.specs.Bool.{Decides};
 ghost use Rattle.std.specs.List.{list_all};
 ghost use Rattle.std.specs.List.Sorted.{IsStrictlySortedBy};
 ghost use Rattle.std.specs.Cmp.Lexicographic.{slice_cmp};
@@ -42,4 +43,50 @@ fn positions_of(
         }
     }
     Ok(positions)
+}
+
+// Whether the positions are above those found last.
+fn is_above(found: &[Vec<usize>], positions: &[usize]) -> bool
+    ensures { Decides result (IsAbove (map (λ v. v.items) found.now) positions.now) }
+{
+    match found.last() {
+        Some(last) => last.as_slice().cmp(positions) == Ordering::Less,
+        None => true,
+    }
+}
+
+/// What listed cycles are held against: the names and the edges of a trace, the order of its
+/// segments, and what was asked.
+#[derive(Clone, Copy)]
+pub(crate) struct Known<'a> {
+    pub(crate) names: &'a Names,
+    pub(crate) edges: &'a EdgeList,
+    pub(crate) order: &'a Order,
+    pub(crate) query: Query,
+}
+
+impl Known<'_> {
+    // The positions of the edges of the cycle that comes after those found.
+    fn check_cycle(
+        &self,
+        alloc: Global,
+        found: &[Vec<usize>],
+        edges: &[Value],
+    ) -> Result<Vec<usize>, CheckFault>
+        requires { list_all (has_fields edge_fields) (map view edges.now) ≡ true }
+        ensures cycle { IfOk result (λ positions. IsCycleOf self.now.names.now self.now.edges.now (is_before self.now.order.now) self.now.query (map view edges.now) positions.items) }
+        ensures above { IfOk result (λ positions. IsAbove (map (λ v. v.items) found.now) positions.items) }
+        ensures fault { IfErr result (λ fault. IsFaultOf self.now.names.now self.now.edges.now (is_before self.now.order.now) self.now.query (length found.now) (map (λ v. v.items) found.now) (map view edges.now) fault) }
+    {
+        let number = found.len();
+        let positions = positions_of(alloc, self.names, self.edges.entries(), number, edges)?;
+        match judge(&self.query, self.order, self.edges, positions.as_slice()) {
+            Verdict::Valid => {}
+            verdict => return Err(CheckFault::Verdict(number, verdict)),
+        }
+        if !is_above(found, positions.as_slice()) {
+            return Err(CheckFault::Order(number));
+        }
+        Ok(positions)
+    }
 }
