@@ -86,7 +86,9 @@ flat_members (field ∷ fields) (member key d rest) flat is =
     let tests = both _ _ (both _ _ is).1 in
     let here = flat_value field.1 d kinds.0 tests.0 in
     let later = flat_members fields rest kinds.1 tests.1 in
-    record { plain = ap (λ b. b || members_have_float rest) here.plain ∙ later.plain; low = (let a = here.low in let b = later.low in omega arith) }
+    let low : depth d ≤ 1 = here.low in
+    let lower : members_depth rest ≤ 1 = later.low in
+    record { plain = ap (λ b. b || members_have_float rest) here.plain ∙ later.plain; low = omega arith }
 
 -- an object with the keys of an edge
 edge_is_flat : (d : Data) → has_fields edge_fields d ≡ true → (has_float d ≡ false) × (depth d ≤ 127)

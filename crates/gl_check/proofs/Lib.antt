@@ -1,3 +1,5 @@
+pub mod Finding
 pub mod Flat
 pub mod Places
+pub mod Rising
 pub mod Shapes

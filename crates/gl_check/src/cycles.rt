@@ -89,4 +89,23 @@ impl Known<'_> {
         }
         Ok(positions)
     }
+
+    /// The positions of the edges of each listed cycle.
+    pub(crate) fn check_cycles(
+        &self,
+        alloc: Global,
+        cycles: &[Value],
+    ) -> Result<Vec<Vec<usize>>, CheckFault>
+        requires { list_all is_edges (map view cycles.now) ≡ true }
+        ensures cycles { IfOk result (λ found. AreCyclesOf self.now.names.now self.now.edges.now (is_before self.now.order.now) self.now.query (map (λ cycle. items_in (view cycle)) cycles.now) (map (λ v. v.items) found.items)) }
+        ensures fault { IfErr result (λ fault. (fault ≡ Memory) ⊎ IsFirstFault self.now.names.now self.now.edges.now (is_before self.now.order.now) self.now.query (map (λ cycle. items_in (view cycle)) cycles.now) fault) }
+    {
+        let mut found = Vec::new(alloc);
+        for i in 0..cycles.len() {
+            let edges = items_in(&cycles[i]);
+            let positions = self.check_cycle(alloc, found.as_slice(), edges)?;
+            found.push(positions)?;
+        }
+        Ok(found)
+    }
 }
