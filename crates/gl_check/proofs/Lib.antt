@@ -1,5 +1,7 @@
 pub mod Finding
 pub mod Flat
 pub mod Places
+pub mod Printed
 pub mod Rising
 pub mod Shapes
+pub mod Truth
