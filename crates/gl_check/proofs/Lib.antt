@@ -1,3 +1,4 @@
+pub mod Faulty
 pub mod Finding
 pub mod Flat
 pub mod Places

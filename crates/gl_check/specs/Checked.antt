@@ -11,15 +11,15 @@ use Rattle.gl_std.specs.declared.trace.Trace.{Trace}
 use Rattle.gl_segments.specs.Laws.{DecidesBefore}
 use Rattle.gl_segments.specs.Segments.{IsConsistent, IsLeastInRing}
 use Rattle.gl_edges.specs.Edges.{edges}
-use Rattle.gl_filters.specs.Asked.{first_out_of_range}
+use Rattle.gl_filters.specs.Asked.{Asked, first_out_of_range}
 use Rattle.gl_cycles.specs.AllCycles.{edges_of_table, picked}
 use Rattle.gl_cycles.specs.Laws.{IsCycleAt}
 use Rattle.gl_cycles.specs.declared.found.Report.{Report}
 use Rattle.gl_report.specs.Tree.{report_tree}
-use Rattle.gl_check.specs.Cycles.{IsFirstFault}
+use Rattle.gl_check.specs.Cycles.{AreCyclesOf, IsFirstFault}
 use Rattle.gl_check.specs.Edges.{is_exclusive}
 use Rattle.gl_check.specs.Shape.{asked_in, cycles_in, is_report}
-use Rattle.gl_check.specs.declared.check.Checked.{Checked}
+use Rattle.gl_check.specs.declared.reports.Checked.{Checked}
 use Rattle.gl_check.specs.declared.faults.CheckFault.{CheckFault}
 use Rattle.gl_check.specs.declared.faults.CheckFault.TheVariants.{Json, Shape, Inconsistent, Edge, Verdict, Order, Memory}
 
@@ -40,6 +40,20 @@ pub record IsTrueReport (trace : Trace) (before : Segment → Segment → Bool) 
   -- each cycle is above the one before it
   pub ascend : IsStrictlySortedBy (slice_cmp nat_cmp) report.found.cycles
 
+-- the trace is consistent, and these cycles are listed of it at these positions
+pub record AreTraceCycles (trace : Trace) (asked : Asked) (cycles : List (List Data)) (found : List (List ℕ)) : Type 0 where
+  pub consistent : IsConsistent trace.lists
+  pub before : Segment → Segment → Bool
+  pub decides : DecidesBefore trace.lists before
+  pub are : AreCyclesOf trace.names (edges trace.lists) before asked cycles found
+
+-- the trace is consistent, and this is the fault of the first of these cycles that has one
+pub record IsTraceFault (trace : Trace) (asked : Asked) (cycles : List (List Data)) (fault : CheckFault) : Type 0 where
+  pub consistent : IsConsistent trace.lists
+  pub before : Segment → Segment → Bool
+  pub decides : DecidesBefore trace.lists before
+  pub first : IsFirstFault trace.names (edges trace.lists) before asked cycles fault
+
 -- the bytes are the JSON of a true report, and so many cycles are listed
 pub record IsChecked (trace : Trace) (json : List ℕ) (checked : Checked) : Type 0 where
   -- no segment of the trace is before itself, and this decides which is before which
@@ -53,15 +67,12 @@ pub record IsChecked (trace : Trace) (json : List ℕ) (checked : Checked) : Typ
   -- what is answered
   pub counted : checked.cycles ≡ length report.found.cycles
 
--- the bytes are JSON of the shape of a report, the trace is consistent, and this is the fault of the first listed cycle that has one
+-- the bytes are JSON of the shape of a report, and this is the fault of the first of its cycles that has one
 pub record IsListFault (trace : Trace) (json : List ℕ) (fault : CheckFault) : Type 0 where
   pub said : Data
   pub reads : Reads json said
   pub shaped : is_report said ≡ true
-  pub consistent : IsConsistent trace.lists
-  pub before : Segment → Segment → Bool
-  pub decides : DecidesBefore trace.lists before
-  pub first : IsFirstFault trace.names (edges trace.lists) before (asked_in said) (cycles_in said) fault
+  pub is : IsTraceFault trace (asked_in said) (cycles_in said) fault
 
 -- the lists of a trace have no order
 abbrev pub IsOrderFault : List (List Event) → CheckFault → Type 0

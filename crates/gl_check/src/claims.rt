@@ -1,8 +1,9 @@
 //! What a report says.
-ghost use Rattle.std.specs.Prelude.{◌≡◌, false, true, None, is_none, map, MatchOption};
+ghost use Rattle.std.specs.Prelude.{◌≡◌, false, true, None, is_none, length, map, ◌≤◌, MatchOption};
+ghost use Rattle.std.specs.List.{list_all};
 ghost use Rattle.serde_json.specs.View.{view};
 ghost use Rattle.gl_filters.specs.Asked.{first_out_of_range};
-ghost use Rattle.gl_check.specs.Shape.{asked_in, is_report, mode_under, number_under, under_cycles};
+ghost use Rattle.gl_check.specs.Shape.{asked_in, is_edges, is_report, mode_under, number_under, under_cycles};
 
 use crate::fields::{are_cycles, has_report_fields, items_in, mode_said};
 use gl_filters::{Mode, Query};
@@ -60,7 +61,8 @@ pub(crate) struct Claim<'a> {
 #[tactic(auto, unfolding(crate::specs::Shape::is_report))]
 pub(crate) fn claim_of(value: &Value) -> Option<Claim<'_>>
     ensures { MatchOption result (is_report (view value.now) ≡ false)
-        (λ claim. (is_report (view value.now) ≡ true) × (claim.query ≡ asked_in (view value.now)) × (map view claim.cycles.now ≡ under_cycles (view value.now))) }
+        (λ claim. (is_report (view value.now) ≡ true) × (claim.query ≡ asked_in (view value.now)) × (map view claim.cycles.now ≡ under_cycles (view value.now))
+        × (list_all is_edges (map view claim.cycles.now) ≡ true) × (length claim.cycles.now ≤ 100000)) }
 {
     if !has_report_fields(value) {
         return None;

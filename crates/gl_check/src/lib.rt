@@ -1,12 +1,12 @@
 //! A checker of reports.
 #![tactic(auto)]
 
-mod check;
 mod claims;
 mod cycles;
 mod edges;
 mod faults;
 mod fields;
+mod reports;
 
-pub use check::Checked;
+pub use reports::{Checked, check};
 pub use faults::CheckFault;
