@@ -1,6 +1,6 @@
 -- Objects of numbers and texts: they have no float, and nest little.
 use Rattle.std.proofs.Common.{◌≡◌, ℕ, suc, ◌≤◌, ◌<◌, Bool, true, false, ◌&&◌, ◌||◌, List, [], ◌∷◌, map, max, Option, Some, None, refl, sym, ap, ◌∙◌, subst, arith}
-use Rattle.std.specs.Prelude.{is_some, option_map, unwrap_or}
+use Rattle.std.specs.Prelude.{codes, is_some}
 use Rattle.std.specs.List.{list_all}
 use Rattle.std.proofs.lemmas.Bool.{false≢true}
 use Rattle.serde_json.specs.Data.{Num, unsigned, negative, float, Data, null, boolean, number, string, array, object, Items, no_items, item, Members, no_members, member, depth, items_depth, members_depth}
@@ -11,7 +11,7 @@ use Rattle.gl_std.specs.Names.{NameLists}
 use Rattle.gl_edges.specs.declared.edge.Edge.{Edge}
 use Rattle.gl_edges.specs.declared.edge.Sample.{Sample}
 use Rattle.gl_report.specs.Tree.{edge_tree, name_tree}
-use Rattle.gl_check.specs.Shape.{is_of, have_fields, has_fields, edge_fields, listed}
+use Rattle.gl_check.specs.Shape.{is_of, have_fields, has_fields, edge_fields, listed, number_under}
 use Rattle.gl_check.specs.declared.fields.Kind.{Kind}
 use Rattle.gl_check.specs.declared.fields.Kind.TheVariants.{Number, Exactly, Name, Names, Word, Flag, Array}
 
@@ -113,3 +113,8 @@ low_items f (x ∷ xs) each = ap (λ n. max n (items_depth (items_of (map f xs))
 pub tree_is_low : (names : NameLists) (pair : Edge × Sample) → depth (edge_tree names pair) ≤ 127
 unfolding edge_tree
 tree_is_low names pair = let low = low_items (λ guard. name_tree names.locks guard.lock) pair.0.guards (λ guard. refl) in omega arith
+
+-- the place in what is printed of an edge
+pub place_in : (names : NameLists) (pair : Edge × Sample) → number_under (codes "place") (edge_tree names pair) ≡ pair.1.place
+unfolding edge_tree
+place_in names pair = refl

@@ -9,8 +9,8 @@ use crate::fields::{are_cycles, has_report_fields, items_in, mode_said};
 use gl_filters::{Mode, Query};
 use serde_json::Value;
 
-// The whole number under a key, or 0.
-fn number_under(value: &Value, key: &str) -> u64
+/// The whole number under a key, or 0.
+pub(crate) fn number_under(value: &Value, key: &str) -> u64
     ensures { result ≡ number_under key.now (view value.now) }
 {
     value.get(key).and_then(Value::as_u64).unwrap_or(0)

@@ -1,5 +1,5 @@
 //! Which edge of a trace the JSON of an edge is.
-ghost use Rattle.std.specs.Prelude.{◌≡◌, ◌≤◌, ◌<◌, true, false, map, length, All, IfOk, IfErr, MatchOption};
+ghost use Rattle.std.specs.Prelude.{◌≡◌, ◌≤◌, true, false, codes, IfOk, MatchOption};
 ghost use Rattle.std.specs.Bool.{Decides};
 ghost use Rattle.std.specs.List.{list_all};
 ghost use Rattle.serde_json.specs.Data.{depth};
@@ -7,8 +7,9 @@ ghost use Rattle.serde_json.specs.Read.{max_depth};
 ghost use Rattle.serde_json.specs.View.{view};
 ghost use Rattle.serde_json.specs.Written.{has_float};
 ghost use Rattle.gl_check.specs.Edges.{is_exclusive, is_exclusive_mode, IsEdgeAt, IsNoEdge, IsPrintOf};
-ghost use Rattle.gl_check.specs.Shape.{edge_fields, has_fields};
+ghost use Rattle.gl_check.specs.Shape.{edge_fields, has_fields, number_under};
 
+use crate::claims::number_under;
 use gl_edges::{Edge, Guard, Sample};
 use gl_event::{LockMode, Memory};
 use gl_report::edge_json;
@@ -78,7 +79,47 @@ fn is_print_of(
     are_same(alloc, value, &printed)
 }
 
-/// The first position whose edge has this JSON.
+// Whether the edge has this JSON, in which this place stands.
+fn has_json(
+    alloc: Global,
+    names: &Names,
+    pair: &(Edge, Sample),
+    place: u64,
+    value: &Value,
+) -> Result<bool, Memory>
+    requires shaped { has_fields edge_fields (view value.now) ≡ true }
+    requires place { place ≡ number_under (codes "place") (view value.now) }
+    ensures { IfOk result (λ is. Decides is (IsPrintOf names.now (view value.now) pair.now)) }
+{
+    if u64::from(pair.1.place) != place {
+        return Ok(false);
+    }
+    is_print_of(alloc, names, &pair.0, &pair.1, value)
+}
+
+// The first position whose edge has this JSON, in which this place stands. Edges of other places are
+// passed over.
+fn position_at(
+    alloc: Global,
+    names: &Names,
+    table: &[(Edge, Sample)],
+    place: u64,
+    value: &Value,
+) -> Result<Option<usize>, Memory>
+    requires shaped { has_fields edge_fields (view value.now) ≡ true }
+    requires place { place ≡ number_under (codes "place") (view value.now) }
+    ensures { IfOk result (λ found. MatchOption found (IsNoEdge names.now table.now (view value.now)) (IsEdgeAt names.now table.now (view value.now))) }
+{
+    for i in 0..table.len() {
+        let pair = &table[i];
+        if has_json(alloc, names, pair, place, value)? {
+            return Ok(Some(i));
+        }
+    }
+    Ok(None)
+}
+
+/// The first position whose edge has this JSON. A look at each edge until then.
 pub(crate) fn first_position(
     alloc: Global,
     names: &Names,
@@ -88,11 +129,5 @@ pub(crate) fn first_position(
     requires { has_fields edge_fields (view value.now) ≡ true }
     ensures { IfOk result (λ found. MatchOption found (IsNoEdge names.now table.now (view value.now)) (IsEdgeAt names.now table.now (view value.now))) }
 {
-    for i in 0..table.len() {
-        let pair = &table[i];
-        if is_print_of(alloc, names, &pair.0, &pair.1, value)? {
-            return Ok(Some(i));
-        }
-    }
-    Ok(None)
+    position_at(alloc, names, table, number_under(value, "place"), value)
 }

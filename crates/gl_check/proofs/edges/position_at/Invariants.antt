@@ -1,7 +1,7 @@
 use Rattle.std.proofs.Common.{ℕ, ◌<◌}
 use Rattle.serde_json.specs.View.{view}
 use Rattle.gl_check.specs.Edges.{IsEdgeAt}
-use Rattle.gl_check.proofs.edges.first_position.Given as goal
+use Rattle.gl_check.proofs.edges.position_at.Given as goal
 
 -- none so far has it
 abbrev pub invariant-loop-i : goal.invariant-loop-i
