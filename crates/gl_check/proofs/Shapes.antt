@@ -5,7 +5,6 @@ use Rattle.std.specs.List.{list_all, AllZip}
 use Rattle.std.proofs.lemmas.Bool.{and_parts}
 use Rattle.std.proofs.lemmas.List.{map_more}
 use Rattle.std.proofs.lemmas.Slice.Zip.{all_zipped_more}
-
 use Rattle.std.proofs.lemmas.List.Folds.{list_all_more, list_all_at, list_all-map}
 use Rattle.serde_json.specs.Data.{Data, Members}
 use Rattle.serde_json.specs.View.{items_of}

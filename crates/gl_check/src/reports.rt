@@ -55,11 +55,7 @@ fn no_order(fault: OrderFault) -> CheckFault
 }
 
 // The positions of the edges of the cycles that are listed.
-fn found_in(
-    alloc: Global,
-    trace: &Trace,
-    claim: &Claim<'_>,
-) -> Result<Vec<Vec<usize>>, CheckFault>
+fn found_in(alloc: Global, trace: &Trace, claim: &Claim<'_>) -> Result<Vec<Vec<usize>>, CheckFault>
     requires few { length trace.now.lists ≤ 1024 }
     requires lawful { (thread : ℕ) (es : List Event) → slice_get trace.now.lists thread ≡ Some es → IsLawful greatest thread es }
     requires edges { list_all is_edges (map view claim.now.cycles.now) ≡ true }

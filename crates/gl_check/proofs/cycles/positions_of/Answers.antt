@@ -11,13 +11,17 @@ first_position-requires c = all_at (has_fields edge_fields) view c.args.edges.no
 
 pub returns-in-None-clause-fault : goal.returns-in-None-clause-fault
 returns-in-None-clause-fault c =
-    inr (c.loop-k.k, refl, record {
-      d = view c.index-edges-k.result;
-      there = mapped_at view c.args.edges.now c.loop-k.k c.index-edges-k.result c.loop-k-test.true c.index-edges-k.is;
-      strange = rw c.in-None.is at c.in_ok-position.ensures;
-      positions = c.loop-k.positions.items;
-      before = subst (λ ds. AreEdgesAt c.args.names.now c.args.table.now ds c.loop-k.positions.items) (sym (take-map view c.loop-k.k c.args.edges.now)) c.loop-k.invariant;
-    })
+    inr (
+      c.loop-k.k,
+      refl,
+      record {
+        d = view c.index-edges-k.result;
+        there = mapped_at view c.args.edges.now c.loop-k.k c.index-edges-k.result c.loop-k-test.true c.index-edges-k.is;
+        strange = rw c.in-None.is at c.in_ok-position.ensures;
+        positions = c.loop-k.positions.items;
+        before = subst (λ ds. AreEdgesAt c.args.names.now c.args.table.now ds c.loop-k.positions.items) (sym (take-map view c.loop-k.k c.args.edges.now)) c.loop-k.invariant;
+      },
+    )
 
 pub loop-k-preserved : goal.loop-k-preserved
 loop-k-preserved c =
