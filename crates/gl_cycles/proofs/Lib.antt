@@ -11,6 +11,7 @@ pub mod Level
 pub mod Off
 pub mod Back
 pub mod Beside
+pub mod ByKinds
 pub mod Removing
 pub mod Surviving
 pub mod Joining

@@ -22,8 +22,10 @@ mod closers;
 mod components;
 mod followers;
 mod found;
+mod kinds;
 mod laws;
 mod loops;
+mod models;
 mod neighbours;
 mod numbers;
 mod parallel;
@@ -42,5 +44,5 @@ pub use laws::{
 };
 pub use parallel::search_parallel;
 pub use paths::search;
-pub use reports::report_over;
+pub use reports::{report_over, report_over_parallel};
 pub use trims::{Trimmed, trim};

@@ -3,4 +3,5 @@ pub mod Ending
 pub mod Lines
 pub mod Options
 pub mod Said
+pub mod Sessions
 pub mod Stops

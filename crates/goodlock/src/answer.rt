@@ -66,8 +66,8 @@ pub(crate) fn greatest_limits() -> Limits
     }
 }
 
-// The trace that was read, or the line that says its first fault.
-fn trace_or_line(alloc: Global, read: Result<Trace, ReadFault>) -> Result<Trace, Stop>
+/// The trace that was read, or the line that says its first fault.
+pub(crate) fn trace_or_line(alloc: Global, read: Result<Trace, ReadFault>) -> Result<Trace, Stop>
     ensures trace { IfOk result (λ t. read ≡ Ok t) }
     ensures refused { IfErr result (λ stop. IfRefused stop (IsFaultIn read)) }
 {
@@ -98,8 +98,13 @@ fn order_or_line(alloc: Global, trace: &Trace) -> Result<Order, Stop>
     }
 }
 
-// The report in this form.
-fn print(alloc: Global, form: Form, names: &Names, report: &Report) -> Result<Vec<u8>, Memory>
+/// The report in this form.
+pub(crate) fn print(
+    alloc: Global,
+    form: Form,
+    names: &Names,
+    report: &Report,
+) -> Result<Vec<u8>, Memory>
     ensures { IfOk result (λ t. t.items ≡ printed_report form names.now report.now) }
 {
     match form {
@@ -139,8 +144,8 @@ fn trace_and_report(
     Ok(Reported { trace, report })
 }
 
-// Whether a report lists a cycle.
-fn outcome_of(report: &Report) -> Outcome
+/// Whether a report lists a cycle.
+pub(crate) fn outcome_of(report: &Report) -> Outcome
     ensures { result ≡ outcome_of report.now }
 {
     if report.found.cycles.as_slice().is_empty() {

@@ -7,14 +7,20 @@ ghost use Rattle.gl_event.specs.Bounds.{greatest};
 ghost use Rattle.gl_std.specs.Lines.{ended_lines};
 ghost use Rattle.gl_std.specs.Trace.{trace_of, IsTraceOver};
 ghost use Rattle.goodlock.specs.Answer.{IsAnswer, IsPlainAnswer, counts, prediction, replay};
-ghost use Rattle.goodlock.specs.Ending.{EndsEarlyAs, EndsWith, HasEnded, HasEndedEarly, HasHeardAll, HasWrittenText};
+ghost use Rattle.goodlock.specs.Ending.{EndsEarlyAs, EndsLiveWith, EndsWith, HasEnded, HasEndedEarly, HasEndedLive, HasHeardAll, HasWrittenText};
+ghost use Rattle.goodlock.specs.Sessions.{AreOfSession};
 
 use crate::answer::{Printed, Stop, counted, greatest_limits, judge, predicted, replayed};
 use crate::ended::{Ended, Form, Outcome};
+use crate::live_options::LiveOptions;
+use crate::recorded::{LiveStop, recorded};
 use gl_filters::Query;
 use gl_io::{Sink, Source, WriteFault, write_out};
+use gl_shards::{Gate, Open};
 use gl_std::{ReadFault, Trace, read_source};
 use std::alloc::Global;
+use std::sync::Wait;
+use std::thread::Threads;
 
 // How a command ends over a text that wasn't read whole, with this trace or first fault of the
 // lines that LF has ended.
@@ -84,6 +90,18 @@ fn end<O: Sink>(output: &mut O, answered: Result<Printed, Stop>) -> Ended
     }
 }
 
+// Writes what a session answers, if it is a text to be printed.
+fn end_live<O: Sink>(output: &mut O, answered: Result<Printed, LiveStop>) -> Ended
+    requires { O.failed output.old ≡ false }
+    ensures { EndsLiveWith answered (O.contents output.old) (O.contents output.new) (O.failed output.new) result }
+{
+    match answered {
+        Ok(printed) => end(output, Ok(printed)),
+        Err(LiveStop::Stopped(stop)) => end(output, Err(stop)),
+        Err(LiveStop::Unconfirmed) => Ended::Unconfirmed,
+    }
+}
+
 /// Reads a trace, predicts its deadlocks and writes the report in the form asked for.
 ///
 /// The input is read to its end, in at most `turns` reads, before anything else; its text isn't kept.
@@ -106,6 +124,53 @@ pub fn predict<R: AllocGlobal, I: Source, O: Sink>(
     let alloc = rt.alloc();
     match hear(alloc, input, turns) {
         Ok(read) => end(output, predicted(alloc, read, query, form)),
+        Err(ended) => ended,
+    }
+}
+
+/// Reads a trace, records it again in running threads, and writes the report of what was recorded, in
+/// the form asked for.
+///
+/// **Unless it answers [`Ended::Memory`] or [`Ended::Unconfirmed`], it ends as [`predict`] does and writes
+/// the same bytes**, whatever the threads' timing. Each thread of the trace has a lane of its own; lane `t`
+/// is recorded by recorder thread `t` modulo their number, event after event; the collector runs in the
+/// calling thread, and a worker keeps the edges of each shard. A trace without threads opens no session.
+///
+/// The input is read whole before a thread is started, and no thread records before all were.
+pub fn live<R: AllocGlobal + Threads + Wait + Sync, I: Source, O: Sink>(
+    rt: &R,
+    input: &mut I,
+    output: &mut O,
+    turns: u64,
+    options: &LiveOptions,
+) -> Ended
+    requires readable { I.failed input.old ≡ false }
+    requires writable { O.failed output.old ≡ false }
+    requires few_turns { turns ≤ 2 ^ 40 }
+    requires session { AreOfSession options.now }
+    ensures { HasEndedLive (IsAnswer (prediction options.now.query options.now.form)) turns (I.remaining input.old) (I.remaining input.new) (I.failed input.new) (O.contents output.old) (O.contents output.new) (O.failed output.new) result }
+{
+    live_gated(rt, input, output, turns, options, &Open)
+}
+
+/// As [`live`], with a gate that each worker passes before it keeps an edge.
+pub fn live_gated<R: AllocGlobal + Threads + Wait + Sync, I: Source, O: Sink, G: Gate + Sync>(
+    rt: &R,
+    input: &mut I,
+    output: &mut O,
+    turns: u64,
+    options: &LiveOptions,
+    gate: &G,
+) -> Ended
+    requires readable { I.failed input.old ≡ false }
+    requires writable { O.failed output.old ≡ false }
+    requires few_turns { turns ≤ 2 ^ 40 }
+    requires session { AreOfSession options.now }
+    ensures { HasEndedLive (IsAnswer (prediction options.now.query options.now.form)) turns (I.remaining input.old) (I.remaining input.new) (I.failed input.new) (O.contents output.old) (O.contents output.new) (O.failed output.new) result }
+{
+    let alloc = rt.alloc();
+    match hear(alloc, input, turns) {
+        Ok(read) => end_live(output, recorded(rt, alloc, read, options, gate)),
         Err(ended) => ended,
     }
 }

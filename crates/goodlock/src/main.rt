@@ -4,21 +4,27 @@
 
 ghost use Rattle.std.specs.Prelude.{◌≡◌};
 ghost use Rattle.goodlock.specs.Said.{line_of, status_of, shown_text, refused_text, usage_status};
+ghost use Rattle.goodlock.specs.Sessions.{CanRun};
 
-use commands::{predict, replay, stats};
+use commands::{live, predict, replay, stats};
 use ended::Ended;
 use gl_io::FromStd;
 use options::{Command, Usage, parse};
 use std::env;
 use std::io::{ErrorKind, Write};
 use std::process::ExitCode;
+use std::sync::Wait;
+use std::thread::Threads;
 
 mod answer;
 mod commands;
 mod ended;
 mod laws;
+mod limits;
 mod lines;
+mod live_options;
 mod options;
+mod recorded;
 #[cfg(test)]
 mod tests;
 
@@ -41,6 +47,7 @@ fn said(ended: &Ended) -> (&[u8], u8)
         Ended::Memory => (b"goodlock: out of memory\n", 3),
         Ended::ReadFailed => (b"goodlock: read failed\n", 4),
         Ended::WriteFailed { .. } => (b"goodlock: write failed\n", 4),
+        Ended::Unconfirmed => (b"goodlock: session not confirmed\n", 4),
     }
 }
 
@@ -67,14 +74,22 @@ fn words(rt: &HostRuntime) -> Result<Vec<String>, Usage> {
     }
 }
 
-// Does what the words ask for, from standard input to standard output.
-fn run(rt: &HostRuntime, command: &Command) -> ExitCode {
+// Does what the words ask for, from standard input to standard output. A session's threads are started
+// with the second handle.
+fn run<T: AllocGlobal + Threads + Wait + Sync>(
+    rt: &HostRuntime,
+    threads: &T,
+    command: &Command,
+) -> ExitCode
+    requires { CanRun command.now }
+{
     let mut input = FromStd::new(rt.stdin());
     let mut output = FromStd::new(rt.stdout());
     let ended = match command {
         Command::Predict { query, form } => {
             predict(rt, &mut input, &mut output, TURNS, query, *form)
         }
+        Command::Live(options) => live(threads, &mut input, &mut output, TURNS, options),
         Command::Stats { query } => stats(rt, &mut input, &mut output, TURNS, query),
         Command::Replay => replay(rt, &mut input, &mut output, TURNS),
     };
@@ -101,7 +116,7 @@ fn main(rt: HostRuntime) -> ExitCode {
         Err(usage) => return tell(&rt, &usage),
     };
     match parse(rt.alloc(), words.as_slice()) {
-        Ok(command) => run(&rt, &command),
+        Ok(command) => run(&rt, &rt, &command),
         Err(usage) => tell(&rt, &usage),
     }
 }

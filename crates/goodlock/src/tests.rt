@@ -11,6 +11,8 @@ use std::io::Cursor;
 use std::process::Abort;
 use std::test::Fail;
 
+mod sessions;
+
 const TURNS: u64 = 1_000_000_000;
 
 const OPPOSITE_ORDER: &[u8] =
