@@ -38,9 +38,12 @@ def trace_of(seed, number, random_):
     """A short trace, or a long one of the same kinds of lines."""
     if random_.random() < 0.7:
         return compare.case(seed, number, SHORT), True
-    maker = compare.Maker(random_, random_.choice([200, 1000, 5000]))
+    maker = compare.Maker(random_)
     maker.size = random_.randint(SHORT, 5000)
-    return compare.joined(random_, maker.make()), False
+    lines = maker.make()
+    if random_.random() < 0.8:  # among many forks and joins there is nearly always a loop
+        lines = [line for line in lines if "|fork(" not in line and "|join(" not in line]
+    return compare.joined(random_, lines), False
 
 
 def run(program, words, text, is_alone):
@@ -88,7 +91,7 @@ def main():
         print("live has no --stream: such sessions are SKIPPED")
     numbers = range(options.cases) if options.only is None else [options.only]
     passed = failed = 0
-    statuses = {}
+    statuses = {}  # of short and of long traces
     with concurrent.futures.ThreadPoolExecutor(options.jobs) as pool:
         for number, (is_equal, words, text, answers) in zip(
             numbers, pool.map(lambda number: session(program, options.seed, number, has_stream), numbers)
