@@ -603,7 +603,7 @@ def by_reference(words, text):
     query = reference.Query(values.get("--mode", "full"), int(values.get("--len", 4)), int(values.get("--max", 1000)))
     if "--stream" in options:
         query.threads = int(values.get("--threads", STREAM_THREADS))
-    return reference.answer(word, text, query, "--json" in options)
+    return reference.answer(word, text, query, 1 if "--json" in options else None)
 
 
 def asked(random_, command):

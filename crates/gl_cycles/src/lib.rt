@@ -44,5 +44,5 @@ pub use laws::{
 };
 pub use parallel::search_parallel;
 pub use paths::search;
-pub use reports::report_over;
+pub use reports::{report_over, report_over_parallel};
 pub use trims::{Trimmed, trim};

@@ -145,7 +145,7 @@ impl Searcher<'_> {
     }
 
     // Adds the cycles that begin with the edge at a position, up to the cap.
-    fn grow_from(
+    pub(crate) fn grow_from(
         &self,
         alloc: Global,
         root: usize,

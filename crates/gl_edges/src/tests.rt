@@ -11,6 +11,7 @@ use crate::list::EdgeList;
 use crate::tracker::Tracker;
 use gl_event::{Event, Limits, LocId, LockId, LockMode, MAX_THREADS, Memory, ThreadId};
 use std::alloc::Global;
+use std::process::Abort;
 use std::test::Fail;
 
 // An acquire.
@@ -143,6 +144,29 @@ fn plain<'a>(
     }
 }
 
+// Lists of events, each a copy of one of these.
+fn lists_of(alloc: Global, lists: &[&[Event]]) -> Result<Vec<Vec<Event>>, Memory> {
+    let mut copies = Vec::new(alloc);
+    for list in lists {
+        copies.push(Vec::from_slice(alloc, list)?)?;
+    }
+    Ok(copies)
+}
+
+// The edges of the lists, which have to be lawful.
+fn found_in(rt: &impl Abort, alloc: Global, lists: &[&[Event]]) -> Result<EdgeList, Fail> {
+    let lists = lists_of(alloc, lists)?;
+    assert!(rt; are_lawful(&lists));
+    Ok(edges_of(alloc, &lists)?)
+}
+
+// The lists are lawful, and have these edges.
+fn expect(rt: &impl Abort, alloc: Global, lists: &[&[Event]], wants: &[Want]) -> Result<(), Fail> {
+    let found = found_in(rt, alloc, lists)?;
+    assert!(rt; are_as_wanted(found.entries(), wants));
+    Ok(())
+}
+
 // The list, by copies of its edges.
 fn copied(alloc: Global, list: &EdgeList) -> Result<EdgeList, Memory> {
     let mut copies = EdgeList::new(alloc);
@@ -172,38 +196,27 @@ fn stepped(alloc: Global, thread: ThreadId, list: &[Event]) -> Result<Vec<(Edge,
 // Two threads take two locks in opposite orders.
 #[test]
 fn opposite_order(rt: HostRuntime) -> Result<(), Fail> {
-    let alloc = rt.alloc();
-    let lists = vec![in alloc;
-        vec![in alloc; acq(0, 1), acq(1, 2), rel(1, 3), rel(0, 4)]?,
-        vec![in alloc; acq(1, 5), acq(0, 6)]?,
-    ]?;
-    assert!(rt; are_lawful(&lists));
-    let found = edges_of(alloc, &lists)?;
+    let first = [acq(0, 1), acq(1, 2), rel(1, 3), rel(0, 4)];
+    let second = [acq(1, 5), acq(0, 6)];
     let wants = [
         plain(0, 0, 1, &[0], 1, (1, 2)),
         plain(1, 1, 0, &[1], 1, (5, 6)),
     ];
-    assert!(rt; are_as_wanted(found.entries(), &wants));
-    Ok(())
+    expect(&rt, rt.alloc(), &[&first, &second], &wants)
 }
 
 // Both threads hold lock 0 while they take locks 1 and 2 in opposite orders.
 #[test]
 fn gate_lock(rt: HostRuntime) -> Result<(), Fail> {
-    let alloc = rt.alloc();
-    let lists = vec![in alloc;
-        vec![in alloc;
-            acq(0, 1),
-            acq(1, 2),
-            acq(2, 3),
-            rel(2, 4),
-            rel(1, 5),
-            rel(0, 6)
-        ]?,
-        vec![in alloc; acq(0, 7), acq(2, 8), acq(1, 9)]?,
-    ]?;
-    assert!(rt; are_lawful(&lists));
-    let found = edges_of(alloc, &lists)?;
+    let first = [
+        acq(0, 1),
+        acq(1, 2),
+        acq(2, 3),
+        rel(2, 4),
+        rel(1, 5),
+        rel(0, 6),
+    ];
+    let second = [acq(0, 7), acq(2, 8), acq(1, 9)];
     let wants = [
         plain(0, 0, 1, &[0], 1, (1, 2)),
         plain(0, 0, 2, &[0, 1], 2, (1, 3)),
@@ -212,47 +225,34 @@ fn gate_lock(rt: HostRuntime) -> Result<(), Fail> {
         plain(1, 0, 2, &[0], 1, (7, 8)),
         plain(1, 2, 1, &[0, 2], 2, (8, 9)),
     ];
-    assert!(rt; are_as_wanted(found.entries(), &wants));
-    Ok(())
+    expect(&rt, rt.alloc(), &[&first, &second], &wants)
 }
 
 // A fork closes a segment while a lock is held.
 #[test]
 fn fork_while_holding(rt: HostRuntime) -> Result<(), Fail> {
-    let alloc = rt.alloc();
-    let lists = vec![in alloc;
-        vec![in alloc; acq(0, 1), fork(1, 2), acq(1, 3)]?,
-        vec![in alloc; acq(1, 4), acq(0, 5)]?,
-    ]?;
-    assert!(rt; are_lawful(&lists));
-    let found = edges_of(alloc, &lists)?;
+    let list = [acq(0, 1), fork(1, 2), acq(1, 3)];
+    let other = [acq(1, 4), acq(0, 5)];
     let first = Want {
         second: 1,
         ..plain(0, 0, 1, &[0], 2, (1, 3))
     };
     let wants = [first, plain(1, 1, 0, &[1], 1, (4, 5))];
-    assert!(rt; are_as_wanted(found.entries(), &wants));
-    Ok(())
+    expect(&rt, rt.alloc(), &[&list, &other], &wants)
 }
 
 // A lock that is acquired twice and released once is still held, and was opened by the first acquire.
 #[test]
 fn reentrant_acquire(rt: HostRuntime) -> Result<(), Fail> {
-    let alloc = rt.alloc();
-    let lists = vec![in alloc;
-        vec![in alloc; acq(0, 1), acq(0, 2), acq(1, 3), rel(0, 4), acq(2, 5)]?,
-        vec![in alloc; acq(2, 6), acq(0, 7)]?,
-    ]?;
-    assert!(rt; are_lawful(&lists));
-    let found = edges_of(alloc, &lists)?;
+    let first = [acq(0, 1), acq(0, 2), acq(1, 3), rel(0, 4), acq(2, 5)];
+    let second = [acq(2, 6), acq(0, 7)];
     let wants = [
         plain(0, 0, 1, &[0], 2, (1, 3)),
         plain(0, 0, 2, &[0, 1], 4, (1, 5)),
         plain(0, 1, 2, &[0, 1], 4, (3, 5)),
         plain(1, 2, 0, &[2], 1, (6, 7)),
     ];
-    assert!(rt; are_as_wanted(found.entries(), &wants));
-    Ok(())
+    expect(&rt, rt.alloc(), &[&first, &second], &wants)
 }
 
 // Locks that are not released in the opposite order of their acquires. Copies of the edges make the
@@ -260,16 +260,14 @@ fn reentrant_acquire(rt: HostRuntime) -> Result<(), Fail> {
 #[test]
 fn crossed_releases(rt: HostRuntime) -> Result<(), Fail> {
     let alloc = rt.alloc();
-    let lists = vec![in alloc; vec![in alloc; acq(0, 1), acq(1, 2), rel(0, 3), acq(2, 4)]?]?;
-    assert!(rt; are_lawful(&lists));
-    let found = edges_of(alloc, &lists)?;
+    let list = [acq(0, 1), acq(1, 2), rel(0, 3), acq(2, 4)];
+    let found = found_in(&rt, alloc, &[&list])?;
+    let copies = copied(alloc, &found)?;
     let wants = [
         plain(0, 0, 1, &[0], 1, (1, 2)),
         plain(0, 1, 2, &[1], 3, (2, 4)),
     ];
     assert!(rt; are_as_wanted(found.entries(), &wants));
-
-    let copies = copied(alloc, &found)?;
     assert!(rt; are_as_wanted(copies.entries(), &wants));
     Ok(())
 }
@@ -285,6 +283,45 @@ fn tracker_steps(rt: HostRuntime) -> Result<(), Fail> {
     ];
     assert!(rt; is_lawful(ThreadId::new(0), &list));
     let found = stepped(alloc, ThreadId::new(0), &list)?;
+    assert!(rt; are_as_wanted(&found, &wants));
+    Ok(())
+}
+
+// The edges of the last of the thread's events, after a step for each of those before it.
+fn last_step(alloc: Global, thread: ThreadId, list: &[Event]) -> Result<Vec<(Edge, Sample)>, Memory>
+    requires { IsLawful greatest thread list.now }
+{
+    let mut tracker = Tracker::new(thread);
+    let mut last = Vec::new(alloc);
+    for event in list {
+        last = tracker.step(alloc, *event)?;
+    }
+    Ok(last)
+}
+
+// Lock 1 taken inside lock 0 again and again, and then, at place 10,000, lock 3 inside the locks 0 and 2.
+fn long_list(alloc: Global) -> Result<Vec<Event>, Memory> {
+    let mut list = vec![in alloc; acq(0, 1)]?;
+    for turn in 0..4_999 {
+        list.push(acq(1, 2))?;
+        list.push(rel(1, 3))?;
+    }
+    list.push(acq(2, 4))?;
+    list.push(acq(3, 5))?;
+    Ok(list)
+}
+
+// A step at place 10,000 makes its edges as a first one does.
+#[test]
+fn ten_thousand_steps(rt: HostRuntime) -> Result<(), Fail> {
+    let alloc = rt.alloc();
+    let list = long_list(alloc)?;
+    assert!(rt; is_lawful(ThreadId::new(0), &list));
+    let found = last_step(alloc, ThreadId::new(0), &list)?;
+    let wants = [
+        plain(0, 0, 3, &[0, 2], 10_000, (1, 5)),
+        plain(0, 2, 3, &[0, 2], 10_000, (4, 5)),
+    ];
     assert!(rt; are_as_wanted(&found, &wants));
     Ok(())
 }
@@ -329,50 +366,38 @@ fn tryacq(lock: u32, loc: u32) -> Event {
 // those of exclusive ones.
 #[test]
 fn mode_orders_edges(rt: HostRuntime) -> Result<(), Fail> {
-    let alloc = rt.alloc();
-    let lists = vec![in alloc;
-        vec![in alloc;
-            racq(0, 1),
-            racq(0, 2),
-            acq(1, 3),
-            rel(1, 4),
-            rel(0, 5),
-            rel(0, 6),
-            acq(0, 7),
-            racq(0, 8),
-            acq(1, 9)
-        ]?,
-    ]?;
-    assert!(rt; are_lawful(&lists));
-    let found = edges_of(alloc, &lists)?;
+    let list = [
+        racq(0, 1),
+        racq(0, 2),
+        acq(1, 3),
+        rel(1, 4),
+        rel(0, 5),
+        rel(0, 6),
+        acq(0, 7),
+        racq(0, 8),
+        acq(1, 9),
+    ];
     let shared = Want {
         mode: LockMode::Shared,
         ..plain(0, 0, 1, &[0], 2, (1, 3))
     };
     let wants = [plain(0, 0, 1, &[0], 8, (7, 9)), shared];
-    assert!(rt; are_as_wanted(found.entries(), &wants));
-    Ok(())
+    expect(&rt, rt.alloc(), &[&list], &wants)
 }
 
 // A lock that is tried is held and a guard, but never wanted.
 #[test]
 fn tried_locks(rt: HostRuntime) -> Result<(), Fail> {
-    let alloc = rt.alloc();
-    let lists = vec![in alloc; vec![in alloc; acq(0, 1), tryacq(1, 2), acq(2, 3)]?]?;
-    assert!(rt; are_lawful(&lists));
-    let found = edges_of(alloc, &lists)?;
+    let list = [acq(0, 1), tryacq(1, 2), acq(2, 3)];
     let wants = [
         plain(0, 0, 2, &[0, 1], 2, (1, 3)),
         plain(0, 1, 2, &[0, 1], 2, (2, 3)),
     ];
-    assert!(rt; are_as_wanted(found.entries(), &wants));
-    Ok(())
+    expect(&rt, rt.alloc(), &[&list], &wants)
 }
 
-// An edge that a thread makes a thousand times keeps its first sample.
-#[test]
-fn least_sample(rt: HostRuntime) -> Result<(), Fail> {
-    let alloc = rt.alloc();
+// Lock 1 taken inside lock 0, a thousand times.
+fn thousand_turns(alloc: Global) -> Result<Vec<Event>, Memory> {
     let mut list = Vec::new(alloc);
     for turn in 0..1_000 {
         let loc = 4 * turn;
@@ -381,15 +406,20 @@ fn least_sample(rt: HostRuntime) -> Result<(), Fail> {
         list.push(rel(1, loc + 3))?;
         list.push(rel(0, loc + 4))?;
     }
-    let lists = vec![in alloc; list, vec![in alloc; acq(1, 4_001), acq(0, 4_002)]?]?;
-    assert!(rt; are_lawful(&lists));
-    let found = edges_of(alloc, &lists)?;
+    Ok(list)
+}
+
+// An edge that a thread makes a thousand times keeps its first sample.
+#[test]
+fn least_sample(rt: HostRuntime) -> Result<(), Fail> {
+    let alloc = rt.alloc();
+    let first = thousand_turns(alloc)?;
+    let second = [acq(1, 4_001), acq(0, 4_002)];
     let wants = [
         plain(0, 0, 1, &[0], 1, (1, 2)),
         plain(1, 1, 0, &[1], 1, (4_001, 4_002)),
     ];
-    assert!(rt; are_as_wanted(found.entries(), &wants));
-    Ok(())
+    expect(&rt, alloc, &[&first, &second], &wants)
 }
 
 // Puts acquires of the locks 0 to 4 at the end, one inside the other, and their releases.
@@ -401,6 +431,23 @@ fn nest(list: &mut Vec<Event>) -> Result<(), Memory> {
         list.push(rel(lock, 2))?;
     }
     Ok(())
+}
+
+// So many such nestings, one after the other.
+fn nested(alloc: Global, times: usize) -> Result<Vec<Event>, Memory> {
+    let mut list = Vec::new(alloc);
+    for _ in 0..times {
+        nest(&mut list)?;
+    }
+    Ok(list)
+}
+
+// Two such nestings with a fork between them.
+fn nested_forking(alloc: Global) -> Result<Vec<Event>, Memory> {
+    let mut list = nested(alloc, 1)?;
+    list.push(fork(1, 3))?;
+    nest(&mut list)?;
+    Ok(list)
 }
 
 // How many of the edges want the lock.
@@ -417,31 +464,25 @@ fn are_equal(pairs: &[(Edge, Sample)], others: &[(Edge, Sample)]) -> bool {
 }
 
 // Locks that are taken one inside the other make the same edges with the same samples, however often
-// it happens; in another segment they make others.
+// it happens.
 #[test]
 fn repeated_nesting(rt: HostRuntime) -> Result<(), Fail> {
     let alloc = rt.alloc();
-    let mut one = Vec::new(alloc);
-    nest(&mut one)?;
-    let mut three = Vec::new(alloc);
-    nest(&mut three)?;
-    nest(&mut three)?;
-    nest(&mut three)?;
-    let mut forking = Vec::new(alloc);
-    nest(&mut forking)?;
-    forking.push(fork(1, 3))?;
-    nest(&mut forking)?;
-
-    let one = vec![in alloc; one]?;
-    let three = vec![in alloc; three]?;
-    let forking = vec![in alloc; forking]?;
-    assert!(rt; are_lawful(&one));
-    assert!(rt; are_lawful(&three));
-    assert!(rt; are_lawful(&forking));
-    let once = edges_of(alloc, &one)?;
+    let one = nested(alloc, 1)?;
+    let three = nested(alloc, 3)?;
+    let once = found_in(&rt, alloc, &[&one])?;
+    let thrice = found_in(&rt, alloc, &[&three])?;
     assert!(rt; once.entries().len() == 10);
-    assert!(rt; are_equal(edges_of(alloc, &three)?.entries(), once.entries()));
-    assert!(rt; edges_of(alloc, &forking)?.entries().len() == 20);
+    assert!(rt; are_equal(thrice.entries(), once.entries()));
+    Ok(())
+}
+
+// In another segment they make other edges.
+#[test]
+fn nesting_after_fork(rt: HostRuntime) -> Result<(), Fail> {
+    let alloc = rt.alloc();
+    let list = nested_forking(alloc)?;
+    assert!(rt; found_in(&rt, alloc, &[&list])?.entries().len() == 20);
     Ok(())
 }
 
@@ -449,20 +490,19 @@ fn repeated_nesting(rt: HostRuntime) -> Result<(), Fail> {
 // while those from the locks that stayed held are there already.
 #[test]
 fn opened_again(rt: HostRuntime) -> Result<(), Fail> {
-    let alloc = rt.alloc();
-    let mut list = Vec::new(alloc);
-    for lock in 0..4 {
-        list.push(acq(lock, 1))?;
-    }
-    list.push(fork(1, 2))?;
-    list.push(acq(4, 3))?;
-    list.push(rel(4, 4))?;
-    list.push(rel(3, 5))?;
-    list.push(acq(3, 6))?;
-    list.push(acq(4, 7))?;
-    let lists = vec![in alloc; list]?;
-    assert!(rt; are_lawful(&lists));
-    let found = edges_of(alloc, &lists)?;
+    let list = [
+        acq(0, 1),
+        acq(1, 1),
+        acq(2, 1),
+        acq(3, 1),
+        fork(1, 2),
+        acq(4, 3),
+        rel(4, 4),
+        rel(3, 5),
+        acq(3, 6),
+        acq(4, 7),
+    ];
+    let found = found_in(&rt, rt.alloc(), &[&list])?;
     assert!(rt; count_wanting(found.entries(), 4) == 5);
     Ok(())
 }

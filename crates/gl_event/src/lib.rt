@@ -17,7 +17,9 @@ mod notes;
 pub use events::{Event, LockMode, Refusal, Segment};
 pub use held::{Held, HeldEntry, HeldFault, MAX_DEPTH, MAX_HELD, NotHeld};
 pub use ids::{LocId, LockId, ThreadId};
-pub use limits::{BadLimits, Limits, MAX_EVENTS, MAX_NAMES, MAX_RING, MAX_THREADS};
+pub use limits::{
+    BadLimits, Limits, MAX_EVENTS, MAX_NAMES, MAX_RING, MAX_THREADS, limits_in_numbers,
+};
 pub use lists::{append, append_both, make_room};
 pub use notes::{Body, Note};
 

@@ -1,5 +1,6 @@
 //! How large a session or a trace may grow.
 ghost use Rattle.std.specs.Prelude.{◌≡◌, ◌≤◌, None, Some, IfOk, IfErr};
+ghost use Rattle.gl_event.specs.declared.held.TheConstants.{MAX_HELD, MAX_DEPTH};
 
 use std::error::Error;
 use std::fmt;
@@ -142,3 +143,13 @@ impl Limits {
         self.names
     }
 }
+
+/// What a session and a trace are bounded by, in numbers. It does nothing: its contract is the table.
+pub fn limits_in_numbers()
+    ensures threads { MAX_THREADS ≡ 1024 }
+    ensures ring { MAX_RING ≡ 65536 }
+    ensures events { MAX_EVENTS ≡ 4000000000 }
+    ensures names { MAX_NAMES ≡ 4000000000 }
+    ensures held_locks { MAX_HELD ≡ 64 }
+    ensures depth { MAX_DEPTH ≡ 1000000 }
+{}

@@ -108,3 +108,9 @@ impl Query {
         self.max
     }
 }
+
+/// What a query is bounded by, in numbers. It does nothing: its contract is the table.
+pub fn limits_in_numbers()
+    ensures length { MAX_LEN ≡ 16 }
+    ensures cycles { MAX_CYCLES ≡ 100000 }
+{}

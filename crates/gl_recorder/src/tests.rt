@@ -1,6 +1,7 @@
 //! What recorders answer at their limits.
 use crate::{Refusal, Taker};
 use gl_event::{Body, Event, Limits, LocId, LockId, LockMode, MAX_DEPTH, Note, ThreadId};
+use std::process::Abort;
 use std::test::Fail;
 
 fn acquire(lock: u32) -> Event {
@@ -50,38 +51,43 @@ fn note(place: u32, body: Body) -> Note {
     }
 }
 
+// The answer is this one.
+fn expect(rt: &impl Abort, answer: Result<Note, Refusal>, want: Result<Note, Refusal>) {
+    assert_eq!(rt; answer, want);
+}
+
 #[test]
 fn limits_reached(rt: HostRuntime) -> Result<(), Fail> {
     let mut taker = Taker::new(ThreadId::new(0), &Limits::new(1, 1, 1, 1)?);
-    assert_eq!(rt;
-        taker.check(acquire(0)),
-        Ok(note(0, Body::Happened(acquire(0))))
-    );
-    assert_eq!(rt;
-        taker.take(acquire(0)),
-        Ok(note(0, Body::Happened(acquire(0))))
-    );
-    assert_eq!(rt; taker.check(acquire(0)), Err(Refusal::PlaceFull));
-    assert_eq!(rt; taker.take(acquire(0)), Err(Refusal::PlaceFull));
+    let first = note(0, Body::Happened(acquire(0)));
+    expect(&rt, taker.check(acquire(0)), Ok(first));
+    expect(&rt, taker.take(acquire(0)), Ok(first));
+    expect(&rt, taker.check(acquire(0)), Err(Refusal::PlaceFull));
+    expect(&rt, taker.take(acquire(0)), Err(Refusal::PlaceFull));
     assert_eq!(rt; taker.end(), note(1, Body::Ended { count: 1 }));
-    assert_eq!(rt;
-        Taker::new(ThreadId::new(3), &Limits::new(4, 1, 1, 1)?).thread(),
-        ThreadId::new(3)
-    );
+    Ok(())
+}
 
-    let mut alone = Taker::new(ThreadId::new(0), &Limits::new(1, 1, 100, 1)?);
-    assert_eq!(rt; alone.take(fork(1)), Err(Refusal::NoSuchThread));
-    assert_eq!(rt; alone.take(fork(0)), Err(Refusal::OnItself));
-    assert_eq!(rt; alone.taken(), 0);
+#[test]
+fn thread_told(rt: HostRuntime) -> Result<(), Fail> {
+    let taker = Taker::new(ThreadId::new(3), &Limits::new(4, 1, 1, 1)?);
+    assert_eq!(rt; taker.thread(), ThreadId::new(3));
+    Ok(())
+}
+
+#[test]
+fn most_held_locks(rt: HostRuntime) -> Result<(), Fail> {
+    let mut taker = Taker::new(ThreadId::new(0), &Limits::new(1, 1, 100, 1)?);
+    expect(&rt, taker.take(fork(1)), Err(Refusal::NoSuchThread));
+    expect(&rt, taker.take(fork(0)), Err(Refusal::OnItself));
+    assert_eq!(rt; taker.taken(), 0);
     for lock in 0..64 {
-        assert!(rt; alone.take(acquire(lock)).is_ok());
+        assert!(rt; taker.take(acquire(lock)).is_ok());
     }
-    assert_eq!(rt; alone.take(acquire(64)), Err(Refusal::HeldFull));
-    assert_eq!(rt;
-        alone.take(acquire(63)),
-        Ok(note(64, Body::Happened(acquire(63))))
-    );
-    assert_eq!(rt; alone.taken(), 65);
+    expect(&rt, taker.take(acquire(64)), Err(Refusal::HeldFull));
+    let again = acquire(63);
+    expect(&rt, taker.take(again), Ok(note(64, Body::Happened(again))));
+    assert_eq!(rt; taker.taken(), 65);
     Ok(())
 }
 
@@ -91,12 +97,12 @@ fn deepest_acquire(rt: HostRuntime) -> Result<(), Fail> {
     for _ in 0..MAX_DEPTH {
         assert!(rt; taker.take(acquire_shared(7)).is_ok());
     }
-    assert_eq!(rt; taker.take(acquire_shared(7)), Err(Refusal::DepthFull));
+    expect(&rt, taker.take(acquire_shared(7)), Err(Refusal::DepthFull));
     // the depth is looked at before the mode
-    assert_eq!(rt; taker.take(acquire(7)), Err(Refusal::DepthFull));
+    expect(&rt, taker.take(acquire(7)), Err(Refusal::DepthFull));
     assert_eq!(rt; taker.taken(), MAX_DEPTH);
     assert!(rt; taker.take(release(7)).is_ok());
-    assert_eq!(rt; taker.take(acquire(7)), Err(Refusal::Upgrade));
+    expect(&rt, taker.take(acquire(7)), Err(Refusal::Upgrade));
     assert!(rt; taker.take(acquire_shared(7)).is_ok());
     Ok(())
 }
@@ -104,14 +110,16 @@ fn deepest_acquire(rt: HostRuntime) -> Result<(), Fail> {
 #[test]
 fn stray_release(rt: HostRuntime) -> Result<(), Fail> {
     let mut taker = Taker::new(ThreadId::new(0), &Limits::new(2, 1, 2, 1)?);
-    assert_eq!(rt; taker.take(release(5)), Err(Refusal::NotHeld));
-    assert_eq!(rt; taker.take(fork(1)), Ok(note(0, Body::Happened(fork(1)))));
-    assert_eq!(rt;
-        taker.take(acquire(5)),
-        Ok(note(1, Body::Happened(acquire(5))))
+    expect(&rt, taker.take(release(5)), Err(Refusal::NotHeld));
+    expect(
+        &rt,
+        taker.take(fork(1)),
+        Ok(note(0, Body::Happened(fork(1)))),
     );
+    let second = note(1, Body::Happened(acquire(5)));
+    expect(&rt, taker.take(acquire(5)), Ok(second));
     // the first reason in the stated order is answered
-    assert_eq!(rt; taker.take(fork(0)), Err(Refusal::PlaceFull));
+    expect(&rt, taker.take(fork(0)), Err(Refusal::PlaceFull));
     assert_eq!(rt; taker.end(), note(2, Body::Ended { count: 2 }));
     Ok(())
 }
@@ -120,16 +128,14 @@ fn stray_release(rt: HostRuntime) -> Result<(), Fail> {
 fn upgrade_refused(rt: HostRuntime) -> Result<(), Fail> {
     let mut taker = Taker::new(ThreadId::new(0), &Limits::new(1, 1, 100, 1)?);
     assert!(rt; taker.take(acquire_shared(0)).is_ok());
-    assert_eq!(rt; taker.take(acquire(0)), Err(Refusal::Upgrade));
-    assert_eq!(rt;
-        taker.take(try_acquire(0, LockMode::Exclusive)),
-        Err(Refusal::Upgrade)
-    );
+    expect(&rt, taker.take(acquire(0)), Err(Refusal::Upgrade));
+    let trying = try_acquire(0, LockMode::Exclusive);
+    expect(&rt, taker.take(trying), Err(Refusal::Upgrade));
     let again = try_acquire(0, LockMode::Shared);
-    assert_eq!(rt; taker.take(again), Ok(note(1, Body::Happened(again))));
+    expect(&rt, taker.take(again), Ok(note(1, Body::Happened(again))));
     // either release lowers the depth
     assert!(rt; taker.take(release(0)).is_ok());
-    assert_eq!(rt; taker.check(acquire(0)), Err(Refusal::Upgrade));
+    expect(&rt, taker.check(acquire(0)), Err(Refusal::Upgrade));
     assert!(rt; taker.take(release(0)).is_ok());
     assert!(rt; taker.take(acquire(0)).is_ok());
     assert!(rt; taker.take(acquire_shared(0)).is_ok());

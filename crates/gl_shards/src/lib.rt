@@ -45,6 +45,6 @@ pub use ends::{Gone, Inlet, Outlet, Sent, feed};
 pub use laws::{
     shards_make_the_whole, tables_have_least_samples, tables_need_no_order, unions_need_no_order,
 };
-pub use shard::{MAX_SHARDS, shard_of};
+pub use shard::{MAX_SHARDS, limits_in_numbers, shard_of};
 pub use table::{Table, merge};
 pub use worker::{Gate, Open, ServeFault, Served, serve};

@@ -17,3 +17,8 @@ pub fn shard_of(edge: &Edge, shards: u32) -> u32
 {
     edge.held.number() % shards
 }
+
+/// How many shards there may be, in numbers. It does nothing: its contract is the table.
+pub fn limits_in_numbers()
+    ensures shards { MAX_SHARDS ≡ 16 }
+{}

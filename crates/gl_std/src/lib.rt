@@ -46,6 +46,7 @@ mod names;
 mod pieces;
 mod read;
 mod reader;
+mod seed;
 mod standing;
 #[cfg(test)]
 mod tests;
@@ -60,10 +61,11 @@ pub use laws::{
     traces_grow, traces_obey_limits, traces_tell_lines, written_lines_say_events,
     written_texts_say_traces,
 };
-pub use line::MAX_LINE;
+pub use line::{MAX_LINE, limits_in_numbers};
 pub use lists::Lists;
 pub use names::Names;
 pub use read::read_trace;
+pub use seed::Seed;
 pub use text::{Heard, read_source};
 pub use trace::Trace;
 pub use writing::write_trace;

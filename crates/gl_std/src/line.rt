@@ -181,3 +181,8 @@ fn before_close(text: &[u8]) -> Option<&[u8]>
     }
     Some(&text[..text.len() - 1])
 }
+
+/// How long a line may be, in numbers. It does nothing: its contract is the table.
+pub fn limits_in_numbers()
+    ensures line { MAX_LINE ≡ 65536 }
+{}

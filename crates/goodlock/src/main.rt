@@ -17,6 +17,7 @@ mod answer;
 mod commands;
 mod ended;
 mod laws;
+mod limits;
 mod lines;
 mod options;
 #[cfg(test)]

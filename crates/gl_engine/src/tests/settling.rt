@@ -198,7 +198,7 @@ fn settle_receipts(rt: HostRuntime) -> Result<(), Fail> {
     assert_eq!(rt; table.len(), 0);
     assert_eq!(rt; settled.lists().len(), 1);
     let query = Query::new(Mode::Full, 4, 1_000)?;
-    let report = settled.report(vec![in alloc; table]?, &query);
+    let report = settled.report(&rt, vec![in alloc; table]?, &query);
     assert_eq!(rt; cycles(&report), Some((0, false)));
     Ok(())
 }
