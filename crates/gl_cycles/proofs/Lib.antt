@@ -10,6 +10,7 @@ pub mod Uniqueness
 pub mod Level
 pub mod Off
 pub mod Back
+pub mod Watching
 pub mod Beside
 pub mod ByKinds
 pub mod Removing

@@ -18,6 +18,7 @@
 //! in a fixed order. No edge of a cycle is among them, as [`cycles_survive_trims`] says.
 #![tactic(auto)]
 
+mod chains;
 mod closers;
 mod components;
 mod followers;
@@ -35,6 +36,7 @@ mod reports;
 #[cfg(test)]
 mod tests;
 mod trims;
+mod watchers;
 mod ways;
 
 pub use found::{Cycles, Found, Report, ReportFault};
