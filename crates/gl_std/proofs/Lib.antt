@@ -1,5 +1,6 @@
 pub mod CutLemmas
 pub mod FaultLemmas
+pub mod FeedLemmas
 mod GrowthLemmas
 pub mod HeardLemmas
 pub mod JudgingLemmas

@@ -1,4 +1,5 @@
 pub mod Faults
+pub mod Feeding
 pub mod Heard
 pub mod Judging
 pub mod Laws

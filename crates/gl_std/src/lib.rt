@@ -36,6 +36,7 @@
 #![tactic(auto)]
 
 mod faults;
+mod feed;
 mod judge;
 mod laws;
 mod line;

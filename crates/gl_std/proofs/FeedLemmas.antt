@@ -1,0 +1,205 @@
+-- A text that is judged line by line as it comes.
+use Rattle.std.proofs.Common.{◌≡◌, ◌≢◌, ℕ, zero, suc, ◌+◌, ◌-◌, ◌<◌, ◌≤◌, Bool, true, false, ◌&&◌, cond, eqb, List, [], ◌∷◌, ◌++◌, length, Contains, Some, Result, Ok, Err, take, drop, refl, sym, ap, subst, ◌∙◌, append_assoc, length-append, arith}
+use Rattle.std.specs.Prelude.{nat_le, IfOk, OnOk}
+use Rattle.std.proofs.Math.Nat.{min-le_left}
+use Rattle.std.proofs.Math.Seq.{take-append-add, drop-append-add}
+use Rattle.std.proofs.lemmas.Bool.Decides.{nat_tests}
+use Rattle.std.proofs.lemmas.List.{take_all, drop-drop, length-take, length-take-le, length-drop}
+use Rattle.gl_event.specs.Bounds.{Bounds}
+use Rattle.gl_std.specs.Feeding.{left_of, IsAt, Reaches}
+use Rattle.gl_std.specs.Judging.{HasJudged, with_judged}
+use Rattle.gl_std.specs.Line.{shape_of}
+use Rattle.gl_std.specs.Lines.{LF, CR, is_empty, without_cr}
+use Rattle.gl_std.specs.Pieces.{IsTold, IsFaulty}
+use Rattle.gl_std.specs.Trace.{after_line, after_shape}
+use Rattle.gl_std.specs.declared.faults.ReadFault.{ReadFault}
+use Rattle.gl_std.specs.declared.faults.ReadFault.TheVariants.{Line}
+use Rattle.gl_std.specs.declared.faults.StdKind.{StdKind}
+use Rattle.gl_std.specs.declared.faults.StdKind.TheVariants.{TooLong}
+use Rattle.gl_std.specs.declared.feed.Feed.{Feed}
+use Rattle.gl_std.specs.declared.feed.TheConstants.{KEPT}
+use Rattle.gl_std.specs.declared.judge.Judge.{Judge}
+use Rattle.gl_std.specs.declared.judge.Judged.{Judged}
+use Rattle.gl_std.specs.declared.trace.Trace.{Trace}
+use Rattle.gl_std.proofs.PieceLemmas.{with_end, told_line, faulty_line, told_more, faulty_more, more_read}
+use Rattle.gl_std.proofs.ShapeLemmas.{shape_of-long}
+
+-- ---- the beginning of a line
+
+-- what is added to so many bytes, or to more
+pub take_added : (n : ℕ) (xs ys : List ℕ) → take n (take n xs ++ ys) ≡ take n (xs ++ ys)
+take_added zero [] ys = refl
+take_added zero (x ∷ xs) ys = refl
+take_added (suc n) [] ys = refl
+take_added (suc n) (x ∷ xs) ys = ap (λ zs. x ∷ zs) (take_added n xs ys)
+
+-- all of it is kept
+pub kept_all : (n : ℕ) (xs ys zs : List ℕ) → zs ≡ xs ++ ys → length xs + length ys ≤ n → zs ≡ take n (xs ++ ys)
+kept_all n xs ys zs is few = is ∙ sym (take_all n (xs ++ ys) (omega (arith, few, length-append xs ys)))
+
+-- the front of it is kept
+pub kept_front : (n room : ℕ) (xs ys zs : List ℕ) → zs ≡ xs ++ take room ys → length xs + room ≡ n → zs ≡ take n (xs ++ ys)
+kept_front n room xs ys zs is size = is ∙ sym (take-append-add xs ys room) ∙ ap (λ k. take k (xs ++ ys)) size
+
+-- ---- lines that begin alike
+
+-- at most one byte is dropped from a line
+length-without_cr : (line : List ℕ) → length line ≤ length (without_cr line) + 1
+length-without_cr [] = omega arith
+length-without_cr (b ∷ []) = by (eqb b CR && true)
+  where
+    by : (v : Bool) → 1 ≤ length (cond v [] (b ∷ [])) + 1
+    by true = omega arith
+    by false = omega arith
+length-without_cr (b ∷ c ∷ line) = by (eqb b CR) (length-without_cr (c ∷ line))
+  where
+    by : (v : Bool) → length (c ∷ line) ≤ length (without_cr (c ∷ line)) + 1 → length (b ∷ c ∷ line) ≤ length (cond (v && false) [] (b ∷ without_cr (c ∷ line))) + 1
+    by true few = omega (arith, few)
+    by false few = omega (arith, few)
+
+long_line : (limits : Bounds) (number : ℕ) (told : Trace) (line : List ℕ) → KEPT ≤ length line + 1 → after_line limits number told line ≡ Err (Line number TooLong)
+long_line limits number told line long = ap (after_shape limits number told) (sym (shape_of-long line (omega (arith, long))))
+
+-- lines of which the same is kept are the same, or too long
+alike : (xs ys : List ℕ) → take KEPT xs ≡ take KEPT ys → nat_le KEPT (length xs) ≡ false → xs ≡ ys
+alike xs ys same short = by (nat_le KEPT (length ys)) refl
+  where
+    first : take KEPT xs ≡ xs
+    first = let less : length xs < KEPT = grind (arith, nat_tests, short) in take_all KEPT xs (omega (arith, less))
+
+    by : (v : Bool) → nat_le KEPT (length ys) ≡ v → xs ≡ ys
+    by false e = let less : length ys < KEPT = grind (arith, nat_tests, e) in sym first ∙ same ∙ take_all KEPT ys (omega (arith, less))
+    by true e =
+        let more : KEPT ≤ length ys = grind (arith, nat_tests, e) in
+        let less : length xs < KEPT = grind (arith, nat_tests, short) in
+        let size : length xs ≡ KEPT = ap length (sym first ∙ same) ∙ length-take-le KEPT ys more in
+        absurd (omega (arith, size, less))
+
+both_long : (xs ys : List ℕ) → take KEPT xs ≡ take KEPT ys → nat_le KEPT (length xs) ≡ true → KEPT ≤ length ys
+both_long xs ys same long = by (nat_le KEPT (length ys)) refl
+  where
+    by : (v : Bool) → nat_le KEPT (length ys) ≡ v → KEPT ≤ length ys
+    by true e = grind (arith, nat_tests, e)
+    by false e =
+        let more : KEPT ≤ length xs = grind (arith, nat_tests, long) in
+        let less : length ys < KEPT = grind (arith, nat_tests, e) in
+        let size : length ys ≡ KEPT = ap length (sym (take_all KEPT ys (omega (arith, less))) ∙ sym same) ∙ length-take-le KEPT xs more in
+        absurd (omega (arith, size, less))
+
+-- they are judged alike, where LF ends them
+pub ended_alike : (limits : Bounds) (number : ℕ) (told : Trace) (xs ys : List ℕ) → take KEPT xs ≡ take KEPT ys → after_line limits number told (without_cr xs) ≡ after_line limits number told (without_cr ys)
+ended_alike limits number told xs ys same = by (nat_le KEPT (length xs)) refl
+  where
+    by : (v : Bool) → nat_le KEPT (length xs) ≡ v → after_line limits number told (without_cr xs) ≡ after_line limits number told (without_cr ys)
+    by false e = ap (λ line. after_line limits number told (without_cr line)) (alike xs ys same e)
+    by true e =
+        let more : KEPT ≤ length xs = grind (arith, nat_tests, e) in
+        let more2 = both_long xs ys same e in
+        long_line limits number told (without_cr xs) (omega (arith, more, length-without_cr xs)) ∙ sym (long_line limits number told (without_cr ys) (omega (arith, more2, length-without_cr ys)))
+
+-- and where the text ends there
+pub last_alike : (limits : Bounds) (number : ℕ) (told : Trace) (xs ys : List ℕ) → take KEPT xs ≡ take KEPT ys → after_line limits number told xs ≡ after_line limits number told ys
+last_alike limits number told xs ys same = by (nat_le KEPT (length xs)) refl
+  where
+    by : (v : Bool) → nat_le KEPT (length xs) ≡ v → after_line limits number told xs ≡ after_line limits number told ys
+    by false e = ap (after_line limits number told) (alike xs ys same e)
+    by true e =
+        let more : KEPT ≤ length xs = grind (arith, nat_tests, e) in
+        let more2 = both_long xs ys same e in
+        long_line limits number told xs (omega (arith, more)) ∙ sym (long_line limits number told ys (omega (arith, more2)))
+
+-- ---- a line that LF ends
+
+-- what is kept of a line, with its end
+kept_end : (kept unfinished end raw : List ℕ) → kept ≡ take KEPT unfinished → take KEPT raw ≡ take KEPT (kept ++ end) → take KEPT raw ≡ take KEPT (unfinished ++ end)
+kept_end kept unfinished end raw is same = same ∙ ap (λ k. take KEPT (k ++ end)) is ∙ take_added KEPT unfinished end
+
+-- a line that was judged by as much as is kept of it
+pub reached_line : (j j2 : Judge) (kept kept2 end raw seen : List ℕ) (told : Trace) (judged : Judged) → Reaches j kept seen told → ¬ Contains end LF → take KEPT raw ≡ take KEPT (kept ++ end) → after_line j.limits j.line told (without_cr raw) ≡ Ok (with_judged judged j2.names told) → HasJudged j2 (with_judged judged j2.names told) → j2.limits ≡ j.limits → j2.line ≡ j.line + 1 → kept2 ≡ [] → Reaches j2 kept2 (with_end seen end) (with_judged judged j2.names told)
+reached_line j j2 kept kept2 end raw seen told judged reaches one same after has limits line empty =
+    let alike = kept_end kept reaches.unfinished end raw reaches.kept same in
+    let is = sym (ended_alike j.limits j.line told raw (reaches.unfinished ++ end) alike) ∙ after in
+    record {
+      unfinished = [];
+      is = told_line j.limits j2.limits j.line j2.line told (with_judged judged j2.names told) reaches.unfinished [] end seen (without_cr (reaches.unfinished ++ end)) reaches.is one refl is limits line refl;
+      kept = empty;
+      judged = has;
+    }
+
+-- and one at fault
+pub reached_fault : (j : Judge) (kept end raw seen : List ℕ) (told : Trace) (number : ℕ) (kind : StdKind) → Reaches j kept seen told → ¬ Contains end LF → take KEPT raw ≡ take KEPT (kept ++ end) → after_line j.limits j.line told (without_cr raw) ≡ Err (Line number kind) → IsFaulty j.limits (with_end seen end) number kind
+reached_fault j kept end raw seen told number kind reaches one same after =
+    let alike = kept_end kept reaches.unfinished end raw reaches.kept same in
+    faulty_line j.limits j.line told reaches.unfinished end seen (without_cr (reaches.unfinished ++ end)) number kind reaches.is one refl (sym (ended_alike j.limits j.line told raw (reaches.unfinished ++ end) alike) ∙ after)
+
+-- bytes that end no line
+pub reached_more : (j : Judge) (kept kept2 more seen : List ℕ) (told : Trace) → Reaches j kept seen told → ¬ Contains more LF → kept2 ≡ take KEPT (kept ++ more) → Reaches j kept2 (seen ++ more) told
+reached_more j kept kept2 more seen told reaches one is =
+    record {
+      unfinished = reaches.unfinished ++ more;
+      is = told_more j.limits j.line told reaches.unfinished more seen reaches.is one;
+      kept = is ∙ ap (λ k. take KEPT (k ++ more)) reaches.kept ∙ take_added KEPT reaches.unfinished more;
+      judged = reaches.judged;
+    }
+
+-- ---- what is left of a read
+
+-- what is left behind the end of a line
+pub left_after : (buffer end after : List ℕ) (start stop : ℕ) → drop start (take stop buffer) ≡ end ++ LF ∷ after → drop (start + (length end + 1)) (take stop buffer) ≡ after
+left_after buffer end after start stop is =
+    sym (drop-drop (length end + 1) start (take stop buffer)) ∙ ap (drop (length end + 1)) is ∙ drop-append-add end (LF ∷ after) 1
+
+append_nil : (xs : List ℕ) → xs ++ [] ≡ xs
+append_nil [] = refl
+append_nil (x ∷ xs) = ap (λ ys. x ∷ ys) (append_nil xs)
+
+-- nothing is left at the end
+pub left_none : (buffer : List ℕ) (stop : ℕ) → drop stop (take stop buffer) ≡ []
+left_none [] zero = refl
+left_none [] (suc stop) = refl
+left_none (b ∷ buffer) zero = refl
+left_none (b ∷ buffer) (suc stop) = left_none buffer stop
+
+-- the place behind a line
+pub at_line : (old new : Feed) (end after text : List ℕ) (told more : Trace) (at : IsAt old text told) → left_of old ≡ end ++ LF ∷ after → left_of new ≡ after → Reaches new.judge new.unfinished.items (with_end at.seen end) more → IsAt new text more
+at_line old new end after text told more at is left reaches =
+    record {
+      seen = with_end at.seen end;
+      parts = more_read text at.seen (left_of old) end after at.parts is ∙ ap (λ l. with_end at.seen end ++ l) (sym left);
+      reaches = reaches;
+    }
+
+-- the place at the end of a read
+pub at_end : (old new : Feed) (text : List ℕ) (told : Trace) (at : IsAt old text told) → left_of new ≡ [] → Reaches new.judge new.unfinished.items (at.seen ++ left_of old) told → IsAt new text told
+at_end old new text told at left reaches =
+    record {
+      seen = at.seen ++ left_of old;
+      parts = at.parts ∙ sym (append_nil (at.seen ++ left_of old)) ∙ ap (λ l. (at.seen ++ left_of old) ++ l) (sym left);
+      reaches = reaches;
+    }
+
+-- a fault in a line of the text is one of the text
+pub fault_at : (limits : Bounds) (old : Feed) (end after text : List ℕ) (told : Trace) (number : ℕ) (kind : StdKind) (at : IsAt old text told) → left_of old ≡ end ++ LF ∷ after → IsFaulty limits (with_end at.seen end) number kind → IsFaulty limits text number kind
+fault_at limits old end after text told number kind at is faulty =
+    subst (λ t. IsFaulty limits t number kind) (sym (more_read text at.seen (left_of old) end after at.parts is)) (faulty_more limits (with_end at.seen end) after number kind faulty)
+
+-- a line that was judged, in whichever way
+pub reached_result : (j j2 : Judge) (kept kept2 end raw line : List ℕ) (r : Result Judged ReadFault) → ¬ Contains end LF → take KEPT raw ≡ take KEPT (kept ++ end) → line ≡ without_cr raw → IfOk r (λ judged. (told : Trace) → HasJudged j told → after_line j.limits j.line told line ≡ Ok (with_judged judged j2.names told)) → IfOk r (λ judged. (told : Trace) → HasJudged j told → HasJudged j2 (with_judged judged j2.names told)) → j2.limits ≡ j.limits → OnOk r (j2.line ≡ j.line + 1) → kept2 ≡ [] → IfOk r (λ judged. (seen : List ℕ) (told : Trace) → Reaches j kept seen told → Reaches j2 kept2 (with_end seen end) (with_judged judged j2.names told))
+reached_result j j2 kept kept2 end raw line (Err e) one same is after has limits next empty = tt
+reached_result j j2 kept kept2 end raw line (Ok judged) one same is after has limits next empty =
+    λ seen told reaches. reached_line j j2 kept kept2 end raw seen told judged reaches one same (ap (after_line j.limits j.line told) (sym is) ∙ after told reaches.judged) (has told reaches.judged) limits next empty
+
+-- no more is kept
+pub few_kept : (n : ℕ) (xs ys : List ℕ) → xs ≡ take n ys → length xs ≤ n
+few_kept n xs ys is = let size = ap length is ∙ length-take n ys in omega (arith, size, min-le_left n (length ys))
+
+-- a line ends before the read does
+pub line_fits : (buffer end after : List ℕ) (start stop : ℕ) → drop start (take stop buffer) ≡ end ++ LF ∷ after → start ≤ stop → start + (length end + 1) ≤ stop
+line_fits buffer end after start stop is order =
+    let left = sym (length-drop start (take stop buffer)) ∙ ap length is ∙ length-append end (LF ∷ after) in
+    let most = few_kept stop (take stop buffer) buffer refl in
+    omega (arith, left, most, order)
+
+-- what `xs[i..]` is
+pub slice_rest : (xs : List ℕ) (i : ℕ) → take (length xs - i) (drop i xs) ≡ drop i xs
+slice_rest xs i = take_all (length xs - i) (drop i xs) (omega (arith, length-drop i xs))
