@@ -47,6 +47,7 @@ mod names;
 mod pieces;
 mod read;
 mod reader;
+mod seed;
 mod standing;
 #[cfg(test)]
 mod tests;
@@ -65,6 +66,7 @@ pub use line::MAX_LINE;
 pub use lists::Lists;
 pub use names::Names;
 pub use read::read_trace;
+pub use seed::Seed;
 pub use text::{Heard, read_source};
 pub use trace::Trace;
 pub use writing::write_trace;

@@ -5,6 +5,7 @@ use crate::faults::ReadFault;
 use crate::line::cut;
 use crate::lines::{LF, without_cr};
 use crate::reader::Reader;
+use crate::seed::Seed;
 use crate::trace::Trace;
 use gl_event::Limits;
 use std::alloc::Global;
@@ -23,14 +24,14 @@ impl PieceReader {
     ghost use Rattle.gl_std.specs.declared.faults.StdKind.{StdKind};
 
     /// No byte has come.
-    pub(crate) fn new(alloc: Global, limits: Limits) -> PieceReader
+    pub(crate) fn new(alloc: Global, limits: Limits, seed: Seed) -> PieceReader
         ensures tells { Tells result [] }
         ensures ready { IsReady result.reader }
         ensures limits { result.reader.judge.limits ≡ limits }
         ensures line { result.reader.judge.line ≡ 1 }
     {
         PieceReader {
-            reader: Reader::new(alloc, limits),
+            reader: Reader::new(alloc, limits, seed),
             unfinished: Vec::new(alloc),
         }
     }

@@ -1,7 +1,7 @@
 ghost use Rattle.std.specs.Prelude.{◌≡◌, ◌≤◌, false, None};
 
 use crate::{
-    Failed, Heard, Lists, Names, ReadFault, Source, StdKind, Trace, read_source, read_trace,
+    Failed, Heard, Lists, Names, ReadFault, Seed, Source, StdKind, Trace, read_source, read_trace,
     write_trace,
 };
 use gl_event::{Event, Limits, LocId, LockId, LockMode, ThreadId};
@@ -465,7 +465,7 @@ fn hear(alloc: Global, input: &mut Pieces<'_>, turns: u64) -> Result<Heard, Fail
     requires few { turns ≤ 100 }
 {
     let limits = greatest()?;
-    Ok(read_source(alloc, input, turns, &limits)?)
+    Ok(read_source(alloc, input, turns, &limits, Seed::fixed())?)
 }
 
 // Five lines that tell three events of one thread.

@@ -6,6 +6,7 @@ ghost use Rattle.gl_std.specs.Trace.{IsTraceOver};
 
 use crate::faults::{ReadFault, StdKind};
 use crate::pieces::PieceReader;
+use crate::seed::Seed;
 use crate::trace::Trace;
 use gl_event::Limits;
 use gl_io::{CHUNK, Failed, Source};
@@ -33,14 +34,14 @@ impl TextReader {
     ghost use Rattle.gl_std.specs.Trace.{trace_of};
 
     /// No byte has come.
-    fn new(alloc: Global, limits: Limits) -> TextReader
+    fn new(alloc: Global, limits: Limits, seed: Seed) -> TextReader
         ensures knows { Knows result.fault result.pieces [] }
         ensures ready { IsReady result.pieces.reader }
         ensures limits { result.pieces.reader.judge.limits ≡ limits }
         ensures line { result.pieces.reader.judge.line ≡ 1 }
     {
         TextReader {
-            pieces: PieceReader::new(alloc, limits),
+            pieces: PieceReader::new(alloc, limits, seed),
             fault: None,
         }
     }
@@ -132,12 +133,13 @@ fn take_turn<R: Source>(
 ///
 /// Err where memory was refused. Only names, events and one line are kept in memory, and [`CHUNK`]
 /// bytes. Time grows with the length of the text: each line is cut once, and each of its names is
-/// looked up once by hash.
+/// looked up once by hash. For texts of others the seed is one that was drawn at random.
 pub fn read_source<R: Source>(
     alloc: Global,
     input: &mut R,
     turns: u64,
     limits: &Limits,
+    seed: Seed,
 ) -> Result<Heard, AllocError>
     requires not_failed { R.failed input.old ≡ false }
     requires few_turns { turns ≤ 2 ^ 40 }
@@ -145,7 +147,7 @@ pub fn read_source<R: Source>(
     ensures over { IfOk result (λ h. IfOk h.trace (IsTraceOver limits.now)) }
 {
     let mut buffer = vec![in alloc; 0u8; CHUNK]?;
-    let mut reader = TextReader::new(alloc, *limits);
+    let mut reader = TextReader::new(alloc, *limits, seed);
     for turn in 0..turns {
         match take_turn(input, buffer.as_mut_slice(), &mut reader)? {
             Turn::Gave => {}
