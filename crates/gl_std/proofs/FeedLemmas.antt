@@ -1,27 +1,34 @@
 -- A text that is judged line by line as it comes.
-use Rattle.std.proofs.Common.{◌≡◌, ◌≢◌, ℕ, zero, suc, ◌+◌, ◌-◌, ◌<◌, ◌≤◌, Bool, true, false, ◌&&◌, cond, eqb, List, [], ◌∷◌, ◌++◌, length, Contains, Some, Result, Ok, Err, take, drop, refl, sym, ap, subst, ◌∙◌, append_assoc, length-append, arith}
-use Rattle.std.specs.Prelude.{nat_le, IfOk, OnOk}
+use Rattle.std.proofs.Common.{◌≡◌, ◌≢◌, ℕ, zero, suc, ◌+◌, ◌-◌, ◌*◌, ◌<◌, ◌≤◌, inl, inr, nat_lt, Option, Bool, true, false, ◌&&◌, cond, eqb, List, [], ◌∷◌, ◌++◌, length, Contains, Some, Result, Ok, Err, take, drop, refl, sym, ap, subst, ◌∙◌, append_assoc, length-append, arith}
+use Rattle.std.specs.Prelude.{nat_le, None, IfNone, IfOk, IfSome, OnOk}
+use Rattle.std.specs.Io.KnownBytes.{Consumes, IsAtEnd}
+use Rattle.std.proofs.KnownBytes.{Consumes-nil, Consumes-trans, Consumes-whole}
+use Rattle.std.proofs.lemmas.Bool.{false≢true}
 use Rattle.std.proofs.Math.Nat.{min-le_left}
 use Rattle.std.proofs.Math.Seq.{take-append-add, drop-append-add}
 use Rattle.std.proofs.lemmas.Bool.Decides.{nat_tests}
 use Rattle.std.proofs.lemmas.List.{take_all, drop-drop, length-take, length-take-le, length-drop}
 use Rattle.gl_event.specs.Bounds.{Bounds}
-use Rattle.gl_std.specs.Feeding.{left_of, IsAt, Reaches}
+use Rattle.gl_io.specs.Reads.{HasRead}
+use Rattle.gl_io.specs.declared.source.TheConstants.{CHUNK}
+use Rattle.gl_std.specs.Feeding.{left_of, HasFilled, HasGiven, HasStepped, IsAt, IsOver, Reaches, ReadsOn, Steps}
 use Rattle.gl_std.specs.Judging.{HasJudged, with_judged}
 use Rattle.gl_std.specs.Line.{shape_of}
-use Rattle.gl_std.specs.Lines.{LF, CR, is_empty, without_cr}
+use Rattle.gl_std.specs.Lines.{LF, CR, ended_lines, is_empty, without_cr}
 use Rattle.gl_std.specs.Pieces.{IsTold, IsFaulty}
-use Rattle.gl_std.specs.Trace.{after_line, after_shape}
+use Rattle.gl_std.specs.Trace.{after_line, after_shape, and_then, nothing, trace_of}
+use Rattle.gl_std.specs.declared.faults.LinesFault.{LinesFault}
 use Rattle.gl_std.specs.declared.faults.ReadFault.{ReadFault}
 use Rattle.gl_std.specs.declared.faults.ReadFault.TheVariants.{Line}
 use Rattle.gl_std.specs.declared.faults.StdKind.{StdKind}
 use Rattle.gl_std.specs.declared.faults.StdKind.TheVariants.{TooLong}
 use Rattle.gl_std.specs.declared.feed.Feed.{Feed}
+use Rattle.gl_std.specs.declared.feed.Step.{Step}
 use Rattle.gl_std.specs.declared.feed.TheConstants.{KEPT}
 use Rattle.gl_std.specs.declared.judge.Judge.{Judge}
 use Rattle.gl_std.specs.declared.judge.Judged.{Judged}
 use Rattle.gl_std.specs.declared.trace.Trace.{Trace}
-use Rattle.gl_std.proofs.PieceLemmas.{with_end, told_line, faulty_line, told_more, faulty_more, more_read}
+use Rattle.gl_std.proofs.PieceLemmas.{with_end, told_front, told_last, told_line, told_nothing, told_whole, faulty_line, told_more, faulty_more, more_read, nil_of, some_of}
 use Rattle.gl_std.proofs.ShapeLemmas.{shape_of-long}
 
 -- ---- the beginning of a line
@@ -203,3 +210,146 @@ line_fits buffer end after start stop is order =
 -- what `xs[i..]` is
 pub slice_rest : (xs : List ℕ) (i : ℕ) → take (length xs - i) (drop i xs) ≡ drop i xs
 slice_rest xs i = take_all (length xs - i) (drop i xs) (omega (arith, length-drop i xs))
+
+-- ---- reads
+
+drop_none : (xs : List ℕ) → drop 0 xs ≡ xs
+drop_none [] = refl
+drop_none (x ∷ xs) = refl
+
+-- before the first read
+pub given_nothing : (turns left : ℕ) (start : Option (List ℕ)) → left ≡ turns → HasGiven turns start start left []
+given_nothing turns left start is = record { bytes = Consumes-nil start; used = 0; spent = omega (arith, is); some = omega arith; within = omega arith; }
+
+-- a read of so many bytes
+pub filled_by : (more : Bool) (count : ℕ) (turns : ℕ) (start now new : Option (List ℕ)) (failed : Bool) (old f : Feed) (piece text : List ℕ) → nat_lt 0 count ≡ more → f.start ≡ 0 → take f.end f.buffer.items ≡ piece → length piece ≡ count → count ≤ CHUNK → 0 < old.turns → f.turns + 1 ≡ old.turns → failed ≡ false → Consumes now new piece → (count ≡ 0 → IsAtEnd new) → HasGiven turns start now old.turns text → HasFilled more turns start new failed f text
+filled_by more count turns start now new failed old f piece text test begin is size most left turn sound gave end given =
+    by more test
+  where
+    all : left_of f ≡ piece
+    all = ap (λ n. drop n (take f.end f.buffer.items)) begin ∙ drop_none (take f.end f.buffer.items) ∙ is
+
+    by : (more : Bool) → nat_lt 0 count ≡ more → HasFilled more turns start new failed f text
+    by true test =
+        let some : 0 < count = grind (arith, nat_tests, test) in
+        let long = length-append text piece in
+        subst (λ l. HasGiven turns start new f.turns (text ++ l)) (sym all) (record {
+          bytes = Consumes-trans start now new text piece given.bytes gave;
+          used = given.used + 1;
+          spent = omega (arith, given.spent, turn);
+          some = omega (arith, given.some, long, size, some);
+          within = omega (arith, given.within, long, size, most);
+        })
+    by false test =
+        let none : count ≡ 0 = grind (arith, nat_tests, test) in
+        let bytes : Consumes start new text = subst (Consumes start new) (ap (λ l. text ++ l) (nil_of piece (size ∙ none)) ∙ append_nil text) (Consumes-trans start now new text piece given.bytes gave) in
+        record {
+          bytes = bytes;
+          all = λ e. Consumes-whole start new text (λ everything. text ≡ everything) bytes (end none) refl;
+          ended = λ e. end none;
+          sound = λ e. sound;
+          cut = λ e. absurd (false≢true (sym e));
+          within = omega (arith, given.spent, given.within, left);
+        }
+
+-- the turns are used up
+pub used_up : (turns left : ℕ) (start now : Option (List ℕ)) (failed : Bool) (text : List ℕ) → left ≡ 0 → HasGiven turns start now left text → HasRead turns start now failed text false
+used_up turns left start now failed text none given =
+    record {
+      bytes = given.bytes;
+      all = λ e. absurd (false≢true e);
+      ended = λ e. absurd (false≢true e);
+      sound = λ e. absurd (false≢true e);
+      cut = λ e. inr (omega (arith, given.spent, given.some, none));
+      within = omega (arith, given.spent, given.within);
+    }
+
+-- ---- steps
+
+-- what holds of the value that is there
+pub at_some : {X : Type 0} (P : X → Type 0) (o : Option X) (x : X) → o ≡ Some x → IfSome o P → P x
+at_some P o x is holds = subst (λ o. IfSome o P) is holds
+
+pub at_none : {X : Type 0} (P : Type 0) (o : Option X) → o ≡ None → IfNone o P → P
+at_none P o is holds = subst (λ o. IfNone o P) is holds
+
+-- a text of which nothing is left
+all_seen : (old : Feed) (text : List ℕ) (told : Trace) (at : IsAt old text told) → left_of old ≡ [] → text ≡ at.seen
+all_seen old text told at none = at.parts ∙ ap (λ l. at.seen ++ l) none ∙ append_nil at.seen
+
+alike_reaches : (old f : Feed) (seen : List ℕ) (told : Trace) → f.judge ≡ old.judge → f.unfinished.items ≡ old.unfinished.items → Reaches old.judge old.unfinished.items seen told → Reaches f.judge f.unfinished.items seen told
+alike_reaches old f seen told judge kept reaches =
+    subst (λ u. Reaches f.judge u seen told) (sym kept) (subst (λ j. Reaches j old.unfinished.items seen told) (sym judge) reaches)
+
+-- more was read
+pub read_more : (limits : Bounds) (turns : ℕ) (start now new : Option (List ℕ)) (old f : Feed) (text : List ℕ) (told : Trace) → ReadsOn limits turns start now old text told → left_of old ≡ [] → f.judge ≡ old.judge → f.unfinished.items ≡ old.unfinished.items → HasGiven turns start new f.turns (text ++ left_of f) → ReadsOn limits turns start new f (text ++ left_of f) told
+read_more limits turns start now new old f text told is none judge kept given =
+    record {
+      given = given;
+      same = ap (λ j. j.limits) judge ∙ is.same;
+      at = record {
+        seen = is.at.seen;
+        parts = ap (λ t. t ++ left_of f) (all_seen old text told is.at none);
+        reaches = alike_reaches old f is.at.seen told judge kept is.at.reaches;
+      };
+    }
+
+-- the source has ended
+pub over_of : (old f : Feed) (text : List ℕ) (told : Trace) (at : IsAt old text told) → left_of old ≡ [] → f.judge ≡ old.judge → f.unfinished.items ≡ old.unfinished.items → IsOver f text told
+over_of old f text told at none judge kept =
+    subst (λ t. Reaches f.judge f.unfinished.items t told) (sym (all_seen old text told at none)) (alike_reaches old f at.seen told judge kept at.reaches)
+
+-- the trace of the lines that were ended
+pub front_of : (limits : Bounds) (old : Feed) (text : List ℕ) (told : Trace) (at : IsAt old text told) → left_of old ≡ [] → old.judge.limits ≡ limits → trace_of limits (ended_lines text) ≡ Ok told
+front_of limits old text told at none same =
+    ap (λ t. trace_of limits (ended_lines t)) (all_seen old text told at none) ∙ ap (λ l. trace_of l (ended_lines at.seen)) (sym same) ∙ told_front old.judge.limits old.judge.line told at.reaches.unfinished at.seen at.reaches.is
+
+-- a step that reads nothing
+pub stepped_here : (limits : Bounds) (turns : ℕ) (start now : Option (List ℕ)) (failed : Bool) (f : Feed) (text : List ℕ) (told : Trace) (r : Result Step LinesFault) → HasStepped limits turns start now failed f text told r → Steps limits turns start now failed f text told r
+stepped_here limits turns start now failed f text told r is =
+    record { piece = []; stepped = subst (λ t. HasStepped limits turns start now failed f t told r) (sym (append_nil text)) is; }
+
+-- ---- the last line
+
+-- what is kept of a last line that is none
+pub none_kept : (kept unfinished : List ℕ) → kept ≡ take KEPT unfinished → kept ≡ [] → unfinished ≡ []
+none_kept kept [] is none = refl
+none_kept kept (b ∷ unfinished) is none = absurd (omega (arith, ap length (sym none ∙ is)))
+
+pub whole_over : (f : Feed) (text : List ℕ) (told : Trace) → f.unfinished.items ≡ [] → IsOver f text told → trace_of f.judge.limits text ≡ Ok told
+whole_over f text told none over = told_whole f.judge.limits f.judge.line told over.unfinished text over.is (none_kept f.unfinished.items over.unfinished over.kept none)
+
+pub last_over : (f : Feed) (text line : List ℕ) (told : Trace) (r : Result Trace ReadFault) → f.unfinished.items ≢ [] → IsOver f text told → line ≡ f.unfinished.items → after_line f.judge.limits f.judge.line told line ≡ r → trace_of f.judge.limits text ≡ and_then r (λ more. Ok more)
+last_over f text line told r some over is after =
+    let same : take KEPT over.unfinished ≡ take KEPT line = sym over.kept ∙ sym (take_all KEPT f.unfinished.items (few_kept KEPT f.unfinished.items over.unfinished over.kept)) ∙ ap (take KEPT) (sym is) in
+    told_last f.judge.limits f.judge.line told over.unfinished text r over.is (λ none. some (over.kept ∙ ap (take KEPT) none))
+    (last_alike f.judge.limits f.judge.line told over.unfinished line same ∙ after)
+
+-- ---- the beginning
+
+-- nothing was read
+pub begun : (limits : Bounds) (turns : ℕ) (start : Option (List ℕ)) (f : Feed) → f.judge.limits ≡ limits → f.judge.line ≡ 1 → HasJudged f.judge nothing → f.unfinished.items ≡ [] → f.start ≡ 0 → f.end ≡ 0 → f.turns ≡ turns → ReadsOn limits turns start start f [] nothing
+begun limits turns start f same line judged none begin end left =
+    record {
+      given = given_nothing turns f.turns start left;
+      same = same;
+      at = record {
+        seen = [];
+        parts = sym (ap (λ n. drop n (take f.end f.buffer.items)) (begin ∙ sym end) ∙ left_none f.buffer.items f.end);
+        reaches = record {
+          unfinished = [];
+          is = told_nothing f.judge.limits f.judge.line nothing [] line refl refl;
+          kept = none;
+          judged = judged;
+        };
+      };
+    }
+
+-- a last line that was judged, in whichever way
+pub last_result : (f : Feed) (j : Judge) (line : List ℕ) (r : Result Judged ReadFault) → f.unfinished.items ≢ [] → line ≡ f.unfinished.items → IfOk r (λ judged. (told : Trace) → HasJudged f.judge told → after_line f.judge.limits f.judge.line told line ≡ Ok (with_judged judged j.names told)) → IfOk r (λ judged. (text : List ℕ) (told : Trace) → IsOver f text told → trace_of f.judge.limits text ≡ Ok (with_judged judged j.names told))
+last_result f j line (Err e) some is after = after
+last_result f j line (Ok judged) some is after = λ text told over. last_over f text line told (Ok (with_judged judged j.names told)) some over is (after told over.judged)
+
+pub last_judged : (f : Feed) (j : Judge) (r : Result Judged ReadFault) → IfOk r (λ judged. (told : Trace) → HasJudged f.judge told → HasJudged j (with_judged judged j.names told)) → IfOk r (λ judged. (text : List ℕ) (told : Trace) → IsOver f text told → HasJudged j (with_judged judged j.names told))
+last_judged f j (Err e) has = has
+last_judged f j (Ok judged) has = λ text told over. has told over.judged

@@ -1,21 +1,38 @@
 //! The lines of what a source gives, judged one after another as they come.
-ghost use Rattle.std.specs.Prelude.{◌≡◌, ℕ, ◌+◌, ◌^◌, ◌<◌, ◌≤◌, List, [], ◌∷◌, ◌++◌, Contains, Err, IfNone, IfOk, IfSome, OnOk, length, take, vec_len};
-ghost use Rattle.gl_std.specs.Judging.{with_judged, IsSound};
+ghost use Rattle.std.specs.Prelude.{◌≡◌, ℕ, ◌+◌, ◌^◌, ◌<◌, ◌≤◌, ◌⊎◌, false, List, [], ◌∷◌, ◌++◌, Contains, Option, Ok, Err, IfNone, IfOk, IfSome, OnErr, OnOk, length, take, vec_len};
+ghost use Rattle.gl_event.specs.Bounds.{Bounds};
+ghost use Rattle.gl_io.specs.Reads.{HasRead};
+ghost use Rattle.gl_std.specs.Judging.{with_judged, HasJudged, IsSound};
 ghost use Rattle.gl_std.specs.Lines.{LF};
 ghost use Rattle.gl_std.specs.Pieces.{IsFaulty};
-ghost use Rattle.gl_std.specs.Feeding.{left_of, IsAt, Reaches};
+ghost use Rattle.gl_std.specs.Feeding.{fuel, left_of, HasFilled, HasGiven, IsAt, IsFit, IsOver, Reaches, ReadsOn, Steps};
+ghost use Rattle.gl_std.specs.Trace.{nothing, trace_of};
 ghost use Rattle.gl_std.specs.declared.faults.StdKind.{StdKind};
 ghost use Rattle.gl_std.specs.declared.faults.ReadFault.TheVariants.{Line};
 ghost use Rattle.gl_std.specs.declared.trace.Trace.{Trace};
 
-use crate::faults::ReadFault;
+use crate::faults::{LinesFault, ReadFault};
 use crate::judge::{Judge, Judged};
 use crate::line::{MAX_LINE, cut};
 use crate::lines::{LF, without_cr};
-use std::alloc::AllocError;
+use crate::seed::Seed;
+use gl_event::Limits;
+use gl_io::{CHUNK, Failed, Source};
+use std::alloc::{AllocError, Global};
 
 /// So many bytes of a line that isn't ended are kept: enough to tell that it is too long.
 pub(crate) const KEPT: usize = MAX_LINE + 2;
+
+/// What a step of reading brings.
+#[derive(Clone, Copy, Debug)]
+pub(crate) enum Step {
+    /// No line yet.
+    More,
+    /// What the next line is, which LF ended.
+    Told(Judged),
+    /// The end of the text.
+    End,
+}
 
 /// The lines that came, and what was read beyond them.
 #[derive(Drop)]
@@ -27,9 +44,110 @@ pub(crate) struct Feed {
     buffer: Vec<u8>,
     start: usize,
     end: usize,
+    // So many reads may still be made.
+    turns: u64,
 }
 
 impl Feed {
+    /// Nothing was read, and so many reads may be made.
+    pub(crate) fn new(
+        alloc: Global,
+        limits: &Limits,
+        turns: u64,
+        seed: Seed,
+    ) -> Result<Feed, AllocError>
+        requires few_turns { turns ≤ 2 ^ 40 }
+        ensures fit { IfOk result IsFit }
+        ensures reads { IfOk result (λ f. (start : Option (List ℕ)) → ReadsOn limits.now turns start start f [] nothing) }
+    {
+        Ok(Feed {
+            judge: Judge::new(alloc, *limits, seed),
+            unfinished: Vec::new(alloc),
+            buffer: vec![in alloc; 0u8; CHUNK]?,
+            start: 0,
+            end: 0,
+            turns,
+        })
+    }
+
+    /// What one step brings, a line or a read. It reads only where no whole line is left.
+    fn step<R: Source>(&mut self, input: &mut R) -> Result<Step, LinesFault>
+        requires fit { IsFit self.old }
+        requires not_failed { R.failed input.old ≡ false }
+        ensures steps { (limits : Bounds) (turns : ℕ) (start : Option (List ℕ)) (text : List ℕ) (told : Trace) → ReadsOn limits turns start (R.remaining input.old) self.old text told
+            → Steps limits turns start (R.remaining input.new) (R.failed input.new) self.new text told result }
+        ensures fit { OnOk result (IsFit self.new) }
+        ensures smaller { OnOk result (result ≡ Ok Step.End ⊎ fuel self.new < fuel self.old) }
+        ensures sound { OnOk result (R.failed input.new ≡ false) }
+    {
+        match self.take_line() {
+            Ok(Some(judged)) => Ok(Step::Told(judged)),
+            Ok(None) => self.read_on(input),
+            Err(ReadFault::Line { line, kind }) => Err(LinesFault::Line { line, kind }),
+            Err(ReadFault::Memory) => Err(LinesFault::Memory),
+        }
+    }
+
+    // `step`, where nothing is left of the latest read.
+    fn read_on<R: Source>(&mut self, input: &mut R) -> Result<Step, LinesFault>
+        requires fit { IsFit self.old }
+        requires spent { self.old.start ≡ self.old.end }
+        requires not_failed { R.failed input.old ≡ false }
+        ensures steps { (limits : Bounds) (turns : ℕ) (start : Option (List ℕ)) (text : List ℕ) (told : Trace) → ReadsOn limits turns start (R.remaining input.old) self.old text told
+            → Steps limits turns start (R.remaining input.new) (R.failed input.new) self.new text told result }
+        ensures fit { OnOk result (IsFit self.new) }
+        ensures smaller { OnOk result (result ≡ Ok Step.End ⊎ fuel self.new < fuel self.old) }
+        ensures sound { OnOk result (R.failed input.new ≡ false) }
+    {
+        if self.turns == 0 {
+            return Err(LinesFault::Read);
+        }
+        match self.fill(input) {
+            Ok(true) => Ok(Step::More),
+            Ok(false) => Ok(Step::End),
+            Err(Failed) => Err(LinesFault::Read),
+        }
+    }
+
+    /// What the last line is, where the source has ended: blank where LF ended it.
+    pub(crate) fn last(&mut self) -> Result<Judged, ReadFault>
+        requires sound { IsSound self.old.judge }
+        requires countable { self.old.judge.line + 1 < 2 ^ 64 }
+        ensures told { IfOk result (λ judged. (text : List ℕ) (told : Trace) → IsOver self.old text told → trace_of self.old.judge.limits text ≡ Ok (with_judged judged self.new.judge.names told)) }
+        ensures judged { IfOk result (λ judged. (text : List ℕ) (told : Trace) → IsOver self.old text told → HasJudged self.new.judge (with_judged judged self.new.judge.names told)) }
+        ensures fault { (number : ℕ) (kind : StdKind) → result ≡ Err (Line number kind) → (text : List ℕ) (told : Trace) → IsOver self.old text told → trace_of self.old.judge.limits text ≡ Err (Line number kind) }
+    {
+        if self.unfinished.is_empty() {
+            return Ok(Judged::Blank);
+        }
+        self.judge.take(self.unfinished.as_slice())
+    }
+
+    // One read, where nothing is left of the one before. Whether it gave any bytes.
+    fn fill<R: Source>(&mut self, input: &mut R) -> Result<bool, Failed>
+        requires left { 0 < self.old.turns }
+        requires room { vec_len self.old.buffer ≡ CHUNK }
+        requires not_failed { R.failed input.old ≡ false }
+        ensures filled { IfOk result (λ more. (turns : ℕ) (start : Option (List ℕ)) (text : List ℕ) → HasGiven turns start (R.remaining input.old) self.old.turns text
+            → HasFilled more turns start (R.remaining input.new) (R.failed input.new) self.new text) }
+        ensures broke { OnErr result ((turns : ℕ) (start : Option (List ℕ)) (text : List ℕ) → HasGiven turns start (R.remaining input.old) self.old.turns text
+            → HasRead turns start (R.remaining input.new) (R.failed input.new) text false) }
+        ensures sound { OnOk result (R.failed input.new ≡ false) }
+        ensures turn { OnOk result (self.new.turns + 1 ≡ self.old.turns) }
+        ensures begin { OnOk result (self.new.start ≡ 0) }
+        ensures within { OnOk result (self.new.end ≤ CHUNK) }
+        ensures none { result ≡ Ok false → left_of self.new ≡ [] }
+        ensures same_judge { self.new.judge ≡ self.old.judge }
+        ensures same_beginning { self.new.unfinished ≡ self.old.unfinished }
+        ensures same_size { vec_len self.new.buffer ≡ vec_len self.old.buffer }
+    {
+        let count = input.read(self.buffer.as_mut_slice())?;
+        self.turns -= 1;
+        self.start = 0;
+        self.end = count;
+        Ok(count > 0)
+    }
+
     // What the next line is that LF ends in what is left of the latest read. None where there is
     // none: then what is left is kept as the beginning of a line.
     fn take_line(&mut self) -> Result<Option<Judged>, ReadFault>
@@ -46,6 +164,7 @@ impl Feed {
         ensures order { OnOk result (self.new.start ≤ self.new.end) }
         ensures same_end { self.new.end ≡ self.old.end }
         ensures same_size { vec_len self.new.buffer ≡ vec_len self.old.buffer }
+        ensures same_turns { self.new.turns ≡ self.old.turns }
         ensures few { OnOk result (length self.new.unfinished.items ≤ KEPT) }
         ensures limits { self.new.judge.limits ≡ self.old.judge.limits }
         ensures smaller { IfOk result (λ o. IfSome o (λ judged. self.old.start < self.new.start)) }
