@@ -11,7 +11,7 @@ use Rattle.std.proofs.lemmas.List.{take_all, drop-drop, length-take, length-take
 use Rattle.gl_event.specs.Bounds.{Bounds}
 use Rattle.gl_io.specs.Reads.{HasRead}
 use Rattle.gl_io.specs.declared.source.TheConstants.{CHUNK}
-use Rattle.gl_std.specs.Feeding.{left_of, HasFilled, HasGiven, HasStepped, IsAt, IsOver, Reaches, ReadsOn, Steps}
+use Rattle.gl_std.specs.Feeding.{is_idle, left_of, HasFilled, HasGiven, HasStepped, IsAt, IsOver, Reaches, ReadsOn, Steps}
 use Rattle.gl_std.specs.Judging.{HasJudged, with_judged}
 use Rattle.gl_std.specs.Line.{shape_of}
 use Rattle.gl_std.specs.Lines.{LF, CR, ended_lines, is_empty, without_cr}
@@ -24,9 +24,11 @@ use Rattle.gl_std.specs.declared.faults.StdKind.{StdKind}
 use Rattle.gl_std.specs.declared.faults.StdKind.TheVariants.{TooLong}
 use Rattle.gl_std.specs.declared.feed.Feed.{Feed}
 use Rattle.gl_std.specs.declared.feed.Step.{Step}
+use Rattle.gl_std.specs.declared.feed.Step.TheVariants.{More, Told, End}
 use Rattle.gl_std.specs.declared.feed.TheConstants.{KEPT}
 use Rattle.gl_std.specs.declared.judge.Judge.{Judge}
 use Rattle.gl_std.specs.declared.judge.Judged.{Judged}
+use Rattle.gl_std.specs.declared.judge.Judged.TheVariants.{Blank, Skipped, Stray, Event}
 use Rattle.gl_std.specs.declared.trace.Trace.{Trace}
 use Rattle.gl_std.proofs.PieceLemmas.{with_end, told_front, told_last, told_line, told_nothing, told_whole, faulty_line, told_more, faulty_more, more_read, nil_of, some_of}
 use Rattle.gl_std.proofs.ShapeLemmas.{shape_of-long}
@@ -353,3 +355,23 @@ last_result f j line (Ok judged) some is after = λ text told over. last_over f 
 pub last_judged : (f : Feed) (j : Judge) (r : Result Judged ReadFault) → IfOk r (λ judged. (told : Trace) → HasJudged f.judge told → HasJudged j (with_judged judged j.names told)) → IfOk r (λ judged. (text : List ℕ) (told : Trace) → IsOver f text told → HasJudged j (with_judged judged j.names told))
 last_judged f j (Err e) has = has
 last_judged f j (Ok judged) has = λ text told over. has told over.judged
+
+-- ---- steps in a row
+
+-- a step that told nothing leaves the trace as it was
+idle_on : (limits : Bounds) (turns : ℕ) (start now : Option (List ℕ)) (failed : Bool) (f : Feed) (text : List ℕ) (told : Trace) (step : Step) → is_idle step ≡ true → HasStepped limits turns start now failed f text told (Ok step) → ReadsOn limits turns start now f text told
+idle_on limits turns start now failed f text told More idle is = is
+idle_on limits turns start now failed f text told (Told Blank) idle is = is
+idle_on limits turns start now failed f text told (Told Skipped) idle is = absurd (false≢true idle)
+idle_on limits turns start now failed f text told (Told Stray) idle is = absurd (false≢true idle)
+idle_on limits turns start now failed f text told (Told (Event thread event)) idle is = absurd (false≢true idle)
+idle_on limits turns start now failed f text told End idle is = absurd (false≢true idle)
+
+-- a step after one that told nothing
+pub steps_after : (limits : Bounds) (turns : ℕ) (start now new : Option (List ℕ)) (failed failed2 : Bool) (f f2 : Feed) (text : List ℕ) (told : Trace) (step : Step) (r : Result Step LinesFault) → is_idle step ≡ true → Steps limits turns start now failed f text told (Ok step) → ((t : List ℕ) → ReadsOn limits turns start now f t told → Steps limits turns start new failed2 f2 t told r) → Steps limits turns start new failed2 f2 text told r
+steps_after limits turns start now new failed failed2 f f2 text told step r idle first next =
+    let second = next (text ++ first.piece) (idle_on limits turns start now failed f (text ++ first.piece) told step idle first.stepped) in
+    record {
+      piece = first.piece ++ second.piece;
+      stepped = subst (λ t. HasStepped limits turns start new failed2 f2 t told r) (append_assoc text first.piece second.piece) second.stepped;
+    }

@@ -15,6 +15,7 @@ use Rattle.gl_std.specs.declared.feed.Step.TheVariants.{More, Told, End}
 use Rattle.gl_std.specs.declared.feed.Feed.{Feed}
 use Rattle.gl_std.specs.declared.feed.TheConstants.{KEPT}
 use Rattle.gl_std.specs.declared.judge.Judge.{Judge}
+use Rattle.gl_std.specs.declared.judge.Judged.TheVariants.{Blank, Skipped, Stray, Event}
 use Rattle.gl_std.specs.declared.trace.Trace.{Trace}
 
 -- what is left of the latest read
@@ -43,6 +44,15 @@ pub record IsFit (f : Feed) : Type 0 where
   pub room : vec_len f.buffer ≡ CHUNK
   pub few : length f.unfinished.items ≤ KEPT
   pub countable : f.judge.line + f.end + f.turns * CHUNK + 1 < 2 ^ 64 + f.start
+
+-- the step tells neither a line that isn't blank nor the end
+abbrev pub is_idle : Step → Bool
+is_idle More = true
+is_idle (Told Blank) = true
+is_idle (Told Skipped) = false
+is_idle (Told Stray) = false
+is_idle (Told (Event thread event)) = false
+is_idle End = false
 
 -- it falls with each step
 abbrev pub fuel : Feed → ℕ

@@ -1,11 +1,11 @@
 //! The lines of what a source gives, judged one after another as they come.
-ghost use Rattle.std.specs.Prelude.{◌≡◌, ℕ, ◌+◌, ◌^◌, ◌<◌, ◌≤◌, ◌⊎◌, false, List, [], ◌∷◌, ◌++◌, Contains, Option, Ok, Err, IfNone, IfOk, IfSome, OnErr, OnOk, length, take, vec_len};
+ghost use Rattle.std.specs.Prelude.{◌≡◌, ℕ, ◌+◌, ◌^◌, ◌<◌, ◌≤◌, false, List, [], ◌∷◌, ◌++◌, Contains, Option, Ok, Err, IfNone, IfOk, IfSome, OnErr, OnOk, length, take, vec_len};
 ghost use Rattle.gl_event.specs.Bounds.{Bounds};
 ghost use Rattle.gl_io.specs.Reads.{HasRead};
 ghost use Rattle.gl_std.specs.Judging.{with_judged, HasJudged, IsSound};
 ghost use Rattle.gl_std.specs.Lines.{LF};
 ghost use Rattle.gl_std.specs.Pieces.{IsFaulty};
-ghost use Rattle.gl_std.specs.Feeding.{fuel, left_of, HasFilled, HasGiven, IsAt, IsFit, IsOver, Reaches, ReadsOn, Steps};
+ghost use Rattle.gl_std.specs.Feeding.{fuel, is_idle, left_of, HasFilled, HasGiven, IsAt, IsFit, IsOver, Reaches, ReadsOn, Steps};
 ghost use Rattle.gl_std.specs.Trace.{nothing, trace_of};
 ghost use Rattle.gl_std.specs.declared.faults.StdKind.{StdKind};
 ghost use Rattle.gl_std.specs.declared.faults.ReadFault.TheVariants.{Line};
@@ -32,6 +32,20 @@ pub(crate) enum Step {
     Told(Judged),
     /// The end of the text.
     End,
+}
+
+impl Step {
+    // It tells neither a line that isn't blank nor the end.
+    fn is_idle(&self) -> bool
+        ensures { result ≡ is_idle self.now }
+    {
+        match self {
+            Step::More => true,
+            Step::Told(Judged::Blank) => true,
+            Step::Told(_) => false,
+            Step::End => false,
+        }
+    }
 }
 
 /// The lines that came, and what was read beyond them.
@@ -70,6 +84,27 @@ impl Feed {
         })
     }
 
+    /// What the next line is that isn't blank, or the end of the text. It reads only where no whole
+    /// line is left.
+    pub(crate) fn next<R: Source>(&mut self, input: &mut R) -> Result<Step, LinesFault>
+        requires fit { IsFit self.old }
+        requires not_failed { R.failed input.old ≡ false }
+        ensures steps { (limits : Bounds) (turns : ℕ) (start : Option (List ℕ)) (text : List ℕ) (told : Trace) → ReadsOn limits turns start (R.remaining input.old) self.old text told
+            → Steps limits turns start (R.remaining input.new) (R.failed input.new) self.new text told result }
+        ensures fit { OnOk result (IsFit self.new) }
+        ensures found { IfOk result (λ step. is_idle step ≡ false) }
+        ensures sound { OnOk result (R.failed input.new ≡ false) }
+    {
+        let mut step = Step::More;
+        while step.is_idle() {
+            match self.step(input) {
+                Ok(next) => step = next,
+                Err(fault) => return Err(fault),
+            }
+        }
+        Ok(step)
+    }
+
     /// What one step brings, a line or a read. It reads only where no whole line is left.
     fn step<R: Source>(&mut self, input: &mut R) -> Result<Step, LinesFault>
         requires fit { IsFit self.old }
@@ -77,7 +112,7 @@ impl Feed {
         ensures steps { (limits : Bounds) (turns : ℕ) (start : Option (List ℕ)) (text : List ℕ) (told : Trace) → ReadsOn limits turns start (R.remaining input.old) self.old text told
             → Steps limits turns start (R.remaining input.new) (R.failed input.new) self.new text told result }
         ensures fit { OnOk result (IsFit self.new) }
-        ensures smaller { OnOk result (result ≡ Ok Step.End ⊎ fuel self.new < fuel self.old) }
+        ensures smaller { OnOk result (fuel self.new < fuel self.old) }
         ensures sound { OnOk result (R.failed input.new ≡ false) }
     {
         match self.take_line() {
@@ -96,7 +131,7 @@ impl Feed {
         ensures steps { (limits : Bounds) (turns : ℕ) (start : Option (List ℕ)) (text : List ℕ) (told : Trace) → ReadsOn limits turns start (R.remaining input.old) self.old text told
             → Steps limits turns start (R.remaining input.new) (R.failed input.new) self.new text told result }
         ensures fit { OnOk result (IsFit self.new) }
-        ensures smaller { OnOk result (result ≡ Ok Step.End ⊎ fuel self.new < fuel self.old) }
+        ensures smaller { OnOk result (fuel self.new < fuel self.old) }
         ensures sound { OnOk result (R.failed input.new ≡ false) }
     {
         if self.turns == 0 {
