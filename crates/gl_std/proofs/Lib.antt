@@ -14,5 +14,6 @@ pub mod SayingLemmas
 pub mod ShapeLemmas
 pub mod StandingLemmas
 pub mod StepLemmas
+pub mod StreamLemmas
 pub mod ToldLemmas
 pub mod WrittenLemmas

@@ -10,5 +10,6 @@ pub mod Names
 pub mod Pieces
 pub mod Reading
 pub mod Standings
+pub mod Streaming
 pub mod Trace
 pub mod Written

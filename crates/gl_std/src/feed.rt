@@ -15,6 +15,7 @@ use crate::faults::{LinesFault, ReadFault};
 use crate::judge::{Judge, Judged};
 use crate::line::{MAX_LINE, cut};
 use crate::lines::{LF, without_cr};
+use crate::names::Names;
 use crate::seed::Seed;
 use gl_event::Limits;
 use gl_io::{CHUNK, Failed, Source};
@@ -156,6 +157,13 @@ impl Feed {
             return Ok(Judged::Blank);
         }
         self.judge.take(self.unfinished.as_slice())
+    }
+
+    /// The names, how many lines were skipped, and how many were strays.
+    pub(crate) fn into_parts(self) -> (Names, u64, u64)
+        ensures { result ≡ (self.judge.names, self.judge.skipped, self.judge.stray) }
+    {
+        self.judge.into_parts()
     }
 
     // One read, where nothing is left of the one before. Whether it gave any bytes.
