@@ -158,7 +158,7 @@ pub left_after : (buffer end after : List ℕ) (start stop : ℕ) → drop start
 left_after buffer end after start stop is =
     sym (drop-drop (length end + 1) start (take stop buffer)) ∙ ap (drop (length end + 1)) is ∙ drop-append-add end (LF ∷ after) 1
 
-append_nil : (xs : List ℕ) → xs ++ [] ≡ xs
+pub append_nil : (xs : List ℕ) → xs ++ [] ≡ xs
 append_nil [] = refl
 append_nil (x ∷ xs) = ap (λ ys. x ∷ ys) (append_nil xs)
 

@@ -71,6 +71,11 @@ abbrev pub HasFilled : Bool → ℕ → Option (List ℕ) → Option (List ℕ) 
 HasFilled true turns start now failed f text = HasGiven turns start now f.turns (text ++ left_of f)
 HasFilled false turns start now failed f text = HasRead turns start now failed text true
 
+-- the rest was read and not judged, to its end or not
+pub record HasDrained (turns : ℕ) (start now : Option (List ℕ)) (failed : Bool) (text : List ℕ) (whole : Bool) : Type 0 where
+  pub piece : List ℕ
+  pub read : HasRead turns start now failed (text ++ piece) whole
+
 -- reading goes on: the reads gave this text, and its lines before what is left of the latest read told this trace
 pub record ReadsOn (limits : Bounds) (turns : ℕ) (start now : Option (List ℕ)) (f : Feed) (text : List ℕ) (told : Trace) : Type 0 where
   pub given : HasGiven turns start now f.turns text

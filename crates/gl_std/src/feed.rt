@@ -2,12 +2,13 @@
 ghost use Rattle.std.specs.Prelude.{◌≡◌, ℕ, ◌+◌, ◌^◌, ◌<◌, ◌≤◌, false, List, [], ◌∷◌, ◌++◌, Contains, Option, Ok, Err, IfNone, IfOk, IfSome, OnErr, OnOk, length, take, vec_len};
 ghost use Rattle.gl_event.specs.Bounds.{Bounds};
 ghost use Rattle.gl_io.specs.Reads.{HasRead};
-ghost use Rattle.gl_std.specs.Judging.{with_judged, HasJudged, IsSound};
+ghost use Rattle.gl_std.specs.Judging.{with_judged, HasJudged, IsKnown, IsSound};
 ghost use Rattle.gl_std.specs.Lines.{LF};
 ghost use Rattle.gl_std.specs.Pieces.{IsFaulty};
-ghost use Rattle.gl_std.specs.Feeding.{fuel, is_idle, left_of, HasFilled, HasGiven, IsAt, IsFit, IsOver, Reaches, ReadsOn, Steps};
+ghost use Rattle.gl_std.specs.Feeding.{fuel, is_idle, left_of, HasDrained, HasFilled, HasGiven, IsAt, IsFit, IsOver, Reaches, ReadsOn, Steps};
 ghost use Rattle.gl_std.specs.Trace.{nothing, trace_of};
 ghost use Rattle.gl_std.specs.declared.faults.StdKind.{StdKind};
+ghost use Rattle.gl_std.specs.declared.judge.Judged.{Judged};
 ghost use Rattle.gl_std.specs.declared.faults.ReadFault.TheVariants.{Line};
 ghost use Rattle.gl_std.specs.declared.trace.Trace.{Trace};
 
@@ -107,13 +108,16 @@ impl Feed {
     }
 
     /// What one step brings, a line or a read. It reads only where no whole line is left.
-    fn step<R: Source>(&mut self, input: &mut R) -> Result<Step, LinesFault>
+    pub(crate) fn step<R: Source>(&mut self, input: &mut R) -> Result<Step, LinesFault>
         requires fit { IsFit self.old }
         requires not_failed { R.failed input.old ≡ false }
         ensures steps { (limits : Bounds) (turns : ℕ) (start : Option (List ℕ)) (text : List ℕ) (told : Trace) → ReadsOn limits turns start (R.remaining input.old) self.old text told
             → Steps limits turns start (R.remaining input.new) (R.failed input.new) self.new text told result }
+        ensures known { (judged : Judged) → result ≡ Ok (Step.Told judged) → IsKnown judged (length self.new.judge.names.threads) }
         ensures fit { OnOk result (IsFit self.new) }
         ensures smaller { OnOk result (fuel self.new < fuel self.old) }
+        ensures sound_at_fault { (number : ℕ) (kind : StdKind) → result ≡ Err (LinesFault.Line number kind) → R.failed input.new ≡ false }
+        ensures same_size { vec_len self.new.buffer ≡ vec_len self.old.buffer }
         ensures sound { OnOk result (R.failed input.new ≡ false) }
     {
         match self.take_line() {
@@ -131,8 +135,11 @@ impl Feed {
         requires not_failed { R.failed input.old ≡ false }
         ensures steps { (limits : Bounds) (turns : ℕ) (start : Option (List ℕ)) (text : List ℕ) (told : Trace) → ReadsOn limits turns start (R.remaining input.old) self.old text told
             → Steps limits turns start (R.remaining input.new) (R.failed input.new) self.new text told result }
+        ensures known { (judged : Judged) → result ≡ Ok (Step.Told judged) → IsKnown judged (length self.new.judge.names.threads) }
         ensures fit { OnOk result (IsFit self.new) }
         ensures smaller { OnOk result (fuel self.new < fuel self.old) }
+        ensures sound_at_fault { (number : ℕ) (kind : StdKind) → result ≡ Err (LinesFault.Line number kind) → R.failed input.new ≡ false }
+        ensures same_size { vec_len self.new.buffer ≡ vec_len self.old.buffer }
         ensures sound { OnOk result (R.failed input.new ≡ false) }
     {
         if self.turns == 0 {
@@ -151,12 +158,37 @@ impl Feed {
         requires countable { self.old.judge.line + 1 < 2 ^ 64 }
         ensures told { IfOk result (λ judged. (text : List ℕ) (told : Trace) → IsOver self.old text told → trace_of self.old.judge.limits text ≡ Ok (with_judged judged self.new.judge.names told)) }
         ensures judged { IfOk result (λ judged. (text : List ℕ) (told : Trace) → IsOver self.old text told → HasJudged self.new.judge (with_judged judged self.new.judge.names told)) }
+        ensures known { IfOk result (λ judged. IsKnown judged (length self.new.judge.names.threads)) }
         ensures fault { (number : ℕ) (kind : StdKind) → result ≡ Err (Line number kind) → (text : List ℕ) (told : Trace) → IsOver self.old text told → trace_of self.old.judge.limits text ≡ Err (Line number kind) }
     {
         if self.unfinished.is_empty() {
             return Ok(Judged::Blank);
         }
         self.judge.take(self.unfinished.as_slice())
+    }
+
+    /// Reads to the end of the source, and judges nothing. Whether the end was met.
+    pub(crate) fn drain<R: Source>(&mut self, input: &mut R) -> bool
+        requires room { vec_len self.old.buffer ≡ CHUNK }
+        requires not_failed { R.failed input.old ≡ false }
+        ensures { (turns : ℕ) (start : Option (List ℕ)) (text : List ℕ) → HasGiven turns start (R.remaining input.old) self.old.turns text
+            → HasDrained turns start (R.remaining input.new) (R.failed input.new) text result }
+    {
+        while self.turns > 0 {
+            match self.fill(input) {
+                Ok(true) => {}
+                Ok(false) => return true,
+                Err(Failed) => return false,
+            }
+        }
+        false
+    }
+
+    /// How many threads have names.
+    pub(crate) fn threads(&self) -> usize
+        ensures { result ≡ length self.now.judge.names.threads }
+    {
+        self.judge.threads()
     }
 
     /// The names, how many lines were skipped, and how many were strays.
@@ -201,6 +233,7 @@ impl Feed {
         requires countable { self.old.judge.line + 1 < 2 ^ 64 }
         ensures some { IfOk result (λ o. IfSome o (λ judged. (text : List ℕ) (told : Trace) → IsAt self.old text told → IsAt self.new text (with_judged judged self.new.judge.names told))) }
         ensures none { IfOk result (λ o. IfNone o ((text : List ℕ) (told : Trace) → IsAt self.old text told → IsAt self.new text told)) }
+        ensures known { IfOk result (λ o. IfSome o (λ judged. IsKnown judged (length self.new.judge.names.threads))) }
         ensures spent { IfOk result (λ o. IfNone o (self.new.start ≡ self.new.end)) }
         ensures fault { (number : ℕ) (kind : StdKind) → result ≡ Err (Line number kind) → (text : List ℕ) (told : Trace) → IsAt self.old text told → IsFaulty self.old.judge.limits text number kind }
         ensures sound { OnOk result (IsSound self.new.judge) }
@@ -241,6 +274,7 @@ fn end_line(
     requires few { length unfinished.old.items ≤ KEPT }
     requires countable { judge.old.line + 1 < 2 ^ 64 }
     ensures reaches { IfOk result (λ judged. (seen : List ℕ) (told : Trace) → Reaches judge.old unfinished.old.items seen told → Reaches judge.new unfinished.new.items (seen ++ end.now ++ LF ∷ []) (with_judged judged judge.new.names told)) }
+    ensures known { IfOk result (λ judged. IsKnown judged (length judge.new.names.threads)) }
     ensures fault { (number : ℕ) (kind : StdKind) → result ≡ Err (Line number kind) → (seen : List ℕ) (told : Trace) → Reaches judge.old unfinished.old.items seen told → IsFaulty judge.old.limits (seen ++ end.now ++ LF ∷ []) number kind }
     ensures sound { OnOk result (IsSound judge.new) }
     ensures empty { OnOk result (unfinished.new.items ≡ []) }

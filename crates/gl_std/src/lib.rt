@@ -44,7 +44,6 @@ mod lines;
 mod lists;
 mod name;
 mod names;
-mod pieces;
 mod read;
 mod reader;
 mod seed;
