@@ -1,5 +1,5 @@
 -- A text that is judged line by line as it comes.
-use Rattle.std.proofs.Common.{◌≡◌, ◌≢◌, ℕ, zero, suc, ◌+◌, ◌-◌, ◌*◌, ◌<◌, ◌≤◌, inl, inr, nat_lt, Option, Bool, true, false, ◌&&◌, cond, eqb, List, [], ◌∷◌, ◌++◌, length, Contains, Some, Result, Ok, Err, take, drop, refl, sym, ap, subst, ◌∙◌, append_assoc, length-append, arith}
+use Rattle.std.proofs.Common.{◌≡◌, ◌≢◌, ℕ, zero, suc, ◌+◌, ◌-◌, ◌<◌, ◌≤◌, inr, nat_lt, Option, Bool, true, false, ◌&&◌, cond, eqb, List, [], ◌∷◌, ◌++◌, length, Contains, Some, Result, Ok, Err, take, drop, refl, sym, ap, subst, ◌∙◌, append_assoc, length-append, arith}
 use Rattle.std.specs.Prelude.{nat_le, None, IfNone, IfOk, IfSome, OnOk}
 use Rattle.std.specs.Io.KnownBytes.{Consumes, IsAtEnd}
 use Rattle.std.proofs.KnownBytes.{Consumes-nil, Consumes-trans, Consumes-whole}
@@ -13,9 +13,8 @@ use Rattle.gl_io.specs.Reads.{HasRead}
 use Rattle.gl_io.specs.declared.source.TheConstants.{CHUNK}
 use Rattle.gl_std.specs.Feeding.{is_idle, left_of, HasFilled, HasGiven, HasStepped, IsAt, IsOver, Reaches, ReadsOn, Steps}
 use Rattle.gl_std.specs.Judging.{HasJudged, with_judged}
-use Rattle.gl_std.specs.Line.{shape_of}
-use Rattle.gl_std.specs.Lines.{LF, CR, ended_lines, is_empty, without_cr}
-use Rattle.gl_std.specs.Pieces.{IsTold, IsFaulty}
+use Rattle.gl_std.specs.Lines.{LF, CR, ended_lines, without_cr}
+use Rattle.gl_std.specs.Pieces.{IsFaulty}
 use Rattle.gl_std.specs.Trace.{after_line, after_shape, and_then, nothing, trace_of}
 use Rattle.gl_std.specs.declared.faults.LinesFault.{LinesFault}
 use Rattle.gl_std.specs.declared.faults.ReadFault.{ReadFault}
@@ -30,7 +29,7 @@ use Rattle.gl_std.specs.declared.judge.Judge.{Judge}
 use Rattle.gl_std.specs.declared.judge.Judged.{Judged}
 use Rattle.gl_std.specs.declared.judge.Judged.TheVariants.{Blank, Skipped, Stray, Event}
 use Rattle.gl_std.specs.declared.trace.Trace.{Trace}
-use Rattle.gl_std.proofs.PieceLemmas.{with_end, told_front, told_last, told_line, told_nothing, told_whole, faulty_line, told_more, faulty_more, more_read, nil_of, some_of}
+use Rattle.gl_std.proofs.PieceLemmas.{with_end, told_front, told_last, told_line, told_nothing, told_whole, faulty_line, told_more, faulty_more, more_read, nil_of}
 use Rattle.gl_std.proofs.ShapeLemmas.{shape_of-long}
 
 -- ---- the beginning of a line
@@ -221,7 +220,7 @@ drop_none (x ∷ xs) = refl
 
 -- before the first read
 pub given_nothing : (turns left : ℕ) (start : Option (List ℕ)) → left ≡ turns → HasGiven turns start start left []
-given_nothing turns left start is = record { bytes = Consumes-nil start; used = 0; spent = omega (arith, is); some = omega arith; within = omega arith; }
+given_nothing turns left start is = record { bytes = Consumes-nil start; used = 0; spent = omega (arith, is); some = omega arith; within = omega arith }
 
 -- a read of so many bytes
 pub filled_by : (more : Bool) (count : ℕ) (turns : ℕ) (start now new : Option (List ℕ)) (failed : Bool) (old f : Feed) (piece text : List ℕ) → nat_lt 0 count ≡ more → f.start ≡ 0 → take f.end f.buffer.items ≡ piece → length piece ≡ count → count ≤ CHUNK → 0 < old.turns → f.turns + 1 ≡ old.turns → failed ≡ false → Consumes now new piece → (count ≡ 0 → IsAtEnd new) → HasGiven turns start now old.turns text → HasFilled more turns start new failed f text
@@ -309,7 +308,7 @@ front_of limits old text told at none same =
 -- a step that reads nothing
 pub stepped_here : (limits : Bounds) (turns : ℕ) (start now : Option (List ℕ)) (failed : Bool) (f : Feed) (text : List ℕ) (told : Trace) (r : Result Step LinesFault) → HasStepped limits turns start now failed f text told r → Steps limits turns start now failed f text told r
 stepped_here limits turns start now failed f text told r is =
-    record { piece = []; stepped = subst (λ t. HasStepped limits turns start now failed f t told r) (sym (append_nil text)) is; }
+    record { piece = []; stepped = subst (λ t. HasStepped limits turns start now failed f t told r) (sym (append_nil text)) is }
 
 -- ---- the last line
 

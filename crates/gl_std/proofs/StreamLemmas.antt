@@ -1,5 +1,5 @@
 -- A trace that is read item by item.
-use Rattle.std.proofs.Common.{◌≡◌, ℕ, Bool, true, List, ◌++◌, Option, Result, Ok, Err, sym, ap, subst, ◌∙◌, inl}
+use Rattle.std.proofs.Common.{◌≡◌, ℕ, Bool, true, List, ◌++◌, Option, Ok, Err, sym, ap, subst, ◌∙◌, inl}
 use Rattle.gl_event.specs.Bounds.{Bounds}
 use Rattle.gl_io.specs.Reads.{HasRead}
 use Rattle.gl_std.specs.Feeding.{HasStepped, Steps}
@@ -29,9 +29,9 @@ told_item limits turns start now failed l text told step judged item reading is 
     record {
       piece = steps.piece;
       tells =
-        let stepped = subst (λ s. HasStepped limits turns start now failed l.feed (text ++ steps.piece) told (Ok s)) is steps.stepped in
-        subst (λ stage. HasToldAt stage limits turns start now failed l.feed (text ++ steps.piece) (with_judged (line_of item) l.feed.judge.names told)) (sym reading)
-        (subst (λ j. HasToldAt Reading limits turns start now failed l.feed (text ++ steps.piece) (with_judged j l.feed.judge.names told)) (sym line) stepped);
+          let stepped = subst (λ s. HasStepped limits turns start now failed l.feed (text ++ steps.piece) told (Ok s)) is steps.stepped in
+          subst (λ stage. HasToldAt stage limits turns start now failed l.feed (text ++ steps.piece) (with_judged (line_of item) l.feed.judge.names told)) (sym reading)
+          (subst (λ j. HasToldAt Reading limits turns start now failed l.feed (text ++ steps.piece) (with_judged j l.feed.judge.names told)) (sym line) stepped);
     }
 
 -- a fault

@@ -1,6 +1,5 @@
 -- A trace that is read item by item.
 use Rattle.std.specs.Prelude.{◌≡◌, ◌⊎◌, ℕ, Bool, true, false, List, ◌++◌, Option, Result, Ok, Err}
-use Rattle.std.specs.Io.KnownBytes.{Consumes}
 use Rattle.gl_event.specs.Bounds.{Bounds}
 use Rattle.gl_io.specs.Reads.{HasRead}
 use Rattle.gl_std.specs.Feeding.{HasGiven, IsFit, ReadsOn}

@@ -264,11 +264,7 @@ impl Feed {
 }
 
 // Judges the line that ends here, where LF follows.
-fn end_line(
-    judge: &mut Judge,
-    unfinished: &mut Vec<u8>,
-    end: &[u8],
-) -> Result<Judged, ReadFault>
+fn end_line(judge: &mut Judge, unfinished: &mut Vec<u8>, end: &[u8]) -> Result<Judged, ReadFault>
     requires one_line { ¬ Contains end.now LF }
     requires sound { IsSound judge.old }
     requires few { length unfinished.old.items ≤ KEPT }

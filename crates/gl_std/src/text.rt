@@ -1,7 +1,7 @@
 //! Reading the text that a source gives.
 ghost use Rattle.std.specs.Prelude.{◌≡◌, ℕ, ◌^◌, ◌<◌, ◌≤◌, List, [], Option, Ok, IfOk, OnOk, length, vec_len, false, true};
 ghost use Rattle.gl_event.specs.Bounds.{Bounds};
-ghost use Rattle.gl_io.specs.declared.source.TheConstants.{CHUNK as SIZE};
+ghost use Rattle.gl_io.specs.declared.source.TheConstants.{CHUNK};
 ghost use Rattle.gl_std.specs.Feeding.{fuel, HasGiven, IsFit, IsOver, ReadsOn};
 ghost use Rattle.gl_std.specs.Heard.{listed_by, HasHeard, Meets};
 ghost use Rattle.gl_std.specs.Judging.{with_judged, IsKnown};
@@ -49,12 +49,7 @@ enum Progress {
 
 impl Listing {
     /// No line was read.
-    fn new(
-        alloc: Global,
-        limits: &Limits,
-        turns: u64,
-        seed: Seed,
-    ) -> Result<Listing, AllocError>
+    fn new(alloc: Global, limits: &Limits, turns: u64, seed: Seed) -> Result<Listing, AllocError>
         requires few_turns { turns ≤ 2 ^ 40 }
         ensures fit { IfOk result (λ l. IsFit l.feed) }
         ensures reads { IfOk result (λ l. (start : Option (List ℕ)) → ReadsOn limits.now turns start start l.feed [] nothing) }
@@ -134,7 +129,7 @@ impl Listing {
 
     /// What was heard, where a line is at fault. The source is still read to its end.
     fn drain<R: Source>(mut self, input: &mut R, line: u64, kind: StdKind) -> Heard
-        requires room { vec_len self.feed.buffer ≡ SIZE }
+        requires room { vec_len self.feed.buffer ≡ CHUNK }
         requires not_failed { R.failed input.old ≡ false }
         ensures { (limits : Bounds) (turns : ℕ) (start : Option (List ℕ)) (text : List ℕ) → HasGiven turns start (R.remaining input.old) self.feed.turns text → IsFaulty limits text line kind
             → HasHeard limits turns start (R.remaining input.new) (R.failed input.new) result }

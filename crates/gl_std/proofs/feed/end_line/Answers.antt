@@ -1,10 +1,8 @@
-use Rattle.std.proofs.Common.{◌≡◌, ◌++◌, ◌∷◌, ℕ, List, [], length, take, Ok, Err, refl, sym, ap, ◌∙◌, arith}
+use Rattle.std.proofs.Common.{◌≡◌, ◌++◌, length, take, Err, sym, ap, ◌∙◌, arith}
 use Rattle.std.proofs.lemmas.Bool.Decides.{nat_tests}
 use Rattle.std.proofs.lemmas.Grind.{common_steps}
 use Rattle.std.proofs.lemmas.List.{take-take}
-use Rattle.gl_std.specs.Judging.{HasJudged, with_judged}
-use Rattle.gl_std.specs.Feeding.{Reaches}
-use Rattle.gl_std.specs.Lines.{LF, without_cr}
+use Rattle.gl_std.specs.Lines.{without_cr}
 use Rattle.gl_std.specs.Trace.{after_line}
 use Rattle.gl_std.specs.declared.faults.ReadFault.TheVariants.{Line}
 use Rattle.gl_std.specs.declared.feed.TheConstants.{KEPT}

@@ -1,4 +1,4 @@
-use Rattle.std.proofs.Common.{◌≡◌, ◌+◌, ◌-◌, ◌≤◌, length, vec_len, arith}
+use Rattle.std.proofs.Common.{◌≡◌, ◌+◌, ◌-◌, ◌≤◌, length, arith}
 use Rattle.gl_std.specs.declared.feed.TheConstants.{KEPT}
 use Rattle.gl_std.proofs.FeedLemmas.{kept_all, kept_front}
 use Rattle.gl_std.proofs.feed.keep.Goals as goal

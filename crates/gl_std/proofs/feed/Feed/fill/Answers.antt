@@ -1,4 +1,4 @@
-use Rattle.std.proofs.Common.{◌≡◌, ◌≤◌, ◌++◌, length, take, drop, refl, sym, ap, subst, ◌∙◌, arith}
+use Rattle.std.proofs.Common.{◌≡◌, length, take, refl, sym, ap, ◌∙◌, arith}
 use Rattle.std.proofs.lemmas.List.{length-take-le, with_items_is}
 use Rattle.gl_io.specs.declared.source.TheConstants.{CHUNK}
 use Rattle.gl_std.proofs.FeedLemmas.{filled_by}

@@ -1,6 +1,5 @@
-use Rattle.std.proofs.Common.{◌≡◌, ◌≢◌, [], length, Ok, Err, sym, ap, ◌∙◌, arith}
+use Rattle.std.proofs.Common.{◌≡◌, ◌≢◌, length, arith}
 use Rattle.std.proofs.lemmas.Bool.Decides.{nat_tests}
-use Rattle.std.specs.Prelude.{IfOk}
 use Rattle.gl_std.proofs.FeedLemmas.{whole_over, last_over, last_result, last_judged}
 use Rattle.gl_std.proofs.PieceLemmas.{nil_of, some_of}
 use Rattle.gl_std.proofs.feed.Feed.last.Goals as goal

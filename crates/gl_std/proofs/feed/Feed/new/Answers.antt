@@ -1,4 +1,4 @@
-use Rattle.std.proofs.Common.{◌≡◌, [], refl, sym, ap, ◌∙◌}
+use Rattle.std.proofs.Common.{refl}
 use Rattle.gl_std.proofs.FeedLemmas.{begun}
 use Rattle.gl_std.proofs.feed.Feed.new.Goals as goal
 

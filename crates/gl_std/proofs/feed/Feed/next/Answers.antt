@@ -1,4 +1,4 @@
-use Rattle.std.proofs.Common.{◌≡◌, Ok, sym, ◌∙◌}
+use Rattle.std.proofs.Common.{sym, ◌∙◌}
 use Rattle.gl_std.proofs.FeedLemmas.{stepped_here, steps_after}
 use Rattle.gl_std.proofs.feed.Feed.next.Goals as goal
 

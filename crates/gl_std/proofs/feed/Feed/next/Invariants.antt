@@ -1,4 +1,4 @@
-use Rattle.std.proofs.Common.{◌≡◌, false, Bool, List, ℕ, Option, Ok}
+use Rattle.std.proofs.Common.{◌≡◌, false, List, ℕ, Option, Ok}
 use Rattle.gl_event.specs.Bounds.{Bounds}
 use Rattle.gl_std.specs.Feeding.{fuel, IsFit, ReadsOn, Steps}
 use Rattle.gl_std.specs.declared.trace.Trace.{Trace}

@@ -1,4 +1,4 @@
-use Rattle.std.proofs.Common.{◌≡◌, ℕ, List, [], Ok, Err, refl, sym, ap, subst, ◌∙◌, arith}
+use Rattle.std.proofs.Common.{ℕ, List, [], Err, sym, ap, subst, ◌∙◌}
 use Rattle.gl_std.specs.Feeding.{HasGiven, IsAt}
 use Rattle.gl_std.specs.Judging.{with_judged}
 use Rattle.gl_std.specs.declared.trace.Trace.{Trace}
@@ -27,9 +27,10 @@ pub returns-in-Err-Line-clause-steps : goal.returns-in-Err-Line-clause-steps
 returns-in-Err-Line-clause-steps g c = λ limits turns start text told is.
     let old = c.args.self.now in
     let faulty = c.take_line.ensures.fault c.in-Err-Line.line c.in-Err-Line.kind (c.in-Err-Line.is ∙ ap (λ e. Err e) c.in-Err-Line.field-0-is) text told is.at in
-    stepped_here limits turns start _ _ c.take_line.new.self text told _
-    (subst (λ left. HasGiven turns start (g.R.Source.remaining c.args.input.now) left text) (sym c.take_line.ensures.same_turns) is.given,
-    subst (λ l. IsFaulty l text c.in-Err-Line.line c.in-Err-Line.kind) is.same faulty)
+    stepped_here limits turns start _ _ c.take_line.new.self text told _ (
+      subst (λ left. HasGiven turns start (g.R.Source.remaining c.args.input.now) left text) (sym c.take_line.ensures.same_turns) is.given,
+      subst (λ l. IsFaulty l text c.in-Err-Line.line c.in-Err-Line.kind) is.same faulty,
+    )
 
 pub returns-in-Err-Memory-clause-steps : goal.returns-in-Err-Memory-clause-steps
 returns-in-Err-Memory-clause-steps g c = λ limits turns start text told is. record { piece = []; stepped = tt }

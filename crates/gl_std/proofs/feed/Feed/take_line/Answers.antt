@@ -1,6 +1,5 @@
-use Rattle.std.proofs.Common.{◌≡◌, ◌++◌, ◌∷◌, ◌+◌, ◌≤◌, ℕ, List, length, length-append, take, drop, min, Err, refl, sym, ap, subst, ◌∙◌, arith}
+use Rattle.std.proofs.Common.{◌≡◌, ◌++◌, take, drop, Err, ap, ◌∙◌, arith}
 use Rattle.std.proofs.lemmas.Grind.{common_steps}
-use Rattle.std.proofs.lemmas.List.{length-take-le, length-drop}
 use Rattle.gl_std.specs.Feeding.{left_of}
 use Rattle.gl_std.specs.Line.{cut_at}
 use Rattle.gl_std.specs.Lines.{LF}

@@ -1,4 +1,4 @@
-use Rattle.std.proofs.Common.{◌≡◌, Err, sym, ap, ◌∙◌, inr}
+use Rattle.std.proofs.Common.{Err, sym, ap, ◌∙◌, inr}
 use Rattle.gl_std.specs.Trace.{trace_of}
 use Rattle.gl_std.proofs.StreamLemmas.{last_told}
 use Rattle.gl_std.proofs.stream.Lines.finish.Goals as goal

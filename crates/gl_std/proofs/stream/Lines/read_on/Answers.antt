@@ -1,7 +1,6 @@
-use Rattle.std.proofs.Common.{◌≡◌, ◌++◌, true, Ok, Err, sym, subst}
+use Rattle.std.proofs.Common.{◌++◌, true, Ok, sym, subst}
 use Rattle.gl_io.specs.Reads.{HasRead}
 use Rattle.gl_std.specs.Feeding.{Steps}
-use Rattle.gl_std.specs.declared.feed.Step.TheVariants.{End}
 use Rattle.gl_std.proofs.StreamLemmas.{stopped, told_item}
 use Rattle.gl_std.proofs.stream.Lines.read_on.Goals as goal
 

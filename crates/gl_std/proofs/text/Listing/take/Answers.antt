@@ -1,4 +1,4 @@
-use Rattle.std.proofs.Common.{◌≡◌, ◌++◌, Ok, Err, refl, sym, ap, subst, ◌∙◌}
+use Rattle.std.proofs.Common.{◌++◌, Ok, Err, refl, sym, ap, subst, ◌∙◌}
 use Rattle.gl_std.specs.Feeding.{IsOver, Steps}
 use Rattle.gl_std.specs.Heard.{listed_by}
 use Rattle.gl_std.specs.declared.text.Listing.{Listing}
