@@ -19,7 +19,7 @@ use crate::recorded::{LiveStop, recorded};
 use gl_filters::Query;
 use gl_io::{Sink, Source, WriteFault, write_out};
 use gl_shards::{Gate, Open};
-use gl_std::{ReadFault, Trace, read_source};
+use gl_std::{ReadFault, Seed, Trace, read_source};
 use std::alloc::Global;
 use std::sync::Wait;
 use std::thread::Threads;
@@ -45,6 +45,7 @@ fn hear<I: Source>(
     alloc: Global,
     input: &mut I,
     turns: u64,
+    seed: Seed,
 ) -> Result<Result<Trace, ReadFault>, Ended>
     requires readable { I.failed input.old ≡ false }
     requires few_turns { turns ≤ 2 ^ 40 }
@@ -52,7 +53,7 @@ fn hear<I: Source>(
     ensures over { IfOk result (λ read. IfOk read (IsTraceOver greatest)) }
     ensures early { IfErr result (HasEndedEarly turns (I.remaining input.old) (I.remaining input.new) (I.failed input.new)) }
 {
-    let Ok(heard) = read_source(alloc, input, turns, &greatest_limits()) else {
+    let Ok(heard) = read_source(alloc, input, turns, &greatest_limits(), seed) else {
         return Err(Ended::Memory);
     };
     if heard.is_whole {
@@ -119,6 +120,7 @@ pub fn predict<R: AllocGlobal + Threads + Sync, I: Source, O: Sink>(
     input: &mut I,
     output: &mut O,
     turns: u64,
+    seed: Seed,
     query: &Query,
     form: Form,
 ) -> Ended
@@ -128,7 +130,7 @@ pub fn predict<R: AllocGlobal + Threads + Sync, I: Source, O: Sink>(
     ensures { HasEnded (IsAnswer (prediction query.now form)) turns (I.remaining input.old) (I.remaining input.new) (I.failed input.new) (O.contents output.old) (O.contents output.new) (O.failed output.new) result }
 {
     let alloc = rt.alloc();
-    match hear(alloc, input, turns) {
+    match hear(alloc, input, turns, seed) {
         Ok(read) => end(output, predicted(rt, alloc, read, query, form)),
         Err(ended) => ended,
     }
@@ -148,6 +150,7 @@ pub fn live<R: AllocGlobal + Threads + Wait + Sync, I: Source, O: Sink>(
     input: &mut I,
     output: &mut O,
     turns: u64,
+    seed: Seed,
     options: &LiveOptions,
 ) -> Ended
     requires readable { I.failed input.old ≡ false }
@@ -156,7 +159,7 @@ pub fn live<R: AllocGlobal + Threads + Wait + Sync, I: Source, O: Sink>(
     requires session { AreOfSession options.now }
     ensures { HasEndedLive (IsAnswer (prediction options.now.query options.now.form)) turns (I.remaining input.old) (I.remaining input.new) (I.failed input.new) (O.contents output.old) (O.contents output.new) (O.failed output.new) result }
 {
-    live_gated(rt, input, output, turns, options, &Open)
+    live_gated(rt, input, output, turns, seed, options, &Open)
 }
 
 /// As [`live`], with a gate that each worker passes before it keeps an edge.
@@ -165,6 +168,7 @@ pub fn live_gated<R: AllocGlobal + Threads + Wait + Sync, I: Source, O: Sink, G:
     input: &mut I,
     output: &mut O,
     turns: u64,
+    seed: Seed,
     options: &LiveOptions,
     gate: &G,
 ) -> Ended
@@ -175,7 +179,7 @@ pub fn live_gated<R: AllocGlobal + Threads + Wait + Sync, I: Source, O: Sink, G:
     ensures { HasEndedLive (IsAnswer (prediction options.now.query options.now.form)) turns (I.remaining input.old) (I.remaining input.new) (I.failed input.new) (O.contents output.old) (O.contents output.new) (O.failed output.new) result }
 {
     let alloc = rt.alloc();
-    match hear(alloc, input, turns) {
+    match hear(alloc, input, turns, seed) {
         Ok(read) => end_live(output, recorded(rt, alloc, read, options, gate)),
         Err(ended) => ended,
     }
@@ -189,6 +193,7 @@ pub fn stats<R: AllocGlobal + Threads + Sync, I: Source, O: Sink>(
     input: &mut I,
     output: &mut O,
     turns: u64,
+    seed: Seed,
     query: &Query,
 ) -> Ended
     requires readable { I.failed input.old ≡ false }
@@ -197,7 +202,7 @@ pub fn stats<R: AllocGlobal + Threads + Sync, I: Source, O: Sink>(
     ensures { HasEnded (IsAnswer (counts query.now)) turns (I.remaining input.old) (I.remaining input.new) (I.failed input.new) (O.contents output.old) (O.contents output.new) (O.failed output.new) result }
 {
     let alloc = rt.alloc();
-    match hear(alloc, input, turns) {
+    match hear(alloc, input, turns, seed) {
         Ok(read) => end(output, counted(rt, alloc, read, query)),
         Err(ended) => ended,
     }
@@ -212,6 +217,7 @@ pub fn replay<R: AllocGlobal, I: Source, O: Sink>(
     input: &mut I,
     output: &mut O,
     turns: u64,
+    seed: Seed,
 ) -> Ended
     requires readable { I.failed input.old ≡ false }
     requires writable { O.failed output.old ≡ false }
@@ -219,18 +225,19 @@ pub fn replay<R: AllocGlobal, I: Source, O: Sink>(
     ensures { HasEnded (IsPlainAnswer replay) turns (I.remaining input.old) (I.remaining input.new) (I.failed input.new) (O.contents output.old) (O.contents output.new) (O.failed output.new) result }
 {
     let alloc = rt.alloc();
-    match hear(alloc, input, turns) {
+    match hear(alloc, input, turns, seed) {
         Ok(read) => end(output, replayed(alloc, read)),
         Err(ended) => ended,
     }
 }
 
 /// Does what the words of the command line ask for, from the input to the output, in at most
-/// 1,000,000,000 reads.
+/// 1,000,000,000 reads. The seed is that of the names' hash: no answer depends on it.
 pub fn perform<R: AllocGlobal + Threads + Wait + Sync, I: Source, O: Sink>(
     rt: &R,
     input: &mut I,
     output: &mut O,
+    seed: Seed,
     command: &Command,
 ) -> Ended
     requires readable { I.failed input.old ≡ false }
@@ -239,9 +246,9 @@ pub fn perform<R: AllocGlobal + Threads + Wait + Sync, I: Source, O: Sink>(
     ensures { HasPerformed command.now 1000000000 (I.remaining input.old) (I.remaining input.new) (I.failed input.new) (O.contents output.old) (O.contents output.new) (O.failed output.new) result }
 {
     match command {
-        Command::Predict { query, form } => predict(rt, input, output, TURNS, query, *form),
-        Command::Live(options) => live(rt, input, output, TURNS, options),
-        Command::Stats { query } => stats(rt, input, output, TURNS, query),
-        Command::Replay => replay(rt, input, output, TURNS),
+        Command::Predict { query, form } => predict(rt, input, output, TURNS, seed, query, *form),
+        Command::Live(options) => live(rt, input, output, TURNS, seed, options),
+        Command::Stats { query } => stats(rt, input, output, TURNS, seed, query),
+        Command::Replay => replay(rt, input, output, TURNS, seed),
     }
 }

@@ -9,6 +9,7 @@ ghost use Rattle.goodlock.specs.Sessions.{CanRun};
 use commands::perform;
 use ended::Ended;
 use gl_io::FromStd;
+use gl_std::Seed;
 use options::{Command, Usage, parse};
 use std::env;
 use std::io::{ErrorKind, Write};
@@ -71,8 +72,8 @@ fn words(rt: &HostRuntime) -> Result<Vec<String>, Usage> {
     }
 }
 
-// Does what the words ask for, from standard input to standard output. Threads are started with the
-// second handle.
+// Does what the words ask for, from standard input to standard output. Where no seed can be drawn for
+// the names, the input isn't read. Threads are started with the second handle.
 fn run<T: AllocGlobal + Threads + Wait + Sync>(
     rt: &HostRuntime,
     threads: &T,
@@ -82,7 +83,10 @@ fn run<T: AllocGlobal + Threads + Wait + Sync>(
 {
     let mut input = FromStd::new(rt.stdin());
     let mut output = FromStd::new(rt.stdout());
-    let ended = perform(threads, &mut input, &mut output, command);
+    let ended = match Seed::random(rt) {
+        Ok(seed) => perform(threads, &mut input, &mut output, seed, command),
+        Err(_) => Ended::ReadFailed,
+    };
     let (line, status) = said(&ended);
     let _ = rt.stderr().write_all(line);
     ExitCode::from(status)
