@@ -598,9 +598,8 @@ fn expect_items(rt: &impl Abort, lines: &mut Lines<Pieces<'_>>, items: &[Item])
     requires { CanBeAsked lines.old (source_of lines.old).is_failed }
     ensures { CanBeAsked lines.new (source_of lines.new).is_failed }
 {
-    if let Some((first, rest)) = items.split_first() {
-        expect_next(rt, lines, &Ok(*first));
-        expect_items(rt, lines, rest);
+    for item in items {
+        expect_next(rt, lines, &Ok(*item));
     }
 }
 
