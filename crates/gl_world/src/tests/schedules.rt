@@ -2,8 +2,8 @@
 ghost use Rattle.std.specs.Prelude.{◌≡◌, length, IfOk};
 
 use super::{
-    acquire, again, does, end, ended, happened, join, misplaced, opposite_order, pull, pulled,
-    release, take, two_lists,
+    acquire, again, does, end, ended, goes, happened, join, misplaced, opposite_order, pull,
+    pulled, release, take, two_lists,
 };
 use crate::{Did, Step, World};
 use gl_cycles::{Report, ReportFault};
@@ -207,11 +207,6 @@ fn has_no_report(world: &World) -> bool {
         Ok(query) => is_loop_of_joins(&world.report(&query)),
         Err(_) => false,
     }
-}
-
-// Makes the steps. Whether all were made.
-fn goes(world: &mut World, steps: &[Step]) -> bool {
-    world.run(steps) == Ok(())
 }
 
 // Two threads that wait for each other's end have no report once both joins are collected.

@@ -1,7 +1,7 @@
 //! Edges on their way to the shards' tables.
 ghost use Rattle.std.specs.Prelude.{◌≤◌, length};
 
-use super::{acquire, does, end, one_list, pull, pulled, release, take};
+use super::{acquire, does, end, goes, one_list, pull, pulled, release, take};
 use crate::{Did, Step, World};
 use gl_event::Limits;
 use std::test::Fail;
@@ -69,15 +69,12 @@ fn tables_of_shards(rt: HostRuntime) -> Result<(), Fail> {
         Step::Ship,
         Step::Work(0),
     ];
-    assert_eq!(rt; world.run(steps.as_slice()), Ok(()));
+    assert!(rt; goes(&mut world, &steps));
     assert_eq!(rt; sizes(&world), (1, 0));
-    assert_eq!(rt;
-        world.run([Step::Work(1), Step::Work(0)].as_slice()),
-        Ok(())
-    );
+    assert!(rt; goes(&mut world, &[Step::Work(1), Step::Work(0)]));
     assert_eq!(rt; sizes(&world), (2, 1));
     assert!(rt; !world.drained());
-    assert_eq!(rt; world.run([end(0), pull(0)].as_slice()), Ok(()));
+    assert!(rt; goes(&mut world, &[end(0), pull(0)]));
     assert!(rt; world.drained());
     Ok(())
 }
