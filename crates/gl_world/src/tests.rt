@@ -124,3 +124,10 @@ fn does(world: &mut World, steps: &[(Step, Did)]) -> bool {
     }
     true
 }
+
+// Makes the steps in turn. Whether none wanted memory that isn't there.
+fn goes(world: &mut World, steps: &[Step]) -> bool
+    ensures { length world.new.dispatch.shards ≡ length world.old.dispatch.shards }
+{
+    world.run(steps) == Ok(())
+}

@@ -4,7 +4,7 @@ ghost use Rattle.gl_shards.specs.Feeds.{Sending};
 ghost use Rattle.gl_engine.specs.Gathering.{AreOurs};
 ghost use Rattle.gl_engine.specs.Recording.{Closed, Recording};
 
-use super::{acquire, cycles};
+use super::acquire;
 use crate::{Collector, Gathered, Receipt, Recorder, SettleFault, Settled, open};
 use gl_event::{Event, Limits, Memory};
 use gl_filters::{Mode, Query};
@@ -128,12 +128,14 @@ fn settled_alone<R: Wait>(
     Some((settled, table))
 }
 
-// A session of one thread that has recorded nothing, run with one worker.
-fn nothing_recorded<R: Wait>(
+// A session of one thread that has recorded these few events, run with one worker whose feed has room
+// for all that is sent.
+fn gathered_alone<R: Wait>(
     rt: &R,
     alloc: Global,
     session: u64,
     limits: &Limits,
+    events: &[Event],
 ) -> Result<Option<(Receipt, Gathered, Inlet)>, Memory>
     requires one { limits.now.threads ≡ 1 }
     ensures sessions { IfOk result (λ done. IfSome done (λ d. (d.0.session ≡ session) × (d.1.session ≡ session))) }
@@ -141,10 +143,10 @@ fn nothing_recorded<R: Wait>(
     ensures lane { IfOk result (λ done. IfSome done (λ d. d.1.lanes ≡ d.0.lane ∷ [])) }
     ensures feed { IfOk result (λ done. IfSome done (λ d. d.1.fault ≡ None → map (λ s. s.feed) d.1.sent ≡ d.2.feed ∷ [])) }
 {
-    let Some((receipt, collector)) = recorded_alone(alloc, session, limits, &[])? else {
+    let Some((receipt, collector)) = recorded_alone(alloc, session, limits, events)? else {
         return Ok(None);
     };
-    let (outlet, inlet) = feed(alloc, 1)?;
+    let (outlet, inlet) = feed(alloc, 8)?;
     let gathered = run_alone(rt, alloc, collector, outlet)?;
     Ok(Some((receipt, gathered, inlet)))
 }
@@ -169,16 +171,21 @@ fn worker_gone<R: Wait>(
     Ok(Some((receipt, gathered)))
 }
 
-// How many cycles are reported over the table of the only worker, and whether there are more.
-fn reported_cycles<R: Threads + Sync>(
+// How many edges and cycles are reported over this one table, and whether there are more cycles.
+fn counts_over<R: Threads + Sync>(
     rt: &R,
     alloc: Global,
     settled: &Settled,
     table: Table,
-) -> Option<(usize, bool)> {
+) -> Option<(usize, usize, bool)> {
     let query = Query::new(Mode::Full, 4, 1_000).ok()?;
     let tables = vec![in alloc; table].ok()?;
-    cycles(&settled.report(rt, tables, &query))
+    let report = settled.report(rt, tables, &query).ok()?;
+    Some((
+        report.edges.entries().len(),
+        report.found.cycles.as_slice().len(),
+        report.found.more,
+    ))
 }
 
 // A receipt of another session is strange.
@@ -187,8 +194,8 @@ fn reported_cycles<R: Threads + Sync>(
 fn foreign_receipt(rt: HostRuntime) -> Result<(), Fail> {
     let alloc = rt.alloc();
     let limits = Limits::new(1, 8, 100, 100)?;
-    let (_, gathered, _) = nothing_recorded(&rt, alloc, 7, &limits)?.expect(&rt, "a session");
-    let (foreign, _, _) = nothing_recorded(&rt, alloc, 8, &limits)?.expect(&rt, "a session");
+    let (_, gathered, _) = gathered_alone(&rt, alloc, 7, &limits, &[])?.expect(&rt, "a session");
+    let (foreign, _, _) = gathered_alone(&rt, alloc, 8, &limits, &[])?.expect(&rt, "a session");
     let mut receipts = vec![in alloc; foreign]?;
     let (at, _) = strange(gathered, receipts.as_mut_slice()).expect(&rt, "a strange one");
     assert_eq!(rt; at, 0);
@@ -201,7 +208,10 @@ fn foreign_receipt(rt: HostRuntime) -> Result<(), Fail> {
 fn settle_receipts(rt: HostRuntime) -> Result<(), Fail> {
     let alloc = rt.alloc();
     let limits = Limits::new(1, 8, 100, 100)?;
-    let (own, gathered, inlet) = nothing_recorded(&rt, alloc, 7, &limits)?.expect(&rt, "a session");
+    let (own, gathered, inlet) = gathered_alone(&rt, alloc, 7, &limits, &[])?.expect(
+        &rt,
+        "a session",
+    );
     let gathered = missing(alloc, gathered).expect(&rt, "no receipt");
     let mut own = vec![in alloc; own]?;
     let (settled, table) = settled_alone(&rt, alloc, gathered, own.as_mut_slice(), inlet).expect(
@@ -211,8 +221,33 @@ fn settle_receipts(rt: HostRuntime) -> Result<(), Fail> {
     assert_eq!(rt; table.len(), 0);
     assert_eq!(rt; settled.lists().len(), 1);
     assert_eq!(rt;
-        reported_cycles(&rt, alloc, &settled, table),
-        Some((0, false))
+        counts_over(&rt, alloc, &settled, table),
+        Some((0, 0, false))
+    );
+    Ok(())
+}
+
+// A report has the edges of the tables that it is given, and no others.
+#[test]
+#[tactic(auto, using(crate::proofs::Alone::one_ours))]
+fn empty_tables(rt: HostRuntime) -> Result<(), Fail> {
+    let alloc = rt.alloc();
+    let limits = Limits::new(1, 8, 100, 100)?;
+    let events = [acquire(0, 1), acquire(1, 2)];
+    let (own, gathered, inlet) = gathered_alone(&rt, alloc, 7, &limits, &events)?.expect(
+        &rt,
+        "a session",
+    );
+    let mut own = vec![in alloc; own]?;
+    let (settled, table) = settled_alone(&rt, alloc, gathered, own.as_mut_slice(), inlet).expect(
+        &rt,
+        "the receipt is that of the thread",
+    );
+    let over_none = counts_over(&rt, alloc, &settled, Table::new(alloc));
+    assert_eq!(rt; over_none, Some((0, 0, false)));
+    assert_eq!(rt;
+        counts_over(&rt, alloc, &settled, table),
+        Some((1, 0, false))
     );
     Ok(())
 }

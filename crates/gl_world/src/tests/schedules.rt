@@ -1,14 +1,17 @@
 //! Worlds that are drained, and their reports.
+ghost use Rattle.std.specs.Prelude.{◌≡◌, length, IfOk};
+
 use super::{
-    acquire, again, does, end, ended, happened, join, misplaced, opposite_order, pull, pulled,
-    release, take, two_lists,
+    acquire, again, does, end, ended, goes, happened, join, misplaced, opposite_order, pull,
+    pulled, release, take, two_lists,
 };
 use crate::{Did, Step, World};
 use gl_cycles::{Report, ReportFault};
 use gl_edges::{Edge, Sample};
-use gl_event::{Limits, Note, Segment};
+use gl_event::{Event, Limits, Note, Segment};
 use gl_filters::{Mode, Query};
 use gl_intake::Accepted;
+use std::alloc::{AllocError, Global};
 use std::test::Fail;
 
 // The edges and the cycle of two threads that take two locks in opposite orders.
@@ -125,15 +128,15 @@ fn goes_in_turn(world: &mut World) -> bool {
     does(world, &turn_by_turn()) && world.stream() == collected_in_turn().as_slice()
 }
 
-// Whether the steps of one thread after the other are all made.
-fn goes_at_once(world: &mut World) -> bool {
-    world.run(&one_after_the_other()) == Ok(())
-}
-
 // Whether the world's report has the edges and the cycle of opposite orders.
-fn reports_opposite_order(world: &World) -> Result<bool, Fail> {
-    let report = world.report(&Query::new(Mode::Full, 4, 1_000)?)?;
-    Ok(is_opposite_order(&report))
+fn reports_opposite_order(world: &World) -> bool {
+    let Ok(query) = Query::new(Mode::Full, 4, 1_000) else {
+        return false;
+    };
+    match world.report(&query) {
+        Ok(report) => is_opposite_order(&report),
+        Err(_) => false,
+    }
 }
 
 // Two drained worlds in which the threads take the same, by different steps, rings and shards, have one
@@ -145,7 +148,7 @@ fn two_schedules_in_turn(rt: HostRuntime) -> Result<(), Fail> {
     let mut world = World::new(alloc, &limits, 3, opposite_order(alloc)?)?;
     assert!(rt; goes_in_turn(&mut world));
     assert!(rt; world.drained());
-    assert!(rt; reports_opposite_order(&world)?);
+    assert!(rt; reports_opposite_order(&world));
     Ok(())
 }
 
@@ -156,11 +159,11 @@ fn two_schedules_at_once(rt: HostRuntime) -> Result<(), Fail> {
     let alloc = rt.alloc();
     let limits = Limits::new(2, 8, 100, 100)?;
     let mut world = World::new(alloc, &limits, 1, opposite_order(alloc)?)?;
-    assert!(rt; goes_at_once(&mut world));
+    assert!(rt; goes(&mut world, &one_after_the_other()));
     assert!(rt; !world.drained());
     assert_eq!(rt; world.step(Step::Work(0)), Ok(Did::Worked));
     assert!(rt; world.drained());
-    assert!(rt; reports_opposite_order(&world)?);
+    assert!(rt; reports_opposite_order(&world));
     Ok(())
 }
 
@@ -181,21 +184,42 @@ fn is_loop_of_joins(answer: &Result<Report, ReportFault>) -> bool {
     }
 }
 
-// Two threads that wait for each other's end have no report, drained or not.
+// Two threads that wait for each other's end.
+fn crossed_joins(alloc: Global) -> Result<Vec<Vec<Event>>, AllocError>
+    ensures { IfOk result (λ wishes. length wishes.items ≡ 2) }
+{
+    let first = vec![in alloc; join(1, 1)]?;
+    let second = vec![in alloc; join(0, 2)]?;
+    two_lists(alloc, first, second)
+}
+
+// Whether there is a report of what was collected.
+fn has_report(world: &World) -> bool {
+    match Query::new(Mode::Full, 4, 1_000) {
+        Ok(query) => world.report(&query).is_ok(),
+        Err(_) => false,
+    }
+}
+
+// Whether there is none, for the loop of the two joins.
+fn has_no_report(world: &World) -> bool {
+    match Query::new(Mode::Full, 4, 1_000) {
+        Ok(query) => is_loop_of_joins(&world.report(&query)),
+        Err(_) => false,
+    }
+}
+
+// Two threads that wait for each other's end have no report once both joins are collected.
 #[test]
 fn join_loop(rt: HostRuntime) -> Result<(), Fail> {
     let alloc = rt.alloc();
-    let first = vec![in alloc; join(1, 1)]?;
-    let second = vec![in alloc; join(0, 2)]?;
-    let wishes = two_lists(alloc, first, second)?;
-    let mut world = World::new(alloc, &Limits::new(2, 8, 100, 100)?, 1, wishes)?;
+    let limits = Limits::new(2, 8, 100, 100)?;
+    let mut world = World::new(alloc, &limits, 1, crossed_joins(alloc)?)?;
     let steps = [take(0), take(1), end(0), end(1), pull(0), pull(0)];
-    assert_eq!(rt; world.run(steps.as_slice()), Ok(()));
-    let query = Query::new(Mode::Full, 4, 1_000)?;
-    assert!(rt; world.report(&query).is_ok());
-    assert_eq!(rt; world.run([pull(1), pull(1)].as_slice()), Ok(()));
+    assert!(rt; goes(&mut world, &steps));
+    assert!(rt; has_report(&world));
+    assert!(rt; goes(&mut world, &[pull(1), pull(1)]));
     assert!(rt; world.drained());
-    let answer = world.report(&query);
-    assert!(rt; is_loop_of_joins(&answer));
+    assert!(rt; has_no_report(&world));
     Ok(())
 }

@@ -1,5 +1,7 @@
 //! Edges on their way to the shards' tables.
-use super::{acquire, does, end, one_list, pull, pulled, release, take};
+ghost use Rattle.std.specs.Prelude.{◌≤◌, length};
+
+use super::{acquire, does, end, goes, one_list, pull, pulled, release, take};
 use crate::{Did, Step, World};
 use gl_event::Limits;
 use std::test::Fail;
@@ -37,6 +39,13 @@ fn two_shards(rt: HostRuntime) -> Result<(), Fail> {
     Ok(())
 }
 
+// How many edges the two tables have.
+fn sizes(world: &World) -> (usize, usize)
+    requires { 2 ≤ length world.now.dispatch.shards }
+{
+    (world.table(0).len(), world.table(1).len())
+}
+
 // What the tables have, once their workers put it in.
 #[test]
 fn tables_of_shards(rt: HostRuntime) -> Result<(), Fail> {
@@ -60,17 +69,12 @@ fn tables_of_shards(rt: HostRuntime) -> Result<(), Fail> {
         Step::Ship,
         Step::Work(0),
     ];
-    assert_eq!(rt; world.run(steps.as_slice()), Ok(()));
-    assert!(rt; world.table(0).len() == 1);
-    assert!(rt; world.table(1).len() == 0);
-    assert_eq!(rt;
-        world.run([Step::Work(1), Step::Work(0)].as_slice()),
-        Ok(())
-    );
-    assert!(rt; world.table(0).len() == 2);
-    assert!(rt; world.table(1).len() == 1);
+    assert!(rt; goes(&mut world, &steps));
+    assert_eq!(rt; sizes(&world), (1, 0));
+    assert!(rt; goes(&mut world, &[Step::Work(1), Step::Work(0)]));
+    assert_eq!(rt; sizes(&world), (2, 1));
     assert!(rt; !world.drained());
-    assert_eq!(rt; world.run([end(0), pull(0)].as_slice()), Ok(()));
+    assert!(rt; goes(&mut world, &[end(0), pull(0)]));
     assert!(rt; world.drained());
     Ok(())
 }
