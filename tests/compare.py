@@ -603,10 +603,10 @@ def by_reference(words, text):
     query = reference.Query(values.get("--mode", "full"), int(values.get("--len", 4)), int(values.get("--max", 1000)))
     if "--stream" in options:
         query.threads = int(values.get("--threads", STREAM_THREADS))
-    return reference.answer(word, text, query, "--json" in options)
+    return reference.answer(word, text, query, 1 if "--json" in options else None)
 
 
-def asked(random_, command):
+def asked(random_, command, has_stream=True):
     """The command's words, with options of its own."""
     word, *flags = command.split()
     options = []
@@ -618,7 +618,8 @@ def asked(random_, command):
         options.append(["--recorders", random_.choice([1, 2, 3, 16])])
         options.append(["--shards", random_.choice([1, 2, 3, 16])])
         options.append(["--ring", random_.choice([1, 2, 7, 256, 65_536])])
-        options.append(["--threads", random_.choice([1, 2, 3, 5, 64, 1024])])
+        if has_stream:
+            options.append(["--threads", random_.choice([1, 2, 3, 5, 64, 1024])])
     chosen = [[flag] for flag in flags] + random_.sample(options, random_.randint(0, len(options)))
     random_.shuffle(chosen)
     return [word, *(str(part) for option in chosen for part in option)]
@@ -701,6 +702,7 @@ def main():
     known = {plain(words) for _, words, _, _ in worked_of_commands()} | {"predict"}
     if not known.issuperset(commands):
         parser.error(f"--commands knows {', '.join(sorted(known))}")
+    has_stream = any("--stream" in words for words in commands)  # then --threads is known, of every live
     tried = wrong = 0
     seen = {}
     by_command = {}
@@ -731,7 +733,7 @@ def main():
                 compare(f"{name}, mode {mode}", answers)
         for name, words, text, by_hand in worked_of_commands():
             answers = [("by hand", by_hand), ("reference", by_reference(words.split(), text))]
-            if plain(words) in commands:
+            if plain(words) in commands and (has_stream or "--threads" not in words):
                 answers.append(("program", run(command[:1] + words.split(), text)))
             compare(f"{name}, {words}", answers)
         for name, expected, got in unreadable(command):
@@ -765,7 +767,7 @@ def main():
         if commands:
             random_ = random.Random(f"{options.seed}/{number}/command")
             drawn = random_.choice(commands)
-            words = asked(random_, drawn)
+            words = asked(random_, drawn, has_stream)
             compare_case(number, text, command[:1] + words, lambda t: by_reference(words, t))
             by_command[drawn] = by_command.get(drawn, 0) + 1
         if wrong >= 10:

@@ -5,11 +5,11 @@ It counts over prefixes, follows chains of steps and selects among lists of edge
 cached or searched cleverly, so it is for small traces only.
 
     reference.py [predict|live|stats|replay] [--stage first|full] [--mode M] [--len L] [--max N] [--json]
-        [--skip-forks] < trace.std
+        [--format 1|2] [--skip-forks] < trace.std
 
-The command is predict unless it is given; `--json` is for predict and live. Stage `first` is mode basic, length 2,
-and forks and joins are skipped like any other operation; stage `full` (the default) is mode full, length 4. Both
-list at most 1,000 cycles.
+The command is predict unless it is given; `--json` is for predict and live, and `--format` says which form of JSON (1).
+Stage `first` is mode basic, length 2, and forks and joins are skipped like any other operation; stage `full` (the
+default) is mode full, length 4. Both list at most 1,000 cycles.
 """
 
 import json
@@ -267,6 +267,15 @@ def have_clashing_guards(edge, other):
     )
 
 
+def are_ordered(edge, other, before):
+    """Whether one of them is over before the other begins."""
+
+    def precedes(e, f):
+        return ((e.thread, e.second), (f.thread, f.first)) in before
+
+    return precedes(edge, other) or precedes(other, edge)
+
+
 def linked_lists(edges, size):
     """All lists of this many edges, of distinct held locks, in which each edge waits for the next one."""
     if size == 1:
@@ -293,11 +302,7 @@ def is_cycle(cycle, before, mode):
     pairs = [(e, f) for i, e in enumerate(cycle) for f in cycle[i + 1 :]]
     if mode in ("guarded", "full") and any(have_clashing_guards(e, f) for e, f in pairs):
         return False
-
-    def precedes(e, f):
-        return ((e.thread, e.second), (f.thread, f.first)) in before
-
-    if mode == "full" and any(precedes(e, f) or precedes(f, e) for e, f in pairs):
+    if mode == "full" and any(are_ordered(e, f, before) for e, f in pairs):
         return False
     return True
 
@@ -307,6 +312,35 @@ def cycles_of(edges, before, query):
     return sorted(c for c in candidates if is_cycle(c, before, query.mode))
 
 
+# --- Trimming ---------------------------------------------------------------------------------------
+
+
+def may_follow(other, edge, before, mode):
+    """Whether the other edge may come next after this one in a cycle of the mode."""
+    if not waits_for(edge, other) or edge.thread == other.thread:
+        return False
+    if mode in ("guarded", "full") and have_clashing_guards(edge, other):
+        return False
+    return not (mode == "full" and are_ordered(edge, other, before))
+
+
+def trimmed(edges, before, mode):
+    """The edges that go, in this order: each time the least one that none of the rest may follow, or that may follow
+    none of the rest. And those that stay."""
+    left, gone = sorted(edges), []
+    while True:
+        stuck = [
+            edge
+            for edge in left
+            if not any(may_follow(other, edge, before, mode) for other in left)
+            or not any(may_follow(edge, other, before, mode) for other in left)
+        ]
+        if not stuck:
+            return gone, left
+        gone.append(stuck[0])
+        left.remove(stuck[0])
+
+
 # --- The report -------------------------------------------------------------------------------------
 
 
@@ -314,6 +348,7 @@ class Report(typing.NamedTuple):
     edges: dict  # with their samples
     cycles: list  # those that are listed
     more: bool
+    before: set  # pairs of segments
 
 
 def report_of(trace, query):
@@ -324,7 +359,7 @@ def report_of(trace, query):
             raise Refused(b"inconsistent: %s.%d precedes itself" % (trace.threads[t], i))
     edges = edges_of(trace.lists)
     cycles = cycles_of(sorted(edges), before, query)
-    return Report(edges, cycles[: query.most], len(cycles) > query.most)
+    return Report(edges, cycles[: query.most], len(cycles) > query.most, before)
 
 
 def as_text(trace, report):
@@ -345,10 +380,15 @@ def escaped(name):
     return "".join(chr(byte) if 0x20 <= byte <= 0x7E and byte != 0x5C else "\\x%02x" % byte for byte in name)
 
 
-def as_json(trace, report, query):
+LETTERS = {EXCLUSIVE: "x", SHARED: "s"}
+
+
+def as_json(trace, report, query, form=1):
+    """Form 1 spells out the edges of each cycle; form 2 has all edges, with modes, and the cycles by their positions."""
+
     def edge_object(edge):
         place, held_location, wanted_location = report.edges[edge]
-        return {
+        told = {
             "first": edge.first,
             "guards": [escaped(trace.locks[lock]) for lock, _ in edge.guards],
             "held": escaped(trace.locks[edge.held]),
@@ -359,20 +399,33 @@ def as_json(trace, report, query):
             "wanted": escaped(trace.locks[edge.wanted]),
             "wanted_at": escaped(wanted_location),
         }
+        modes = {
+            "guard_modes": [LETTERS[mode] for _, mode in edge.guards],
+            "held_mode": LETTERS[edge.held_mode],
+            "wanted_mode": LETTERS[edge.wanted_mode],
+        }
+        return told if form == 1 else told | modes
 
-    cycles = [[edge_object(edge) for edge in cycle] for cycle in report.cycles]
     asked = {"len": query.length, "max": query.most, "mode": query.mode}
-    tree = {"cycles": cycles, "format": 1, "more": report.more, **asked}
+    tree = {"format": form, "more": report.more, **asked}
+    if form == 1:
+        tree["cycles"] = [[edge_object(edge) for edge in cycle] for cycle in report.cycles]
+    else:
+        table = sorted(report.edges)
+        gone, left = trimmed(table, report.before, query.mode)
+        tree["edges"] = [edge_object(edge) for edge in table]
+        tree["cycles"] = [[table.index(edge) for edge in cycle] for cycle in report.cycles]
+        tree["trim"] = None if left else [table.index(edge) for edge in gone]
     return json.dumps(tree, sort_keys=True, separators=(",", ":")).encode() + b"\n"
 
 
 # --- The commands -----------------------------------------------------------------------------------
 
 
-def predicted(text, query, is_json):
+def predicted(text, query, form):
     trace = trace_of(text, query)
     report = report_of(trace, query)
-    printed = as_json(trace, report, query) if is_json else as_text(trace, report)
+    printed = as_json(trace, report, query, form) if form else as_text(trace, report)
     return printed, b"", 1 if report.cycles else 0
 
 
@@ -409,10 +462,10 @@ def replayed(text, query, _):
 COMMANDS = {"predict": predicted, "live": predicted, "stats": counted, "replay": replayed}
 
 
-def answer(command, text, query, is_json=False):
-    """Standard output, standard error and exit status."""
+def answer(command, text, query, form=None):
+    """Standard output, standard error and exit status; the form of JSON, or nothing for plain text."""
     try:
-        return COMMANDS[command](text, query, is_json)
+        return COMMANDS[command](text, query, form)
     except Refused as refused:
         return b"", b"goodlock: %s\n" % refused.args[0], 2
 
@@ -431,6 +484,7 @@ def main():
     parser.add_argument("--len", type=int, dest="length")
     parser.add_argument("--max", type=int, dest="most")
     parser.add_argument("--json", action="store_true")
+    parser.add_argument("--format", type=int, choices=[1, 2], default=1)
     parser.add_argument("--skip-forks", action="store_true")
     options = parser.parse_args()
     stage = STAGES[options.stage]
@@ -440,7 +494,7 @@ def main():
         options.most or stage.most,
         stage.with_forks and not options.skip_forks,
     )
-    output, errors, status = answer(options.command, sys.stdin.buffer.read(), query, options.json)
+    output, errors, status = answer(options.command, sys.stdin.buffer.read(), query, options.format if options.json else None)
     sys.stdout.buffer.write(output)
     sys.stdout.flush()
     sys.stderr.buffer.write(errors)

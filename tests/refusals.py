@@ -55,6 +55,14 @@ COUNTS = {
     "join_loop": LOOP,
     "bad line": BAD_LINE,
 }
+# For `check` a line with a report stands before the trace.
+CHECKS = {
+    "opposite_order": (b"ok, cycles: 1\n", b"", 0),
+    "joined_before": (b"ok, cycles: 0\n", b"", 0),
+    "first_of_two_cycles": (b"ok, cycles: 2\n", b"", 0),
+    "join_loop": LOOP,
+    "bad line": BAD_LINE,
+}
 # These traces stand thread by thread already.
 LISTS = {name: (text, b"", 0) for name, text in TRACES.items()} | {"bad line": BAD_LINE}
 
@@ -67,10 +75,26 @@ ANSWERS = {
     "live --json": OBJECTS,
     "live --stream": TEXTS,
     "live --stream --json": OBJECTS,
+    "check": CHECKS,
 }
 
-# Words that are answered without any input, and the status; what they print is theirs.
-USAGE = {"--help": 0, "--version": 0, "predict --help": 0, "": 2, "predict --len 17": 2, "predict --mode Full": 2}
+# Words that are answered without any input, and the status; what they print is theirs. By the command that knows them.
+USAGE = {
+    "predict": {"--help": 0, "--version": 0, "predict --help": 0, "": 2, "predict --len 17": 2, "predict --mode Full": 2},
+    "stats": {"stats --json": 2},
+    "live": {"live --help": 0, "live --ring 0": 2, "live --ring 65537": 2, "live --shards 0": 2, "live --recorders 17": 2},
+    "live --stream": {"live --stream --threads 0": 2, "live --threads 1025": 2},
+    "check": {"check --help": 0, "check --json": 2},
+}
+
+
+def text_of(words, name):
+    """What the command reads for the trace of this name."""
+    if words != "check":
+        return TRACES[name]
+    reports = {name: answer[0] for name, answer in OBJECTS.items()}
+    return (reports[name] or compare.as_json()[0]) + TRACES[name]
+
 
 # --- Disturbed runs -------------------------------------------------------------------------------------
 
@@ -165,7 +189,8 @@ class Tests:
             count = 0
             for number, run in self.runner.sweep(words, text, "read", how, is_short):
                 read = text[: number - 1] if is_short else text if number > 1 else b""
-                right = ample if ample == BAD_LINE and read.count(b"\n") >= 2 else READ_FAILED
+                is_told = ample == BAD_LINE and read.count(b"\n") >= (3 if words == "check" else 2)
+                right = ample if is_told else READ_FAILED
                 self.check(f"{words}, {name}, read {how}{' short' * is_short} call {number}", [right], run)
                 is_input = set(run.refused) == {"0"}
                 self.check_that(f"{words}, {name}, read call {number}", is_input, "not of standard input")
@@ -259,8 +284,8 @@ def main():
         subprocess.run(["gcc", *flags, "-o", library, SOURCE, "-ldl"], check=True)
         tests = Tests(Runner(os.path.abspath(options.program), library))
         for words in commands:
-            for name, text in TRACES.items():
-                ample = ANSWERS[words][name]
+            for name in TRACES:
+                text, ample = text_of(words, name), ANSWERS[words][name]
                 before = tests.passed + tests.failed
                 tests.check(f"{words}, {name}", [ample], tests.runner.run(words, text))
                 tests.memory(words, name, text, ample)
@@ -268,9 +293,9 @@ def main():
                 tests.reads(words, name, text, ample)
                 tests.writes(words, name, text, ample)
                 print(f"{words}, {name}: {tests.passed + tests.failed - before} answers")
-            tests.ends(words, TRACES["opposite_order"], ANSWERS[words]["opposite_order"])
-        for words, status in USAGE.items():
-            tests.usage(words, status)
+            tests.ends(words, text_of(words, "opposite_order"), ANSWERS[words]["opposite_order"])
+            for usage, status in USAGE.get(words, {}).items():
+                tests.usage(usage, status)
     print(f"{tests.passed} passed, {tests.failed} failed")
     return 1 if tests.failed or tests.passed == 0 else 0
 

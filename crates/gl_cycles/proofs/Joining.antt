@@ -4,17 +4,19 @@ use Rattle.std.specs.Prelude.{IfOk, MatchResult}
 use Rattle.std.specs.List.{flat_map, range_with_len, AllZip}
 use Rattle.std.specs.declared.result.Result.{Result}
 use Rattle.std.specs.declared.result.Result.TheVariants.{Ok, Err}
-use Rattle.std.proofs.lemmas.List.{take-take, length-map}
+use Rattle.std.proofs.lemmas.List.{take-take, length-map, append_assoc, append-nil}
+use Rattle.std.proofs.lemmas.Grind.{flat_map-append}
 use Rattle.gl_segments.specs.Clocks.{is_before}
 use Rattle.gl_cycles.specs.declared.paths.Searcher.{Searcher}
 use Rattle.gl_cycles.specs.AllCycles.{edges_of_table, all_cycles}
 use Rattle.gl_cycles.specs.Blocks.{block, blocks_below}
 use Rattle.gl_cycles.specs.Searching.{first_from}
+use Rattle.rayon.specs.Shown.{run-append}
 use Rattle.gl_cycles.proofs.Lists.{take-take_append}
 use Rattle.gl_cycles.proofs.Growing.{all_from_roots}
 
 -- the first of joined lists, where only the first of the second one are known
-take_append-take : {X : Type 0} (n m : ℕ) (xs ys : List X) → n ≤ m → take n (xs ++ ys) ≡ take n (xs ++ take m ys)
+pub take_append-take : {X : Type 0} (n m : ℕ) (xs ys : List X) → n ≤ m → take n (xs ++ ys) ≡ take n (xs ++ take m ys)
 take_append-take n m [] ys le = sym (take-take n m ys le)
 take_append-take zero m (x ∷ xs) ys le = refl
 take_append-take (suc n) m (x ∷ xs) ys le = ap (λ l. x ∷ l) (take_append-take n m xs ys (omega arith))
@@ -57,3 +59,35 @@ pieces_are E view first (x ∷ roots) (y ∷ ys) all = (λ i. all.0 i ∷ pieces
 pub if_ok : {V E : Type 0} (r : Result V E) (P R : V → Type 0) (Q : E → Type 0) → MatchResult r P Q → ((v : V) → P v → R v) → IfOk r R
 if_ok (Ok v) P R Q is then = then v is
 if_ok (Err e) P R Q is then = tt
+
+-- what a run of numbers gives, and a run after it
+flat-runs : {Y : Type 0} (f : ℕ → List Y) (a n m : ℕ) → flat_map f (range_with_len a n) ++ flat_map f (range_with_len (a + n) m) ≡ flat_map f (range_with_len a (n + m))
+flat-runs f a n m = sym (flat_map-append f (range_with_len a n) (range_with_len (a + n) m)) ∙ ap (flat_map f) (run-append a n m)
+
+-- the first of what was there and of one run, and then of one more
+pub run_more : {Y : Type 0} (cap : ℕ) (f : ℕ → List Y) (old now : List Y) (a n m : ℕ) → now ≡ take cap (old ++ flat_map f (range_with_len a n))
+    → take cap (now ++ flat_map f (range_with_len (a + n) m)) ≡ take cap (old ++ flat_map f (range_with_len a (n + m)))
+run_more cap f old now a n m is =
+    let next = flat_map f (range_with_len (a + n) m) in
+    ap (λ l. take cap (l ++ next)) is ∙ take-take_append cap (old ++ flat_map f (range_with_len a n)) next
+    ∙ ap (take cap) (append_assoc old (flat_map f (range_with_len a n)) next ∙ ap (λ l. old ++ l) (flat-runs f a n m))
+
+-- and of one number more, of which only the first are known
+pub root_more : {Y : Type 0} (cap : ℕ) (f : ℕ → List Y) (old now new : List Y) (a k : ℕ) → a ≤ k → now ≡ take cap (old ++ flat_map (λ i. take cap (f i)) (range_with_len a (k - a)))
+    → new ≡ take cap (now ++ f k) → new ≡ take cap (old ++ flat_map (λ i. take cap (f i)) (range_with_len a (k + 1 - a)))
+root_more cap f old now new a k le is grown =
+    let here : a + (k - a) ≡ k = omega arith in
+    let more : k - a + 1 ≡ k + 1 - a = omega arith in
+    grown ∙ take_append-take cap cap now (f k) (omega arith)
+    ∙ ap (λ l. take cap (now ++ l)) (sym (append-nil (take cap (f k))) ∙ ap (λ i. flat_map (λ i. take cap (f i)) (range_with_len i 1)) (sym here))
+    ∙ run_more cap (λ i. take cap (f i)) old now a (k - a) 1 is
+    ∙ ap (λ n. take cap (old ++ flat_map (λ i. take cap (f i)) (range_with_len a n))) more
+
+-- a run after those from the start on
+pub runs_on : {Y : Type 0} (cap : ℕ) (f : ℕ → List Y) (now new : List Y) (n m : ℕ) → n ≤ m → now ≡ take cap (flat_map f (range_with_len 0 n)) → new ≡ take cap (now ++ flat_map f (range_with_len n (m - n)))
+    → new ≡ take cap (flat_map f (range_with_len 0 m))
+runs_on cap f now new n m le is grown =
+    let here : n ≡ 0 + n = omega arith in
+    let end : n + (m - n) ≡ m = omega arith in
+    grown ∙ ap (λ k. take cap (now ++ flat_map f (range_with_len k (m - n)))) here
+    ∙ run_more cap f [] now 0 n (m - n) is ∙ ap (λ k. take cap (flat_map f (range_with_len 0 k))) end

@@ -10,7 +10,9 @@ pub mod Uniqueness
 pub mod Level
 pub mod Off
 pub mod Back
+pub mod Watching
 pub mod Beside
+pub mod ByKinds
 pub mod Removing
 pub mod Surviving
 pub mod Joining

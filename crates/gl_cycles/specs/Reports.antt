@@ -1,5 +1,5 @@
 -- The report over edges: the first cycles that a query asks for, by the order of lists of events.
-use Rattle.std.specs.Prelude.{◌≡◌, ◌≢◌, Bool, List, length, take, nat_lt}
+use Rattle.std.specs.Prelude.{◌≡◌, Bool, List, length, take, nat_lt}
 use Rattle.gl_event.specs.declared.events.Event.{Event}
 use Rattle.gl_event.specs.declared.events.Segment.{Segment}
 use Rattle.gl_segments.specs.Laws.{DecidesBefore}

@@ -18,12 +18,15 @@
 //! in a fixed order. No edge of a cycle is among them, as [`cycles_survive_trims`] says.
 #![tactic(auto)]
 
+mod chains;
 mod closers;
 mod components;
 mod followers;
 mod found;
+mod kinds;
 mod laws;
 mod loops;
+mod models;
 mod neighbours;
 mod numbers;
 mod parallel;
@@ -33,6 +36,7 @@ mod reports;
 #[cfg(test)]
 mod tests;
 mod trims;
+mod watchers;
 mod ways;
 
 pub use found::{Cycles, Found, Report, ReportFault};
@@ -42,5 +46,5 @@ pub use laws::{
 };
 pub use parallel::search_parallel;
 pub use paths::search;
-pub use reports::report_over;
+pub use reports::{report_over, report_over_parallel};
 pub use trims::{Trimmed, trim};

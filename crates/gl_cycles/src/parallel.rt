@@ -1,5 +1,5 @@
 //! The search on several threads.
-ghost use Rattle.std.specs.Prelude.{◌≡◌, ◌↔◌, ◌<◌, ◌≤◌, ◌++◌, ◌∷◌, [], length, map, take, IfOk, OnOk, IsTrue};
+ghost use Rattle.std.specs.Prelude.{◌≡◌, ◌↔◌, ◌-◌, ◌<◌, ◌≤◌, ◌++◌, ◌∷◌, [], length, map, take, IfOk, OnOk, IsTrue};
 ghost use Rattle.std.specs.List.{flat_map, range_with_len};
 ghost use Rattle.gl_segments.specs.Clocks.{is_before};
 ghost use Rattle.gl_cycles.specs.AllCycles.{edges_of_table, all_cycles};
@@ -15,17 +15,23 @@ use rayon::prelude::*;
 use std::alloc::Global;
 use std::thread::Threads;
 
-// For each edge the first cycles that begin with it, up to the cap.
+// Up to how many edges are looked at in one thread: for so few, others don't pay.
+const ALONE: usize = 32;
+
+// For each edge from one position to another the first cycles that begin with it, up to the cap.
 fn cycles_of_roots(
     rt: &(impl Threads + Sync),
     alloc: Global,
     search: &Searcher<'_>,
+    from: usize,
+    to: usize,
 ) -> Result<Vec<Vec<Vec<usize>>>, Memory>
     requires some { 0 < search.now.len }
     requires ready { IsReady search.now }
-    ensures { IfOk result (λ pieces. map (λ piece. map (λ cycle. cycle.items) piece.items) pieces.items ≡ map (first_from search.now) (range_with_len 0 (length search.now.table.now))) }
+    requires within { to ≤ length search.now.table.now }
+    ensures { IfOk result (λ pieces. map (λ piece. map (λ cycle. cycle.items) piece.items) pieces.items ≡ map (first_from search.now) (range_with_len from (to - from))) }
 {
-    let found: Result<Vec<Vec<Vec<usize>>>, Memory> = (0..search.table.len())
+    let found: Result<Vec<Vec<Vec<usize>>>, Memory> = (from..to)
         .into_par_iter()
         .map(
             |root: usize| -> Result<Vec<Vec<usize>>, Memory>
@@ -72,21 +78,112 @@ fn add_cycles(
     Ok(())
 }
 
-// The cycles of the pieces, one piece after the other, up to the cap.
-fn joined(alloc: Global, pieces: &[Vec<Vec<usize>>], cap: usize) -> Result<Vec<Vec<usize>>, Memory>
-    ensures { IfOk result (λ found. map (λ cycle. cycle.items) found.items ≡ take cap (flat_map (λ piece. map (λ cycle. cycle.items) piece.items) pieces.now)) }
+// Adds the cycles of the pieces, one piece after the other, up to the cap.
+fn add_pieces(
+    alloc: Global,
+    found: &mut Vec<Vec<usize>>,
+    pieces: &[Vec<Vec<usize>>],
+    cap: usize,
+) -> Result<(), Memory>
+    requires { length found.old.items ≤ cap }
+    ensures { OnOk result (map (λ cycle. cycle.items) found.new.items ≡ take cap (map (λ cycle. cycle.items) found.old.items ++ flat_map (λ piece. map (λ cycle. cycle.items) piece.items) pieces.now)) }
 {
-    let mut found = Vec::new(alloc);
     for i in 0..pieces.len() {
-        add_cycles(alloc, &mut found, &pieces[i], cap)?;
+        add_cycles(alloc, found, &pieces[i], cap)?;
+    }
+    Ok(())
+}
+
+// Adds the cycles that begin with the edges from one position to another, up to the cap.
+fn add_roots(
+    rt: &(impl Threads + Sync),
+    alloc: Global,
+    search: &Searcher<'_>,
+    from: usize,
+    to: usize,
+    found: &mut Vec<Vec<usize>>,
+) -> Result<(), Memory>
+    requires some { 0 < search.now.len }
+    requires ready { IsReady search.now }
+    requires up { from ≤ to }
+    requires within { to ≤ length search.now.table.now }
+    requires room { length found.old.items ≤ search.now.cap }
+    ensures { OnOk result (map (λ cycle. cycle.items) found.new.items ≡ take search.now.cap (map (λ cycle. cycle.items) found.old.items ++ flat_map (first_from search.now) (range_with_len from (to - from)))) }
+{
+    if found.len() >= search.cap {
+        return Ok(());
+    }
+    if to <= ALONE {
+        return add_alone(alloc, search, from, to, found);
+    }
+    let pieces = cycles_of_roots(rt, alloc, search, from, to)?;
+    add_pieces(alloc, found, &pieces, search.cap)
+}
+
+// The same in one thread.
+fn add_alone(
+    alloc: Global,
+    search: &Searcher<'_>,
+    from: usize,
+    to: usize,
+    found: &mut Vec<Vec<usize>>,
+) -> Result<(), Memory>
+    requires some { 0 < search.now.len }
+    requires ready { IsReady search.now }
+    requires up { from ≤ to }
+    requires within { to ≤ length search.now.table.now }
+    requires room { length found.old.items ≤ search.now.cap }
+    ensures { OnOk result (map (λ cycle. cycle.items) found.new.items ≡ take search.now.cap (map (λ cycle. cycle.items) found.old.items ++ flat_map (first_from search.now) (range_with_len from (to - from)))) }
+{
+    for root in from..to {
+        search.grow_from(alloc, root, found)?;
+    }
+    Ok(())
+}
+
+// Up to where edges are looked at next: there are as many as before, but not more than there are.
+fn next_end(done: usize, size: usize) -> usize
+    requires { done < size }
+    ensures later { done < result }
+    ensures within { result ≤ size }
+{
+    let left = size - done;
+    if done < ALONE {
+        size.min(ALONE)
+    } else if left < done {
+        size
+    } else {
+        done + done
+    }
+}
+
+// The first cycles, up to the cap.
+fn first_cycles(
+    rt: &(impl Threads + Sync),
+    alloc: Global,
+    search: &Searcher<'_>,
+) -> Result<Vec<Vec<usize>>, Memory>
+    requires some { 0 < search.now.len }
+    requires ready { IsReady search.now }
+    ensures { IfOk result (λ found. map (λ cycle. cycle.items) found.items
+        ≡ take search.now.cap (all_cycles (is_before search.now.order.now) search.now.mode search.now.len (edges_of_table search.now.table.now))) }
+{
+    let size = search.table.len();
+    let mut found = Vec::new(alloc);
+    let mut done = 0;
+    while done < size {
+        let end = next_end(done, size);
+        add_roots(rt, alloc, search, done, end, &mut found)?;
+        done = end;
     }
     Ok(found)
 }
 
 /// The same as [`search`](crate::search), on several threads. Each edge in turn is the first of paths,
-/// and the edges are dealt out in runs of one length. Each run goes to its end, so that what is found
-/// and in which order doesn't depend on the threads; but what comes after the last cycle that is
-/// listed is looked for in vain.
+/// and the edges are dealt out in runs: the first few to one thread, and then each time as many as
+/// were dealt out before, in pieces of one length. The search ends after the run in which one cycle
+/// more than are listed was found. Each run goes to its end, so that what is found and in which order
+/// doesn't depend on the threads.
 ///
 /// Err where memory was refused.
 pub fn search_parallel(
@@ -100,7 +197,6 @@ pub fn search_parallel(
     ensures more { IfOk result (λ found. IsTrue found.more ↔ (query.now.max < length (all_cycles (is_before order.now) query.now.mode query.now.len (edges_of_table edges.now)))) }
 {
     let search = Searcher::of(alloc, edges, order, query)?;
-    let pieces = cycles_of_roots(rt, alloc, &search)?;
-    let cycles = joined(alloc, &pieces, search.cap)?;
+    let cycles = first_cycles(rt, alloc, &search)?;
     Ok(listed(cycles, query.max() as usize))
 }

@@ -19,6 +19,7 @@ mod cycles;
 mod knots;
 mod loops;
 mod parallel;
+mod pruning;
 mod reports;
 mod trims;
 

@@ -1,9 +1,8 @@
 -- Sessions of one thread.
-use Rattle.std.proofs.Common.{◌≡◌, ℕ, zero, suc, List, [], ◌∷◌, ◌++◌, length, map, Some, refl, sym, ap, ◌∙◌, subst}
+use Rattle.std.proofs.Common.{◌≡◌, ℕ, zero, suc, List, [], ◌∷◌, ◌++◌, length, map, Some, sym, ap, ◌∙◌}
 use Rattle.std.specs.Prelude.{slice_get}
 use Rattle.gl_event.specs.Bounds.{Bounds}
 use Rattle.gl_event.proofs.Depths.{slice_get_last}
-use Rattle.gl_lane.specs.Lanes.{LaneId}
 use Rattle.gl_shards.specs.Feeds.{FeedId, AllSent, Sending}
 use Rattle.gl_world.proofs.Lists.{same_some}
 use Rattle.gl_engine.specs.Collecting.{Collecting, IsOpened}

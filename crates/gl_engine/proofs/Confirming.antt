@@ -1,7 +1,8 @@
 -- What a receipt tells of what was collected.
-use Rattle.std.proofs.Common.{◌≡◌, ◌≢◌, ℕ, zero, suc, ◌+◌, ◌<◌, ◌≤◌, eqb, leb, not, Bool, true, false, ◌||◌, List, [], ◌∷◌, ◌++◌, length, map, take, get_or, set, Option, Some, None, refl, sym, ap, ◌∙◌, subst, arith, ◌⊎◌, inl, inr}
+use Rattle.std.proofs.Common.{◌≡◌, ◌≢◌, ℕ, zero, suc, ◌+◌, ◌<◌, ◌≤◌, eqb, leb, not, Bool, true, false, ◌||◌, List, [], ◌∷◌, ◌++◌, length, map, take, get_or, set, Option, Some, None, refl, sym, ap, ◌∙◌, subst, append_assoc, arith, inl, inr}
 use Rattle.std.specs.Prelude.{slice_get}
-use Rattle.std.specs.List.{range_with_len, list_any, flat_map}
+use mathlib.Core.List.{IsPrefix}
+use Rattle.std.specs.List.{flat_map}
 use Rattle.std.specs.Option.{option_map}
 use Rattle.std.proofs.Math.Seq.{take-append_seam, map-set_same}
 use Rattle.std.proofs.lemmas.Bool.{cases_lt, false≢true, eqb-true, eq-eqb, ne_eqb, or_parts, leb-false}
@@ -12,10 +13,9 @@ use Rattle.std.proofs.lemmas.Simd.{map-map}
 use Rattle.std.proofs.lemmas.List.FromFn.{length-map-range_with_len}
 use Rattle.std.proofs.lemmas.Option.{slice_get-map, slice_get_within}
 use Rattle.gl_event.specs.Bounds.{Bounds}
-use Rattle.gl_event.specs.declared.events.Event.{Event}
 use Rattle.gl_event.specs.declared.notes.Note.{Note}
-use Rattle.gl_intake.specs.Stream.{events_of, has_ended, logs_of, AreInOrder}
-use Rattle.gl_lane.specs.Lanes.{LaneId, AllPushed, Popping}
+use Rattle.gl_intake.specs.Stream.{events_of, has_ended, logs_of, note_refusal}
+use Rattle.gl_lane.specs.Lanes.{AllPushed, Popping}
 use Rattle.gl_edges.specs.Edges.{once}
 use Rattle.gl_edges.specs.declared.edge.Edge.{Edge}
 use Rattle.gl_edges.specs.declared.edge.Sample.{Sample}
@@ -25,16 +25,21 @@ use Rattle.gl_shards.proofs.Uniting.{union_of_once}
 use Rattle.gl_world.specs.Machine.{Lane}
 use Rattle.gl_world.specs.Keeping.{notes_of, IsLaneOf}
 use Rattle.gl_world.proofs.Lists.{same_some, get_at, get_of_take, found_within}
-use Rattle.gl_world.proofs.Sound.{told_events, ended_of_notes}
+use Rattle.gl_world.proofs.Sound.{told_events, ended_of_notes, front_is_next}
+use Rattle.gl_intake.specs.declared.notes.Refused.{Refused}
+use Rattle.gl_intake.proofs.Next.{none_of_next}
+use Rattle.gl_engine.specs.Breaking.{handed, HandOver, IsBlamed, IsBroken}
 use Rattle.gl_engine.specs.Collecting.{Pulling, as_of}
 use Rattle.gl_engine.specs.Gathering.{Gathering, has_receipt, is_strange, AreOurs, AreOwnBelow, AreThereBelow}
 use Rattle.gl_engine.specs.Keeping.{AreNotesOf, pulling_of}
 use Rattle.gl_engine.specs.Recording.{Closed, recorded_whole}
-use Rattle.gl_engine.specs.Settling.{IsSettled}
+use Rattle.gl_engine.specs.Settling.{IsMemoryOrGone, IsSettled, told}
 use Rattle.gl_engine.specs.Whole.{lane_of, IsConfirmed, IsWhole}
 use Rattle.gl_engine.specs.declared.faults.RunFault.{RunFault}
+use Rattle.gl_engine.specs.declared.faults.RunFault.TheVariants as kept
 use Rattle.gl_engine.specs.declared.row.Row.{Row}
 use Rattle.gl_engine.proofs.Dealt.{numbered_at, dealt_edges}
+use Rattle.gl_engine.proofs.Handing.{prefix_on, handed_seen}
 
 -- ---- a thread's lane and its receipt
 
@@ -58,20 +63,49 @@ as_own thread (n ∷ notes) own =
     let first : as_of thread n ≡ n = ap (λ t. as_of t n) (sym (own 0 n refl)) in
     (λ i. first i ∷ as_own thread notes (λ place note at. own (suc place) note at) i)
 
+-- what was collected of a thread, where it begins what its recorder pushed
+collected_first : (limits : Bounds) (thread : ℕ) (stream taken rest pushed : List Note) → AreNotesOf limits thread pushed → taken ++ rest ≡ pushed → notes_of thread stream ≡ map (as_of thread) taken
+    → IsLaneOf limits thread stream (record { wishes = []; used = 0; pushed = pushed; popped = length taken })
+collected_first limits thread stream taken rest pushed notes is told =
+    let front : take (length taken) pushed ≡ taken = ap (take (length taken)) (sym is) ∙ take-append_seam taken rest in
+    let own : (place : ℕ) (note : Note) → slice_get taken place ≡ Some note → note.thread ≡ thread =
+    λ place note at. notes.own place note (get_of_take pushed (length taken) place note (ap (λ xs. slice_get xs place) front ∙ at)) in
+    record { own = notes.own; in_order = notes.in_order; within = omega (arith, ap length is, length-append taken rest); told = told ∙ as_own thread taken own ∙ sym front }
+
+-- the receipt's notes, as those of this thread under these limits
+its_notes : (limits : Bounds) (thread : ℕ) (came : List Note) (r : Closed) → r.thread ≡ thread → r.limits ≡ limits → IsConfirmed came r → AreNotesOf limits thread r.pushed
+its_notes limits thread came r its same is = subst (λ t. AreNotesOf limits t r.pushed) its (subst (λ b. AreNotesOf b r.thread r.pushed) same is.notes)
+
 -- a thread with its receipt has had all collected that it recorded
-pub all_recorded : (limits : Bounds) (thread : ℕ) (stream popped : List Note) (r : Closed) → r.thread ≡ thread → r.limits ≡ limits → IsConfirmed popped r
-    → notes_of thread stream ≡ map (as_of thread) popped → has_ended thread stream ≡ true → events_of thread stream ≡ recorded_whole r
-all_recorded limits thread stream popped r its same is told ended =
-    let notes : AreNotesOf limits thread r.pushed = subst (λ t. AreNotesOf limits t r.pushed) its (subst (λ b. AreNotesOf b r.thread r.pushed) same is.notes) in
-    let front : take (length popped) r.pushed ≡ popped = ap (take (length popped)) (sym is.begins.1) ∙ take-append_seam popped is.begins.0 in
-    let own : (place : ℕ) (note : Note) → slice_get popped place ≡ Some note → note.thread ≡ thread =
-    λ place note at. notes.own place note (get_of_take r.pushed (length popped) place note (ap (λ xs. slice_get xs place) front ∙ at)) in
-    let lane : Lane = record { wishes = []; used = 0; pushed = r.pushed; popped = length popped } in
-    let within : length popped ≤ length r.pushed = omega (arith, ap length is.begins.1, length-append popped is.begins.0) in
-    let of_lane : IsLaneOf limits thread stream lane = record { own = notes.own; in_order = notes.in_order; within = within; told = told ∙ as_own thread popped own ∙ sym front } in
-    sym (told_events limits thread stream lane of_lane)
-    ∙ ap (events_of thread) (take_all (length popped) r.pushed (all_popped limits thread stream lane of_lane ended))
+pub all_recorded : (limits : Bounds) (thread : ℕ) (stream : List Note) (lane : Popping) (r : Closed) → r.thread ≡ thread → r.limits ≡ limits → IsConfirmed (handed lane) r
+    → notes_of thread stream ≡ map (as_of thread) lane.popped → has_ended thread stream ≡ true → events_of thread stream ≡ recorded_whole r
+all_recorded limits thread stream lane r its same is told ended =
+    let rest : List Note = lane.left ++ is.begins.0 in
+    let whole : lane.popped ++ rest ≡ r.pushed = sym (append_assoc lane.popped lane.left is.begins.0) ∙ is.begins.1 in
+    let its_lane : Lane = record { wishes = []; used = 0; pushed = r.pushed; popped = length lane.popped } in
+    let of_lane : IsLaneOf limits thread stream its_lane = collected_first limits thread stream lane.popped rest r.pushed (its_notes limits thread (handed lane) r its same is) whole told in
+    sym (told_events limits thread stream its_lane of_lane)
+    ∙ ap (events_of thread) (take_all (length lane.popped) r.pushed (all_popped limits thread stream its_lane of_lane ended))
     ∙ ap (λ t. events_of t r.pushed) (sym its)
+
+get_seam : {X : Type 0} (xs : List X) (x : X) (ys : List X) → slice_get (xs ++ x ∷ ys) (length xs) ≡ Some x
+get_seam [] x ys = refl
+get_seam (y ∷ xs) x ys = get_seam xs x ys
+
+-- nor is a note to blame that came off its lane
+none_to_blame : (limits : Bounds) (thread : ℕ) (stream taken : List Note) (note : Note) (why : Refused) (r : Closed) → r.thread ≡ thread → r.limits ≡ limits → IsConfirmed (taken ++ note ∷ []) r
+    → notes_of thread stream ≡ map (as_of thread) taken → note_refusal limits stream (as_of thread note) ≡ Some why → ⊥
+none_to_blame limits thread stream taken note why r its same is told refused =
+    let rest : List Note = note ∷ is.begins.0 in
+    let whole : taken ++ rest ≡ r.pushed = sym (append_assoc taken (note ∷ []) is.begins.0) ∙ is.begins.1 in
+    let notes : AreNotesOf limits thread r.pushed = its_notes limits thread (taken ++ note ∷ []) r its same is in
+    let lane : Lane = record { wishes = []; used = 0; pushed = r.pushed; popped = length taken } in
+    let of_lane : IsLaneOf limits thread stream lane = collected_first limits thread stream taken rest r.pushed notes whole told in
+    let here : slice_get r.pushed (length taken) ≡ Some note = ap (λ xs. slice_get xs (length taken)) (sym whole) ∙ get_seam taken note is.begins.0 in
+    let own : as_of thread note ≡ note = ap (λ t. as_of t note) (sym (notes.own (length taken) note here)) in
+    let next : note_refusal limits stream note ≡ None = none_of_next limits stream note (front_is_next limits thread stream lane of_lane (length taken) note here refl) in
+    let clash : None ≡ Some why = sym next ∙ ap (note_refusal limits stream) (sym own) ∙ refused in
+    cc
 
 -- ---- rows
 
@@ -87,12 +121,20 @@ rows_same rows i row lane is same popped =
 
 -- a lane that was confirmed
 pub confirmed_row : (rows : List Row) (i session thread : ℕ) (limits : Bounds) (row : Row) (lane : Popping) (f : AllPushed) → i ≡ thread → i < length rows → row ≡ get_or rows i row
-    → AreNotesOf limits thread f.pushed → lane.popped ≡ row.lane.popped → lane.popped ++ lane.left ≡ f.pushed
-    → (seen : Pulling) → slice_get (map pulling_of rows) thread ≡ Some seen → IsConfirmed seen.popped (record { session = session; thread = thread; limits = limits; lane = f.lane; pushed = f.pushed })
-confirmed_row rows i session thread limits row lane f its within is notes popped whole seen at =
-    let this : seen ≡ pulling_of row = same_some seen (pulling_of row) (sym at ∙ ap (slice_get (map pulling_of rows)) (sym its) ∙ row_at rows i row within is) in
-    let front : seen.popped ≡ lane.popped = ap (λ (p : Pulling). p.popped) this ∙ sym popped in
-    record { notes = notes; begins = (lane.left, ap (λ xs. xs ++ lane.left) front ∙ whole) }
+    → AreNotesOf limits thread f.pushed → lane.popped ≡ row.lane.popped → IsPrefix row.lane.left lane.left → lane.popped ++ lane.left ≡ f.pushed
+    → (seen : Row) → slice_get rows thread ≡ Some seen → IsConfirmed (handed seen.lane) (record { session = session; thread = thread; limits = limits; lane = f.lane; pushed = f.pushed })
+confirmed_row rows i session thread limits row lane f its within is notes popped left whole seen at =
+    let this : row ≡ seen = same_some row seen (sym (get_at rows i row within is) ∙ ap (slice_get rows) its ∙ at) in
+    let more : IsPrefix (handed row.lane) f.pushed = subst (IsPrefix (handed row.lane)) whole (handed_seen row.lane lane popped left) in
+    record { notes = notes; begins = subst (λ (r : Row). IsPrefix (handed r.lane) f.pushed) this more }
+
+-- what is confirmed of a row later is confirmed of it as it was before
+pub confirmed_before : (before rows : List Row) → HandOver before rows → (old r : Closed) → old ≡ r → (was : Row) → slice_get before r.thread ≡ Some was
+    → ((row : Row) → slice_get rows old.thread ≡ Some row → IsConfirmed (handed row.lane) old) → IsConfirmed (handed was.lane) r
+confirmed_before before rows more old r same was seen confirmed =
+    let now = more r.thread was seen in
+    let is : IsConfirmed (handed now.row.lane) r = subst (IsConfirmed (handed now.row.lane)) same (confirmed now.row (ap (λ (c : Closed). slice_get rows c.thread) same ∙ now.here)) in
+    record { notes = is.notes; begins = prefix_on (handed was.lane) (handed now.row.lane) r.pushed now.first is.begins }
 
 -- ---- receipts
 
@@ -155,12 +197,12 @@ module _ (limits : Bounds) (rows : List Row) (stream : List Note) (sent : List A
     (all : AreThereBelow receipts limits.threads)
     (known : (at : ℕ) (r : Closed) → slice_get receipts at ≡ Some r → r.thread < limits.threads)
     (same : (at : ℕ) (r : Closed) → slice_get receipts at ≡ Some r → r.limits ≡ limits)
-    (confirmed : (at : ℕ) (r : Closed) (row : Pulling) → slice_get receipts at ≡ Some r → slice_get (map pulling_of rows) r.thread ≡ Some row → IsConfirmed row.popped r) where
+    (confirmed : (at : ℕ) (r : Closed) (row : Row) → slice_get receipts at ≡ Some r → slice_get rows r.thread ≡ Some row → IsConfirmed (handed row.lane) r) where
   its_log : (at : ℕ) (r : Closed) → slice_get receipts at ≡ Some r → events_of r.thread stream ≡ recorded_whole r
   its_log at r here =
       let (row, found) = found_within rows r.thread (let k = known at r here in omega (arith, count)) in
       let seen : slice_get (map pulling_of rows) r.thread ≡ Some (pulling_of row) = slice_get-map pulling_of rows r.thread ∙ ap (option_map pulling_of) found in
-      all_recorded limits r.thread stream row.lane.popped r refl (same at r here) (confirmed at r (pulling_of row) here seen) (whole.told r.thread (pulling_of row) seen) (whole.ended r.thread (known at r here))
+      all_recorded limits r.thread stream row.lane r refl (same at r here) (confirmed at r row here found) (whole.told r.thread (pulling_of row) seen) (whole.ended r.thread (known at r here))
 
   pub settled : IsSettled receipts (logs_of limits.threads stream) sent
   settled = record {
@@ -188,12 +230,32 @@ module _ (session : ℕ) (limits : Bounds) (rows : List Row) (stream : List Note
     pub rows_ours : (at : ℕ) (r : Closed) (row : Pulling) → slice_get receipts at ≡ Some r → slice_get (map pulling_of rows) r.thread ≡ Some row → r.lane ≡ row.lane
     rows_ours at r row here seen = (its_ours at r here (its_own at r here).0 row.lane (lane_seen rows r.thread row seen)).0
 
-    pub rows_settled : IsWhole limits rows stream sent → AreThereBelow receipts g.limits.threads
-        → ((at : ℕ) (r : Closed) (row : Pulling) → slice_get receipts at ≡ Some r → slice_get (map pulling_of rows) r.thread ≡ Some row → IsConfirmed row.popped r)
+    its_limits : (at : ℕ) (r : Closed) → slice_get receipts at ≡ Some r → r.limits ≡ limits
+    its_limits at r here =
+        let (row, found) = found_within rows r.thread (rows_known at r here) in
+        (its_ours at r here (its_own at r here).0 row.lane.lane (slice_get-map lane_of rows r.thread ∙ ap (option_map lane_of) found)).1
+
+    -- each receipt was compared with its lane
+    abbrev AreConfirmed : Type 0
+    AreConfirmed = (at : ℕ) (r : Closed) (row : Row) → slice_get receipts at ≡ Some r → slice_get rows r.thread ≡ Some row → IsConfirmed (handed row.lane) r
+
+    pub rows_settled : IsWhole limits rows stream sent → AreThereBelow receipts g.limits.threads → AreConfirmed
         → (collecting : Bounds) → collecting ≡ limits → IsSettled receipts (logs_of collecting.threads stream) sent
     rows_settled whole all confirmed collecting same =
         subst (λ (b : Bounds). IsSettled receipts (logs_of b.threads stream) sent) (sym same)
         (settled limits rows stream sent whole count receipts (subst (λ (g : Gathering). AreThereBelow receipts g.limits.threads) (sym view_is) all)
-        (λ at r here. (its_own at r here).1)
-        (λ at r here. (let (row, found) = found_within rows r.thread (rows_known at r here) in (its_ours at r here (its_own at r here).0 row.lane.lane (slice_get-map lane_of rows r.thread ∙ ap (option_map lane_of) found)).1))
-        confirmed)
+        (λ at r here. (its_own at r here).1) its_limits confirmed)
+
+    never_broken : AreThereBelow receipts g.limits.threads → AreConfirmed → (thread : ℕ) (why : Refused) → IsBroken limits rows stream thread why → ⊥
+    never_broken all confirmed thread why is =
+        let within : thread < limits.threads = (let k = slice_get_within rows thread is.came.row is.came.here in omega (arith, count)) in
+        let (at, r, here, its) = receipt_of_thread receipts thread (subst (λ (g : Gathering). AreThereBelow receipts g.limits.threads) (sym view_is) all thread within) in
+        let confirms : IsConfirmed (handed is.came.row.lane) r = confirmed at r is.came.row here (ap (slice_get rows) its ∙ is.came.here) in
+        let first : IsConfirmed (is.taken ++ is.note ∷ []) r = record { notes = confirms.notes; begins = prefix_on (is.taken ++ is.note ∷ []) (handed is.came.row.lane) r.pushed is.came.first confirms.begins } in
+        none_to_blame limits thread stream is.taken is.note why r its (its_limits at r here) first is.told is.refused
+
+    -- with its receipts, a run is left with no fault of a lane
+    pub memory_or_gone : AreThereBelow receipts g.limits.threads → AreConfirmed → (f : RunFault) → IsBlamed limits rows stream f → IsMemoryOrGone (told f)
+    memory_or_gone all confirmed kept.Memory is = tt
+    memory_or_gone all confirmed (kept.Gone shard) is = tt
+    memory_or_gone all confirmed (kept.Broken thread why) is = absurd (never_broken all confirmed thread why is)

@@ -1,5 +1,5 @@
 -- A session's recorders and rows, thread by thread.
-use Rattle.std.proofs.Common.{◌≡◌, ℕ, ◌+◌, List, [], ◌∷◌, ◌++◌, length, map, Some, refl, sym, ap, ◌∙◌, subst, arith, inl, inr}
+use Rattle.std.proofs.Common.{◌≡◌, ℕ, ◌+◌, List, [], ◌∷◌, ◌++◌, length, map, Option, None, Some, refl, sym, ap, ◌∙◌, subst, arith, inl, inr}
 use Rattle.std.specs.Prelude.{slice_get}
 use Rattle.std.proofs.lemmas.List.{map-append, length_push}
 use Rattle.std.proofs.lemmas.Option.{slice_get_within}
@@ -7,6 +7,7 @@ use Rattle.gl_event.specs.Bounds.{Bounds, AreWithinRange}
 use Rattle.gl_event.proofs.Depths.{slice_get_before, slice_get_last}
 use Rattle.gl_edges.specs.Tracking.{Tracks as Follows}
 use Rattle.gl_intake.specs.Stream.{events_of}
+use Rattle.gl_intake.specs.declared.notes.Refused.{Refused}
 use Rattle.gl_intake.proofs.Order.{AreInOrder-nil}
 use Rattle.gl_world.specs.Keeping.{notes_of}
 use Rattle.gl_world.proofs.Lists.{same_some, place_cases}
@@ -41,9 +42,12 @@ fresh_push session limits threads recorders rows are r row is end follows = reco
       let lanes = map-append (λ (r : Recording). r.lane) recorders (r ∷ []) in
       let after = map-append fresh_row (map (λ (r : Recording). r.lane) recorders) (r.lane ∷ []) in
       before ∙ ap (λ ps. ps ++ pulling_of row ∷ []) are.ends ∙ ap (λ p. map fresh_row (map (λ (r : Recording). r.lane) recorders) ++ p ∷ []) end ∙ sym after ∙ ap (map fresh_row) (sym lanes);
-  follows = each_and_last (λ t row. (row.lane.popped ≡ []) × Follows t [] row.tracker) rows row are.follows
-      (ap (λ (p : Pulling). p.popped) end, subst (λ t. Follows t [] row.tracker) (sym are.rows_count) follows);
+  follows = each_and_last (λ t row. (row.lane.popped ≡ []) × (row.broken ≡ None) × Follows t [] row.tracker) rows row are.follows
+      (ap (λ (p : Pulling). p.popped) end, ap (λ (p : Pulling). p.broken) end, subst (λ t. Follows t [] row.tracker) (sym are.rows_count) follows);
 }
+
+unbroken : {broken : Option Refused} {why : Refused} → broken ≡ None → broken ≡ Some why → ⊥
+unbroken {why = why} none some = (let clash : None ≡ Some why = sym none ∙ some in cc)
 
 -- a collector that has collected nothing
 pub collector_new : (session : ℕ) (limits : Bounds) (recorders : List Recording) (rows : List Row) → AreFresh session limits limits.threads recorders rows → AreWithinRange limits
@@ -52,8 +56,9 @@ unfolding notes_of events_of
 collector_new session limits recorders rows are range = record {
   rows_are = record {
     count = are.rows_count;
-    told = λ thread row at. (let (popped, follows) = are.follows thread row at in sym (ap (map (as_of thread)) popped));
-    follows = λ thread row at. (are.follows thread row at).1;
+    told = λ thread row at. (let fresh = are.follows thread row at in sym (ap (map (as_of thread)) fresh.0));
+    follows = λ thread row at. (are.follows thread row at).2;
+    cause = λ thread row at why broken. absurd (unbroken (are.follows thread row at).1 broken);
   };
   in_order = AreInOrder-nil limits;
   made_are = made_nothing limits.threads;

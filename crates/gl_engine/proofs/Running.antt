@@ -1,6 +1,6 @@
 -- A pull in a run, whose edges are kept apart from those that were shipped.
-use Rattle.std.proofs.Common.{◌≡◌, ◌≢◌, ℕ, zero, suc, ◌+◌, ◌<◌, ◌≤◌, true, List, [], ◌∷◌, ◌++◌, length, map, set, get_or, Option, None, Some, Result, Ok, Err, refl, sym, ap, ◌∙◌, subst, append_assoc, arith, ◌⊎◌, inl, inr}
-use Rattle.std.specs.Prelude.{slice_get, IsOk, OnOk}
+use Rattle.std.proofs.Common.{◌≡◌, ℕ, suc, ◌+◌, ◌<◌, ◌≤◌, true, List, [], ◌∷◌, ◌++◌, length, map, set, get_or, Option, None, Some, Result, Ok, Err, refl, sym, ap, ◌∙◌, subst, append_assoc, arith, ◌⊎◌, inl, inr}
+use Rattle.std.specs.Prelude.{slice_get, IsOk, OnOk, IfErr, IfSome}
 use Rattle.std.specs.List.{range_with_len}
 use Rattle.std.specs.Option.{option_map}
 use mathlib.Core.List.{IsPrefix}
@@ -8,6 +8,7 @@ use Rattle.std.proofs.Math.Seq.{map-set_same}
 use Rattle.std.proofs.lemmas.Bool.{false≢true}
 use Rattle.std.proofs.lemmas.List.{append-nil, length-map, map-set, map-append}
 use Rattle.std.proofs.lemmas.Option.{slice_get-map, slice_get_within}
+use Rattle.std.proofs.lemmas.Result.{IfErr-at_err}
 use Rattle.gl_event.specs.Bounds.{Bounds}
 use Rattle.gl_event.specs.declared.notes.Note.{Note}
 use Rattle.gl_edges.specs.Tracking.{Tracks as Follows}
@@ -17,19 +18,23 @@ use Rattle.gl_intake.specs.Stream.{events_of, has_ended}
 use Rattle.gl_shards.specs.Feeds.{AllSent, Sending}
 use Rattle.gl_shards.specs.Shards.{shard_of}
 use Rattle.gl_shards.specs.Tables.{of_shard}
-use Rattle.gl_world.proofs.Lists.{same_some, get_at, found_within}
-use Rattle.gl_engine.specs.Collecting.{Pulling, Side, as_of, pull_note, HasPulled, IsSidePull}
+use Rattle.gl_world.proofs.Lists.{same_some, get_at, found_within, get_set_same}
+use Rattle.gl_engine.specs.Collecting.{Pulling, Side, as_of, with_pulled, HasPulled, IsSidePull}
+use Rattle.gl_intake.specs.declared.notes.Refused.{Refused}
+use Rattle.gl_engine.specs.Breaking.{IsBlamed, IsGone, IsKeptFor}
 use Rattle.gl_engine.specs.Dealing.{dealt, made_by}
-use Rattle.gl_engine.specs.Keeping.{IsCollector, pulling_of}
+use Rattle.gl_engine.specs.Keeping.{BreaksForCause, IsCollector, pulling_of}
 use Rattle.gl_engine.specs.Whole.{lane_of, KeepsUp, IsWhole, IsGathered}
 use Rattle.std.proofs.lemmas.Simd.{map-map}
 use Rattle.gl_engine.specs.declared.faults.RunFault.{RunFault}
+use Rattle.gl_engine.specs.declared.faults.RunFault.TheVariants as kept
 use Rattle.gl_engine.specs.declared.pulled.Pulled.{Pulled}
 use Rattle.gl_engine.specs.declared.pulled.Pulled.TheVariants.{Empty, Event as Answered, Ended as Closing}
 use Rattle.gl_engine.specs.declared.pulled.PullFault.{PullFault}
 use Rattle.gl_engine.specs.declared.pulled.PullFault.TheVariants.{Broken, Memory as OutOfMemory}
 use Rattle.gl_engine.specs.declared.row.Row.{Row}
 use Rattle.gl_engine.proofs.Dealt.{dealt_at, dealt_more}
+use Rattle.gl_engine.proofs.Handing.{prefix_behind, blamed_gone}
 use Rattle.gl_engine.proofs.Sides.{collector_after, lane_same}
 
 -- the side with these edges made before its own
@@ -44,7 +49,7 @@ module _ (limits : Bounds) (thread : ℕ) (before : List (Edge × Sample)) (old 
     next = has.next;
     answer_is = has.answer_is;
     moved = ap (side_after before) has.moved
-        ∙ ap (λ pairs. let side : Side = record { row = (pull_note thread old has.note).row; stream = (pull_note thread old has.note).stream; made = pairs } in side) (sym (append_assoc before old.made _));
+        ∙ ap (λ pairs. let side : Side = record { row = (with_pulled thread old has.note).row; stream = (with_pulled thread old has.note).stream; made = pairs } in side) (sym (append_assoc before old.made _));
   }
 
   -- the same pull, with these edges made before
@@ -56,9 +61,14 @@ module _ (limits : Bounds) (thread : ℕ) (before : List (Edge × Sample)) (old 
   pull_after (Err (Broken why)) (inr has) = inr (record { running = has.running; note = has.note; refused = has.refused; moved = ap (side_after before) has.moved })
   pull_after (Err OutOfMemory) tells = (tells.0, ap (side_after before) tells.1)
 
+-- a lane that a pull found broken is so
+broken_by : (limits : Bounds) (thread : ℕ) (old new : Side) (why : Refused) → IsSidePull limits thread old (Err (Broken why)) new → new.row.broken ≡ Some why
+broken_by limits thread old new why (inl same) = ap (λ (s : Side). s.row.broken) same.1 ∙ same.0
+broken_by limits thread old new why (inr has) = ap (λ (s : Side). s.row.broken) has.moved
+
 module _ (limits : Bounds) (rows : List Row) (stream : List Note) (is : IsCollector limits rows stream (made_by stream) limits)
     (thread : ℕ) (was new : Row) (within : thread < length rows) (here : was ≡ get_or rows thread was) (later : List Note) (due : List (Edge × Sample))
-    (follows : Follows thread (events_of thread later) new.tracker) (answer : Result Pulled PullFault)
+    (follows : Follows thread (events_of thread later) new.tracker) (cause : BreaksForCause limits thread later new) (answer : Result Pulled PullFault)
     (tells : IsSidePull limits thread (record { row = pulling_of was; stream = stream; made = [] }) answer (record { row = pulling_of new; stream = later; made = due })) where
   told_after : IsSidePull limits thread (record { row = pulling_of was; stream = stream; made = made_by stream }) answer (record { row = pulling_of new; stream = later; made = made_by stream ++ due })
   told_after =
@@ -66,7 +76,7 @@ module _ (limits : Bounds) (rows : List Row) (stream : List Note) (is : IsCollec
       (pull_after limits thread (made_by stream) (record { row = pulling_of was; stream = stream; made = [] }) (record { row = pulling_of new; stream = later; made = due }) answer tells)
 
   after : IsCollector limits (set rows thread new) later (made_by stream ++ due) limits
-  after = collector_after limits rows stream (made_by stream) limits is thread was new within here later (made_by stream ++ due) follows answer told_after
+  after = collector_after limits rows stream (made_by stream) limits is thread was new within here later (made_by stream ++ due) follows cause answer told_after
 
   -- the edges due are those that the stream makes beside those before
   pub due_later : made_by stream ++ due ≡ made_by later
@@ -88,6 +98,23 @@ module _ (limits : Bounds) (rows : List Row) (stream : List Note) (is : IsCollec
 
   pub grown_later : IsPrefix stream later
   grown_later = grown_by answer tells
+
+  -- where the pull broke the lane, its front note is to blame
+  pub blamed_now : (fault : RunFault) → IsKeptFor thread answer fault → IsBlamed limits (set rows thread new) later fault
+  blamed_now kept.Memory told = tt
+  blamed_now (kept.Gone shard) told = tt
+  blamed_now (kept.Broken number why) told =
+      let broken : new.broken ≡ Some why = broken_by limits thread _ _ why (subst (λ a. IsSidePull limits thread (record { row = pulling_of was; stream = stream; made = [] }) a (record { row = pulling_of new; stream = later; made = due })) told.1 tells) in
+      let stuck = cause why broken in
+      let there : slice_get (set rows thread new) thread ≡ Some new = get_set_same rows thread new within in
+      subst (λ t. IsBlamed limits (set rows thread new) later (kept.Broken t why)) (sym told.0)
+      (record {
+        taken = new.lane.popped;
+        note = stuck.note;
+        told = after.rows_are.told thread new there;
+        came = record { row = new; here = there; first = prefix_behind new.lane.popped (stuck.note ∷ []) new.lane.left stuck.front };
+        refused = stuck.refused;
+      })
 
 -- ---- what was shipped
 
@@ -123,9 +150,6 @@ unsent_dealt outlets none = from 0 outlets none
 pub last_more : {X Y : Type 0} (f : X → Y) (xs : List X) (x : X) (ys : List X) → ys ≡ xs ++ x ∷ [] → map f ys ≡ map f xs ++ f x ∷ []
 last_more f xs x ys is = ap (map f) is ∙ map-append f xs (x ∷ [])
 
-pub prefix_on : {X : Type 0} (xs ys zs : List X) → IsPrefix xs ys → IsPrefix ys zs → IsPrefix xs zs
-prefix_on xs ys zs a b = (a.0 ++ b.0, sym (append_assoc xs a.0 b.0) ∙ ap (λ l. l ++ b.0) a.1 ∙ b.1)
-
 -- what an Ok tells
 pub when_ok : {X E : Type 0} (r : Result X E) (P : Type 0) → IsOk r → OnOk r P → P
 when_ok (Ok x) P ok told = told
@@ -154,12 +178,19 @@ all_whole limits rows stream outlets sent keeps ended some are =
 pub lanes_shown : (rows : List Row) → map (λ (p : Pulling). p.lane) (map pulling_of rows) ≡ map lane_of rows
 lanes_shown rows = map-map (λ (p : Pulling). p.lane) pulling_of rows
 
+-- where a lane broke in a run, there is a note to blame
+blamed_first : (limits : Bounds) (rows : List Row) (stream : List Note) (gathered : Result (Unit {0}) RunFault) → IfErr gathered (IsBlamed limits rows stream) → (fault : Option RunFault)
+    → IfSome fault (λ f. (gathered ≡ Err f) ⊎ IsGone f) → IfSome fault (IsBlamed limits rows stream)
+blamed_first limits rows stream gathered blamed None from = tt
+blamed_first limits rows stream gathered blamed (Some f) (inl is) = IfErr-at_err (IsBlamed limits rows stream) is blamed
+blamed_first limits rows stream gathered blamed (Some f) (inr gone) = blamed_gone limits rows stream f gone
+
 -- what a run keeps at its end, whatever went wrong
 pub gathered_all : (limits collecting : Bounds) → collecting ≡ limits → (before rows : List Row) → length before ≡ limits.threads → map lane_of rows ≡ map lane_of before → (stream : List Note) (given outlets : List Sending) (sent : List AllSent)
     → 1 ≤ length given → map (λ o. o.feed) outlets ≡ map (λ o. o.feed) given → (gathered : Result (Unit {0}) RunFault) (ended : Result (Unit {0}) ℕ) → OnOk gathered (KeepsUp collecting rows stream outlets)
     → OnOk gathered ((thread : ℕ) → thread < collecting.threads → has_ended thread stream ≡ true) → OnOk ended (map (λ s. s.sent) sent ≡ map (λ o. o.sent) outlets)
-    → (fault : Option RunFault) → (fault ≡ None → IsOk gathered × IsOk ended) → IsGathered limits rows stream collecting sent fault
-gathered_all limits collecting same before rows count lanes stream given outlets sent some feeds gathered ended keeps all kept fault none = record {
+    → IfErr gathered (IsBlamed collecting rows stream) → (fault : Option RunFault) → (fault ≡ None → IsOk gathered × IsOk ended) → IfSome fault (λ f. (gathered ≡ Err f) ⊎ IsGone f) → IsGathered limits rows stream collecting sent fault
+gathered_all limits collecting same before rows count lanes stream given outlets sent some feeds gathered ended keeps all kept blamed fault none some_fault = record {
   count = as_long lane_of lane_of rows before lanes ∙ count;
   same_limits = same;
   whole = λ is.
@@ -167,4 +198,5 @@ gathered_all limits collecting same before rows count lanes stream given outlets
       let many : length outlets ≡ length given = as_long (λ (o : Sending). o.feed) (λ (o : Sending). o.feed) outlets given feeds in
       subst (λ b. IsWhole b rows stream sent) same
       (all_whole collecting rows stream outlets sent (when_ok gathered _ ok keeps) (when_ok gathered _ ok all) (omega (arith, many, some)) (when_ok ended _ kept_ok kept)));
+  blamed = subst (λ b. IfSome fault (IsBlamed b rows stream)) same (blamed_first collecting rows stream gathered blamed fault some_fault);
 }

@@ -18,9 +18,9 @@ use Rattle.gl_edges.specs.declared.edge.Sample.{Sample}
 use Rattle.gl_edges.specs.declared.tracker.Tracker.{Tracker}
 use Rattle.gl_edges.specs.Edges.{edges_after}
 use Rattle.gl_edges.proofs.Steps.{newest}
-use Rattle.gl_intake.specs.Stream.{events_of, accepted_as, IsNext, AreInOrder}
+use Rattle.gl_intake.specs.Stream.{accepted_as, events_of, note_refusal, AreInOrder, IsNext}
 use Rattle.gl_intake.proofs.Order.{AreInOrder-push}
-use Rattle.gl_intake.proofs.Streams.{events_more, events_ended, events_other}
+use Rattle.gl_intake.proofs.Streams.{ended_other, events_ended, events_more, events_other}
 use Rattle.gl_world.specs.Machine.{Lane, edges_due}
 use Rattle.gl_world.specs.Keeping.{notes_of, IsFrontOf, AreMade, MayTake, with_body}
 use Rattle.gl_world.proofs.Lists.{same_some, get_at, get_set_same, get_set_other}
@@ -29,7 +29,7 @@ use Rattle.gl_world.proofs.Rows.{may_take}
 use Rattle.gl_world.proofs.Sound.{notes_own, notes_other}
 use Rattle.gl_engine.specs.Collecting.{Pulling, Collecting, Side, as_of, pulled_of, HasPulled, IsSidePull, IsPull}
 use Rattle.gl_engine.specs.Dealing.{made_by}
-use Rattle.gl_engine.specs.Keeping.{AreRows, IsCollector, pulling_of}
+use Rattle.gl_engine.specs.Keeping.{AreRows, BreaksForCause, IsCollector, IsStuck, pulling_of}
 use Rattle.gl_engine.proofs.Dealt.{made_by_more}
 use Rattle.gl_engine.specs.declared.pulled.Pulled.{Pulled}
 use Rattle.gl_engine.specs.declared.pulled.Pulled.TheVariants.{Empty, Event as Answered, Ended as Closing}
@@ -72,9 +72,14 @@ module _ (limits : Bounds) (stream : List Note) (note : Note) (next : IsNext lim
 
 -- ---- the rows
 
+-- a note of another thread has the refusal that it had
+refusal_other : (limits : Bounds) (stream : List Note) (own : Note) (t : ℕ) → own.thread ≢ t → (note : Note) → note_refusal limits (stream ++ own ∷ []) (as_of t note) ≡ note_refusal limits stream (as_of t note)
+unfolding note_refusal
+refusal_other limits stream own t other note = rw (events_other stream own t other, ended_other stream own t other)
+
 module _ (limits : Bounds) (rows : List Row) (stream : List Note) (are : AreRows limits rows stream) (thread : ℕ) (new : Row) (later : List Note) (within : thread < length rows)
-    (told : notes_of thread later ≡ map (as_of thread) new.lane.popped) (follows : Follows thread (events_of thread later) new.tracker)
-    (still : (t : ℕ) → thread ≢ t → (notes_of t later ≡ notes_of t stream) × (events_of t later ≡ events_of t stream)) where
+    (told : notes_of thread later ≡ map (as_of thread) new.lane.popped) (follows : Follows thread (events_of thread later) new.tracker) (cause : BreaksForCause limits thread later new)
+    (still : (t : ℕ) → thread ≢ t → (notes_of t later ≡ notes_of t stream) × (events_of t later ≡ events_of t stream) × ((note : Note) → note_refusal limits later (as_of t note) ≡ note_refusal limits stream (as_of t note))) where
   now_there : (t : ℕ) (row : Row) → thread ≡ t → slice_get (set rows thread new) t ≡ Some row → row ≡ new
   now_there t row same at = same_some row new (sym at ∙ ap (slice_get (set rows thread new)) (sym same) ∙ get_set_same rows thread new within)
 
@@ -90,6 +95,16 @@ module _ (limits : Bounds) (rows : List Row) (stream : List Note) (are : AreRows
         elim (cases_eq thread t) [
           | inl same ↦ subst (λ k. Follows k (events_of k later) row.tracker) same (subst (λ (r : Row). Follows thread (events_of thread later) r.tracker) (sym (now_there t row same at)) follows)
           | inr other ↦ subst (λ es. Follows t es row.tracker) (sym (still t other).1) (are.follows t row (sym (get_set_other rows thread t new other) ∙ at))
+        ];
+    cause = λ t row at why broken.
+        elim (cases_eq thread t) [
+          | inl same ↦
+              let there = now_there t row same at in
+              let stuck = cause why (ap (λ (r : Row). r.broken) (sym there) ∙ broken) in
+              subst (λ k. IsStuck limits k later row.lane why) same (subst (λ (r : Row). IsStuck limits thread later r.lane why) (sym there) stuck)
+          | inr other ↦
+              let stuck = are.cause t row (sym (get_set_other rows thread t new other) ∙ at) why broken in
+              record { note = stuck.note; front = stuck.front; refused = (still t other).2 stuck.note ∙ stuck.refused }
         ];
   }
 
@@ -136,10 +151,10 @@ module _ (limits : Bounds) (rows : List Row) (stream : List Note) (made : List (
   was_told : notes_of thread stream ≡ map (as_of thread) was.lane.popped
   was_told = is.rows_are.told thread was row_at
 
-  kept_same : later ≡ stream → later_made ≡ made → new.lane.popped ≡ was.lane.popped → IsCollector limits (set rows thread new) later later_made collecting
-  kept_same same same_made popped = record {
-    rows_are = rows_with limits rows stream is.rows_are thread new later within (ap (notes_of thread) same ∙ was_told ∙ ap (map (as_of thread)) (sym popped)) follows
-        (λ t other. (ap (notes_of t) same, ap (events_of t) same));
+  kept_same : BreaksForCause limits thread later new → later ≡ stream → later_made ≡ made → new.lane.popped ≡ was.lane.popped → IsCollector limits (set rows thread new) later later_made collecting
+  kept_same cause same same_made popped = record {
+    rows_are = rows_with limits rows stream is.rows_are thread new later within (ap (notes_of thread) same ∙ was_told ∙ ap (map (as_of thread)) (sym popped)) follows cause
+        (λ t other. (ap (notes_of t) same, ap (events_of t) same, λ note. ap (λ notes. note_refusal limits notes (as_of t note)) same));
     in_order = subst (AreInOrder limits) (sym same) is.in_order;
     made_are = subst (λ notes. AreMade limits.threads notes later_made) (sym same) (subst (AreMade limits.threads stream) (sym same_made) is.made_are);
     made_is = same_made ∙ is.made_is ∙ ap made_by (sym same);
@@ -153,10 +168,14 @@ module _ (limits : Bounds) (rows : List Row) (stream : List Note) (made : List (
   abbrev new_side : Side
   new_side = record { row = pulling_of new; stream = later; made = later_made }
 
-  kept_pulled : (answer : Pulled) → HasPulled collecting thread old_side answer new_side → IsCollector limits (set rows thread new) later later_made collecting
-  kept_pulled answer has = record {
-    rows_are = rows_with limits rows stream is.rows_are thread new later within told follows
-        (λ t other. (ap (notes_of t) grown ∙ notes_other stream own t other, ap (events_of t) grown ∙ events_other stream own t other));
+  kept_pulled : BreaksForCause limits thread later new → (answer : Pulled) → HasPulled collecting thread old_side answer new_side → IsCollector limits (set rows thread new) later later_made collecting
+  kept_pulled cause answer has = record {
+    rows_are = rows_with limits rows stream is.rows_are thread new later within told follows cause
+        (λ t other. (
+          ap (notes_of t) grown ∙ notes_other stream own t other,
+          ap (events_of t) grown ∙ events_other stream own t other,
+          λ note. ap (λ notes. note_refusal limits notes (as_of t note)) grown ∙ refusal_other limits stream own t other note,
+        ));
     in_order = subst (AreInOrder limits) (sym grown) (AreInOrder-push limits stream own is.in_order next);
     made_are = subst (λ notes. AreMade limits.threads notes later_made) (sym grown) (subst (AreMade limits.threads (stream ++ own ∷ [])) (sym edges) (made_more limits stream own next limits.threads made next.known is.made_are));
     made_is = edges ∙ ap (λ pairs. pairs ++ edges_due thread (events_of thread (stream ++ own ∷ [])) own.place own.body) is.made_is ∙ sym (made_by_more stream own) ∙ ap made_by (sym grown);
@@ -184,13 +203,13 @@ module _ (limits : Bounds) (rows : List Row) (stream : List Note) (made : List (
           ap (notes_of thread) grown ∙ notes_own stream own ∙ ap (λ notes. notes ++ own ∷ []) was_told
           ∙ sym (map-append (as_of thread) was.lane.popped (has.note ∷ [])) ∙ ap (map (as_of thread)) (sym popped)
 
-  pub collector_after : (answer : Result Pulled PullFault) → IsSidePull collecting thread old_side answer new_side → IsCollector limits (set rows thread new) later later_made collecting
-  collector_after (Ok Empty) tells = kept_same (ap (λ (s : Side). s.stream) tells.1) (ap (λ (s : Side). s.made) tells.1) (ap (λ (s : Side). s.row.popped) tells.1)
-  collector_after (Ok (Answered place)) tells = kept_pulled (Answered place) tells
-  collector_after (Ok (Closing count)) tells = kept_pulled (Closing count) tells
-  collector_after (Err (Broken why)) (inl same) = kept_same (ap (λ (s : Side). s.stream) same.1) (ap (λ (s : Side). s.made) same.1) (ap (λ (s : Side). s.row.popped) same.1)
-  collector_after (Err (Broken why)) (inr has) = kept_same (ap (λ (s : Side). s.stream) has.moved) (ap (λ (s : Side). s.made) has.moved) (ap (λ (s : Side). s.row.popped) has.moved)
-  collector_after (Err OutOfMemory) tells = kept_same (ap (λ (s : Side). s.stream) tells.1) (ap (λ (s : Side). s.made) tells.1) (ap (λ (s : Side). s.row.popped) tells.1)
+  pub collector_after : BreaksForCause limits thread later new → (answer : Result Pulled PullFault) → IsSidePull collecting thread old_side answer new_side → IsCollector limits (set rows thread new) later later_made collecting
+  collector_after cause (Ok Empty) tells = kept_same cause (ap (λ (s : Side). s.stream) tells.1) (ap (λ (s : Side). s.made) tells.1) (ap (λ (s : Side). s.row.popped) tells.1)
+  collector_after cause (Ok (Answered place)) tells = kept_pulled cause (Answered place) tells
+  collector_after cause (Ok (Closing count)) tells = kept_pulled cause (Closing count) tells
+  collector_after cause (Err (Broken why)) (inl same) = kept_same cause (ap (λ (s : Side). s.stream) same.1) (ap (λ (s : Side). s.made) same.1) (ap (λ (s : Side). s.row.popped) same.1)
+  collector_after cause (Err (Broken why)) (inr has) = kept_same cause (ap (λ (s : Side). s.stream) has.moved) (ap (λ (s : Side). s.made) has.moved) (ap (λ (s : Side). s.row.popped) has.moved)
+  collector_after cause (Err OutOfMemory) tells = kept_same cause (ap (λ (s : Side). s.stream) tells.1) (ap (λ (s : Side). s.made) tells.1) (ap (λ (s : Side). s.row.popped) tells.1)
 
   pub pull_tells : (session : ℕ) (answer : Result Pulled PullFault) → IsSidePull collecting thread old_side answer new_side → (before : Collecting) → collecting_of session limits rows stream made ≡ before
       → (row : Pulling) → slice_get before.rows thread ≡ Some row → IsPull before thread row answer (collecting_of session limits (set rows thread new) later later_made)

@@ -75,8 +75,8 @@ abbrev pub with_side : Collecting → ℕ → Side → Collecting
 with_side c thread side = record c { rows = slice_set c.rows thread side.row; stream = side.stream; made = side.made }
 
 -- this note is popped, joins the stream as one of the thread, and its edges join those made
-abbrev pub pull_note : ℕ → Side → Note → Side
-pull_note thread side note =
+abbrev pub with_pulled : ℕ → Side → Note → Side
+with_pulled thread side note =
     let stream = side.stream ++ as_of thread note ∷ [] in
     record {
       row = pop_note side.row note;
@@ -99,7 +99,7 @@ pub record HasPulled (limits : Bounds) (thread : ℕ) (old : Side) (answer : Pul
   pub note : Note
   pub next : IsNext limits old.stream (as_of thread note)
   pub answer_is : answer ≡ pulled_of (accepted_as note.place note.body)
-  pub moved : new ≡ pull_note thread old note
+  pub moved : new ≡ with_pulled thread old note
 
 -- the lane's front note was refused, and stays
 pub record HasRefused (limits : Bounds) (thread : ℕ) (old : Side) (why : Refused) (new : Side) : Type 0 where

@@ -1,11 +1,14 @@
 -- What holds of recorders, receipts and collectors between calls.
-use Rattle.std.specs.Prelude.{◌≡◌, ℕ, ◌<◌, true, false, List, [], length, map, Some, slice_get}
+use Rattle.std.specs.Prelude.{◌≡◌, ℕ, ◌<◌, true, false, List, [], ◌∷◌, length, map, None, Some, slice_get}
+use mathlib.Core.List.{IsPrefix}
 use Rattle.gl_event.specs.Bounds.{Bounds, AreWithinRange}
 use Rattle.gl_event.specs.declared.notes.Note.{Note}
 use Rattle.gl_edges.specs.Tracking.{Tracks as Follows}
 use Rattle.gl_edges.specs.declared.edge.Edge.{Edge}
 use Rattle.gl_edges.specs.declared.edge.Sample.{Sample}
-use Rattle.gl_intake.specs.Stream.{events_of, has_ended, AreInOrder}
+use Rattle.gl_intake.specs.Stream.{events_of, has_ended, note_refusal, AreInOrder}
+use Rattle.gl_intake.specs.declared.notes.Refused.{Refused}
+use Rattle.gl_lane.specs.Lanes.{Popping}
 use Rattle.gl_recorder.specs.Taking.{Taking, Tracks}
 use Rattle.gl_world.specs.Keeping.{notes_of, AreMade}
 use Rattle.gl_engine.specs.Recording.{Recording, IsFresh}
@@ -35,11 +38,22 @@ pub record IsReceipt (limits : Bounds) (thread : ℕ) (pushed : List Note) (take
 abbrev pub pulling_of : Row → Pulling
 pulling_of row = record { lane = row.lane.lane; popped = row.lane.popped; broken = row.broken }
 
--- the rows are the threads': the stream has of each thread what was popped off its lane, and its tracker follows that
+-- the lane's front note, read as one of the thread, may not come next, for this reason
+pub record IsStuck (limits : Bounds) (thread : ℕ) (stream : List Note) (lane : Popping) (why : Refused) : Type 0 where
+  pub note : Note
+  pub front : IsPrefix (note ∷ []) lane.left
+  pub refused : note_refusal limits stream (as_of thread note) ≡ Some why
+
+-- where the row has its lane broken, the front note is the cause
+abbrev pub BreaksForCause : Bounds → ℕ → List Note → Row → Type 0
+BreaksForCause limits thread stream row = (why : Refused) → row.broken ≡ Some why → IsStuck limits thread stream row.lane why
+
+-- the rows are the threads': the stream has of each thread what was popped off its lane, its tracker follows that, and a lane breaks for cause
 pub record AreRows (limits : Bounds) (rows : List Row) (stream : List Note) : Type 0 where
   pub count : length rows ≡ limits.threads
   pub told : (thread : ℕ) (row : Row) → slice_get rows thread ≡ Some row → notes_of thread stream ≡ map (as_of thread) row.lane.popped
   pub follows : (thread : ℕ) (row : Row) → slice_get rows thread ≡ Some row → Follows thread (events_of thread stream) row.tracker
+  pub cause : (thread : ℕ) (row : Row) → slice_get rows thread ≡ Some row → BreaksForCause limits thread stream row
 
 -- a collector's rows and edges made are those of its stream, which has each thread's notes in order
 pub record IsCollector (limits : Bounds) (rows : List Row) (stream : List Note) (made : List (Edge × Sample)) (collecting : Bounds) : Type 0 where
@@ -56,4 +70,4 @@ pub record AreFresh (session : ℕ) (limits : Bounds) (threads : ℕ) (recorders
   pub rows_count : length rows ≡ threads
   pub fresh : (thread : ℕ) (r : Recording) → slice_get recorders thread ≡ Some r → IsFresh session limits thread r
   pub ends : map pulling_of rows ≡ map fresh_row (map (λ r. r.lane) recorders)
-  pub follows : (thread : ℕ) (row : Row) → slice_get rows thread ≡ Some row → (row.lane.popped ≡ []) × Follows thread [] row.tracker
+  pub follows : (thread : ℕ) (row : Row) → slice_get rows thread ≡ Some row → (row.lane.popped ≡ []) × (row.broken ≡ None) × Follows thread [] row.tracker

@@ -4,6 +4,7 @@ pub mod Collecting
 pub mod Keeping
 pub mod Dealing
 pub mod Gathering
+pub mod Breaking
 pub mod Whole
 pub mod Settling
 pub mod Steps

@@ -33,8 +33,8 @@ abbrev pub recorded_whole : Closed → List Event
 recorded_whole c = events_of c.thread c.pushed
 
 -- the recorder with this note pushed, which leaves certain room for so many more
-abbrev pub push_note : Recording → Note → ℕ → Recording
-push_note r note room = record r { pushed = r.pushed ++ note ∷ []; room = room }
+abbrev pub with_pushed : Recording → Note → ℕ → Recording
+with_pushed r note room = record r { pushed = r.pushed ++ note ∷ []; room = room }
 
 -- the recorder with its lane seen full
 abbrev pub seen_full : Recording → Recording

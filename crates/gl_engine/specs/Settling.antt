@@ -20,6 +20,14 @@ IsSettleFault g receipts fault.Memory = AreComplete g receipts × (g.fault ≡ S
 IsSettleFault g receipts (fault.Gone shard) = AreComplete g receipts × (g.fault ≡ Some (kept.Gone shard))
 IsSettleFault g receipts (fault.Broken thread refused) = AreComplete g receipts × (g.fault ≡ Some (kept.Broken thread refused))
 
+-- the run had no memory, or a worker was gone: what is left to go wrong where all receipts are there
+abbrev pub IsMemoryOrGone : SettleFault → Type 0
+IsMemoryOrGone (fault.Strange at back) = ⊥
+IsMemoryOrGone (fault.Missing thread back) = ⊥
+IsMemoryOrGone fault.Memory = Unit {0}
+IsMemoryOrGone (fault.Gone shard) = Unit {0}
+IsMemoryOrGone (fault.Broken thread refused) = ⊥
+
 -- what settling answers for what went wrong in the run
 abbrev pub told : RunFault → SettleFault
 told kept.Memory = fault.Memory

@@ -11,8 +11,8 @@ use Rattle.gl_world.specs.Machine.{Lane, State, rest, has_closed, has_room, take
 use Rattle.gl_world.specs.Keeping.{IsSound}
 use Rattle.gl_world.specs.declared.steps.Step.TheVariants.{Pull}
 use Rattle.gl_world.specs.declared.steps.Did.TheVariants.{Taken, Passed, Ended, Pulled}
-use Rattle.gl_engine.specs.Collecting.{Collecting, Pulling, side_of, as_of, pull_note}
-use Rattle.gl_engine.specs.Recording.{Recording, recorded, next_note, push_note, closed_of}
+use Rattle.gl_engine.specs.Collecting.{Collecting, Pulling, side_of, as_of, with_pulled}
+use Rattle.gl_engine.specs.Recording.{Recording, recorded, next_note, with_pushed, closed_of}
 
 -- the machine's lane in which a running recorder's notes are, and no end mark; its thread wishes this event next
 pub record Wishes (r : Recording) (lane : Lane) (event : Event) : Type 0 where
@@ -24,7 +24,7 @@ pub record Wishes (r : Recording) (lane : Lane) (event : Event) : Type 0 where
 -- lawful it is passed over; and where the lane is full nothing happens
 pub record RecordIsTake : Type 0 where
   pub taken : (r : Recording) (lane : Lane) (event : Event) (room : ℕ) → Wishes r lane event → refusal r.limits r.thread (recorded r) event ≡ None → has_room r.limits lane ≡ true
-      → ((take_turn r.limits r.thread lane).did ≡ Taken (length (recorded r))) × ((take_turn r.limits r.thread lane).lane.pushed ≡ (push_note r (next_note r event) room).pushed)
+      → ((take_turn r.limits r.thread lane).did ≡ Taken (length (recorded r))) × ((take_turn r.limits r.thread lane).lane.pushed ≡ (with_pushed r (next_note r event) room).pushed)
   pub refused : (r : Recording) (lane : Lane) (event : Event) (why : Refusal) → Wishes r lane event → refusal r.limits r.thread (recorded r) event ≡ Some why
       → ((take_turn r.limits r.thread lane).did ≡ Passed why) × ((take_turn r.limits r.thread lane).lane.pushed ≡ r.pushed)
   pub full : (r : Recording) (lane : Lane) (event : Event) → Wishes r lane event → refusal r.limits r.thread (recorded r) event ≡ None → has_room r.limits lane ≡ false
@@ -49,8 +49,8 @@ pub record Offers (c : Collecting) (s : State) (thread : ℕ) (lane : Lane) (not
 pub record PullIsPull : Type 0 where
   pub did : (c : Collecting) (s : State) (thread : ℕ) (lane : Lane) (note : Note) → Offers c s thread lane note → (step s (Pull thread)).did ≡ Pulled (accepted_as note.place note.body)
   pub stream : (c : Collecting) (s : State) (thread : ℕ) (row : Pulling) (lane : Lane) (note : Note) → Offers c s thread lane note
-      → (step s (Pull thread)).after.stream ≡ (pull_note thread (side_of c row) note).stream
+      → (step s (Pull thread)).after.stream ≡ (with_pulled thread (side_of c row) note).stream
   pub made : (c : Collecting) (s : State) (thread : ℕ) (row : Pulling) (lane : Lane) (note : Note) → Offers c s thread lane note
-      → (step s (Pull thread)).after.dispatch.made ≡ (pull_note thread (side_of c row) note).made
+      → (step s (Pull thread)).after.dispatch.made ≡ (with_pulled thread (side_of c row) note).made
   -- and no lane breaks
   pub next : (c : Collecting) (s : State) (thread : ℕ) (lane : Lane) (note : Note) → Offers c s thread lane note → IsNext c.limits c.stream (as_of thread note)

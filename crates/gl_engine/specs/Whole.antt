@@ -1,5 +1,5 @@
 -- What holds of what was gathered.
-use Rattle.std.specs.Prelude.{◌≡◌, ℕ, ◌<◌, true, List, length, map, Option, Some, None, slice_get}
+use Rattle.std.specs.Prelude.{◌≡◌, ℕ, ◌<◌, true, List, length, map, Option, Some, None, slice_get, IfSome}
 use mathlib.Core.List.{IsPrefix}
 use Rattle.gl_event.specs.Bounds.{Bounds}
 use Rattle.gl_event.specs.declared.notes.Note.{Note}
@@ -7,6 +7,7 @@ use Rattle.gl_intake.specs.Stream.{has_ended, AreInOrder}
 use Rattle.gl_lane.specs.Lanes.{LaneId}
 use Rattle.gl_shards.specs.Feeds.{AllSent, Sending}
 use Rattle.gl_world.specs.Keeping.{notes_of, AreMade}
+use Rattle.gl_engine.specs.Breaking.{IsBlamed}
 use Rattle.gl_engine.specs.Collecting.{Pulling, as_of}
 use Rattle.gl_engine.specs.Keeping.{AreNotesOf, IsCollector, pulling_of}
 use Rattle.gl_engine.specs.Recording.{Closed}
@@ -33,13 +34,14 @@ pub record IsWhole (limits : Bounds) (rows : List Row) (stream : List Note) (sen
   pub some : 0 < length sent
   pub shipped : map (λ s. s.sent) sent ≡ dealt (length sent) (made_by stream)
 
--- there is a row for each thread, and all was collected and shipped unless something went wrong
+-- there is a row for each thread; all was collected and shipped unless something went wrong, and where a lane broke, there is a note to blame
 pub record IsGathered (limits : Bounds) (rows : List Row) (stream : List Note) (collecting : Bounds) (sent : List AllSent) (fault : Option RunFault) : Type 0 where
   pub count : length rows ≡ limits.threads
   pub same_limits : collecting ≡ limits
   pub whole : fault ≡ None → IsWhole limits rows stream sent
+  pub blamed : IfSome fault (IsBlamed limits rows stream)
 
--- a receipt's notes are its thread's, in order, and what was popped begins them
-pub record IsConfirmed (popped : List Note) (r : Closed) : Type 0 where
+-- a receipt's notes are its thread's, in order, and what its lane has handed over begins them
+pub record IsConfirmed (came : List Note) (r : Closed) : Type 0 where
   pub notes : AreNotesOf r.limits r.thread r.pushed
-  pub begins : IsPrefix popped r.pushed
+  pub begins : IsPrefix came r.pushed

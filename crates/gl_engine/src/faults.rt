@@ -34,7 +34,8 @@ pub enum SettleFault {
     Gone {
         shard: u32,
     },
-    /// A note of the thread's lane may not come next, for this reason.
+    /// A note of the thread's lane may not come next, for this reason. It isn't answered where each
+    /// receipt is that of its lane's recorder, as [`Gathered::settle`] asks: no such lane breaks.
     Broken {
         thread: ThreadId,
         refused: Refused,

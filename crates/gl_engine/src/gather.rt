@@ -5,6 +5,7 @@ ghost use Rattle.gl_edges.specs.declared.edge.Edge.{Edge};
 ghost use Rattle.gl_edges.specs.declared.edge.Sample.{Sample};
 ghost use Rattle.gl_intake.specs.Stream.{has_ended};
 ghost use Rattle.gl_shards.specs.declared.shard.TheConstants.{MAX_SHARDS};
+ghost use Rattle.gl_engine.specs.Breaking.{IsBlamed, IsGone, IsKeptFor};
 ghost use Rattle.gl_engine.specs.Dealing.{dealt, made_by};
 ghost use Rattle.gl_engine.specs.Keeping.{IsCollector};
 ghost use Rattle.gl_engine.specs.Whole.{lane_of, KeepsUp};
@@ -51,6 +52,7 @@ fn ship<R: Wait>(
     requires fit { length outlets.old.items ≤ MAX_SHARDS }
     ensures shipped { (before : List (Edge × Sample)) → map (λ o. o.sent) outlets.old.items ≡ dealt (length outlets.old.items) before → OnOk result (map (λ o. o.sent) outlets.new.items ≡ dealt (length outlets.old.items) (before ++ made.items)) }
     ensures feeds { map (λ o. o.feed) outlets.new.items ≡ map (λ o. o.feed) outlets.old.items }
+    ensures gone { IfErr result IsGone }
 {
     for (edge, sample) in made {
         if let Err(shard) = ship_one(rt, outlets, edge, sample) {
@@ -61,7 +63,9 @@ fn ship<R: Wait>(
 }
 
 // Whether a pull from the thread's lane gave a note.
-fn has_pulled(thread: ThreadId, pulled: &Result<Pulled, PullFault>) -> Result<bool, RunFault> {
+fn has_pulled(thread: ThreadId, pulled: &Result<Pulled, PullFault>) -> Result<bool, RunFault>
+    ensures { IfErr result (λ fault. IsKeptFor thread pulled.now fault) }
+{
     match *pulled {
         Ok(Pulled::Empty) => Ok(false),
         Ok(_) => Ok(true),
@@ -86,6 +90,7 @@ fn pull_at(
     ensures limits { intake.new.limits ≡ intake.old.limits }
     ensures lanes { map lane_of rows.new.items ≡ map lane_of rows.old.items }
     ensures grown { IsPrefix intake.old.stream intake.new.stream }
+    ensures blamed { IfErr result (IsBlamed intake.old.limits rows.new.items intake.new.stream) }
 {
     let row = &mut rows[thread.number() as usize];
     let pulled = row.pull(alloc, thread, intake, made);
@@ -110,6 +115,7 @@ fn turn<R: Wait>(
     ensures lanes { map lane_of rows.new.items ≡ map lane_of rows.old.items }
     ensures feeds { map (λ o. o.feed) outlets.new.items ≡ map (λ o. o.feed) outlets.old.items }
     ensures grown { IsPrefix intake.old.stream intake.new.stream }
+    ensures blamed { IfErr result (IsBlamed intake.old.limits rows.new.items intake.new.stream) }
 {
     let mut made = Vec::new(alloc);
     let pulled = pull_at(alloc, thread, rows, intake, &mut made)?;
@@ -135,6 +141,7 @@ fn round<R: Wait>(
     ensures lanes { map lane_of rows.new.items ≡ map lane_of rows.old.items }
     ensures feeds { map (λ o. o.feed) outlets.new.items ≡ map (λ o. o.feed) outlets.old.items }
     ensures grown { IsPrefix intake.old.stream intake.new.stream }
+    ensures blamed { IfErr result (IsBlamed intake.old.limits rows.new.items intake.new.stream) }
 {
     let mut moved = false;
     for number in 0..threads {
@@ -166,6 +173,7 @@ fn gather<R: Wait>(
     ensures lanes { map lane_of rows.new.items ≡ map lane_of rows.old.items }
     ensures feeds { map (λ o. o.feed) outlets.new.items ≡ map (λ o. o.feed) outlets.old.items }
     ensures grown { IsPrefix intake.old.stream intake.new.stream }
+    ensures blamed { IfErr result (IsBlamed intake.old.limits rows.new.items intake.new.stream) }
 {
     ship(rt, outlets, made)?;
     for _ in rt.forever() {
@@ -201,6 +209,7 @@ pub(crate) fn collect_all<R: Wait>(
     ensures lanes { map lane_of rows.new.items ≡ map lane_of rows.old.items }
     ensures feeds { map (λ o. o.feed) outlets.new.items ≡ map (λ o. o.feed) outlets.old.items }
     ensures grown { IsPrefix intake.old.stream intake.new.stream }
+    ensures blamed { IfErr result (IsBlamed intake.old.limits rows.new.items intake.new.stream) }
 {
     match gather(rt, alloc, threads, rows, intake, made, outlets) {
         Ok(()) => Ok(()),

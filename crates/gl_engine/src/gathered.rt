@@ -3,7 +3,9 @@ ghost use Rattle.std.specs.Prelude.{◌≡◌, ◌<◌, ℕ, Some, map, length, 
 ghost use Rattle.gl_engine.specs.Recording.{Closed};
 ghost use Rattle.gl_engine.specs.Collecting.{Pulling};
 ghost use Rattle.gl_engine.specs.Keeping.{pulling_of};
+ghost use Rattle.gl_engine.specs.Breaking.{handed, HandOver};
 ghost use Rattle.gl_engine.specs.Whole.{IsConfirmed};
+ghost use Rattle.gl_engine.specs.declared.row.Row.{Row};
 ghost use Rattle.gl_engine.specs.Gathering as gathering;
 ghost use Rattle.gl_engine.specs.Gathering.{AreOwnBelow, AreThereBelow, IsFirstStrange, IsFirstMissing};
 
@@ -55,24 +57,25 @@ fn has_receipt(receipts: &[Receipt], thread: ThreadId) -> bool
     false
 }
 
-// Compares a receipt with what was popped off its thread's lane, where that is the recorder's lane.
+// Compares a receipt with what came off its thread's lane, where that is the recorder's lane.
 fn confirm_at(rows: &mut Vec<Row>, receipt: &mut Receipt)
     requires known { receipt.old.thread < length rows.old.items }
     requires one_lane { (row : Pulling) → slice_get (map pulling_of rows.old.items) receipt.old.thread ≡ Some row → receipt.old.lane ≡ row.lane }
     ensures receipt { receipt.new ≡ receipt.old }
     ensures rows { map pulling_of rows.new.items ≡ map pulling_of rows.old.items }
-    ensures confirmed { (row : Pulling) → slice_get (map pulling_of rows.old.items) receipt.old.thread ≡ Some row → IsConfirmed row.popped receipt.old }
+    ensures handed { HandOver rows.old.items rows.new.items }
+    ensures confirmed { (row : Row) → slice_get rows.old.items receipt.old.thread ≡ Some row → IsConfirmed (handed row.lane) receipt.old }
 {
     let row = &mut rows[receipt.thread.number() as usize];
     row.lane.confirm(&mut receipt.finished);
 }
 
-// Compares each receipt with what was popped off its thread's lane.
+// Compares each receipt with what came off its thread's lane.
 pub(crate) fn confirm_all(rows: &mut Vec<Row>, receipts: &mut [Receipt])
     requires known { (at : ℕ) (r : Closed) → slice_get receipts.old at ≡ Some r → r.thread < length rows.old.items }
     requires one_lane { (at : ℕ) (r : Closed) (row : Pulling) → slice_get receipts.old at ≡ Some r → slice_get (map pulling_of rows.old.items) r.thread ≡ Some row → r.lane ≡ row.lane }
     ensures receipts { receipts.new ≡ receipts.old }
-    ensures confirmed { (at : ℕ) (r : Closed) (row : Pulling) → slice_get receipts.old at ≡ Some r → slice_get (map pulling_of rows.old.items) r.thread ≡ Some row → IsConfirmed row.popped r }
+    ensures confirmed { (at : ℕ) (r : Closed) (row : Row) → slice_get receipts.old at ≡ Some r → slice_get rows.old.items r.thread ≡ Some row → IsConfirmed (handed row.lane) r }
 {
     for at in 0..receipts.len() {
         confirm_at(rows, &mut receipts[at]);

@@ -2,7 +2,7 @@
 ghost use Rattle.std.specs.Prelude.{◌≡◌, ◌<◌, ◌≤◌, ◌+◌, false, None, Some, [], length, IsOk, OnOk, OnErr, IfOk, IfErr};
 ghost use Rattle.gl_event.specs.Lawful.{refusal, IsLawful};
 ghost use Rattle.gl_intake.specs.Stream.{has_ended};
-ghost use Rattle.gl_engine.specs.Recording.{recorded, next_note, push_note, seen_full, closed_of};
+ghost use Rattle.gl_engine.specs.Recording.{recorded, next_note, with_pushed, seen_full, closed_of};
 ghost use Rattle.gl_engine.specs.declared.recorder.RecordFault.TheVariants.{Full};
 ghost use Rattle.gl_engine.specs.Faults.{IsNotRecorded, IsNotClosed, IsUnconfirmed};
 
@@ -95,7 +95,7 @@ impl Recorder {
     pub fn record(&mut self, event: Event) -> Result<u32, RecordFault>
         ensures lawful { OnOk result (refusal self.old.limits self.old.thread (recorded self.old) event ≡ None) }
         ensures place { IfOk result (λ place. place ≡ length (recorded self.old)) }
-        ensures pushed { OnOk result (self.new ≡ push_note self.old (next_note self.old event) self.new.room) }
+        ensures pushed { OnOk result (self.new ≡ with_pushed self.old (next_note self.old event) self.new.room) }
         ensures room { OnOk result (self.old.room ≤ self.new.room + 1) }
         ensures fault { IfErr result (λ fault. IsNotRecorded self.old event fault self.new) }
         ensures succeeds { 0 < self.old.room → refusal self.old.limits self.old.thread (recorded self.old) event ≡ None → IsOk result }
@@ -111,7 +111,7 @@ impl Recorder {
     pub fn record_wait<R: Wait>(&mut self, rt: &R, event: Event) -> Result<u32, Refusal>
         ensures lawful { OnOk result (refusal self.old.limits self.old.thread (recorded self.old) event ≡ None) }
         ensures place { IfOk result (λ place. place ≡ length (recorded self.old)) }
-        ensures pushed { OnOk result (self.new ≡ push_note self.old (next_note self.old event) self.new.room) }
+        ensures pushed { OnOk result (self.new ≡ with_pushed self.old (next_note self.old event) self.new.room) }
         ensures refused { IfErr result (λ why. refusal self.old.limits self.old.thread (recorded self.old) event ≡ Some why) }
         ensures unchanged { OnErr result (self.new ≡ record self.old { room = self.new.room }) }
     {
@@ -165,7 +165,7 @@ impl Recorder {
     fn try_record(&mut self, event: &Event) -> Result<u32, RecordFault>
         ensures lawful { OnOk result (refusal self.old.limits self.old.thread (recorded self.old) event.now ≡ None) }
         ensures place { IfOk result (λ place. place ≡ length (recorded self.old)) }
-        ensures pushed { OnOk result (self.new ≡ push_note self.old (next_note self.old event.now) self.new.room) }
+        ensures pushed { OnOk result (self.new ≡ with_pushed self.old (next_note self.old event.now) self.new.room) }
         ensures room { OnOk result (self.old.room ≤ self.new.room + 1) }
         ensures fault { IfErr result (λ fault. IsNotRecorded self.old event.now fault self.new) }
         ensures succeeds { 0 < self.old.room → refusal self.old.limits self.old.thread (recorded self.old) event.now ≡ None → IsOk result }
@@ -181,7 +181,7 @@ impl Recorder {
         requires lawful { refusal self.old.limits self.old.thread (recorded self.old) event.now ≡ None }
         requires its_note { note.now ≡ next_note self.old event.now }
         ensures place { IfOk result (λ place. place ≡ length (recorded self.old)) }
-        ensures pushed { OnOk result (self.new ≡ push_note self.old note.now self.new.room) }
+        ensures pushed { OnOk result (self.new ≡ with_pushed self.old note.now self.new.room) }
         ensures room { OnOk result (self.old.room ≤ self.new.room + 1) }
         ensures full { IfErr result (λ fault. (fault ≡ Full event.now) × (self.new ≡ seen_full self.old)) }
         ensures succeeds { 0 < self.old.room → IsOk result }

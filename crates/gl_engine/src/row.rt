@@ -9,7 +9,7 @@ ghost use Rattle.gl_intake.specs.Stream.{events_of, note_refusal, accepted_as, s
 ghost use Rattle.gl_world.specs.Keeping.{MayTake, with_body};
 ghost use Rattle.gl_world.specs.Machine.{edges_due};
 ghost use Rattle.gl_engine.specs.Collecting.{as_of, pulled_of, IsSidePull};
-ghost use Rattle.gl_engine.specs.Keeping.{pulling_of};
+ghost use Rattle.gl_engine.specs.Keeping.{pulling_of, BreaksForCause};
 
 use crate::pulled::{PullFault, Pulled};
 use gl_edges::{Edge, Sample, Tracker};
@@ -119,6 +119,7 @@ impl Row {
         ensures pull { IsSidePull intake.old.limits thread (record { row = pulling_of self.old; stream = intake.old.stream; made = made.old.items }) result (record { row = pulling_of self.new; stream = intake.new.stream; made = made.new.items }) }
         ensures follows { Follows thread (events_of thread intake.new.stream) self.new.tracker }
         ensures limits { intake.new.limits ≡ intake.old.limits }
+        ensures cause { BreaksForCause intake.old.limits thread intake.old.stream self.old → BreaksForCause intake.old.limits thread intake.new.stream self.new }
     {
         if let Some(refused) = self.broken {
             return Err(PullFault::Broken(refused));

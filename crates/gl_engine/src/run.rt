@@ -1,10 +1,11 @@
 //! The run of a collector: it collects all, ships all edges, and ends the feeds.
-ghost use Rattle.std.specs.Prelude.{◌≡◌, ◌<◌, ◌≤◌, ◌+◌, [], ◌∷◌, ◌++◌, ℕ, true, None, Some, List, map, length, slice_get, IsOk, OnOk};
+ghost use Rattle.std.specs.Prelude.{◌≡◌, ◌⊎◌, Err, IfSome, ◌<◌, ◌≤◌, ◌+◌, [], ◌∷◌, ◌++◌, ℕ, true, None, Some, List, map, length, slice_get, IsOk, OnOk};
 ghost use mathlib.Core.List.{IsPrefix};
 ghost use Rattle.std.specs.Vec.{vec_len, vec_capacity};
 ghost use Rattle.gl_intake.specs.Stream.{has_ended, AreInOrder};
 ghost use Rattle.gl_shards.specs.Feeds.{Sending};
 ghost use Rattle.gl_shards.specs.declared.shard.TheConstants.{MAX_SHARDS};
+ghost use Rattle.gl_engine.specs.Breaking.{IsGone};
 ghost use Rattle.gl_engine.specs.Dealing.{dealt, made_by};
 ghost use Rattle.gl_engine.specs.declared.faults.RunFault.TheVariants.{Memory};
 
@@ -77,6 +78,7 @@ fn end_unkept<R: Wait>(rt: &R, outlets: Vec<Outlet>) {
 // What went wrong first, if something did.
 fn first_fault(gathered: Result<(), RunFault>, ended: Result<(), u32>) -> Option<RunFault>
     ensures none { result ≡ None → IsOk gathered × IsOk ended }
+    ensures some { IfSome result (λ fault. (gathered ≡ Err fault) ⊎ IsGone fault) }
 {
     match gathered {
         Err(fault) => Some(fault),

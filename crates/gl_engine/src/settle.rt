@@ -1,9 +1,9 @@
 //! How what was gathered is settled.
 ghost use Rattle.std.specs.Prelude.{◌≡◌, None, length, IfOk, IfErr, OnOk};
 ghost use Rattle.gl_intake.specs.Stream.{logs_of};
-ghost use Rattle.gl_engine.specs.Gathering.{AreOurs, AreOwnBelow, AreThereBelow};
+ghost use Rattle.gl_engine.specs.Gathering.{AreComplete, AreOurs, AreOwnBelow, AreThereBelow};
 ghost use Rattle.gl_engine.specs.Settling as settling;
-ghost use Rattle.gl_engine.specs.Settling.{IsSettleFault, IsSettled};
+ghost use Rattle.gl_engine.specs.Settling.{IsMemoryOrGone, IsSettleFault, IsSettled};
 
 use crate::faults::{RunFault, SettleFault};
 use crate::gathered::{Gathered, confirm_all};
@@ -33,6 +33,10 @@ impl Gathered {
     ///
     /// In this order: [`SettleFault::Strange`], [`SettleFault::Missing`], both with what was gathered as it
     /// was; then what went wrong in the run.
+    ///
+    /// **Where there is one receipt of each thread and no other, only want of memory in the run and a worker
+    /// that is gone stand in the way.** No lane is broken then: what came off it are the first of the
+    /// notes that its recorder pushed, and each of those is the thread's next one.
     pub fn settle(self, receipts: &mut [Receipt]) -> Result<(Settled, Vec<Sent>), SettleFault>
         requires ours { AreOurs self receipts.old }
         ensures receipts { receipts.new ≡ receipts.old }
@@ -41,6 +45,7 @@ impl Gathered {
         ensures settled { IfOk result (λ settled. IsSettled receipts.old settled.0 settled.1.items) }
         ensures whole { OnOk result (self.fault ≡ None) }
         ensures fault { IfErr result (λ fault. IsSettleFault self receipts.old fault) }
+        ensures complete { AreComplete self receipts.old → IfErr result IsMemoryOrGone }
     {
         if let Some(at) = self.first_strange(receipts) {
             return Err(SettleFault::Strange { at, gathered: self });
@@ -65,6 +70,7 @@ impl Gathered {
         ensures settled { IfOk result (λ settled. IsSettled receipts.old settled.0 settled.1.items) }
         ensures whole { OnOk result (self.fault ≡ None) }
         ensures fault { IfErr result (λ fault. IsSettleFault self receipts.old fault) }
+        ensures complete { IfErr result IsMemoryOrGone }
     {
         let Gathered {
             alloc,
@@ -74,10 +80,10 @@ impl Gathered {
             fault,
             ..
         } = self;
-        if let Some(fault) = fault {
-            return Err(settle_fault(fault));
-        }
         confirm_all(&mut rows, receipts);
-        Ok((Settled { alloc, intake }, sent))
+        match fault {
+            None => Ok((Settled { alloc, intake }, sent)),
+            Some(fault) => Err(settle_fault(fault)),
+        }
     }
 }

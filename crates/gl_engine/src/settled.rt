@@ -7,13 +7,14 @@ ghost use Rattle.gl_shards.specs.Tables.{union};
 ghost use Rattle.gl_engine.specs.Recording.{Closed};
 ghost use Rattle.gl_engine.specs.Settling.{IsSettled};
 
-use gl_cycles::{Report, ReportFault, report_over};
+use gl_cycles::{Report, ReportFault, report_over_parallel};
 use gl_event::Event;
 use gl_filters::Query;
 use gl_intake::Intake;
 use gl_shards::{Table, merge};
 use std::alloc::Global;
 use std::marker::Model;
+use std::thread::Threads;
 
 /// The lists of all threads' events, from a session whose receipts were settled.
 ///
@@ -49,13 +50,19 @@ impl Settled {
     /// recorded**, whatever the threads' timing and however many workers there were: the lists are
     /// those of the receipts, and table by table the workers have what was sent to them.
     ///
-    /// Err where a segment of the lists is before itself, and where memory was refused.
-    pub fn report(&self, tables: Vec<Table>, query: &Query) -> Result<Report, ReportFault>
+    /// The cycles are searched for on several threads, which changes nothing of the report. Err where a
+    /// segment of the lists is before itself, and where memory was refused.
+    pub fn report(
+        &self,
+        rt: &(impl Threads + Sync),
+        tables: Vec<Table>,
+        query: &Query,
+    ) -> Result<Report, ReportFault>
         ensures report { IfOk result (λ report. IsReport query.now (union tables.items) self.now report) }
         ensures fault { IfErr result (λ fault. IsReportFault self.now fault) }
         ensures recorded { (receipts : List Closed) (sent : List AllSent) → IsSettled receipts self.now sent → tables.items ≡ map (λ s. once s.sent) sent → IfOk result (λ report. IsGoodlockReport query.now self.now report) }
     {
         let edges = merge(self.alloc, tables)?;
-        report_over(self.alloc, edges, self.intake.logs(), query)
+        report_over_parallel(rt, self.alloc, edges, self.intake.logs(), query)
     }
 }

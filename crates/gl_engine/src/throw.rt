@@ -1,5 +1,7 @@
 //! How a run goes on in which something went wrong: what comes is thrown away.
 ghost use Rattle.std.specs.Prelude.{◌≡◌, ◌<◌, map, length};
+ghost use mathlib.Core.List.{IsPrefix};
+ghost use Rattle.gl_engine.specs.Breaking.{handed, HandOver};
 ghost use Rattle.gl_engine.specs.Whole.{lane_of};
 
 use crate::row::Row;
@@ -26,7 +28,8 @@ struct Round {
 
 // Pops a note off the lane, if there is one.
 fn throw_one(lane: &mut LaneOut) -> Thrown
-    ensures { lane.new.lane ≡ lane.old.lane }
+    ensures lane { lane.new.lane ≡ lane.old.lane }
+    ensures handed { IsPrefix (handed lane.old) (handed lane.new) }
 {
     let Some(note) = lane.pop() else {
         return Thrown::Nothing;
@@ -40,7 +43,8 @@ fn throw_one(lane: &mut LaneOut) -> Thrown
 // Pops a note off a thread's lane, if there is one.
 fn throw_at(rows: &mut Vec<Row>, index: usize, round: Round) -> Round
     requires { index < length rows.old.items }
-    ensures { map lane_of rows.new.items ≡ map lane_of rows.old.items }
+    ensures lanes { map lane_of rows.new.items ≡ map lane_of rows.old.items }
+    ensures handed { HandOver rows.old.items rows.new.items }
 {
     match throw_one(&mut rows[index].lane) {
         Thrown::Nothing => round,
@@ -57,7 +61,8 @@ fn throw_at(rows: &mut Vec<Row>, index: usize, round: Round) -> Round
 
 // Pops a note off each lane that has one.
 fn throw_round(rows: &mut Vec<Row>, left: u32) -> Round
-    ensures { map lane_of rows.new.items ≡ map lane_of rows.old.items }
+    ensures lanes { map lane_of rows.new.items ≡ map lane_of rows.old.items }
+    ensures handed { HandOver rows.old.items rows.new.items }
 {
     let mut round = Round { left, moved: false };
     for index in 0..rows.len() {
@@ -80,7 +85,8 @@ fn running(intake: &Intake, threads: u32) -> u32 {
 /// Pops all notes off the lanes and throws them away, round by round, until every thread's end mark
 /// came. It yields the processor after a round in which no note was seen.
 pub(crate) fn throw_away<R: Wait>(rt: &R, rows: &mut Vec<Row>, intake: &Intake, threads: u32)
-    ensures { map lane_of rows.new.items ≡ map lane_of rows.old.items }
+    ensures lanes { map lane_of rows.new.items ≡ map lane_of rows.old.items }
+    ensures handed { HandOver rows.old.items rows.new.items }
 {
     let mut left = running(intake, threads);
     for _ in rt.forever() {

@@ -29,6 +29,10 @@ is_clear before mode e f =
 unfoldable pub goes_with : (Segment → Segment → Bool) → Mode → Edge → Edge → Bool
 goes_with before mode e f = (not (e.held == f.held) && not (e.thread == f.thread)) && is_clear before mode e f
 
+-- held locks and guards let edges of the kinds of these two stand in one cycle of this mode
+unfoldable pub kinds_go_together : Mode → Edge → Edge → Bool
+kinds_go_together mode e f = not (e.held == f.held) && not (asks_guards mode && guards_clash e.guards f.guards)
+
 -- each edge goes with each later one
 abbrev pub go_together : (Segment → Segment → Bool) → Mode → List Edge → Bool
 go_together before mode [] = true

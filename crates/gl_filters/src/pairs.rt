@@ -2,7 +2,7 @@
 ghost use Rattle.std.specs.Prelude.{◌≡◌};
 ghost use Rattle.gl_segments.specs.Clocks.{is_before};
 ghost use Rattle.gl_filters.specs.Cycle.{asks_guards, asks_order, is_ordered};
-ghost use Rattle.gl_filters.specs.Test.{leads_to, is_clear, goes_with, is_compatible};
+ghost use Rattle.gl_filters.specs.Test.{leads_to, is_clear, goes_with, kinds_go_together, is_compatible};
 
 use crate::gate_locks::have_gate;
 use crate::query::Mode;
@@ -93,6 +93,19 @@ pub fn goes_with(mode: Mode, order: &Order, e: &Edge, f: &Edge) -> bool
         return false;
     }
     are_clear(mode, order, e, f)
+}
+
+/// Whether edges of the kinds of these two may stand in one cycle of this mode, as far as held locks
+/// and guards tell: their held locks differ, and from Guarded on their guards have no gate lock.
+/// Threads and segments aren't looked at.
+#[tactic(auto, unfolding(crate::specs::Test::kinds_go_together))]
+pub fn kinds_go_together(mode: Mode, e: &Edge, f: &Edge) -> bool
+    ensures { result ≡ kinds_go_together mode e.now f.now }
+{
+    if e.held == f.held {
+        return false;
+    }
+    !(mode.asks_guards() && have_gate(&e.guards, &f.guards))
 }
 
 /// Whether the second edge may follow the first one in a cycle of this mode: the first leads on to

@@ -11,6 +11,7 @@ ghost use Rattle.gl_std.specs.declared.standing.Verdict.TheVariants.{Kept, Stray
 use crate::faults::{ReadFault, StdKind};
 use crate::line::{Operation, Shape, shape_of};
 use crate::names::{Found, Names};
+use crate::seed::Seed;
 use crate::standing::{Standing, Verdict};
 use gl_event::{Event, Limits, LocId, LockId, ThreadId};
 use std::alloc::{AllocError, Global};
@@ -55,7 +56,7 @@ impl Judge {
     ghost use Rattle.gl_std.specs.declared.trace.Trace.{Trace};
 
     /// No line was judged.
-    pub(crate) fn new(alloc: Global, limits: Limits) -> Judge
+    pub(crate) fn new(alloc: Global, limits: Limits, seed: Seed) -> Judge
         ensures judged { HasJudged result nothing }
         ensures sound { IsSound result }
         ensures limits { result.limits ≡ limits }
@@ -64,7 +65,7 @@ impl Judge {
         Judge {
             alloc,
             limits,
-            names: Names::new(alloc),
+            names: Names::new(alloc, seed),
             standings: Vec::new(alloc),
             latest: None,
             skipped: 0,

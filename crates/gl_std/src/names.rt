@@ -4,6 +4,7 @@ ghost use Rattle.std.specs.Str.{bytes_eq};
 
 use crate::line::Operation;
 use crate::name::{Name, Wanted};
+use crate::seed::Seed;
 use gl_event::{LocId, LockId, ThreadId};
 use indexmap::IndexSet;
 use std::alloc::{AllocError, Global};
@@ -12,7 +13,7 @@ use std::marker::Model;
 /// Different names in order of first mention, so that the place of a name is its number.
 #[derive(Drop)]
 struct NameList {
-    names: IndexSet<Name>,
+    names: IndexSet<Name, Seed>,
 }
 
 impl Model for NameList {
@@ -29,11 +30,11 @@ impl NameList {
     ghost use Rattle.gl_std.specs.Trace.{with_name};
 
     /// No names.
-    fn new(alloc: Global) -> NameList
+    fn new(alloc: Global, seed: Seed) -> NameList
         ensures { result ≡ [] }
     {
         NameList {
-            names: IndexSet::new(alloc),
+            names: IndexSet::with_hasher(alloc, seed),
         }
     }
 
@@ -176,13 +177,13 @@ impl Names {
     ghost use Rattle.gl_std.specs.Trace.{found_in, if_new, locks_after, operand_number, threads_after, with_name, with_names};
 
     /// No names.
-    pub(crate) fn new(alloc: Global) -> Names
+    pub(crate) fn new(alloc: Global, seed: Seed) -> Names
         ensures { result ≡ record { threads = []; locks = []; locs = [] } }
     {
         Names {
-            threads: NameList::new(alloc),
-            locks: NameList::new(alloc),
-            locs: NameList::new(alloc),
+            threads: NameList::new(alloc, seed),
+            locks: NameList::new(alloc, seed),
+            locs: NameList::new(alloc, seed),
         }
     }
 

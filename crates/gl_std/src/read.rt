@@ -7,6 +7,7 @@ ghost use Rattle.gl_std.specs.declared.faults.ReadFault.TheVariants.{Line};
 use crate::faults::ReadFault;
 use crate::lines::next_line;
 use crate::reader::Reader;
+use crate::seed::Seed;
 use crate::trace::Trace;
 use gl_event::Limits;
 use std::alloc::Global;
@@ -14,13 +15,14 @@ use std::alloc::Global;
 /// The trace of a text, or the fault of its first line that is no event.
 ///
 /// `Memory` comes only where a growth was refused. Time grows with the length of the text: each line
-/// is cut once, and each of its names is looked up once by hash.
+/// is cut once, and each of its names is looked up once by hash. The hash has a fixed seed, so that names
+/// can be chosen to make this slow.
 pub fn read_trace(alloc: Global, bytes: &[u8], limits: &Limits) -> Result<Trace, ReadFault>
     ensures trace { IfOk result (λ t. trace_of limits.now bytes.now ≡ Ok t) }
     ensures fault { (line : ℕ) (kind : StdKind) → result ≡ Err (Line line kind) → trace_of limits.now bytes.now ≡ Err (Line line kind) }
     ensures over { IfOk result (IsTraceOver limits.now) }
 {
-    let mut reader = Reader::new(alloc, *limits);
+    let mut reader = Reader::new(alloc, *limits, Seed::fixed());
     let mut rest = bytes;
     while let Some((line, after)) = next_line(rest) {
         reader.take(line)?;

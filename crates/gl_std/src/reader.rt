@@ -4,6 +4,7 @@ ghost use Rattle.std.specs.Prelude.{◌≡◌, ℕ, ◌+◌, ◌^◌, ◌<◌, O
 use crate::faults::ReadFault;
 use crate::judge::{Judge, Judged};
 use crate::lists::Lists;
+use crate::seed::Seed;
 use crate::trace::Trace;
 use gl_event::Limits;
 use std::alloc::Global;
@@ -22,7 +23,7 @@ impl Reader {
     ghost use Rattle.gl_std.specs.declared.faults.StdKind.{StdKind};
 
     /// No line was read.
-    pub(crate) fn new(alloc: Global, limits: Limits) -> Reader
+    pub(crate) fn new(alloc: Global, limits: Limits, seed: Seed) -> Reader
         ensures told { told_by result ≡ nothing }
         ensures ready { IsReady result }
         ensures limits { result.judge.limits ≡ limits }
@@ -30,7 +31,7 @@ impl Reader {
     {
         Reader {
             alloc,
-            judge: Judge::new(alloc, limits),
+            judge: Judge::new(alloc, limits, seed),
             lists: Lists::new(Vec::new(alloc)),
         }
     }

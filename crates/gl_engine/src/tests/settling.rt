@@ -12,6 +12,7 @@ use gl_shards::{Inlet, Open, Outlet, Sent, Table, feed, serve};
 use std::alloc::{AllocError, Global};
 use std::sync::Wait;
 use std::test::Fail;
+use std::thread::Threads;
 
 // Records the events and closes.
 fn recorded(recorder: Recorder, events: &[Event]) -> Option<Receipt>
@@ -50,12 +51,13 @@ fn recorded_alone(
     Ok(Some((receipt, collector)))
 }
 
-// What was gathered, where a thread has no receipt.
-fn missing(gathered: Gathered, receipts: &mut [Receipt]) -> Option<Gathered>
-    requires ours { AreOurs gathered receipts.old }
+// What was gathered, where a thread has no receipt: here none has one.
+#[tactic(auto, using(crate::proofs::Alone::none_ours))]
+fn missing(alloc: Global, gathered: Gathered) -> Option<Gathered>
     ensures back { IfSome result (λ back. back ≡ gathered) }
 {
-    match gathered.settle(receipts) {
+    let mut none: Vec<Receipt> = Vec::new(alloc);
+    match gathered.settle(none.as_mut_slice()) {
         Err(SettleFault::Missing { gathered, .. }) => Some(gathered),
         _ => None,
     }
@@ -167,9 +169,21 @@ fn worker_gone<R: Wait>(
     Ok(Some((receipt, gathered)))
 }
 
+// How many cycles are reported over the table of the only worker, and whether there are more.
+fn reported_cycles<R: Threads + Sync>(
+    rt: &R,
+    alloc: Global,
+    settled: &Settled,
+    table: Table,
+) -> Option<(usize, bool)> {
+    let query = Query::new(Mode::Full, 4, 1_000).ok()?;
+    let tables = vec![in alloc; table].ok()?;
+    cycles(&settled.report(rt, tables, &query))
+}
+
 // A receipt of another session is strange.
 #[test]
-#[tactic(auto, using(crate::proofs::Alone::none_ours, crate::proofs::Alone::one_ours, crate::proofs::Alone::foreign_ours))]
+#[tactic(auto, using(crate::proofs::Alone::foreign_ours))]
 fn foreign_receipt(rt: HostRuntime) -> Result<(), Fail> {
     let alloc = rt.alloc();
     let limits = Limits::new(1, 8, 100, 100)?;
@@ -183,13 +197,12 @@ fn foreign_receipt(rt: HostRuntime) -> Result<(), Fail> {
 
 // A session without an event, settled with no receipt, and with its own.
 #[test]
-#[tactic(auto, using(crate::proofs::Alone::none_ours, crate::proofs::Alone::one_ours, crate::proofs::Alone::foreign_ours))]
+#[tactic(auto, using(crate::proofs::Alone::one_ours))]
 fn settle_receipts(rt: HostRuntime) -> Result<(), Fail> {
     let alloc = rt.alloc();
     let limits = Limits::new(1, 8, 100, 100)?;
     let (own, gathered, inlet) = nothing_recorded(&rt, alloc, 7, &limits)?.expect(&rt, "a session");
-    let mut none: Vec<Receipt> = Vec::new(alloc);
-    let gathered = missing(gathered, none.as_mut_slice()).expect(&rt, "no receipt");
+    let gathered = missing(alloc, gathered).expect(&rt, "no receipt");
     let mut own = vec![in alloc; own]?;
     let (settled, table) = settled_alone(&rt, alloc, gathered, own.as_mut_slice(), inlet).expect(
         &rt,
@@ -197,22 +210,22 @@ fn settle_receipts(rt: HostRuntime) -> Result<(), Fail> {
     );
     assert_eq!(rt; table.len(), 0);
     assert_eq!(rt; settled.lists().len(), 1);
-    let query = Query::new(Mode::Full, 4, 1_000)?;
-    let report = settled.report(vec![in alloc; table]?, &query);
-    assert_eq!(rt; cycles(&report), Some((0, false)));
+    assert_eq!(rt;
+        reported_cycles(&rt, alloc, &settled, table),
+        Some((0, false))
+    );
     Ok(())
 }
 
 // The worker's end was dropped before the run: that is answered where the receipt is there, and else
 // that it is missing.
 #[test]
-#[tactic(auto, using(crate::proofs::Alone::none_ours, crate::proofs::Alone::one_ours, crate::proofs::Alone::foreign_ours))]
+#[tactic(auto, using(crate::proofs::Alone::one_ours))]
 fn inlet_dropped(rt: HostRuntime) -> Result<(), Fail> {
     let alloc = rt.alloc();
     let limits = Limits::new(1, 8, 100, 100)?;
     let (own, gathered) = worker_gone(&rt, alloc, &limits)?.expect(&rt, "a session");
-    let mut none: Vec<Receipt> = Vec::new(alloc);
-    let gathered = missing(gathered, none.as_mut_slice()).expect(&rt, "no receipt");
+    let gathered = missing(alloc, gathered).expect(&rt, "no receipt");
     let mut own = vec![in alloc; own]?;
     assert_eq!(rt; gone(gathered, own.as_mut_slice()), Some(0));
     Ok(())

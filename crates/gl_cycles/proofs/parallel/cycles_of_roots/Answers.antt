@@ -12,16 +12,15 @@ pub collect-requires-clause-ready : goal.collect-requires-clause-ready
 collect-requires-clause-ready g c κs within =
     let ends = c.into_par_iter.ensures in
     let s = c.args.search.now in
-    let inside = nat_range-All (λ i. (0 < s.len) × IsReady s × (i < length s.table.now)) 0 (length s.table.now) (λ i low high. (c.requires.some, c.requires.ready, high)) in
+    let inside = nat_range-All (λ i. (0 < s.len) × IsReady s × (i < length s.table.now)) c.args.from c.args.to (λ i low high. (c.requires.some, c.requires.ready, omega (arith, c.requires.within, high))) in
     rw (c.with_min_len.ensures.base, c.map.ensures.base, c.map.ensures.f, ends.0, ends.1) (λ k d lt. (inside k d lt, λ y p. tt))
 
 pub returns : goal.returns
 returns g c =
     let ends = c.into_par_iter.ensures in
     let s = c.args.search.now in
-    let whole : length s.table.now - 0 ≡ length s.table.now = omega arith in
     let h = c.in_ok-found.ensures in
     let chain = rw (c.with_min_len.ensures.base, c.map.ensures.base, c.map.ensures.f) at h.1 in
-    let places = chain.1 ∙ (λ i. nat_range (ends.0 i) (ends.1 i)) ∙ ap (range_with_len 0) whole in
+    let places = chain.1 ∙ (λ i. nat_range (ends.0 i) (ends.1 i)) in
     if_ok c.in_ok-found.found _ _ _ h.2
     (λ v is. ap (map (λ piece. map (λ cycle. cycle.items) piece.items)) is.2 ∙ pieces_are _ (λ piece. map (λ cycle. cycle.items) piece.items) (first_from s) chain.0 is.0 (rw is.1 at chain.2) ∙ ap (map (first_from s)) places)

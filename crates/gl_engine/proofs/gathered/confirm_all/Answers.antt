@@ -1,14 +1,20 @@
-use Rattle.std.proofs.Common.{◌≡◌, Some, ◌<◌, length, sym, ap, ◌∙◌, subst, arith, slice_set, get_or, ◌⊎◌, inl, inr}
+use Rattle.std.proofs.Common.{◌≡◌, Some, ◌<◌, length, refl, sym, ap, ◌∙◌, arith, slice_set, get_or, inl, inr}
 use Rattle.std.specs.Prelude.{slice_get}
 use Rattle.std.proofs.lemmas.Option.{slice_get_within}
-use Rattle.gl_world.proofs.Lists.{same_some, get_at, place_cases}
-use Rattle.gl_engine.specs.Whole.{IsConfirmed}
-use Rattle.gl_engine.specs.Recording.{Closed}
-use Rattle.gl_engine.specs.Collecting.{Pulling}
-use Rattle.gl_engine.specs.Keeping.{pulling_of}
-use Rattle.std.proofs.Common.{map}
 use Rattle.std.proofs.lemmas.List.{set-get_or}
+use Rattle.gl_world.proofs.Lists.{same_some, get_at, place_cases}
+use Rattle.gl_engine.specs.Recording.{Closed}
+use Rattle.gl_engine.proofs.Confirming.{confirmed_before}
+use Rattle.gl_engine.proofs.Handing.{hand_over_same, hand_over_then}
 use Rattle.gl_engine.proofs.gathered.confirm_all.Goals as goal
+
+pub loop-at-init : goal.loop-at-init
+loop-at-init c = record {
+  rows = refl;
+  receipts = refl;
+  more = hand_over_same c.args.rows.now.items;
+  confirmed = λ at r row below here seen. absurd (omega (arith, below));
+}
 
 pub loop-at-preserved : goal.loop-at-preserved
 loop-at-preserved c =
@@ -18,6 +24,7 @@ loop-at-preserved c =
     record {
       rows = c.confirm_at.ensures.rows ∙ was.rows;
       receipts = ap (slice_set c.loop-at.receipts c.loop-at.at) c.confirm_at.ensures.receipt ∙ set-get_or c.loop-at.receipts c.loop-at.at item ∙ was.receipts;
+      more = hand_over_then c.args.rows.now.items c.loop-at.rows.items _ was.more c.confirm_at.ensures.handed;
       confirmed = λ at r row below here seen.
           elim (place_cases c.loop-at.at at below) [
             | inl before ↦ was.confirmed at r row before here seen
@@ -26,8 +33,7 @@ loop-at-preserved c =
                 let this : r ≡ item = same_some r item (sym here ∙ ap (slice_get c.args.receipts.now) now ∙ there) in
                 let old : Closed = get_or c.loop-at.receipts c.loop-at.at item in
                 let same : old ≡ r = sym c.index-receipts-at.is ∙ sym this in
-                let found : slice_get (map pulling_of c.loop-at.rows.items) old.thread ≡ Some row = ap (λ rows. slice_get rows old.thread) was.rows ∙ ap (λ (x : Closed). slice_get (map pulling_of c.args.rows.now.items) x.thread) same ∙ seen in
-                subst (IsConfirmed row.popped) same (c.confirm_at.ensures.confirmed row found)
+                confirmed_before c.args.rows.now.items c.loop-at.rows.items was.more old r same row seen c.confirm_at.ensures.confirmed
           ];
     }
 

@@ -1,10 +1,13 @@
 use Rattle.std.proofs.Common.{◌≡◌, map}
+use Rattle.gl_engine.specs.Breaking.{HandOver}
 use Rattle.gl_engine.specs.Whole.{lane_of}
 use Rattle.gl_engine.proofs.throw.throw_away.Given as goal
 
--- the lanes stay where they are
+-- the lanes stay where they are, and hand over more at most
 abbrev pub invariant-loop : goal.invariant-loop
-invariant-loop g l =
-    (map lane_of l.rows.items ≡ map lane_of l.fn.rows.items)
-    × (goal.iterator-loop g).can_next l.iterator'
-    × (goal.iterator-loop g).is_finite l.iterator'
+invariant-loop g l = record {
+  lanes : map lane_of l.rows.items ≡ map lane_of l.fn.rows.items;
+  handed : HandOver l.fn.rows.items l.rows.items;
+  next : (goal.iterator-loop g).can_next l.iterator';
+  finite : (goal.iterator-loop g).is_finite l.iterator';
+}

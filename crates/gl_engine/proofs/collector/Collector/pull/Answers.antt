@@ -1,6 +1,8 @@
 use Rattle.std.proofs.Common.{◌<◌, length, subst, sym, arith}
 use Rattle.gl_world.proofs.Lists.{get_at}
+use Rattle.gl_event.specs.Bounds.{Bounds}
 use Rattle.gl_engine.specs.Collecting.{Collecting}
+use Rattle.gl_engine.specs.Keeping.{BreaksForCause}
 use Rattle.gl_engine.proofs.Sides.{collector_after, pull_tells, lanes_still}
 use Rattle.gl_engine.proofs.collector.Collector.pull.Goals as goal
 
@@ -16,9 +18,12 @@ invariant_of-self c =
     let here = rw c.number.ensures at c.index_mut-row.ensures.value in
     let known : c.args.thread < c.self.inside.limits.threads = subst (λ (s : Collecting). c.args.thread < s.limits.threads) (sym c.self.view_is) c.requires.known in
     let within : c.args.thread < length c.self.inside.rows.items = omega (arith, known, c.self.invariant.rows_are.count) in
+    let row_at = get_at c.self.inside.rows.items c.args.thread c.index_mut-row.result.now within here in
+    let before = subst (λ (b : Bounds). BreaksForCause b c.args.thread c.self.inside.intake.stream c.index_mut-row.result.now) (sym c.self.invariant.same_limits) (c.self.invariant.rows_are.cause c.args.thread c.index_mut-row.result.now row_at) in
+    let cause = subst (λ (b : Bounds). BreaksForCause b c.args.thread c.pull.new.intake.stream c.pull.new.self) c.self.invariant.same_limits (c.pull.ensures.cause before) in
     rw (c.number.ensures, c.pull.ensures.limits)
     (collector_after c.self.inside.limits c.self.inside.rows.items c.self.inside.intake.stream c.self.inside.made.items c.self.inside.intake.limits c.self.invariant
-    c.args.thread c.index_mut-row.result.now c.pull.new.self within here c.pull.new.intake.stream c.pull.new.made.items c.pull.ensures.follows c.pull.result c.pull.ensures.pull)
+    c.args.thread c.index_mut-row.result.now c.pull.new.self within here c.pull.new.intake.stream c.pull.new.made.items c.pull.ensures.follows cause c.pull.result c.pull.ensures.pull)
 
 pub returns-clause-tells : goal.returns-clause-tells
 returns-clause-tells c =

@@ -11,7 +11,7 @@ invariant_of-result g c =
     rw c.collect_all-gathered.ensures.limits
     (gathered_all c.self.inside.limits c.self.inside.intake.limits c.self.invariant.same_limits c.self.inside.rows.items c.collect_all-gathered.new.rows.items c.self.invariant.rows_are.count c.collect_all-gathered.ensures.lanes
     c.collect_all-gathered.new.intake.stream c.args.outlets.items c.collect_all-gathered.new.outlets.items c.end_all-ended.new.sent.items c.requires.some c.collect_all-gathered.ensures.feeds
-    c.collect_all-gathered.result c.end_all-ended.result c.collect_all-gathered.ensures.keeps c.collect_all-gathered.ensures.ended c.end_all-ended.ensures.sent c.first_fault.result c.first_fault.ensures.none)
+    c.collect_all-gathered.result c.end_all-ended.result c.collect_all-gathered.ensures.keeps c.collect_all-gathered.ensures.ended c.end_all-ended.ensures.sent c.collect_all-gathered.ensures.blamed c.first_fault.result c.first_fault.ensures.none c.first_fault.ensures.some)
 
 pub returns-clause-lanes : goal.returns-clause-lanes
 returns-clause-lanes g c =

@@ -5,4 +5,4 @@ use Rattle.gl_engine.proofs.collector.Collector.run_unkept.Goals as goal
 
 pub returns-clause-lanes : goal.returns-clause-lanes
 returns-clause-lanes g c =
-    c.throw_away.ensures ∙ sym (lanes_shown c.self.inside.rows.items) ∙ ap (λ (s : Collecting). map (λ (row : Pulling). row.lane) s.rows) c.self.view_is
+    c.throw_away.ensures.lanes ∙ sym (lanes_shown c.self.inside.rows.items) ∙ ap (λ (s : Collecting). map (λ (row : Pulling). row.lane) s.rows) c.self.view_is

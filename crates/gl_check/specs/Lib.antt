@@ -1,0 +1,4 @@
+pub mod Checked
+pub mod Cycles
+pub mod Edges
+pub mod Shape

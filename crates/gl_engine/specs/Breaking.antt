@@ -1,0 +1,56 @@
+-- Why a lane breaks in a run, and that whatever comes off it later changes nothing of that.
+use Rattle.std.specs.Prelude.{◌≡◌, ℕ, List, [], ◌∷◌, ◌++◌, map, Some, Result, Err, slice_get}
+use mathlib.Core.List.{IsPrefix}
+use Rattle.gl_event.specs.Bounds.{Bounds}
+use Rattle.gl_event.specs.declared.notes.Note.{Note}
+use Rattle.gl_intake.specs.Stream.{note_refusal}
+use Rattle.gl_intake.specs.declared.notes.Refused.{Refused}
+use Rattle.gl_lane.specs.Lanes.{Popping}
+use Rattle.gl_world.specs.Keeping.{notes_of}
+use Rattle.gl_engine.specs.Collecting.{as_of}
+use Rattle.gl_engine.specs.declared.faults.RunFault.{RunFault}
+use Rattle.gl_engine.specs.declared.faults.RunFault.TheVariants as kept
+use Rattle.gl_engine.specs.declared.pulled.Pulled.{Pulled}
+use Rattle.gl_engine.specs.declared.pulled.PullFault.{PullFault}
+use Rattle.gl_engine.specs.declared.pulled.PullFault.TheVariants.{Broken, Memory}
+use Rattle.gl_engine.specs.declared.row.Row.{Row}
+
+-- the notes that a lane has handed over so far, oldest first: those popped, and those seen in it
+abbrev pub handed : Popping → List Note
+handed lane = lane.popped ++ lane.left
+
+-- the thread's lane has handed over these notes first
+pub record HasHanded (rows : List Row) (thread : ℕ) (notes : List Note) : Type 0 where
+  pub row : Row
+  pub here : slice_get rows thread ≡ Some row
+  pub first : IsPrefix notes (handed row.lane)
+
+-- the lanes stay where they are and hand over more, at most
+abbrev pub HandOver : List Row → List Row → Type 0
+HandOver before after = (thread : ℕ) (row : Row) → slice_get before thread ≡ Some row → HasHanded after thread (handed row.lane)
+
+-- after the notes that were collected of the thread, its lane handed over one that may not come next, for this reason
+pub record IsBroken (limits : Bounds) (rows : List Row) (stream : List Note) (thread : ℕ) (why : Refused) : Type 0 where
+  pub taken : List Note
+  pub note : Note
+  pub told : notes_of thread stream ≡ map (as_of thread) taken
+  pub came : HasHanded rows thread (taken ++ note ∷ [])
+  pub refused : note_refusal limits stream (as_of thread note) ≡ Some why
+
+-- where a lane is broken, there is a note to blame
+abbrev pub IsBlamed : Bounds → List Row → List Note → RunFault → Type 0
+IsBlamed limits rows stream kept.Memory = Unit {0}
+IsBlamed limits rows stream (kept.Gone shard) = Unit {0}
+IsBlamed limits rows stream (kept.Broken thread why) = IsBroken limits rows stream thread why
+
+-- a worker is gone
+abbrev pub IsGone : RunFault → Type 0
+IsGone kept.Memory = ⊥
+IsGone (kept.Gone shard) = Unit {0}
+IsGone (kept.Broken thread why) = ⊥
+
+-- what a run keeps of a pull from the thread's lane that took no note
+abbrev pub IsKeptFor : ℕ → Result Pulled PullFault → RunFault → Type 0
+IsKeptFor thread pulled kept.Memory = pulled ≡ Err Memory
+IsKeptFor thread pulled (kept.Gone shard) = ⊥
+IsKeptFor thread pulled (kept.Broken number why) = (number ≡ thread) × (pulled ≡ Err (Broken why))

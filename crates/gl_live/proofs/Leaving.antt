@@ -1,0 +1,58 @@
+-- What a session's threads leave, and the lists that are settled.
+use Rattle.std.proofs.Common.{◌≡◌, ℕ, suc, ◌<◌, List, [], ◌∷◌, length, map, get_or, Some, refl, sym, ap, ◌∙◌, subst, arith}
+use Rattle.std.specs.Prelude.{slice_get}
+use Rattle.std.specs.List.{All}
+use Rattle.std.proofs.lemmas.List.{length-map}
+use Rattle.std.proofs.lemmas.Option.{slice_get_within}
+use Rattle.gl_event.specs.declared.events.Event.{Event}
+use Rattle.gl_shards.specs.Feeds.{Sending, AllSent}
+use Rattle.gl_world.proofs.Lists.{same_some, get_in}
+use Rattle.gl_engine.specs.Collecting.{Collecting, lanes_of}
+use Rattle.gl_engine.specs.Gathering.{Gathering}
+use Rattle.gl_engine.specs.Recording.{Closed}
+use Rattle.gl_engine.specs.Settling.{IsSettled}
+use Rattle.gl_engine.proofs.Confirming.{receipt_of_thread}
+use Rattle.gl_live.specs.Seats.{Seating, seating_of, gathered_from, IsReceiptOf}
+
+-- what holds of all elements holds of the one at a place
+pub all_get : {X : Type 0} (P : X → Type 0) (xs : List X) (at : ℕ) (x : X) → slice_get xs at ≡ Some x → All P xs → P x
+all_get P xs at x here all =
+    let within = slice_get_within xs at x here in
+    subst P (sym (same_some x (get_or xs at x) (sym here ∙ get_in xs at x within))) (all at x within)
+
+pub unsent_at : (outlets : List Sending) → All (λ o. o.sent ≡ []) outlets → (shard : ℕ) (o : Sending) → slice_get outlets shard ≡ Some o → o.sent ≡ []
+unsent_at outlets all shard o here = all_get (λ (x : Sending). x.sent ≡ []) outlets shard o here all
+
+pub as_long : {X Y Z : Type 0} (f : X → Z) (g : Y → Z) (xs : List X) (ys : List Y) → map f xs ≡ map g ys → length xs ≡ length ys
+as_long f g xs ys same = sym (length-map xs f) ∙ ap length same ∙ length-map ys g
+
+-- ---- receipts of what was gathered
+
+seating_same : (g : Gathering) (c : Collecting) → g.session ≡ c.session → g.limits ≡ c.limits → g.lanes ≡ lanes_of c → gathered_from g ≡ seating_of c
+seating_same g c session limits lanes = λ i. (let x : Seating = record { session = session i; limits = limits i; lanes = lanes i } in x)
+
+pub receipts_gathered : (g : Gathering) (c : Collecting) (lists : List (List Event)) (receipts : List Closed) → g.session ≡ c.session → g.limits ≡ c.limits → g.lanes ≡ lanes_of c
+    → All (IsReceiptOf (seating_of c) lists) receipts → All (IsReceiptOf (gathered_from g) lists) receipts
+receipts_gathered g c lists receipts session limits lanes are = subst (λ s. All (IsReceiptOf s lists) receipts) (sym (seating_same g c session limits lanes)) are
+
+-- ---- the lists that are settled
+
+-- lists of one length that have the same at each place are the same
+same_at : {X : Type 0} (xs ys : List X) → length xs ≡ length ys → ((at : ℕ) → at < length xs → slice_get xs at ≡ slice_get ys at) → xs ≡ ys
+same_at [] [] count each = refl
+same_at [] (y ∷ ys) count each = absurd (omega (arith, count))
+same_at (x ∷ xs) [] count each = absurd (omega (arith, count))
+same_at (x ∷ xs) (y ∷ ys) count each =
+    let first : x ≡ y = same_some x y (each 0 (omega arith)) in
+    let rest : xs ≡ ys = same_at xs ys (omega (arith, count)) (λ at within. each (suc at) (omega (arith, within))) in
+    (λ i. first i ∷ rest i)
+
+pub settled_lists : (g : Gathering) (lists : List (List Event)) (receipts : List Closed) (settled : List (List Event)) (sent : List AllSent) → IsSettled receipts settled sent → length settled ≡ length lists
+    → All (IsReceiptOf (gathered_from g) lists) receipts → settled ≡ lists
+settled_lists g lists receipts settled sent is count are =
+    same_at settled lists count (λ thread within.
+    let found = receipt_of_thread receipts thread (is.one_each thread within) in
+    let at = found.0 in
+    let r : Closed = found.1 in
+    let its = all_get (IsReceiptOf (gathered_from g) lists) receipts at r found.2 are in
+    subst (λ t. slice_get settled t ≡ slice_get lists t) found.3 (is.each at r found.2 ∙ sym its.whole))

@@ -1,0 +1,3 @@
+pub mod Seated
+pub mod Opened
+pub mod Leaving

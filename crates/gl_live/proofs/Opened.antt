@@ -1,0 +1,63 @@
+-- The recorders of a session that was opened, and what is ready to run.
+use Rattle.std.proofs.Common.{◌≡◌, ℕ, ◌≤◌, List, [], ◌∷◌, length, map, get_or, Some, refl, sym, ap, ◌∙◌, subst, arith}
+use Rattle.std.specs.Prelude.{slice_get}
+use Rattle.std.specs.List.{All}
+use Rattle.std.specs.Option.{option_map}
+use Rattle.std.specs.Vec.{vec_len, vec_capacity}
+use Rattle.std.proofs.lemmas.List.{length-map}
+use Rattle.std.proofs.lemmas.Option.{slice_get-map}
+use Rattle.gl_event.specs.Bounds.{Bounds}
+use Rattle.gl_lane.specs.Lanes.{LaneId}
+use Rattle.gl_world.proofs.Lists.{get_in}
+use Rattle.gl_engine.specs.Collecting.{Collecting, IsOpened, fresh_row, lanes_of}
+use Rattle.gl_engine.specs.Recording.{Recording}
+use Rattle.gl_shards.specs.declared.shard.TheConstants.{MAX_SHARDS}
+use Rattle.gl_live.specs.Desks.{IsDeskOf}
+use Rattle.gl_live.specs.Ready.{IsReady}
+use Rattle.gl_live.specs.Seats.{Seating, seating_of, IsRecorderOf}
+use Rattle.gl_live.specs.declared.session.Session.{Session}
+
+lanes_of_fresh : (lanes : List LaneId) → map (λ row. row.lane) (map fresh_row lanes) ≡ lanes
+lanes_of_fresh [] = refl
+lanes_of_fresh (lane ∷ lanes) = ap (λ ls. lane ∷ ls) (lanes_of_fresh lanes)
+
+module _ (session : ℕ) (limits : Bounds) (recorders : List Recording) (c : Collecting) (opened : IsOpened session limits recorders c) where
+  lanes_are : lanes_of c ≡ map (λ r. r.lane) recorders
+  lanes_are = ap lanes_of opened.collects ∙ lanes_of_fresh (map (λ r. r.lane) recorders)
+
+  one_ours : (thread : ℕ) (r : Recording) → slice_get recorders thread ≡ Some r → IsRecorderOf (seating_of c) r
+  one_ours thread r here =
+      let fresh = opened.fresh thread r here in
+      record {
+        seat = record {
+          session = ap (λ (x : Recording). x.session) fresh ∙ sym (ap (λ (x : Collecting). x.session) opened.collects);
+          limits = ap (λ (x : Recording). x.limits) fresh ∙ sym (ap (λ (x : Collecting). x.limits) opened.collects);
+          lane =
+              ap (λ lanes. slice_get lanes r.thread) lanes_are
+              ∙ ap (slice_get (map (λ r. r.lane) recorders)) (ap (λ (x : Recording). x.thread) fresh)
+              ∙ slice_get-map (λ (x : Recording). x.lane) recorders thread
+              ∙ ap (option_map (λ (x : Recording). x.lane)) here;
+        };
+        unused = ap (λ (x : Recording). x.pushed) fresh;
+      }
+
+  pub opened_ours : All (IsRecorderOf (seating_of c)) recorders
+  opened_ours thread d within = one_ours thread (get_or recorders thread d) (get_in recorders thread d within)
+
+  pub ready : (threads shards : ℕ) → limits.threads ≡ threads → 1 ≤ shards → shards ≤ MAX_SHARDS → (x : Session) → x.collector ≡ c
+      → ((s : Seating) → All (IsRecorderOf s) recorders → All (IsDeskOf s) x.desks.items)
+      → length x.outlets.items ≡ shards → map (λ i. i.feed) x.inlets.items ≡ map (λ o. o.feed) x.outlets.items → All (λ o. o.sent ≡ []) x.outlets.items
+      → x.receipts.items ≡ [] → x.served.items ≡ [] → vec_len x.served ≡ 0 → shards ≤ vec_capacity x.served → IsReady threads x
+  ready threads shards known some fit x is desks count feeds unsent no_receipt none_served empty room =
+      let inlets : length x.inlets.items ≡ shards = sym (length-map x.inlets.items (λ i. i.feed)) ∙ ap length feeds ∙ length-map x.outlets.items (λ o. o.feed) ∙ count in
+      record {
+        threads_are = ap (λ (y : Collecting). y.limits.threads) (is ∙ opened.collects) ∙ known;
+        desks = subst (λ (y : Collecting). All (IsDeskOf (seating_of y)) x.desks.items) (sym is) (desks (seating_of c) opened_ours);
+        some = omega (arith, some, count);
+        fit = subst (λ n. n ≤ MAX_SHARDS) (sym count) fit;
+        unsent = unsent;
+        feeds = feeds;
+        no_receipt = no_receipt;
+        none_served = none_served;
+        room = omega (arith, room, empty, inlets);
+      }

@@ -1,0 +1,5 @@
+pub mod Seats
+pub mod Desks
+pub mod Ready
+pub mod Runs
+pub mod Faults

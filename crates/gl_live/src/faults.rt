@@ -1,0 +1,52 @@
+//! Why a session gives no report.
+ghost use Rattle.std.specs.Prelude.{List};
+ghost use Rattle.gl_event.specs.declared.events.Event.{Event};
+ghost use Rattle.gl_cycles.specs.Reports.{IsReportFault};
+ghost use Rattle.gl_live.specs.Faults.{IsLiveFault};
+
+use gl_cycles::ReportFault;
+use gl_engine::SettleFault;
+use gl_event::Segment;
+use gl_shards::ServeFault;
+
+/// Why a session gives no report.
+#[derive(Drop, Debug)]
+pub enum LiveFault {
+    /// A segment is before itself: the least one, by thread and index, and a ring of segments that
+    /// begins with it, each one step from the one before and the first from the last.
+    Inconsistent { at: Segment, ring: Vec<Segment> },
+    /// Memory was refused.
+    Memory,
+    /// A thread couldn't be started, or it isn't confirmed that all events were collected.
+    Unconfirmed,
+}
+
+/// Why there is no report over the edges that were collected.
+pub fn unreported(fault: ReportFault) -> LiveFault
+    ensures { (lists : List (List Event)) → IsReportFault lists fault → IsLiveFault lists result }
+{
+    match fault {
+        ReportFault::Inconsistent { at, ring } => LiveFault::Inconsistent { at, ring },
+        ReportFault::Memory => LiveFault::Memory,
+    }
+}
+
+/// Why nothing was settled.
+pub fn unsettled(fault: SettleFault) -> LiveFault
+    ensures { (lists : List (List Event)) → IsLiveFault lists result }
+{
+    match fault {
+        SettleFault::Memory => LiveFault::Memory,
+        _ => LiveFault::Unconfirmed,
+    }
+}
+
+/// Why a worker has no table.
+pub fn unserved(fault: ServeFault) -> LiveFault
+    ensures { (lists : List (List Event)) → IsLiveFault lists result }
+{
+    match fault {
+        ServeFault::Memory => LiveFault::Memory,
+        ServeFault::Cut => LiveFault::Unconfirmed,
+    }
+}

@@ -1,0 +1,23 @@
+//! Sessions over given lists of events: threads record them at once, workers take the edges, and the
+//! report is that of the lists.
+//!
+//! ```text
+//! let options = SessionOptions { recorders: 2, shards: 3, ring: 256 };
+//! let report = live_report(&rt, alloc, lists, &options, &query, &Open)?;
+//! ```
+#![tactic(auto)]
+
+mod faults;
+mod live;
+mod recording;
+mod room;
+mod run;
+mod session;
+mod start;
+#[cfg(test)]
+mod tests;
+mod working;
+
+pub use faults::LiveFault;
+pub use live::live_report;
+pub use session::SessionOptions;

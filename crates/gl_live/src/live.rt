@@ -1,0 +1,180 @@
+//! The report of a session over given lists.
+ghost use Rattle.std.specs.Prelude.{◌≡◌, ◌≤◌, ◌+◌, ℕ, [], List, Some, None, length, map, slice_get, IfOk, IfErr, OnOk};
+ghost use Rattle.std.specs.List.{All};
+ghost use Rattle.std.specs.Vec.{vec_len, vec_capacity};
+ghost use Rattle.gl_event.specs.Bounds.{greatest};
+ghost use Rattle.gl_event.specs.Lawful.{IsLawful};
+ghost use Rattle.gl_event.specs.declared.events.Event.{Event};
+ghost use Rattle.gl_event.specs.declared.limits.TheConstants.{MAX_RING};
+ghost use Rattle.gl_segments.specs.Orders.{lists_of};
+ghost use Rattle.gl_cycles.specs.Reports.{IsGoodlockReport};
+ghost use Rattle.gl_edges.specs.Edges.{once};
+ghost use Rattle.gl_intake.specs.Stream.{logs_of};
+ghost use Rattle.gl_shards.specs.declared.shard.TheConstants.{MAX_SHARDS};
+ghost use Rattle.gl_shards.specs.Feeds.{AllSent};
+ghost use Rattle.gl_engine.specs.Recording.{Closed};
+ghost use Rattle.gl_engine.specs.Settling.{IsSettled};
+ghost use Rattle.gl_live.specs.Faults.{IsLiveFault};
+ghost use Rattle.gl_live.specs.Runs.{HasRun};
+ghost use Rattle.gl_live.specs.Seats.{gathered_from, IsReceiptOf};
+
+use crate::faults::{LiveFault, unreported, unserved, unsettled};
+use crate::room::keep;
+use crate::run::{Ran, run_session};
+use crate::session::{SessionOptions, prepare};
+use gl_cycles::{Report, report_over};
+use gl_edges::EdgeList;
+use gl_engine::{Gathered, Receipt, Settled};
+use gl_event::Event;
+use gl_filters::Query;
+use gl_shards::{Gate, Sent, Served, Table};
+use std::alloc::Global;
+use std::sync::Wait;
+use std::thread::Threads;
+
+// Settles the workers, in the order of shards, and keeps their tables.
+fn settle_workers(
+    served: Vec<Served>,
+    sent: Vec<Sent>,
+    tables: &mut Vec<Table>,
+) -> Result<(), LiveFault>
+    requires feeds { map (λ s. s.feed) served.items ≡ map (λ s. s.feed) sent.items }
+    requires empty { tables.old.items ≡ [] }
+    requires room { vec_len tables.old + length served.items ≤ vec_capacity tables.old }
+    ensures tables { OnOk result (tables.new.items ≡ map (λ s. once s.sent) sent.items) }
+    ensures fault { (lists : List (List Event)) → IfErr result (IsLiveFault lists) }
+{
+    let mut feeds = sent.into_iter();
+    for worker in served {
+        let Some(feed) = feeds.next() else {
+            unreachable!()
+        };
+        match worker.settle(feed) {
+            Ok(table) => keep(tables, table),
+            Err(fault) => return Err(unserved(fault)),
+        }
+    }
+    Ok(())
+}
+
+// Settles what was gathered with the receipts. The lists are those that were given.
+fn settle(
+    gathered: Gathered,
+    receipts: &mut [Receipt],
+    lists: &[Vec<Event>],
+) -> Result<(Settled, Vec<Sent>), LiveFault>
+    requires receipts { All (IsReceiptOf (gathered_from gathered) (lists_of lists.now)) receipts.old }
+    requires threads { gathered.limits.threads ≡ length lists.now }
+    ensures lists { IfOk result (λ settled. settled.0 ≡ lists_of lists.now) }
+    ensures settled { IfOk result (λ settled. IsSettled receipts.old settled.0 settled.1.items) }
+    ensures sent { IfOk result (λ settled. settled.1.items ≡ gathered.sent) }
+    ensures whole { OnOk result (gathered.fault ≡ None) }
+    ensures fault { (all : List (List Event)) → IfErr result (IsLiveFault all) }
+{
+    match gathered.settle(receipts) {
+        Ok(settled) => Ok(settled),
+        Err(fault) => Err(unsettled(fault)),
+    }
+}
+
+// The report of what was settled, over the tables of all workers.
+fn report_settled(
+    rt: &(impl Threads + Sync),
+    settled: Settled,
+    tables: Vec<Table>,
+    query: &Query,
+) -> Result<Report, LiveFault>
+    ensures report { (receipts : List Closed) (sent : List AllSent) → IsSettled receipts settled sent → tables.items ≡ map (λ s. once s.sent) sent → IfOk result (λ report. IsGoodlockReport query.now settled report) }
+    ensures fault { IfErr result (IsLiveFault settled) }
+{
+    match settled.report(rt, tables, query) {
+        Ok(report) => Ok(report),
+        Err(fault) => Err(unreported(fault)),
+    }
+}
+
+// The report of a session that has run.
+fn conclude(
+    rt: &(impl Threads + Sync),
+    ran: Ran,
+    tables: Vec<Table>,
+    lists: &[Vec<Event>],
+    query: &Query,
+) -> Result<Report, LiveFault>
+    requires run { HasRun (length lists.now) (vec_capacity tables) ran.gathered ran.served.items }
+    requires receipts { All (IsReceiptOf (gathered_from ran.gathered) (lists_of lists.now)) ran.receipts.items }
+    requires empty { tables.items ≡ [] }
+    requires none { vec_len tables ≡ 0 }
+    ensures report { IfOk result (λ report. IsGoodlockReport query.now (lists_of lists.now) report) }
+    ensures fault { IfErr result (IsLiveFault (lists_of lists.now)) }
+{
+    let Ran {
+        gathered,
+        mut receipts,
+        served,
+    } = ran;
+    let mut tables = tables;
+    match settle(gathered, receipts.as_mut_slice(), lists) {
+        Ok((settled, sent)) => match settle_workers(served, sent, &mut tables) {
+            Ok(()) => report_settled(rt, settled, tables, query),
+            Err(fault) => Err(fault),
+        },
+        Err(fault) => Err(fault),
+    }
+}
+
+// The report of no lists.
+fn report_of_none(alloc: Global, lists: &[Vec<Event>], query: &Query) -> Result<Report, LiveFault>
+    requires none { lists.now ≡ [] }
+    ensures report { IfOk result (λ report. IsGoodlockReport query.now (lists_of lists.now) report) }
+    ensures fault { IfErr result (IsLiveFault (lists_of lists.now)) }
+{
+    match report_over(alloc, EdgeList::new(alloc), lists, query) {
+        Ok(report) => Ok(report),
+        Err(fault) => Err(unreported(fault)),
+    }
+}
+
+/// The Goodlock report of these lists, by a session in which threads record them at once: whatever their
+/// timing, it is that of the lists. A thread's number is the position of its list.
+///
+/// Lane `t` is recorded by recorder thread `t` modulo their number, list after list; each worker is passed
+/// the gate; the collector runs in the calling thread. No recorder thread records before every thread was
+/// started. Where there are no lists, no session is opened.
+///
+/// # Errors
+///
+/// In this order: [`LiveFault::Memory`] where a growth was refused before the threads;
+/// [`LiveFault::Unconfirmed`] where a thread couldn't be started; what went wrong in the run; a worker, of
+/// the least shard, that had no memory; then why there is no report.
+pub fn live_report<R: Threads + Wait + Sync, G: Gate + Sync>(
+    rt: &R,
+    alloc: Global,
+    lists: &[Vec<Event>],
+    options: &SessionOptions,
+    query: &Query,
+    gate: &G,
+) -> Result<Report, LiveFault>
+    requires few { length lists.now ≤ 1024 }
+    requires some_recorder { 1 ≤ options.now.recorders }
+    requires some_shard { 1 ≤ options.now.shards }
+    requires shards_fit { options.now.shards ≤ MAX_SHARDS }
+    requires some_ring { 1 ≤ options.now.ring }
+    requires ring_fits { options.now.ring ≤ MAX_RING }
+    ensures report { IfOk result (λ report. IsGoodlockReport query.now (lists_of lists.now) report) }
+    ensures fault { IfErr result (IsLiveFault (lists_of lists.now)) }
+{
+    if lists.is_empty() {
+        return report_of_none(alloc, lists, query);
+    }
+    let Ok(session) = prepare(alloc, lists.len() as u32, options) else {
+        return Err(LiveFault::Memory);
+    };
+    let Ok(tables) = Vec::with_capacity(alloc, options.shards as usize) else {
+        return Err(LiveFault::Memory);
+    };
+    match run_session(rt, alloc, lists, gate, session) {
+        Ok(ran) => conclude(rt, ran, tables, lists, query),
+        Err(fault) => Err(fault),
+    }
+}

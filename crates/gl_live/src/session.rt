@@ -1,0 +1,153 @@
+//! A session that is ready to run: recorders, collector and feeds, and room for all that it leaves.
+ghost use Rattle.std.specs.Prelude.{◌≡◌, ◌<◌, ◌≤◌, ◌+◌, [], map, length, IfOk};
+ghost use Rattle.std.specs.List.{All};
+ghost use Rattle.std.specs.Vec.{vec_len, vec_capacity};
+ghost use Rattle.gl_event.specs.declared.limits.TheConstants.{MAX_THREADS, MAX_RING};
+ghost use Rattle.gl_shards.specs.declared.shard.TheConstants.{MAX_SHARDS};
+ghost use Rattle.gl_live.specs.Desks.{IsDeskOf};
+ghost use Rattle.gl_live.specs.Seats.{Seating, seating_of, IsRecorderOf};
+ghost use Rattle.gl_live.specs.Ready.{IsReady};
+
+use crate::recording::Desk;
+use gl_engine::{Collector, Receipt, Recorder, open};
+use gl_event::{Limits, MAX_EVENTS, MAX_NAMES, Memory};
+use gl_shards::{Inlet, Outlet, Served, feed};
+use std::alloc::Global;
+
+/// How a session is run.
+#[derive(Clone, Copy, Debug, PartialEq, Eq)]
+pub struct SessionOptions {
+    /// How many threads record, 1 to 16. Lane `t` is recorded by thread `t` modulo this number.
+    pub recorders: u32,
+    /// How many workers there are, 1 to 16.
+    pub shards: u32,
+    /// The capacity of each lane and of each feed, 1 to 65,536.
+    pub ring: u32,
+}
+
+/// A session that is ready to run.
+#[derive(Drop)]
+pub struct Session {
+    pub collector: Collector,
+    pub desks: Vec<Desk>,
+    pub outlets: Vec<Outlet>,
+    pub inlets: Vec<Inlet>,
+    pub receipts: Vec<Receipt>,
+    pub served: Vec<Served>,
+}
+
+// The number of each session: there is one at a time.
+const SESSION: u64 = 0;
+
+// The limits of a session with so many threads.
+fn session_limits(threads: u32, ring: u32) -> Limits
+    requires some_thread { 1 ≤ threads }
+    requires threads_fit { threads ≤ MAX_THREADS }
+    requires some_ring { 1 ≤ ring }
+    requires ring_fits { ring ≤ MAX_RING }
+    ensures { result.threads ≡ threads }
+{
+    let Ok(limits) = Limits::new(threads, ring, MAX_EVENTS, MAX_NAMES) else {
+        unreachable!()
+    };
+    limits
+}
+
+// So many groups without recorders.
+fn empty_groups(alloc: Global, count: u32) -> Result<Vec<Vec<Recorder>>, Memory>
+    ensures count { IfOk result (λ groups. length groups.items ≡ count) }
+    ensures empty { IfOk result (λ groups. All (λ group. group.items ≡ []) groups.items) }
+{
+    let mut groups = Vec::with_capacity(alloc, count as usize)?;
+    for _ in 0..count {
+        groups.push(Vec::new(alloc))?;
+    }
+    Ok(groups)
+}
+
+// The recorders in so many groups: that of thread `t` in group `t` modulo their number.
+fn grouped(
+    alloc: Global,
+    recorders: Vec<Recorder>,
+    count: u32,
+) -> Result<Vec<Vec<Recorder>>, Memory>
+    requires some { 1 ≤ count }
+    ensures { (s : Seating) → All (IsRecorderOf s) recorders.items → IfOk result (λ groups. All (λ group. All (IsRecorderOf s) group.items) groups.items) }
+{
+    let mut groups = empty_groups(alloc, count)?;
+    for recorder in recorders {
+        let group = recorder.thread().number() % count;
+        groups[group as usize].push(recorder)?;
+    }
+    Ok(groups)
+}
+
+// A desk for these recorders.
+fn desk(alloc: Global, recorders: Vec<Recorder>) -> Result<Desk, Memory>
+    ensures { (s : Seating) → All (IsRecorderOf s) recorders.items → IfOk result (IsDeskOf s) }
+{
+    let receipts = Vec::with_capacity(alloc, recorders.len())?;
+    Ok(Desk {
+        recorders,
+        receipts,
+    })
+}
+
+// The recorders' desks, so many.
+fn desks(alloc: Global, recorders: Vec<Recorder>, count: u32) -> Result<Vec<Desk>, Memory>
+    requires some { 1 ≤ count }
+    ensures { (s : Seating) → All (IsRecorderOf s) recorders.items → IfOk result (λ desks. All (IsDeskOf s) desks.items) }
+{
+    let groups = grouped(alloc, recorders, count)?;
+    let mut desks = Vec::with_capacity(alloc, groups.len())?;
+    for group in groups {
+        desks.push(desk(alloc, group)?)?;
+    }
+    Ok(desks)
+}
+
+// So many feeds, with this capacity.
+fn feeds(alloc: Global, count: u32, capacity: u32) -> Result<(Vec<Outlet>, Vec<Inlet>), Memory>
+    requires some { 1 ≤ capacity }
+    requires fit { capacity ≤ MAX_RING }
+    ensures count { IfOk result (λ ends. length ends.0.items ≡ count) }
+    ensures feeds { IfOk result (λ ends. map (λ i. i.feed) ends.1.items ≡ map (λ o. o.feed) ends.0.items) }
+    ensures unsent { IfOk result (λ ends. All (λ o. o.sent ≡ []) ends.0.items) }
+{
+    let mut outlets = Vec::with_capacity(alloc, count as usize)?;
+    let mut inlets = Vec::with_capacity(alloc, count as usize)?;
+    for _ in 0..count {
+        let (outlet, inlet) = feed(alloc, capacity)?;
+        outlets.push(outlet)?;
+        inlets.push(inlet)?;
+    }
+    Ok((outlets, inlets))
+}
+
+/// A session for so many threads.
+///
+/// It makes every growth of the run but those of the collector, of the workers and of the report.
+pub fn prepare(alloc: Global, threads: u32, options: &SessionOptions) -> Result<Session, Memory>
+    requires some_thread { 1 ≤ threads }
+    requires threads_fit { threads ≤ MAX_THREADS }
+    requires some_recorder { 1 ≤ options.now.recorders }
+    requires some_shard { 1 ≤ options.now.shards }
+    requires shards_fit { options.now.shards ≤ MAX_SHARDS }
+    requires some_ring { 1 ≤ options.now.ring }
+    requires ring_fits { options.now.ring ≤ MAX_RING }
+    ensures ready { IfOk result (IsReady threads) }
+    ensures shards { IfOk result (λ session. length session.outlets.items ≡ options.now.shards) }
+{
+    let limits = session_limits(threads, options.ring);
+    let (recorders, collector) = open(alloc, SESSION, &limits)?;
+    let desks = desks(alloc, recorders, options.recorders)?;
+    let (outlets, inlets) = feeds(alloc, options.shards, options.ring)?;
+    Ok(Session {
+        collector,
+        desks,
+        outlets,
+        inlets,
+        receipts: Vec::with_capacity(alloc, threads as usize)?,
+        served: Vec::with_capacity(alloc, options.shards as usize)?,
+    })
+}
