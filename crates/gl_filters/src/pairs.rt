@@ -1,12 +1,14 @@
 //! Which two edges may stand in one cycle.
-ghost use Rattle.std.specs.Prelude.{◌≡◌};
+ghost use Rattle.std.specs.Prelude.{◌≡◌, ◌<◌, length, map, slice_get, Some};
+ghost use Rattle.gl_edges.specs.Clashes.{guards_clash};
+ghost use Rattle.gl_edges.specs.Numbered.{guards_in, AreNumbered};
+ghost use Rattle.gl_edges.specs.declared.edge.Edge.{Edge};
 ghost use Rattle.gl_segments.specs.Clocks.{is_before};
 ghost use Rattle.gl_filters.specs.Cycle.{asks_guards, asks_order, is_ordered};
 ghost use Rattle.gl_filters.specs.Test.{leads_to, is_clear, goes_with, kinds_go_together, is_compatible};
 
-use crate::gate_locks::have_gate;
 use crate::query::Mode;
-use gl_edges::Edge;
+use gl_edges::{Edge, EdgeList, GuardSets};
 use gl_event::Segment;
 use gl_segments::Order;
 
@@ -73,7 +75,7 @@ pub(crate) fn are_ordered(order: &Order, e: &Edge, f: &Edge) -> bool
 fn are_clear(mode: Mode, order: &Order, e: &Edge, f: &Edge) -> bool
     ensures { result ≡ is_clear (is_before order.now) mode e.now f.now }
 {
-    if mode.asks_guards() && have_gate(&e.guards, &f.guards) {
+    if mode.asks_guards() && e.guards.clash_with(&f.guards) {
         return false;
     }
     if mode.asks_order() && are_ordered(order, e, f) {
@@ -105,7 +107,7 @@ pub fn kinds_go_together(mode: Mode, e: &Edge, f: &Edge) -> bool
     if e.held == f.held {
         return false;
     }
-    !(mode.asks_guards() && have_gate(&e.guards, &f.guards))
+    !(mode.asks_guards() && e.guards.clash_with(&f.guards))
 }
 
 /// Whether the second edge may follow the first one in a cycle of this mode: the first leads on to
@@ -119,4 +121,43 @@ pub fn compatible(mode: Mode, order: &Order, e: &Edge, f: &Edge) -> bool
         return false;
     }
     are_clear(mode, order, e, f)
+}
+
+// Whether the guard sets of the entries at two positions clash, by their numbers.
+fn have_gate_at(edges: &EdgeList, sets: &GuardSets, i: usize, j: usize) -> bool
+    requires one { i < length edges.now }
+    requires other { j < length edges.now }
+    requires sets { AreNumbered (guards_in edges.now) sets.now }
+    ensures { (e f : Edge) → slice_get (map (λ pair. pair.0) edges.now) i ≡ Some e → slice_get (map (λ pair. pair.0) edges.now) j ≡ Some f → result ≡ guards_clash e.guards f.guards }
+{
+    let one = sets.id(i);
+    let other = sets.id(j);
+    sets.clash(one, other)
+}
+
+/// The same as [`compatible`] of the entries at two positions of a list, of which these are the guard
+/// sets.
+#[tactic(auto, unfolding(crate::specs::Test::is_compatible, crate::specs::Test::is_clear))]
+pub fn compatible_at(
+    mode: Mode,
+    order: &Order,
+    edges: &EdgeList,
+    sets: &GuardSets,
+    i: usize,
+    j: usize,
+) -> bool
+    requires one { i < length edges.now }
+    requires other { j < length edges.now }
+    requires sets { AreNumbered (guards_in edges.now) sets.now }
+    ensures { (e f : Edge) → slice_get (map (λ pair. pair.0) edges.now) i ≡ Some e → slice_get (map (λ pair. pair.0) edges.now) j ≡ Some f → result ≡ is_compatible (is_before order.now) mode e f }
+{
+    let e = &edges.entries()[i].0;
+    let f = &edges.entries()[j].0;
+    if !leads_on(e, f) || e.thread == f.thread {
+        return false;
+    }
+    if mode.asks_guards() && have_gate_at(edges, sets, i, j) {
+        return false;
+    }
+    !(mode.asks_order() && are_ordered(order, e, f))
 }
