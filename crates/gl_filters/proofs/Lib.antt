@@ -1,3 +1,4 @@
+pub mod NumberedSets
 pub mod Paths
 pub mod Cycling
 pub mod Gates

@@ -8,7 +8,7 @@ ghost use Rattle.gl_filters.specs.Cycle.{asks_guards, asks_order, is_ordered};
 ghost use Rattle.gl_filters.specs.Test.{leads_to, is_clear, goes_with, kinds_go_together, is_compatible};
 
 use crate::query::Mode;
-use gl_edges::{Edge, EdgeList, GuardSets};
+use gl_edges::{Edge, EdgeList, GuardSets, Guards};
 use gl_event::Segment;
 use gl_segments::Order;
 
@@ -123,21 +123,41 @@ pub fn compatible(mode: Mode, order: &Order, e: &Edge, f: &Edge) -> bool
     are_clear(mode, order, e, f)
 }
 
-// Whether the guard sets of the entries at two positions clash, by their numbers.
-fn have_gate_at(edges: &EdgeList, sets: &GuardSets, i: usize, j: usize) -> bool
-    requires one { i < length edges.now }
-    requires other { j < length edges.now }
-    requires sets { AreNumbered (guards_in edges.now) sets.now }
-    ensures { (e f : Edge) → slice_get (map (λ pair. pair.0) edges.now) i ≡ Some e → slice_get (map (λ pair. pair.0) edges.now) j ≡ Some f → result ≡ guards_clash e.guards f.guards }
+// Whether the second edge may follow the first one, whose guard sets have these numbers.
+#[tactic(auto, unfolding(crate::specs::Test::is_compatible, crate::specs::Test::is_clear))]
+fn compatible_by(
+    mode: Mode,
+    order: &Order,
+    sets: &GuardSets,
+    e: &Edge,
+    f: &Edge,
+    a: usize,
+    b: usize,
+) -> bool
+    requires one { slice_get sets.now.sets a ≡ Some e.now.guards }
+    requires other { slice_get sets.now.sets b ≡ Some f.now.guards }
+    ensures { result ≡ is_compatible (is_before order.now) mode e.now f.now }
 {
-    let one = sets.id(i);
-    let other = sets.id(j);
-    sets.clash(one, other)
+    if e.thread == f.thread || !leads_on(e, f) {
+        return false;
+    }
+    if mode.asks_guards() && have_gate(sets, &e.guards, &f.guards, a, b) {
+        return false;
+    }
+    !(mode.asks_order() && are_ordered(order, e, f))
+}
+
+// Whether guard sets clash, by their numbers.
+fn have_gate(sets: &GuardSets, guards: &Guards, others: &Guards, a: usize, b: usize) -> bool
+    requires one { slice_get sets.now.sets a ≡ Some guards.now }
+    requires other { slice_get sets.now.sets b ≡ Some others.now }
+    ensures { result ≡ guards_clash guards.now others.now }
+{
+    sets.clash(a, b)
 }
 
 /// The same as [`compatible`] of the entries at two positions of a list, of which these are the guard
 /// sets.
-#[tactic(auto, unfolding(crate::specs::Test::is_compatible, crate::specs::Test::is_clear))]
 pub fn compatible_at(
     mode: Mode,
     order: &Order,
@@ -151,13 +171,10 @@ pub fn compatible_at(
     requires sets { AreNumbered (guards_in edges.now) sets.now }
     ensures { (e f : Edge) → slice_get (map (λ pair. pair.0) edges.now) i ≡ Some e → slice_get (map (λ pair. pair.0) edges.now) j ≡ Some f → result ≡ is_compatible (is_before order.now) mode e f }
 {
-    let e = &edges.entries()[i].0;
-    let f = &edges.entries()[j].0;
-    if !leads_on(e, f) || e.thread == f.thread {
-        return false;
-    }
-    if mode.asks_guards() && have_gate_at(edges, sets, i, j) {
-        return false;
-    }
-    !(mode.asks_order() && are_ordered(order, e, f))
+    let entries = edges.entries();
+    let e = &entries[i].0;
+    let f = &entries[j].0;
+    let a = sets.id(i);
+    let b = sets.id(j);
+    compatible_by(mode, order, sets, e, f, a, b)
 }
