@@ -9,7 +9,8 @@ use Rattle.std.specs.Ordering.{eq_by_cmp}
 use Rattle.std.proofs.lemmas.Bool.{cases_eq, cases_Bool, false≢true}
 use Rattle.std.proofs.lemmas.List.{length_push, length-map, take-append-le, take_more, get_or-map}
 use Rattle.std.proofs.lemmas.List.Elements.{Contains-append_left, Contains-push}
-use Rattle.std.proofs.lemmas.Option.{slice_get_within, slice_get_past, same_Some}
+use Rattle.std.proofs.lemmas.Option.{slice_get_within, slice_get-map, same_Some}
+use Rattle.std.specs.Option.{option_map}
 use Rattle.gl_event.proofs.Depths.{slice_get_last}
 use Rattle.gl_edges.specs.Guards.{guard_cmp, guard_total}
 use Rattle.gl_edges.specs.Numbered.{Numbering, AreNumbered, guards_in}
@@ -184,3 +185,17 @@ pub guards_more : (pairs : List (Edge × Sample)) (i : ℕ) (pair : Edge × Samp
 guards_more pairs i pair within =
     take_more (guards_in pairs) i pair.0.guards (omega (arith, within, length-map pairs (λ pair. pair.0.guards)))
     ∙ ap (λ gs. take i (guards_in pairs) ++ gs ∷ []) (get_or-map (λ pair. pair.0.guards) pairs i pair pair.0.guards within)
+
+-- a position has a number, and a number a guard set
+pub has_number : (pairs : List (Edge × Sample)) (by : Numbering) (i : ℕ) → AreNumbered (guards_in pairs) by → i < length pairs → i < length by.ids
+has_number pairs by i numbered within = omega (arith, numbered.long, within, length-map pairs (λ pair. pair.0.guards))
+
+pub has_set : (pairs : List (Edge × Sample)) (by : Numbering) (i n : ℕ) → AreNumbered (guards_in pairs) by → i < length pairs → slice_get by.ids i ≡ Some n → n < length by.sets
+has_set pairs by i n numbered within at =
+    let (pair, there) = found pairs i within in
+    slice_get_within by.sets n pair.0.guards (numbered.stands i n at ∙ slice_get-map (λ pair. pair.0.guards) pairs i ∙ ap (option_map (λ pair. pair.0.guards)) there)
+  where
+    found : (ps : List (Edge × Sample)) (k : ℕ) → k < length ps → (p : Edge × Sample) × (slice_get ps k ≡ Some p)
+    found [] k within = absurd (omega arith)
+    found (p ∷ ps) zero within = (p, refl)
+    found (p ∷ ps) (suc k) within = found ps k (omega arith)
