@@ -3,9 +3,9 @@ use Rattle.std.specs.List.{list_any}
 use Rattle.std.proofs.lemmas.Bool.{cases_Bool}
 use Rattle.std.proofs.lemmas.List.{get_or_default}
 use Rattle.gl_edges.specs.declared.guards.Guard.{Guard}
-use Rattle.gl_filters.specs.Test.{clash_on, guards_clash}
-use Rattle.gl_filters.proofs.Gates.{not_below, some_clashes}
-use Rattle.gl_filters.proofs.gate_locks.do_meet.Goals as goal
+use Rattle.gl_edges.specs.Clashes.{clash_on, guards_clash}
+use Rattle.gl_edges.proofs.Clashing.{not_below, some_clashes}
+use Rattle.gl_edges.proofs.clashes.do_meet.Goals as goal
 
 pub loop-guard-preserved : goal.loop-guard-preserved
 loop-guard-preserved c =

@@ -1,5 +1,5 @@
-use Rattle.gl_filters.proofs.Merging.{NoClash}
-use Rattle.gl_filters.proofs.gate_locks.clashes_from.Given as goal
+use Rattle.gl_edges.proofs.Clashing.{NoClash}
+use Rattle.gl_edges.proofs.clashes.clashes_from.Given as goal
 
 -- none of the guards so far clashes
 abbrev pub invariant-loop-here : goal.invariant-loop-here

@@ -1,6 +1,6 @@
 use Rattle.std.proofs.Common.{◌<◌, arith, sym}
-use Rattle.gl_filters.proofs.Merging.{none_any, none_behind}
-use Rattle.gl_filters.proofs.gate_locks.clashes_from.Goals as goal
+use Rattle.gl_edges.proofs.Clashing.{none_any, none_behind}
+use Rattle.gl_edges.proofs.clashes.clashes_from.Goals as goal
 
 pub returns-then-number : goal.returns-then-number
 returns-then-number c =

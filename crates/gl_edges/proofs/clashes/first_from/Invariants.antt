@@ -1,5 +1,5 @@
-use Rattle.gl_filters.specs.Merging.{AreBelow}
-use Rattle.gl_filters.proofs.gate_locks.first_from.Given as goal
+use Rattle.gl_edges.specs.Clashes.{AreBelow}
+use Rattle.gl_edges.proofs.clashes.first_from.Given as goal
 
 -- the guards so far have lesser locks
 abbrev pub invariant-loop-here : goal.invariant-loop-here
