@@ -37,14 +37,16 @@ TRACES["bad line"] = compare.lines("T0 acq a @1") + b"T0|rel(a|2\n" + compare.li
 BAD_LINE = compare.refused(2, "bad operand")
 LOOP = WORKED["join_loop"][1]
 TEXTS = {name: WORKED[name][1] for name in TRACES if name in WORKED} | {"bad line": BAD_LINE}
+JOINED = [compare.edge("T0", "a", 1, "b", 2, 1), compare.edge("T1", "b", 5, "a", 6, 1)]
 TWO_CYCLES = [
-    [compare.edge("T0", "a", 1, "b", 2, 1), compare.edge("T1", "b", 9, "a", 10, 1)],
-    [compare.edge("T0", "c", 5, "d", 6, 5), compare.edge("T1", "d", 13, "c", 14, 5)],
-]
+    compare.edge("T0", "a", 1, "b", 2, 1), compare.edge("T0", "c", 5, "d", 6, 5),
+    compare.edge("T1", "b", 9, "a", 10, 1), compare.edge("T1", "d", 13, "c", 14, 5),
+]  # fmt: skip
+# By the format of JSON, where there are two.
 OBJECTS = {
     "opposite_order": compare.OPPOSITE_JSON,
-    "joined_before": compare.as_json(),
-    "first_of_two_cycles": compare.as_json(*TWO_CYCLES),
+    "joined_before": compare.as_json(JOINED, [], "[0,1]"),
+    "first_of_two_cycles": compare.as_json(TWO_CYCLES, [[0, 2], [1, 3]]),
     "join_loop": LOOP,
     "bad line": BAD_LINE,
 }
@@ -55,10 +57,10 @@ COUNTS = {
     "join_loop": LOOP,
     "bad line": BAD_LINE,
 }
-# For `check` a line with a report stands before the trace.
+# For `check` a line with a report, of the format that the program prints, stands before the trace.
 CHECKS = {
     "opposite_order": (b"ok, cycles: 1\n", b"", 0),
-    "joined_before": (b"ok, cycles: 0\n", b"", 0),
+    "joined_before": {1: (b"ok, cycles: 0\n", b"", 0), 2: (b"ok, cycles: 0, none of any length\n", b"", 0)},
     "first_of_two_cycles": (b"ok, cycles: 2\n", b"", 0),
     "join_loop": LOOP,
     "bad line": BAD_LINE,
@@ -88,12 +90,12 @@ USAGE = {
 }
 
 
-def text_of(words, name):
+def text_of(words, name, form):
     """What the command reads for the trace of this name."""
     if words != "check":
         return TRACES[name]
-    reports = {name: answer[0] for name, answer in OBJECTS.items()}
-    return (reports[name] or compare.as_json()[0]) + TRACES[name]
+    report = compare.in_format(OBJECTS[name], form)[0] or compare.NONE_JSON[form][0]
+    return report + TRACES[name]
 
 
 # --- Disturbed runs -------------------------------------------------------------------------------------
@@ -283,9 +285,10 @@ def main():
         flags = ["-std=gnu11", "-Wall", "-Wextra", "-O1", "-fPIC", "-shared", "-fvisibility=hidden"]
         subprocess.run(["gcc", *flags, "-o", library, SOURCE, "-ldl"], check=True)
         tests = Tests(Runner(os.path.abspath(options.program), library))
+        form = compare.format_of([os.path.abspath(options.program)])
         for words in commands:
             for name in TRACES:
-                text, ample = text_of(words, name), ANSWERS[words][name]
+                text, ample = text_of(words, name, form), compare.in_format(ANSWERS[words][name], form)
                 before = tests.passed + tests.failed
                 tests.check(f"{words}, {name}", [ample], tests.runner.run(words, text))
                 tests.memory(words, name, text, ample)
@@ -293,7 +296,9 @@ def main():
                 tests.reads(words, name, text, ample)
                 tests.writes(words, name, text, ample)
                 print(f"{words}, {name}: {tests.passed + tests.failed - before} answers")
-            tests.ends(words, text_of(words, "opposite_order"), ANSWERS[words]["opposite_order"])
+            tests.ends(
+                words, text_of(words, "opposite_order", form), compare.in_format(ANSWERS[words]["opposite_order"], form)
+            )
             for usage, status in USAGE.get(words, {}).items():
                 tests.usage(usage, status)
     print(f"{tests.passed} passed, {tests.failed} failed")
