@@ -20,12 +20,24 @@ use gl_segments::{Order, OrderFault};
 use gl_std::Trace;
 use serde_json::Value;
 use std::alloc::Global;
+use std::fmt;
 
 /// What was found of a report that is accepted.
 #[derive(Clone, Copy, Debug, PartialEq, Eq, Hash)]
 pub struct Checked {
     /// How many cycles it lists.
     pub cycles: u32,
+}
+
+impl fmt::Display for Checked {
+    ghost use Rattle.std.specs.Prelude.{Some};
+    ghost use Rattle.gl_check.specs.Faults.{checked_text};
+
+    ghost output = { λ checked. Some (checked_text checked) };
+
+    fn fmt<W: fmt::Write>(&self, f: &mut fmt::Formatter<W>) -> fmt::Result {
+        write!(f, "ok, cycles: {}", self.cycles)
+    }
 }
 
 // The JSON of these bytes.
