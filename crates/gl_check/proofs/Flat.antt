@@ -1,9 +1,9 @@
 -- Objects of numbers and texts: they have no float, and nest little.
-use Rattle.std.proofs.Common.{◌≡◌, ℕ, suc, ◌≤◌, ◌<◌, Bool, true, false, ◌&&◌, ◌||◌, List, [], ◌∷◌, map, max, Option, Some, None, refl, sym, ap, ◌∙◌, subst, arith}
+use Rattle.std.proofs.Common.{◌≡◌, ℕ, ◌≤◌, Bool, true, false, ◌&&◌, ◌||◌, List, [], ◌∷◌, map, max, refl, ap, ◌∙◌, arith}
 use Rattle.std.specs.Prelude.{codes, is_some}
 use Rattle.std.specs.List.{list_all}
 use Rattle.std.proofs.lemmas.Bool.{false≢true}
-use Rattle.serde_json.specs.Data.{Num, unsigned, negative, float, Data, null, boolean, number, string, array, object, Items, no_items, item, Members, no_members, member, depth, items_depth, members_depth}
+use Rattle.serde_json.specs.Data.{unsigned, negative, float, Data, null, boolean, number, string, array, object, Items, no_items, item, Members, no_members, member, depth, items_depth, members_depth}
 use Rattle.serde_json.specs.Find.{as_str}
 use Rattle.serde_json.specs.View.{items_of}
 use Rattle.serde_json.specs.Written.{has_float, items_have_float, members_have_float}
@@ -77,6 +77,9 @@ flat_value Word (object ms) flat is = absurd (false≢true is)
 flat_value Flag (object ms) flat is = absurd (false≢true is)
 flat_value Array (object ms) flat is = absurd (false≢true flat)
 
+both_low : (m n : ℕ) → m ≤ 1 → n ≤ 1 → max m n ≤ 1
+both_low m n one two = omega arith
+
 flat_members : (fields : List (List ℕ × Kind)) (members : Members) → list_all (λ field. flat_kind field.1) fields ≡ true → have_fields fields members ≡ true → AreFlat members
 flat_members [] no_members flat is = record { plain = refl; low = omega arith }
 flat_members [] (member key d rest) flat is = absurd (false≢true is)
@@ -86,9 +89,7 @@ flat_members (field ∷ fields) (member key d rest) flat is =
     let tests = both _ _ (both _ _ is).1 in
     let here = flat_value field.1 d kinds.0 tests.0 in
     let later = flat_members fields rest kinds.1 tests.1 in
-    let low : depth d ≤ 1 = here.low in
-    let lower : members_depth rest ≤ 1 = later.low in
-    record { plain = ap (λ b. b || members_have_float rest) here.plain ∙ later.plain; low = omega arith }
+    record { plain = ap (λ b. b || members_have_float rest) here.plain ∙ later.plain; low = both_low (depth d) (members_depth rest) here.low later.low }
 
 -- an object with the keys of an edge
 edge_is_flat : (d : Data) → has_fields edge_fields d ≡ true → (has_float d ≡ false) × (depth d ≤ 127)

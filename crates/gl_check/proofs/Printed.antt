@@ -1,25 +1,17 @@
 -- JSON of the shape of a report is what is printed of the report that it lists.
-use Rattle.std.proofs.Common.{◌≡◌, ℕ, ◌<◌, ◌≤◌, Bool, true, false, cond, ◌&&◌, List, [], ◌∷◌, length, map, Option, Some, None, refl, sym, ap, subst, ◌∙◌, arith, inl, inr}
-use Rattle.std.specs.Prelude.{slice_get, codes, is_some, option_and_then, unwrap_or}
+use Rattle.std.proofs.Common.{◌≡◌, ℕ, Bool, true, false, cond, ◌&&◌, List, [], ◌∷◌, Some, None, refl, sym, ap, subst, ◌∙◌}
+use Rattle.std.specs.Prelude.{codes, is_some, option_and_then, unwrap_or}
 use Rattle.std.specs.Str.{bytes_eq}
-use Rattle.std.specs.List.{AllZip, filter_map, list_all, cons_option}
-use Rattle.std.proofs.lemmas.Bool.{and_parts, cases_Bool, eqb-true, false≢true}
+use Rattle.std.proofs.lemmas.Bool.{and_parts, eqb-true, false≢true}
 use Rattle.std.proofs.lemmas.Slice.Eq.{bytes_eq-Decides}
-use Rattle.serde_json.specs.Data.{Num, unsigned, negative, float, Data, null, boolean, number, string, array, object, Items, no_items, item, Members, no_members, member}
+use Rattle.serde_json.specs.Data.{unsigned, negative, float, Data, null, boolean, number, string, array, object, Items, no_items, item, Members, no_members, member}
 use Rattle.serde_json.specs.Find.{as_array, as_bool, as_str, get}
 use Rattle.serde_json.specs.View.{items_of}
-use Rattle.gl_event.specs.declared.events.Segment.{Segment}
-use Rattle.gl_std.specs.Names.{NameLists}
-use Rattle.gl_edges.specs.declared.edge.Edge.{Edge}
-use Rattle.gl_edges.specs.declared.edge.Sample.{Sample}
-use Rattle.gl_filters.specs.Asked.{Asked}
 use Rattle.gl_filters.specs.declared.query.Mode.TheVariants.{Basic, Guarded, Full}
-use Rattle.gl_report.specs.Tree.{cycle_tree, edge_tree, mode_word, report_tree}
-use Rattle.gl_check.specs.Cycles.{IsCycleOf}
-use Rattle.gl_check.specs.Edges.{AreEdgesAt}
-use Rattle.gl_check.specs.Shape.{asked_in, cycles_in, has_fields, have_fields, is_edges, is_of, items_in, listed, mode_said, mode_under, number_under, report_fields, under_cycles, whole}
+use Rattle.gl_report.specs.Tree.{mode_word}
+use Rattle.gl_check.specs.Shape.{has_fields, have_fields, is_of, items_in, listed, mode_said, mode_under, number_under, report_fields, under_cycles, whole}
 use Rattle.gl_check.specs.declared.fields.Kind.{Kind}
-use Rattle.gl_check.specs.declared.fields.Kind.TheVariants.{Number, Exactly, Name, Names, Word, Flag, Array}
+use Rattle.gl_check.specs.declared.fields.Kind.TheVariants.{Number, Exactly, Word, Flag, Array}
 
 -- what stands under `more`
 abbrev pub more_under : Data → Bool

@@ -1,5 +1,5 @@
 -- A list of cycles that was accepted is that of a true report, and the JSON is what is printed of it.
-use Rattle.std.proofs.Common.{◌≡◌, ℕ, zero, suc, ◌<◌, ◌≤◌, Bool, true, ◌&&◌, List, [], ◌∷◌, length, get_or, map, Option, option_map, Some, None, refl, sym, ap, subst, ◌∙◌, arith}
+use Rattle.std.proofs.Common.{◌≡◌, ℕ, zero, suc, ◌<◌, Bool, true, List, [], ◌∷◌, length, map, Option, option_map, Some, None, refl, sym, ap, subst, ◌∙◌, arith}
 use Rattle.std.specs.Prelude.{slice_get, is_none, nat_le, All}
 use Rattle.std.specs.List.{AllZip, filter_map, list_all, cons_option}
 use Rattle.std.proofs.lemmas.Bool.{and_parts, leb-true, false≢true}

@@ -12,7 +12,6 @@ use Rattle.gl_edges.specs.declared.edge.Edge.{Edge}
 use Rattle.gl_edges.specs.declared.edge.Sample.{Sample}
 use Rattle.gl_filters.specs.Asked.{Asked}
 use Rattle.gl_filters.specs.Judging.{picked, IsVerdict}
-use Rattle.gl_filters.specs.declared.verdict.Verdict.{Verdict as AVerdict}
 use Rattle.gl_filters.specs.declared.verdict.Verdict.TheVariants.{Valid}
 use Rattle.gl_check.specs.Edges.{AreEdgesAt, IsNoEdge}
 use Rattle.gl_check.specs.declared.faults.CheckFault.{CheckFault}

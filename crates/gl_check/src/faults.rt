@@ -4,6 +4,8 @@ ghost use Rattle.std.specs.Prelude.{◌≡◌};
 use gl_event::Segment;
 use gl_filters::Verdict;
 use std::alloc::{AllocError, AllocFailed};
+use std::error::Error;
+use std::fmt;
 
 /// Why a report isn't accepted. Cycles and their edges count from 0.
 #[derive(Drop, Debug)]
@@ -25,6 +27,29 @@ pub enum CheckFault {
     /// Memory was refused.
     Memory,
 }
+
+impl fmt::Display for CheckFault {
+    ghost use Rattle.std.specs.Prelude.{Some};
+    ghost use Rattle.gl_check.specs.Faults.{text_of};
+
+    ghost output = { λ fault. Some (text_of fault) };
+
+    fn fmt<W: fmt::Write>(&self, f: &mut fmt::Formatter<W>) -> fmt::Result {
+        match self {
+            CheckFault::Json => f.write_str("report is not JSON"),
+            CheckFault::Shape => f.write_str("report has the wrong shape"),
+            CheckFault::Inconsistent { .. } => f.write_str("a segment precedes itself"),
+            CheckFault::Edge(cycle, edge) => {
+                write!(f, "cycle {cycle} edge {edge} is not in the trace")
+            }
+            CheckFault::Verdict(cycle, _) => write!(f, "cycle {cycle} is not valid"),
+            CheckFault::Order(cycle) => write!(f, "cycle {cycle} is out of order"),
+            CheckFault::Memory => f.write_str("out of memory"),
+        }
+    }
+}
+
+impl Error for CheckFault {}
 
 impl From<AllocError> for CheckFault {
     ghost use Rattle.gl_check.specs.declared.faults.CheckFault.TheVariants.{Memory};

@@ -17,9 +17,11 @@ mod cycles;
 mod edges;
 mod faults;
 mod fields;
+mod input;
 mod reports;
 #[cfg(test)]
 mod tests;
 
 pub use faults::CheckFault;
+pub use input::split_input;
 pub use reports::{Checked, check};

@@ -20,12 +20,24 @@ use gl_segments::{Order, OrderFault};
 use gl_std::Trace;
 use serde_json::Value;
 use std::alloc::Global;
+use std::fmt;
 
 /// What was found of a report that is accepted.
 #[derive(Clone, Copy, Debug, PartialEq, Eq, Hash)]
 pub struct Checked {
     /// How many cycles it lists.
     pub cycles: u32,
+}
+
+impl fmt::Display for Checked {
+    ghost use Rattle.std.specs.Prelude.{Some};
+    ghost use Rattle.gl_check.specs.Faults.{checked_text};
+
+    ghost output = { λ checked. Some (checked_text checked) };
+
+    fn fmt<W: fmt::Write>(&self, f: &mut fmt::Formatter<W>) -> fmt::Result {
+        write!(f, "ok, cycles: {}", self.cycles)
+    }
 }
 
 // The JSON of these bytes.
@@ -80,14 +92,17 @@ fn found_in(alloc: Global, trace: &Trace, claim: &Claim<'_>) -> Result<Vec<Vec<u
 /// Whether a report can be believed, whoever made it: the bytes are JSON of format 1, and each cycle
 /// that they list is one of the trace.
 ///
-/// A report that is accepted is, byte for byte of its JSON, what is printed of a report over the
-/// trace's own edges, each with its own sample: each listed cycle is a cycle of the mode and length
+/// A report that is accepted is, but for spaces and the order of keys, what is printed of a report over
+/// the trace's own edges, each with its own sample: each listed cycle is a cycle of the mode and length
 /// that the report names, and the list ascends. What is not checked is whether there are more cycles.
 /// Format 1 shows no lock modes; an edge in it stands for one whose locks are all held and wanted
 /// exclusively.
 ///
 /// Err with the first fault, in the order of [`CheckFault`]: all of one kind are looked for before
 /// those of the next, but edge, verdict and order for each cycle in turn.
+///
+/// Beside the order and the edges of the trace it takes a look at each edge for each listed one, and
+/// prints those of its place once more.
 pub fn check(alloc: Global, trace: &Trace, json: &[u8]) -> Result<Checked, CheckFault>
     requires few { length trace.now.lists ≤ 1024 }
     requires lawful { (thread : ℕ) (es : List Event) → slice_get trace.now.lists thread ≡ Some es → IsLawful greatest thread es }

@@ -1,4 +1,4 @@
-use Rattle.std.proofs.Common.{refl, sym, ap, subst, ◌∙◌, inr, map, take, ◌+◌}
+use Rattle.std.proofs.Common.{refl, sym, subst, inr, map, take, ◌+◌}
 use Rattle.std.proofs.lemmas.List.{take-map}
 use Rattle.serde_json.specs.View.{view}
 use Rattle.gl_check.specs.Edges.{AreEdgesAt, IsEdgeAt}

@@ -2,7 +2,6 @@ use Rattle.std.proofs.Common.{◌≡◌, true, is_some, map, take}
 use Rattle.std.specs.List.{list_all}
 use Rattle.serde_json.specs.Find.{as_str}
 use Rattle.serde_json.specs.View.{view}
-use Rattle.gl_check.specs.Shape.{edge_fields, has_fields, is_edges}
 use Rattle.gl_check.proofs.fields.are_names.Given as goal
 
 -- those so far are

@@ -1,4 +1,4 @@
-use Rattle.std.proofs.Common.{◌≡◌, true, ap, sym, subst, ◌∙◌, inr, length, map}
+use Rattle.std.proofs.Common.{◌≡◌, true, sym, subst, inr, length, map}
 use Rattle.std.specs.List.{list_all}
 use Rattle.std.proofs.lemmas.Bool.{and_parts}
 use Rattle.std.proofs.lemmas.Result.{err_from_is_err_and}
