@@ -13,5 +13,6 @@ pub mod Back
 pub mod Watching
 pub mod Beside
 pub mod Removing
+pub mod Whole
 pub mod Surviving
 pub mod Joining
