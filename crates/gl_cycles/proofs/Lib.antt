@@ -14,5 +14,6 @@ pub mod Watching
 pub mod Beside
 pub mod ByKinds
 pub mod Removing
+pub mod Whole
 pub mod Surviving
 pub mod Joining

@@ -93,6 +93,12 @@ fewer (b ∷ gone) (suc i) at = by b (fewer gone i at)
     by true less = less
     by false less = omega arith
 
+-- as many flags as there are, none of which is set
+pub none_set : (n : ℕ) → left (replicate n false) + 0 ≤ n
+unfolding left
+none_set zero = omega arith
+none_set (suc n) = let rest = none_set n in omega (arith, rest)
+
 -- positions that are left over, one more
 pub others_more : (p : ℕ → Bool) (n : ℕ) → filter p (range_with_len 0 (n + 1)) ≡ filter p (range_with_len 0 n) ++ cond (p n) (n ∷ []) []
 others_more p n =
@@ -146,12 +152,27 @@ module _ (before : Segment → Segment → Bool) (mode : Mode) (edges : List Edg
     alone = λ has. is.alone (beside_to B A (turned A B agree) is.side is.edge has);
   }
 
+  -- one edge more goes
+  pub order_push : (removed : List ℕ) (i : ℕ) → IsTrimOrder before mode edges removed → IsFirstStuck before mode edges (Contains removed) i → IsTrimOrder before mode edges (removed ++ i ∷ [])
+  order_push removed i had first = λ n j at.
+      let within = slice_get_within (removed ++ i ∷ []) n j at in
+      let short : n ≤ length removed = omega (arith, length_push removed i) in
+      elim (cases_eq n (length removed)) [
+        | inl same ↦
+            let is : i ≡ j = same_Some i j (sym (push_at_end removed i) ∙ ap (slice_get (removed ++ i ∷ [])) (sym same) ∙ at) in
+            let all : removed ≡ take n (removed ++ i ∷ []) = sym (take-append-le n removed (i ∷ []) short ∙ take_all n removed (omega arith)) in
+            subst (λ r. IsFirstStuck before mode edges (Contains r) j) all (subst (IsFirstStuck before mode edges (Contains removed)) is first)
+        | inr other ↦
+            let lower : n < length removed = omega arith in
+            subst (λ r. IsFirstStuck before mode edges (Contains r) j) (sym (take-append-le n removed (i ∷ []) short)) (had n j (sym (push_before removed i n lower) ∙ at))
+      ]
+
   module _ (gone : List Bool) (removed : List ℕ) (are : AreFlagsOf (length edges) gone removed) where
     agree : Agree (IsFlagged gone) (Contains removed)
     agree j below =
         (λ flagged. contains_from_any removed j (sym (same_Some _ _ (sym flagged ∙ are.flags j below))), λ among. are.flags j below ∙ ap Some (any_from_contains removed j among))
 
-    unflagged : (j : ℕ) → j < length edges → ¬ Contains removed j → slice_get gone j ≡ Some false
+    pub unflagged : (j : ℕ) → j < length edges → ¬ Contains removed j → slice_get gone j ≡ Some false
     unflagged j below none = by (list_any (λ k. eqb k j) removed) refl
       where
         by : (b : Bool) → list_any (λ k. eqb k j) removed ≡ b → slice_get gone j ≡ Some false
@@ -165,21 +186,11 @@ module _ (before : Segment → Segment → Bool) (mode : Mode) (edges : List Edg
 
     -- the first that is stuck goes on with the order
     pub order_more : (i : ℕ) → IsTrimOrder before mode edges removed → IsFirstStuck before mode edges (IsFlagged gone) i → IsTrimOrder before mode edges (removed ++ i ∷ [])
-    order_more i had first = λ n j at.
-        let within = slice_get_within (removed ++ i ∷ []) n j at in
-        let short : n ≤ length removed = omega (arith, length_push removed i) in
-        elim (cases_eq n (length removed)) [
-          | inl same ↦
-              let is : i ≡ j = same_Some i j (sym (push_at_end removed i) ∙ ap (slice_get (removed ++ i ∷ [])) (sym same) ∙ at) in
-              let all : removed ≡ take n (removed ++ i ∷ []) = sym (take-append-le n removed (i ∷ []) short ∙ take_all n removed (omega arith)) in
-              subst (λ r. IsFirstStuck before mode edges (Contains r) j) all (subst (IsFirstStuck before mode edges (Contains removed)) is (
-                stuck_to (IsFlagged gone) (Contains removed) agree i first.0,
-                λ k below stuck. first.1 k below (stuck_to (Contains removed) (IsFlagged gone) (turned (IsFlagged gone) (Contains removed) agree) k stuck),
-              ))
-          | inr other ↦
-              let lower : n < length removed = omega arith in
-              subst (λ r. IsFirstStuck before mode edges (Contains r) j) (sym (take-append-le n removed (i ∷ []) short)) (had n j (sym (push_before removed i n lower) ∙ at))
-        ]
+    order_more i had first =
+        order_push removed i had (
+          stuck_to (IsFlagged gone) (Contains removed) agree i first.0,
+          λ k below stuck. first.1 k below (stuck_to (Contains removed) (IsFlagged gone) (turned (IsFlagged gone) (Contains removed) agree) k stuck),
+        )
 
     -- at the end none is stuck
     pub done_at_end : AreSettled before mode edges gone (length edges) → (i : ℕ) → ¬ IsStuck before mode edges (Contains removed) i

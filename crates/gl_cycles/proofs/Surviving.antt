@@ -126,3 +126,7 @@ module _ (before : Segment → Segment → Bool) (mode : Mode) (len : ℕ) (edge
 pub cycles_survive : (before : Segment → Segment → Bool) (mode : Mode) (len : ℕ) (edges : List Edge) (removed positions : List ℕ) → IsTrimOrder before mode edges removed
     → Contains (all_cycles before mode len edges) positions → All (λ i. ¬ Contains removed i) positions
 cycles_survive before mode len edges removed positions order at = survives before mode len edges positions (there_is_cycle before mode len edges positions at) removed order
+
+-- a cycle has a first position
+pub cycle_has_some : (before : Segment → Segment → Bool) (mode : Mode) (len : ℕ) (edges : List Edge) (positions : List ℕ) → IsCycleAt before mode len edges positions → 0 < length positions
+cycle_has_some before mode len edges positions is = let two = is.cycle.two_or_more in omega (arith, two, length-picked edges positions is.within)
