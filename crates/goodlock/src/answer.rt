@@ -12,7 +12,7 @@ ghost use Rattle.gl_std.specs.declared.faults.ReadFault.TheVariants.{Line};
 
 use crate::ended::{Form, Outcome};
 use crate::lines::{fault_line, inconsistent_line};
-use gl_cycles::{Report, search_parallel};
+use gl_cycles::{Report, report_by_parallel};
 use gl_edges::edges_of;
 use gl_event::{Limits, MAX_EVENTS, MAX_NAMES, MAX_RING, MAX_THREADS, Memory};
 use gl_filters::Query;
@@ -126,12 +126,7 @@ fn report_by(
     ensures { IfOk result (λ r. r ≡ report_of query.now (is_before order.now) trace.now) }
 {
     let edges = edges_of(alloc, trace.lists.as_slice())?;
-    let found = search_parallel(rt, alloc, &edges, order, query)?;
-    Ok(Report {
-        query: *query,
-        edges,
-        found,
-    })
+    report_by_parallel(rt, alloc, edges, order, query)
 }
 
 // The report of the trace that was read, or why there is none.
