@@ -24,12 +24,15 @@
 //! thread doesn't hold. The first line that is at fault decides the text: [`ReadFault::Line`] has its
 //! number and what is wrong with it.
 //!
-//! [`read_source`] reads the text of a [`Source`] as it comes, piece by piece, and doesn't keep it.
-//! [`write_trace`] writes a trace as such a text, thread by thread.
+//! [`read_source`] reads the text of a [`Source`] as it comes, read by read, and doesn't keep it.
+//! [`Lines`] gives the lines of such a text one at a time, each as an [`Item`], and keeps no events.
+//! Both are given a [`Seed`] for the hash of names: with one that was drawn at random, names can't be
+//! chosen to make reading slow. [`write_trace`] writes a trace as a text, thread by thread.
 //!
 //! The definitions go from bytes to lines (`specs/Lines`), from a line alone to what it says
 //! (`specs/Line`), and from lines to the trace (`specs/Trace`), one step a line; `specs/Heard` says
-//! what was read of a source, and `specs/Written` what is written of a trace. Above them stand
+//! what was read of a source, `specs/Streaming` what was told of it so far where it is read item by
+//! item, and `specs/Written` what is written of a trace. Above them stand
 //! the laws (`specs/Laws`): a text has one list of lines, a line says one thing, a text is read
 //! piece by piece, its trace tells the kept lines and obeys the limits, the first fault in the order
 //! of the reasons decides, and a line that is written says its event.

@@ -75,7 +75,8 @@ impl<R: Source + Drop> Lines<R> {
     ///
     /// After [`Item::End`] each answer is that, and after a fault each answer is that fault.
     /// [`LinesFault::Read`] comes where a read failed or the turns were used up, once each line that
-    /// LF has ended was answered; the first line at fault comes before that.
+    /// LF has ended was answered; the first line at fault comes before that. Each line is cut once, and
+    /// each of its names looked up once by hash.
     pub fn next(&mut self) -> Result<Item, LinesFault>
         requires usable { CanBeAsked self.old (R.failed (source_of self.old)) }
         ensures tells { (limits : Bounds) (turns : ℕ) (start : Option (List ℕ)) (text : List ℕ) (told : Trace) → HasTold limits turns start (R.remaining (source_of self.old)) (R.failed (source_of self.old)) self.old text told
@@ -143,7 +144,8 @@ impl<R: Source + Drop> Lines<R> {
         }
     }
 
-    /// The names so far, how many lines were skipped, how many were strays, and the source.
+    /// The names so far, how many lines were skipped, how many were strays, and the source. After a
+    /// line at fault, or where memory was refused, the first three say nothing.
     pub fn parts(self) -> (Names, u64, u64, R)
         ensures names { (limits : Bounds) (turns : ℕ) (start : Option (List ℕ)) (text : List ℕ) (told : Trace) → CanBeNamed self → HasTold limits turns start (R.remaining (source_of self)) (R.failed (source_of self)) self text told → result.0 ≡ told.names }
         ensures skipped { (limits : Bounds) (turns : ℕ) (start : Option (List ℕ)) (text : List ℕ) (told : Trace) → CanBeNamed self → HasTold limits turns start (R.remaining (source_of self)) (R.failed (source_of self)) self text told → result.1 ≡ told.skipped }
