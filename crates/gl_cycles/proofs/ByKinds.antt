@@ -11,7 +11,8 @@ use Rattle.gl_event.specs.Modes.{conflict}
 use Rattle.gl_filters.specs.Cycle.{asks_guards, LeadsOn, IsCycle}
 use Rattle.gl_filters.specs.Judging.{following}
 use Rattle.gl_filters.specs.declared.query.Mode.{Mode}
-use Rattle.gl_filters.specs.Test.{guards_clash, leads_to, goes_with, kinds_go_together}
+use Rattle.gl_edges.specs.Clashes.{guards_clash}
+use Rattle.gl_filters.specs.Test.{leads_to, goes_with, kinds_go_together}
 use Rattle.gl_filters.proofs.Cycling.{leads_from, leads_same}
 use Rattle.gl_filters.proofs.Round.{pair_goes_by_kind, leads_round}
 use Rattle.gl_cycles.specs.AllCycles.{edges_of_table}

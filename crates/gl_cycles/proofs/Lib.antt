@@ -10,8 +10,10 @@ pub mod Uniqueness
 pub mod Level
 pub mod Off
 pub mod Back
+pub mod Watching
 pub mod Beside
 pub mod ByKinds
 pub mod Removing
+pub mod Whole
 pub mod Surviving
 pub mod Joining

@@ -14,7 +14,7 @@ use Rattle.gl_cycles.proofs.Fronts.{length-picked}
 use Rattle.gl_filters.proofs.Cycling.{cycle_from_test, test_from_cycle}
 
 -- an element that passes the test is kept
-filter_has : {X : Type 0} (p : X → Bool) (x : X) (xs : List X) → Contains xs x → p x ≡ true → Contains (filter p xs) x
+pub filter_has : {X : Type 0} (p : X → Bool) (x : X) (xs : List X) → Contains xs x → p x ≡ true → Contains (filter p xs) x
 filter_has p x [] at passes = absurd (contains_none x at)
 filter_has p x (y ∷ xs) at passes =
     elim (contains_cases y x xs at) [
@@ -29,7 +29,7 @@ filter_has p x (y ∷ xs) at passes =
     kept false there = there
 
 -- and nothing else is
-filter_from : {X : Type 0} (p : X → Bool) (x : X) (xs : List X) → Contains (filter p xs) x → Contains xs x × (p x ≡ true)
+pub filter_from : {X : Type 0} (p : X → Bool) (x : X) (xs : List X) → Contains (filter p xs) x → Contains xs x × (p x ≡ true)
 filter_from p x [] at = absurd (contains_none x at)
 filter_from p x (y ∷ xs) at = by (p y) refl at (λ there. filter_from p x xs there)
   where

@@ -1,9 +1,9 @@
 -- One edge more is removed.
-use Rattle.std.proofs.Common.{◌≡◌, ◌≢◌, ℕ, zero, suc, ◌+◌, ◌-◌, ◌<◌, ◌≤◌, Bool, true, false, not, ◌||◌, cond, eqb, List, [], ◌∷◌, ◌++◌, length, filter, take, set, Some, refl, sym, ap, subst, ◌∙◌, arith, inl, inr}
+use Rattle.std.proofs.Common.{◌≡◌, ◌≢◌, ℕ, zero, suc, ◌+◌, ◌<◌, ◌≤◌, ◌⊎◌, Bool, true, false, not, ◌||◌, cond, eqb, ltb, List, [], ◌∷◌, ◌++◌, length, filter, take, set, get_or, replicate, Some, refl, sym, ap, subst, ◌∙◌, arith, inl, inr}
 use Rattle.std.specs.Prelude.{slice_get, Contains}
 use Rattle.std.specs.List.{list_any, range_with_len}
-use Rattle.std.proofs.lemmas.Bool.{cases_eq, false≢true, ne_eqb, eq-eqb}
-use Rattle.std.proofs.lemmas.List.{length-set, length_push, take-append-le, take_all, append-nil}
+use Rattle.std.proofs.lemmas.Bool.{cases_eq, false≢true, ne_eqb, eq-eqb, ltb-true, ltb-false}
+use Rattle.std.proofs.lemmas.List.{length-set, length_push, length-replicate, take-append-le, take_all}
 use Rattle.std.proofs.lemmas.Option.{slice_get_within, same_Some}
 use Rattle.gl_event.specs.declared.events.Segment.{Segment}
 use Rattle.gl_edges.specs.declared.edge.Edge.{Edge}
@@ -12,9 +12,13 @@ use Rattle.gl_filters.specs.declared.query.Mode.{Mode}
 use Rattle.gl_cycles.specs.declared.trims.Side.{Side}
 use Rattle.gl_cycles.specs.declared.trims.Hints.{Hints}
 use Rattle.gl_cycles.specs.Trims.{HasBeside, IsStuck, IsFirstStuck, IsTrimOrder}
-use Rattle.gl_cycles.specs.Trimming.{IsFlagged, AreFlagsOf, AreHints, AreBothHints, AreSettled}
+use Rattle.gl_cycles.specs.Trimming.{IsFlagged, AreFlagsOf, AreChained, AreHints, AreBothHints, AreAwake, AreSettled, IsPlaced, IsWoken, opposite, places_of}
+use Rattle.gl_cycles.specs.declared.trims.Sides.{Sides}
+use Rattle.gl_cycles.specs.declared.trims.Side.TheVariants.{Follower, Leader}
+use Rattle.std.specs.BTreeSet.{BTreeSet, contains}
+use Rattle.std.specs.Ordering.{nat_cmp}
+use Rattle.gl_cycles.proofs.Watching.{left_other, left_only}
 use Rattle.gl_cycles.proofs.Lists.{filter-append, range-more}
-use Rattle.gl_cycles.proofs.Fronts.{element_at}
 use Rattle.gl_cycles.proofs.Beside.{set_here, set_elsewhere, push_before, push_at_end, not_stuck}
 
 any_push : (p : ℕ → Bool) (xs : List ℕ) (x : ℕ) → list_any p (xs ++ x ∷ []) ≡ (list_any p xs || p x)
@@ -53,8 +57,23 @@ flags_more size gone removed i within are = record {
 }
 
 -- at first none is set
-pub flags_none : (size : ℕ) (gone : List Bool) → length gone ≡ size → ((i : ℕ) → i < size → slice_get gone i ≡ Some false) → AreFlagsOf size gone []
-flags_none size gone long unset = record { long = long; flags = unset }
+pub flags_none : (size : ℕ) (gone : List Bool) (many : ℕ) → many ≡ size → gone ≡ replicate many false → AreFlagsOf size gone []
+flags_none size gone many same none = record {
+  long = ap length none ∙ length-replicate many false ∙ same;
+  flags = λ i within. ap (λ l. slice_get l i) none ∙ unset many i (omega (arith, same, within));
+}
+  where
+    unset : (n i : ℕ) → i < n → slice_get (replicate n false) i ≡ Some false
+    unset zero i within = absurd (omega arith)
+    unset (suc n) zero within = refl
+    unset (suc n) (suc i) within = unset n i (omega arith)
+
+-- and all wait
+pub awake_all : (gone : List Bool) (size : ℕ) (sides : Sides) (waiting : BTreeSet ℕ) → ((i : ℕ) → contains nat_cmp waiting i ≡ ltb i size) → AreAwake gone size sides waiting
+awake_all gone size sides waiting all = record {
+  within = λ i waits. ltb-true i size (sym (all i) ∙ waits);
+  placed = λ i side below left silent. absurd (let above = ltb-false i size (sym (all i) ∙ silent) in omega arith);
+}
 
 -- fewer flags are left
 pub left : List Bool → ℕ
@@ -74,13 +93,40 @@ fewer (b ∷ gone) (suc i) at = by b (fewer gone i at)
     by true less = less
     by false less = omega arith
 
+-- as many flags as there are, none of which is set
+pub none_set : (n : ℕ) → left (replicate n false) + 0 ≤ n
+unfolding left
+none_set zero = omega arith
+none_set (suc n) = let rest = none_set n in omega (arith, rest)
+
 -- positions that are left over, one more
 pub others_more : (p : ℕ → Bool) (n : ℕ) → filter p (range_with_len 0 (n + 1)) ≡ filter p (range_with_len 0 n) ++ cond (p n) (n ∷ []) []
 others_more p n =
     let end : 0 + n ≡ n = omega arith in
     ap (filter p) (range-more 0 n) ∙ ap (λ k. filter p (range_with_len 0 n ++ k ∷ [])) end ∙ filter-append p (range_with_len 0 n) (n ∷ [])
 
+-- a flag that isn't set as one more is wasn't set before, and is another one
+was_unset : (gone : List Bool) (i q : ℕ) → q < length gone → i < length gone → slice_get (set gone i true) q ≡ Some false → (q ≢ i) × (slice_get gone q ≡ Some false)
+was_unset gone i q within inside unset =
+    let other : q ≢ i = (λ same. false≢true (same_Some false true (sym unset ∙ ap (slice_get (set gone i true)) same ∙ set_here gone i true inside))) in
+    (other, sym (set_elsewhere gone i q true other within) ∙ unset)
+
+-- of three tests one passes, or none
+one_true : (a b c : Bool) → ((a || b) || c) ≡ true → (a ≡ true) ⊎ ((b ≡ true) ⊎ (c ≡ true))
+one_true true b c is = inl refl
+one_true false true c is = inr (inl refl)
+one_true false false c is = inr (inr is)
+
+all_false : (a b c : Bool) → ((a || b) || c) ≡ false → (a ≡ false) × (b ≡ false) × (c ≡ false)
+all_false true b c is = absurd (false≢true (sym is))
+all_false false true c is = absurd (false≢true (sym is))
+all_false false false c is = (refl, refl, is)
+
 module _ (before : Segment → Segment → Bool) (mode : Mode) (edges : List Edge) where
+  -- the order of none
+  pub order_none : IsTrimOrder before mode edges []
+  order_none = λ n i at. absurd (let within = slice_get_within [] n i at in omega arith)
+
   -- two ways to say that an edge is gone
   abbrev Agree : (ℕ → Type 0) → (ℕ → Type 0) → Type 0
   Agree A B = (j : ℕ) → j < length edges → (A j → B j) × (B j → A j)
@@ -106,12 +152,27 @@ module _ (before : Segment → Segment → Bool) (mode : Mode) (edges : List Edg
     alone = λ has. is.alone (beside_to B A (turned A B agree) is.side is.edge has);
   }
 
+  -- one edge more goes
+  pub order_push : (removed : List ℕ) (i : ℕ) → IsTrimOrder before mode edges removed → IsFirstStuck before mode edges (Contains removed) i → IsTrimOrder before mode edges (removed ++ i ∷ [])
+  order_push removed i had first = λ n j at.
+      let within = slice_get_within (removed ++ i ∷ []) n j at in
+      let short : n ≤ length removed = omega (arith, length_push removed i) in
+      elim (cases_eq n (length removed)) [
+        | inl same ↦
+            let is : i ≡ j = same_Some i j (sym (push_at_end removed i) ∙ ap (slice_get (removed ++ i ∷ [])) (sym same) ∙ at) in
+            let all : removed ≡ take n (removed ++ i ∷ []) = sym (take-append-le n removed (i ∷ []) short ∙ take_all n removed (omega arith)) in
+            subst (λ r. IsFirstStuck before mode edges (Contains r) j) all (subst (IsFirstStuck before mode edges (Contains removed)) is first)
+        | inr other ↦
+            let lower : n < length removed = omega arith in
+            subst (λ r. IsFirstStuck before mode edges (Contains r) j) (sym (take-append-le n removed (i ∷ []) short)) (had n j (sym (push_before removed i n lower) ∙ at))
+      ]
+
   module _ (gone : List Bool) (removed : List ℕ) (are : AreFlagsOf (length edges) gone removed) where
     agree : Agree (IsFlagged gone) (Contains removed)
     agree j below =
         (λ flagged. contains_from_any removed j (sym (same_Some _ _ (sym flagged ∙ are.flags j below))), λ among. are.flags j below ∙ ap Some (any_from_contains removed j among))
 
-    unflagged : (j : ℕ) → j < length edges → ¬ Contains removed j → slice_get gone j ≡ Some false
+    pub unflagged : (j : ℕ) → j < length edges → ¬ Contains removed j → slice_get gone j ≡ Some false
     unflagged j below none = by (list_any (λ k. eqb k j) removed) refl
       where
         by : (b : Bool) → list_any (λ k. eqb k j) removed ≡ b → slice_get gone j ≡ Some false
@@ -125,21 +186,11 @@ module _ (before : Segment → Segment → Bool) (mode : Mode) (edges : List Edg
 
     -- the first that is stuck goes on with the order
     pub order_more : (i : ℕ) → IsTrimOrder before mode edges removed → IsFirstStuck before mode edges (IsFlagged gone) i → IsTrimOrder before mode edges (removed ++ i ∷ [])
-    order_more i had first = λ n j at.
-        let within = slice_get_within (removed ++ i ∷ []) n j at in
-        let short : n ≤ length removed = omega (arith, length_push removed i) in
-        elim (cases_eq n (length removed)) [
-          | inl same ↦
-              let is : i ≡ j = same_Some i j (sym (push_at_end removed i) ∙ ap (slice_get (removed ++ i ∷ [])) (sym same) ∙ at) in
-              let all : removed ≡ take n (removed ++ i ∷ []) = sym (take-append-le n removed (i ∷ []) short ∙ take_all n removed (omega arith)) in
-              subst (λ r. IsFirstStuck before mode edges (Contains r) j) all (subst (IsFirstStuck before mode edges (Contains removed)) is (
-                stuck_to (IsFlagged gone) (Contains removed) agree i first.0,
-                λ k below stuck. first.1 k below (stuck_to (Contains removed) (IsFlagged gone) (turned (IsFlagged gone) (Contains removed) agree) k stuck),
-              ))
-          | inr other ↦
-              let lower : n < length removed = omega arith in
-              subst (λ r. IsFirstStuck before mode edges (Contains r) j) (sym (take-append-le n removed (i ∷ []) short)) (had n j (sym (push_before removed i n lower) ∙ at))
-        ]
+    order_more i had first =
+        order_push removed i had (
+          stuck_to (IsFlagged gone) (Contains removed) agree i first.0,
+          λ k below stuck. first.1 k below (stuck_to (Contains removed) (IsFlagged gone) (turned (IsFlagged gone) (Contains removed) agree) k stuck),
+        )
 
     -- at the end none is stuck
     pub done_at_end : AreSettled before mode edges gone (length edges) → (i : ℕ) → ¬ IsStuck before mode edges (Contains removed) i
@@ -151,23 +202,63 @@ module _ (before : Segment → Segment → Bool) (mode : Mode) (edges : List Edg
         let below = slice_get_within edges i e at in
         beside_to (IsFlagged gone) (Contains removed) agree side e (settled i e side below at (unflagged i below kept))
 
-  -- hints stay hints
-  hints_gone : (gone : List Bool) (side : Side) (hints : List ℕ) (i : ℕ) → length gone ≡ length edges → AreHints before mode edges gone side hints → AreHints before mode edges (set gone i true) side hints
-  hints_gone gone side hints i long are = record {
-    long = are.long;
-    each = λ j place at.
-        let is = are.each j place at in
+  -- hints stay hints, and those whose place goes are told
+  hints_gone : (gone : List Bool) (side : Side) (n : ℕ) (old new : Hints) (i : ℕ) → length gone ≡ length edges → i < length edges → AreHints before mode edges gone side n old → IsWoken i old new → AreHints before mode edges (set gone i true) side n new
+  hints_gone gone side n old new i long inside are woken = record {
+    long = ap length woken.places ∙ are.long;
+    as_long = ap length woken.watchers ∙ length-set old.watchers i [] ∙ are.as_long;
+    chain = subst (AreChained (opposite side) edges 0) (sym woken.chain) are.chain;
+    each = λ j place early at.
+        let is = are.each j place early (sym (ap (λ l. slice_get l j) woken.places) ∙ at) in
         record {
-          within = is.within;
-          passed = λ q e f from below at_e at_f unset.
-              let there : q < length gone = omega (arith, slice_get_within edges q f at_f) in
-              elim (cases_eq q i) [
-                | inl same ↦ absurd (false≢true (same_Some false true (sym unset ∙ ap (slice_get (set gone i true)) same ∙ set_here gone i true (omega arith))))
-                | inr other ↦ is.passed q e f from below at_e at_f (sym (set_elsewhere gone i q true other there) ∙ unset)
-              ];
+          passed = λ q e f below at_e at_f unset. is.passed q e f below at_e at_f (was_unset gone i q (omega (arith, long, slice_get_within edges q f at_f)) (omega (arith, long, inside)) unset).1;
           fits = is.fits;
         };
+    watched = λ j p early at unset.
+        let hint = are.each j (Some p) early (sym (ap (λ l. slice_get l j) woken.places) ∙ at) in
+        let was = was_unset gone i p (omega (arith, long, hint.fits.0)) (omega (arith, long, inside)) unset in
+        subst (λ w. Contains (get_or w p []) j) (sym woken.watchers) (left_other old.watchers i p j was.0 (are.watched j p early (sym (ap (λ l. slice_get l j) woken.places) ∙ at) was.1));
+    within = λ p j among. are.within p j (left_only old.watchers i p j (omega (arith, inside, are.as_long)) (subst (λ w. Contains (get_or w p []) j) woken.watchers among));
   }
 
-  pub both_gone : (gone : List Bool) (hints : Hints) (i : ℕ) → length gone ≡ length edges → AreBothHints before mode edges gone hints → AreBothHints before mode edges (set gone i true) hints
-  both_gone gone hints i long are = record { followers = hints_gone gone _ hints.followers.items i long are.followers; leaders = hints_gone gone _ hints.leaders.items i long are.leaders }
+  pub both_gone : (gone : List Bool) (n : ℕ) (old new : Sides) (i : ℕ) → length gone ≡ length edges → i < length edges → AreBothHints before mode edges gone n old
+      → IsWoken i old.followers new.followers → IsWoken i old.leaders new.leaders → AreBothHints before mode edges (set gone i true) n new
+  both_gone gone n old new i long inside are followers leaders =
+      record { followers = hints_gone gone Follower n old.followers new.followers i long inside are.followers followers; leaders = hints_gone gone Leader n old.leaders new.leaders i long inside are.leaders leaders }
+
+  -- who is left and doesn't wait keeps its places
+  places_gone : (gone : List Bool) (side : Side) (n : ℕ) (old new : Hints) (i j : ℕ) → length gone ≡ length edges → i < length edges → AreHints before mode edges gone side n old → IsWoken i old new → j < n
+      → list_any (λ w. eqb w j) (get_or old.watchers i []) ≡ false → IsPlaced gone old.places.items j → IsPlaced (set gone i true) new.places.items j
+  places_gone gone side n old new i j long inside are woken early unwatched placed =
+      let hint = are.each j (Some placed.place) early placed.is in
+      elim (cases_eq placed.place i) [
+        | inl same ↦
+            let watches = are.watched j placed.place early placed.is placed.is_left in
+            absurd (false≢true (sym unwatched ∙ any_from_contains (get_or old.watchers i []) j (subst (λ p. Contains (get_or old.watchers p []) j) same watches)))
+        | inr other ↦ record {
+          place = placed.place;
+          is = ap (λ l. slice_get l j) woken.places ∙ placed.is;
+          is_left = set_elsewhere gone i placed.place true other (omega (arith, long, hint.fits.0)) ∙ placed.is_left;
+        }
+      ]
+
+  pub awake_gone : (gone : List Bool) (size : ℕ) (old new : Sides) (i : ℕ) (had has : BTreeSet ℕ) → length gone ≡ length edges → size ≡ length edges → i < size → AreBothHints before mode edges gone size old
+      → IsWoken i old.followers new.followers → IsWoken i old.leaders new.leaders
+      → ((j : ℕ) → contains nat_cmp has j ≡ ((contains nat_cmp had j || list_any (λ w. eqb w j) (get_or old.followers.watchers i [])) || list_any (λ w. eqb w j) (get_or old.leaders.watchers i [])))
+      → AreAwake gone size old had → AreAwake (set gone i true) size new has
+  awake_gone gone size old new i had has long same inside are followers leaders told awake = record {
+    within = λ j waits. elim (one_true _ _ _ (sym (told j) ∙ waits)) [
+      | inl before ↦ awake.within j before
+      | inr (inl follows) ↦ omega (arith, same, are.followers.within i j (contains_from_any _ j follows))
+      | inr (inr leads) ↦ omega (arith, same, are.leaders.within i j (contains_from_any _ j leads))
+    ];
+    placed = λ j side below unset silent.
+        let none : (contains nat_cmp had j ≡ false) × (list_any (λ w. eqb w j) (get_or old.followers.watchers i []) ≡ false) × (list_any (λ w. eqb w j) (get_or old.leaders.watchers i []) ≡ false) = all_false _ _ _ (sym (told j) ∙ silent) in
+        let was = was_unset gone i j (omega (arith, long, same)) (omega (arith, long, same)) unset in
+        on side j below none.1 none.2 (awake.placed j side below was.1 none.0);
+  }
+    where
+      on : (side : Side) (j : ℕ) → j < size → list_any (λ w. eqb w j) (get_or old.followers.watchers i []) ≡ false → list_any (λ w. eqb w j) (get_or old.leaders.watchers i []) ≡ false
+          → IsPlaced gone (places_of side old) j → IsPlaced (set gone i true) (places_of side new) j
+      on Follower j below follows leads placed = places_gone gone Follower size old.followers new.followers i j long (omega (arith, same, inside)) are.followers followers below follows placed
+      on Leader j below follows leads placed = places_gone gone Leader size old.leaders new.leaders i j long (omega (arith, same, inside)) are.leaders leaders below leads placed

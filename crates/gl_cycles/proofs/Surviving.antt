@@ -1,9 +1,8 @@
 -- Trimming takes away no edge of a cycle.
-use Rattle.std.proofs.Common.{◌≡◌, ◌≢◌, ℕ, zero, suc, ◌+◌, ◌-◌, ◌<◌, ◌≤◌, ◌⊎◌, Bool, true, false, eqb, leb, cond, List, [], ◌∷◌, ◌++◌, length, take, get_or, Some, refl, sym, ap, subst, ◌∙◌, arith, inl, inr}
+use Rattle.std.proofs.Common.{◌≡◌, ℕ, zero, suc, ◌+◌, ◌-◌, ◌<◌, ◌⊎◌, Bool, true, false, eqb, leb, cond, List, [], ◌∷◌, ◌++◌, length, take, get_or, Some, refl, sym, ap, subst, ◌∙◌, arith, inl, inr}
 use Rattle.std.specs.Prelude.{slice_get, All, Contains}
-use Rattle.std.specs.List.{cons_option}
-use Rattle.std.proofs.lemmas.Bool.{cases_Bool, eq-eqb, eqb-true, ne_eqb, leb-true, leb-false, false_from_ne_true}
-use Rattle.std.proofs.lemmas.List.{take_more, take_all, length-take}
+use Rattle.std.proofs.lemmas.Bool.{cases_Bool, eq-eqb, ne_eqb, leb-true, leb-false}
+use Rattle.std.proofs.lemmas.List.{take_more, take_all}
 use Rattle.std.proofs.lemmas.Option.{slice_get-get_or, slice_get_within, get_or_from_slice_get, same_Some}
 use Rattle.gl_event.specs.declared.events.Segment.{Segment}
 use Rattle.gl_edges.specs.declared.edge.Edge.{Edge}
@@ -13,7 +12,7 @@ use Rattle.gl_filters.specs.declared.query.Mode.{Mode}
 use Rattle.gl_filters.proofs.Round.{compatible_round}
 use Rattle.gl_cycles.specs.AllCycles.{picked, all_cycles}
 use Rattle.gl_cycles.specs.Laws.{IsCycleAt}
-use Rattle.gl_cycles.specs.Trims.{is_beside, HasBeside, IsStuck, IsTrimOrder}
+use Rattle.gl_cycles.specs.Trims.{HasBeside, IsTrimOrder}
 use Rattle.gl_cycles.specs.declared.trims.Side.{Side}
 use Rattle.gl_cycles.specs.declared.trims.Side.TheVariants.{Follower, Leader}
 use Rattle.gl_cycles.proofs.Fronts.{element_at, length-picked, picked-cons, AreWithin}
@@ -127,3 +126,7 @@ module _ (before : Segment → Segment → Bool) (mode : Mode) (len : ℕ) (edge
 pub cycles_survive : (before : Segment → Segment → Bool) (mode : Mode) (len : ℕ) (edges : List Edge) (removed positions : List ℕ) → IsTrimOrder before mode edges removed
     → Contains (all_cycles before mode len edges) positions → All (λ i. ¬ Contains removed i) positions
 cycles_survive before mode len edges removed positions order at = survives before mode len edges positions (there_is_cycle before mode len edges positions at) removed order
+
+-- a cycle has a first position
+pub cycle_has_some : (before : Segment → Segment → Bool) (mode : Mode) (len : ℕ) (edges : List Edge) (positions : List ℕ) → IsCycleAt before mode len edges positions → 0 < length positions
+cycle_has_some before mode len edges positions is = let two = is.cycle.two_or_more in omega (arith, two, length-picked edges positions is.within)

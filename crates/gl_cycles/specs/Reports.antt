@@ -1,5 +1,5 @@
 -- The report over edges: the first cycles that a query asks for, by the order of lists of events.
-use Rattle.std.specs.Prelude.{◌≡◌, ◌≢◌, Bool, List, length, take, nat_lt}
+use Rattle.std.specs.Prelude.{◌≡◌, Bool, List, length, take, nat_lt}
 use Rattle.gl_event.specs.declared.events.Event.{Event}
 use Rattle.gl_event.specs.declared.events.Segment.{Segment}
 use Rattle.gl_segments.specs.Laws.{DecidesBefore}
@@ -9,15 +9,21 @@ use Rattle.gl_edges.specs.declared.edge.Edge.{Edge}
 use Rattle.gl_edges.specs.declared.edge.Sample.{Sample}
 use Rattle.gl_filters.specs.Asked.{Asked}
 use Rattle.gl_cycles.specs.AllCycles.{edges_of_table, all_cycles}
+use Rattle.gl_cycles.specs.Trims.{whole_trim}
 use Rattle.gl_cycles.specs.declared.found.Report.{Report}
 use Rattle.gl_cycles.specs.declared.found.ReportFault.{ReportFault}
 use Rattle.gl_cycles.specs.declared.found.ReportFault.TheVariants.{Inconsistent, Memory}
 
--- the first of the cycles that are asked for, and whether there are more, by a test of which segment is before which
+-- the first of the cycles that are asked for, whether there are more, and the whole trim order, by a test of which segment is before which
 abbrev pub report_by : Asked → (Segment → Segment → Bool) → List (Edge × Sample) → Report
 report_by asked before pairs =
     let cycles = all_cycles before asked.mode asked.len (edges_of_table pairs) in
-    record { query = asked; edges = pairs; found = record { cycles = take asked.max cycles; more = nat_lt asked.max (length cycles) } }
+    record {
+      query = asked;
+      edges = pairs;
+      found = record { cycles = take asked.max cycles; more = nat_lt asked.max (length cycles) };
+      trim = whole_trim before asked.mode (edges_of_table pairs);
+    }
 
 -- this is the report over these edges, by the order of these lists
 pub record IsReport (asked : Asked) (pairs : List (Edge × Sample)) (lists : List (List Event)) (report : Report) : Type 0 where

@@ -1,13 +1,19 @@
 -- What trimming knows as it goes: flags of the edges that are gone, and for each edge where one stands that may come beside it.
-use Rattle.std.specs.Prelude.{◌≡◌, ℕ, ◌<◌, ◌≤◌, Bool, true, false, List, length, slice_get, Some, ◌==◌}
+use Rattle.std.specs.Prelude.{◌≡◌, ℕ, ◌<◌, Bool, true, false, List, [], ◌∷◌, ◌++◌, length, set, get_or, slice_get, unwrap_or, Option, Some, None, IfSome, Contains, ◌==◌, nat_eq}
+use Rattle.std.specs.BTreeSet.{BTreeSet, contains}
+use Rattle.std.specs.HashMap.{get}
 use Rattle.std.specs.List.{list_any}
+use Rattle.std.specs.Ordering.{nat_cmp}
 use Rattle.gl_event.specs.declared.events.Segment.{Segment}
 use Rattle.gl_edges.specs.declared.edge.Edge.{Edge}
 use Rattle.gl_filters.specs.declared.query.Mode.{Mode}
-use Rattle.gl_cycles.specs.Trims.{is_beside, HasBeside}
+use Rattle.gl_cycles.specs.Followers.{AreListed}
+use Rattle.gl_cycles.specs.Trims.{is_beside, HasBeside, IsStuck}
+use Rattle.gl_cycles.specs.declared.chains.Chain.{Chain}
 use Rattle.gl_cycles.specs.declared.trims.Hints.{Hints}
 use Rattle.gl_cycles.specs.declared.trims.Side.{Side}
 use Rattle.gl_cycles.specs.declared.trims.Side.TheVariants.{Follower, Leader}
+use Rattle.gl_cycles.specs.declared.trims.Sides.{Sides}
 
 -- the flag at this position is set
 abbrev pub IsFlagged : List Bool → ℕ → Type 0
@@ -18,40 +24,96 @@ pub record AreFlagsOf (size : ℕ) (gone : List Bool) (removed : List ℕ) : Typ
   pub long : length gone ≡ size
   pub flags : (i : ℕ) → i < size → slice_get gone i ≡ Some (list_any (λ k. k == i) removed)
 
-module _ (before : Segment → Segment → Bool) (mode : Mode) (edges : List Edge) (gone : List Bool) (side : Side) where
-  -- no edge from one position on and below another one is left that may come beside the edge at i
-  abbrev pub NoneBeside : ℕ → ℕ → ℕ → Type 0
-  NoneBeside i from to =
-      (q : ℕ) (e f : Edge) → from ≤ q → q < to → slice_get edges i ≡ Some e → slice_get edges q ≡ Some f → slice_get gone q ≡ Some false → is_beside before mode side e f ≡ false
+-- on which side of its followers an edge stands, and of its leaders
+abbrev pub opposite : Side → Side
+opposite Follower = Leader
+opposite Leader = Follower
 
-  -- the first position from one on of an edge that is left and may come beside the edge at i, or the end
-  pub record IsNextBeside (i from place : ℕ) : Type 0 where
-    pub later : from ≤ place
-    pub within : place ≤ length edges
-    pub passed : NoneBeside i from place
-    pub there : (e f : Edge) → slice_get edges i ≡ Some e → slice_get edges place ≡ Some f → (slice_get gone place ≡ Some false) × (is_beside before mode side e f ≡ true)
+-- the lock that an edge shares with those on this side
+abbrev pub lock_towards : Side → Edge → ℕ
+lock_towards Follower e = e.wanted
+lock_towards Leader e = e.held
 
-  -- a position below which no edge is left that may come beside the edge at i; the edge there may, or might have before it was gone
-  pub record IsHint (i place : ℕ) : Type 0 where
-    pub within : place ≤ length edges
-    pub passed : NoneBeside i 0 place
-    pub fits : (e f : Edge) → slice_get edges i ≡ Some e → slice_get edges place ≡ Some f → is_beside before mode side e f ≡ true
+-- where a lock stands first
+abbrev pub first_in_chain : Chain → ℕ → Option ℕ
+first_in_chain chain lock = get nat_eq chain.first lock
 
-  -- each edge has one
-  pub record AreHints (hints : List ℕ) : Type 0 where
-    pub long : length hints ≡ length edges
-    pub each : (i place : ℕ) → slice_get hints i ≡ Some place → IsHint i place
+-- the edges from position n on are in the index by their locks on this side
+abbrev pub AreChained : Side → List Edge → ℕ → Chain → Type 0
+AreChained side edges n chain = AreListed (lock_towards side) edges [] n (first_in_chain chain) chain.next.items
 
-  -- whether an edge is left that may come beside the edge at i
-  pub record HasBesideAt (i : ℕ) (has : Bool) : Type 0 where
-    pub some : (e : Edge) → slice_get edges i ≡ Some e → has ≡ true → HasBeside before mode edges (IsFlagged gone) side e
-    pub none : (e : Edge) → slice_get edges i ≡ Some e → has ≡ false → ¬ HasBeside before mode edges (IsFlagged gone) side e
+-- one more watches a place, if there is one
+abbrev pub watched_at : Option ℕ → ℕ → List (List ℕ) → List (List ℕ)
+watched_at None watcher watchers = watchers
+watched_at (Some place) watcher watchers = set watchers place (get_or watchers place [] ++ watcher ∷ [])
+
+-- nobody watches this place any more
+pub record IsWoken (place : ℕ) (old new : Hints) : Type 0 where
+  pub chain : new.chain ≡ old.chain
+  pub places : new.places.items ≡ old.places.items
+  pub watchers : new.watchers ≡ set old.watchers place []
+
+-- the places on this side
+abbrev pub places_of : Side → Sides → List (Option ℕ)
+places_of Follower sides = sides.followers.places.items
+places_of Leader sides = sides.leaders.places.items
+
+module _ (gone : List Bool) where
+  -- the edge at i has a place, and that edge is left
+  pub record IsPlaced (places : List (Option ℕ)) (i : ℕ) : Type 0 where
+    pub place : ℕ
+    pub is : slice_get places i ≡ Some (Some place)
+    pub is_left : slice_get gone place ≡ Some false
+
+  -- each edge that has one still does
+  abbrev pub KeepPlaced : List (Option ℕ) → List (Option ℕ) → Type 0
+  KeepPlaced old new = (i : ℕ) → IsPlaced old i → IsPlaced new i
+
+  -- each edge that is left has one on both sides, or waits to be looked at
+  pub record AreAwake (size : ℕ) (sides : Sides) (waiting : BTreeSet ℕ) : Type 0 where
+    pub within : (i : ℕ) → contains nat_cmp waiting i ≡ true → i < size
+    pub placed : (i : ℕ) (side : Side) → i < size → slice_get gone i ≡ Some false → contains nat_cmp waiting i ≡ false → IsPlaced (places_of side sides) i
 
 module _ (before : Segment → Segment → Bool) (mode : Mode) (edges : List Edge) (gone : List Bool) where
+  module _ (side : Side) where
+    -- no edge below a place is left that may come beside the edge at i
+    abbrev pub NoneBeside : ℕ → ℕ → Type 0
+    NoneBeside i to =
+        (q : ℕ) (e f : Edge) → q < to → slice_get edges i ≡ Some e → slice_get edges q ≡ Some f → slice_get gone q ≡ Some false → is_beside before mode side e f ≡ false
+
+    -- no edge before this place is left that may come beside the edge at i; the one there shares a lock with it
+    pub record IsStart (i : ℕ) (place : Option ℕ) : Type 0 where
+      pub passed : NoneBeside i (unwrap_or place (length edges))
+      pub shares : IfSome place (λ p. (p < length edges) × ((e f : Edge) → slice_get edges i ≡ Some e → slice_get edges p ≡ Some f → lock_towards (opposite side) f ≡ lock_towards side e))
+
+    -- and the one there may come beside it, or might have before it was gone
+    pub record IsHint (i : ℕ) (place : Option ℕ) : Type 0 where
+      pub passed : NoneBeside i (unwrap_or place (length edges))
+      pub fits : IfSome place (λ p. (p < length edges) × ((e f : Edge) → slice_get edges i ≡ Some e → slice_get edges p ≡ Some f → is_beside before mode side e f ≡ true))
+
+    -- each of the first n edges has one, and watches it as long as it is left
+    pub record AreHints (n : ℕ) (hints : Hints) : Type 0 where
+      pub long : length hints.places.items ≡ length edges
+      pub as_long : length hints.watchers ≡ length edges
+      pub chain : AreChained (opposite side) edges 0 hints.chain
+      pub each : (i : ℕ) (place : Option ℕ) → i < n → slice_get hints.places.items i ≡ Some place → IsHint i place
+      pub watched : (i p : ℕ) → i < n → slice_get hints.places.items i ≡ Some (Some p) → slice_get gone p ≡ Some false → Contains (get_or hints.watchers p []) i
+      pub within : (p i : ℕ) → Contains (get_or hints.watchers p []) i → i < length edges
+
+    -- whether an edge is left that may come beside the edge at i
+    pub record HasBesideAt (i : ℕ) (places : List (Option ℕ)) (has : Bool) : Type 0 where
+      pub some : has ≡ true → IsPlaced gone places i
+      pub none : has ≡ false → (e : Edge) → slice_get edges i ≡ Some e → ¬ HasBeside before mode edges (IsFlagged gone) side e
+
   -- on both sides
-  pub record AreBothHints (hints : Hints) : Type 0 where
-    pub followers : AreHints before mode edges gone Follower hints.followers.items
-    pub leaders : AreHints before mode edges gone Leader hints.leaders.items
+  pub record AreBothHints (n : ℕ) (sides : Sides) : Type 0 where
+    pub followers : AreHints Follower n sides.followers
+    pub leaders : AreHints Leader n sides.leaders
+
+  -- whether the edge at i is stuck
+  pub record TellsStuck (sides : Sides) (i : ℕ) (stuck : Bool) : Type 0 where
+    pub yes : stuck ≡ true → IsStuck before mode edges (IsFlagged gone) i
+    pub no : stuck ≡ false → slice_get gone i ≡ Some false → (side : Side) → IsPlaced gone (places_of side sides) i
 
   -- each edge below a position that isn't gone has a follower and a leader left
   abbrev pub AreSettled : ℕ → Type 0

@@ -1,10 +1,11 @@
 -- Trim orders: edges that go one after the other, each of which nothing that is left may follow in a cycle, or that may follow nothing.
-use Rattle.std.specs.Prelude.{◌≡◌, ℕ, ◌<◌, Bool, true, not, List, length, filter, slice_get, Some, take, Contains, ◌==◌}
+use Rattle.std.specs.Prelude.{◌≡◌, ℕ, zero, suc, ◌<◌, Bool, true, not, ◌&&◌, List, [], ◌∷◌, ◌++◌, length, filter, slice_get, Option, Some, None, take, Contains, ◌==◌, if◌then◌else◌}
 use Rattle.std.specs.List.{list_any, range_with_len}
 use Rattle.gl_event.specs.declared.events.Segment.{Segment}
 use Rattle.gl_edges.specs.declared.edge.Edge.{Edge}
 use Rattle.gl_filters.specs.declared.query.Mode.{Mode}
 use Rattle.gl_filters.specs.Test.{is_compatible}
+use Rattle.gl_cycles.specs.AllCycles.{picked}
 use Rattle.gl_cycles.specs.declared.trims.Side.{Side}
 use Rattle.gl_cycles.specs.declared.trims.Side.TheVariants.{Follower, Leader}
 
@@ -51,3 +52,22 @@ module _ (before : Segment → Segment → Bool) (mode : Mode) (edges : List Edg
     pub stays : (i : ℕ) (e : Edge) (side : Side) → slice_get edges i ≡ Some e → ¬ Contains removed i → HasBeside (Contains removed) side e
     -- the others are kept
     pub rest : kept ≡ others edges removed
+
+  -- none of these edges may come beside this one on one of the sides
+  abbrev pub is_alone : List Edge → Edge → Bool
+  is_alone es e = not (list_any (is_beside before mode Follower e) es && list_any (is_beside before mode Leader e) es)
+
+  -- the edge at this position isn't gone, and is alone among those that aren't
+  abbrev pub is_stuck : List ℕ → ℕ → Bool
+  is_stuck removed i = not (list_any (λ k. k == i) removed) && list_any (is_alone (picked edges (others edges removed))) (picked edges (i ∷ []))
+
+  -- the first n edges that go: always the first one that is stuck, as long as one is
+  abbrev pub removals : ℕ → List ℕ
+  removals zero = []
+  removals (suc n) = removals n ++ take 1 (filter (is_stuck (removals n)) (range_with_len 0 (length edges)))
+
+  -- the trim order that takes away each edge, where there is one
+  unfoldable pub whole_trim : Option (List ℕ)
+  whole_trim =
+      let removed = removals (length edges) in
+      if length (others edges removed) == 0 then Some removed else None

@@ -56,6 +56,44 @@ pub struct Found {
     pub more: bool,
 }
 
+/// The edges that trimming takes away, in the order in which they go, as positions in a list of
+/// edges. Contracts see a list of numbers.
+#[derive(Drop, Debug)]
+pub struct TrimOrder {
+    positions: Vec<usize>,
+}
+
+impl Model for TrimOrder {
+    ghost use Rattle.std.specs.Prelude.{List, ℕ};
+
+    ghost Value = { List ℕ };
+
+    ghost view = { λ t. t.positions.items };
+}
+
+impl TrimOrder {
+    /// These positions.
+    pub fn from_vec(positions: Vec<usize>) -> TrimOrder
+        ensures { result ≡ positions.items }
+    {
+        TrimOrder { positions }
+    }
+
+    /// The positions, in order.
+    pub fn as_slice(&self) -> &[usize]
+        ensures { result.now ≡ self.now }
+    {
+        &self.positions
+    }
+
+    /// The positions, in order.
+    pub fn into_vec(self) -> Vec<usize>
+        ensures { result.items ≡ self }
+    {
+        self.positions
+    }
+}
+
 /// The report of a query: the edges of the lists that were asked about, and the first cycles over
 /// them.
 #[derive(Drop, Debug)]
@@ -66,6 +104,9 @@ pub struct Report {
     pub edges: EdgeList,
     /// The cycles that are listed, and whether there are more.
     pub found: Found,
+    /// The order in which trimming in the mode of the query takes away the edges, where it takes away
+    /// all of them: then there is no cycle of this mode, of whatever length.
+    pub trim: Option<TrimOrder>,
 }
 
 /// Why there is no report.

@@ -1,14 +1,14 @@
 //! What holds of the definitions, for all lists of edges. Each function here does nothing: its
 //! contract is a law.
 ghost use Rattle.gl_cycles.specs.Reports.{ReportsAreUnique, LoopsAreUnique, NoReportOfLoops};
-ghost use Rattle.std.specs.Prelude.{◌≡◌, ◌↔◌, ℕ, Bool, List, map, All, Contains};
+ghost use Rattle.std.specs.Prelude.{◌≡◌, ◌↔◌, ℕ, Bool, List, Some, None, length, map, All, Contains, ◌==◌, if◌then◌else◌};
 ghost use Rattle.std.specs.Cmp.Lexicographic.{slice_cmp};
 ghost use Rattle.std.specs.List.Sorted.{IsStrictlySortedBy};
 ghost use Rattle.std.specs.Ordering.{nat_cmp};
 ghost use Rattle.gl_cycles.specs.AllCycles.{picked, all_cycles};
 ghost use Rattle.gl_cycles.specs.Laws.{IsCycleAt};
 ghost use Rattle.gl_cycles.specs.Loops.{IsNeverFalling};
-ghost use Rattle.gl_cycles.specs.Trims.{IsTrimOrder};
+ghost use Rattle.gl_cycles.specs.Trims.{IsTrimOrder, IsTrimmed, removals, whole_trim};
 ghost use Rattle.gl_edges.specs.Order.{edge_cmp};
 ghost use Rattle.gl_edges.specs.declared.edge.Edge.{Edge};
 ghost use Rattle.gl_event.specs.declared.events.Segment.{Segment};
@@ -53,4 +53,13 @@ pub fn cycles_are_level()
 pub fn cycles_survive_trims()
     ensures { (before : Segment → Segment → Bool) (mode : Mode) (len : ℕ) (edges : List Edge) (removed positions : List ℕ) → IsTrimOrder before mode edges removed
         → Contains (all_cycles before mode len edges) positions → All (λ i. ¬ Contains removed i) positions }
+{}
+
+/// Which edges trimming takes away, and in which order, follows from the edges. It takes away all of
+/// them in the order that is whole, and where there is a cycle no order is.
+pub fn trims_are_unique()
+    ensures removed { (before : Segment → Segment → Bool) (mode : Mode) (edges : List Edge) (kept removed : List ℕ) → IsTrimmed before mode edges kept removed → removed ≡ removals before mode edges (length edges) }
+    ensures whole { (before : Segment → Segment → Bool) (mode : Mode) (edges : List Edge) (kept removed : List ℕ) → IsTrimmed before mode edges kept removed
+        → whole_trim before mode edges ≡ (if length kept == 0 then Some removed else None) }
+    ensures cycle { (before : Segment → Segment → Bool) (mode : Mode) (len : ℕ) (edges : List Edge) (positions : List ℕ) → Contains (all_cycles before mode len edges) positions → whole_trim before mode edges ≡ None }
 {}

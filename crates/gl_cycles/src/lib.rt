@@ -18,6 +18,7 @@
 //! in a fixed order. No edge of a cycle is among them, as [`cycles_survive_trims`] says.
 #![tactic(auto)]
 
+mod chains;
 mod closers;
 mod components;
 mod followers;
@@ -35,14 +36,15 @@ mod reports;
 #[cfg(test)]
 mod tests;
 mod trims;
+mod watchers;
 mod ways;
 
-pub use found::{Cycles, Found, Report, ReportFault};
+pub use found::{Cycles, Found, Report, ReportFault, TrimOrder};
 pub use laws::{
     cycles_are_all, cycles_are_level, cycles_ascend, cycles_ascend_by_edges, cycles_survive_trims,
-    reports_are_unique,
+    reports_are_unique, trims_are_unique,
 };
 pub use parallel::search_parallel;
 pub use paths::search;
-pub use reports::{report_over, report_over_parallel};
+pub use reports::{report_by, report_by_parallel, report_over, report_over_parallel};
 pub use trims::{Trimmed, trim};

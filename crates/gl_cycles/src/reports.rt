@@ -1,16 +1,20 @@
 //! Reports over edges.
-ghost use Rattle.std.specs.Prelude.{◌≡◌, ◌≤◌, ℕ, List, Some, length, slice_get, IfOk, IfErr};
+ghost use Rattle.std.specs.Prelude.{◌≡◌, ◌≤◌, ◌<◌, ◌↔◌, ℕ, List, Some, None, length, slice_get, take, IfOk, IfErr, IsTrue};
 ghost use Rattle.gl_event.specs.Bounds.{greatest};
 ghost use Rattle.gl_event.specs.Lawful.{IsLawful};
 ghost use Rattle.gl_event.specs.declared.events.Event.{Event};
+ghost use Rattle.gl_segments.specs.Clocks.{is_before};
 ghost use Rattle.gl_segments.specs.Orders.{lists_of, IsFaultOf};
-ghost use Rattle.gl_cycles.specs.Reports.{IsReport, IsReportFault};
+ghost use Rattle.gl_cycles.specs.AllCycles.{all_cycles, edges_of_table};
+ghost use Rattle.gl_cycles.specs.Reports.{IsReport, IsReportFault, report_by};
+ghost use Rattle.gl_cycles.specs.Trims.{whole_trim};
 
-use crate::found::{Report, ReportFault};
+use crate::found::{Found, Report, ReportFault, TrimOrder};
 use crate::parallel::search_parallel;
 use crate::paths::search;
+use crate::trims::trim;
 use gl_edges::EdgeList;
-use gl_event::Event;
+use gl_event::{Event, Memory};
 use gl_filters::Query;
 use gl_segments::{Order, OrderFault};
 use std::alloc::Global;
@@ -26,8 +30,84 @@ fn no_report(fault: OrderFault) -> ReportFault
     }
 }
 
+// The order in which trimming takes away all edges, where it does. Where a cycle was found it
+// doesn't, since no edge of a cycle goes, and nothing is trimmed.
+fn whole_trim(
+    alloc: Global,
+    edges: &EdgeList,
+    order: &Order,
+    query: &Query,
+    found: &Found,
+) -> Result<Option<TrimOrder>, Memory>
+    requires { found.now.cycles ≡ take query.now.max (all_cycles (is_before order.now) query.now.mode query.now.len (edges_of_table edges.now)) }
+    ensures { IfOk result (λ trim. trim ≡ whole_trim (is_before order.now) query.now.mode (edges_of_table edges.now)) }
+{
+    if !found.cycles.as_slice().is_empty() {
+        return Ok(None);
+    }
+    let trimmed = trim(alloc, edges, order, query.mode())?;
+    if !trimmed.kept.is_empty() {
+        return Ok(None);
+    }
+    Ok(Some(TrimOrder::from_vec(trimmed.removed)))
+}
+
+// The report of what was found.
+fn report_found(
+    alloc: Global,
+    edges: EdgeList,
+    order: &Order,
+    query: &Query,
+    found: Found,
+) -> Result<Report, Memory>
+    requires cycles { found.cycles ≡ take query.now.max (all_cycles (is_before order.now) query.now.mode query.now.len (edges_of_table edges)) }
+    requires more { IsTrue found.more ↔ (query.now.max < length (all_cycles (is_before order.now) query.now.mode query.now.len (edges_of_table edges))) }
+    ensures { IfOk result (λ report. report ≡ report_by query.now (is_before order.now) edges) }
+{
+    let trim = whole_trim(alloc, &edges, order, query, &found)?;
+    Ok(Report {
+        query: *query,
+        edges,
+        found,
+        trim,
+    })
+}
+
+/// The report over these edges, by this order of segments: the first cycles that are asked for,
+/// whether there are more, and the order in which trimming takes away all edges, where it does.
+///
+/// Err where memory was refused.
+pub fn report_by(
+    alloc: Global,
+    edges: EdgeList,
+    order: &Order,
+    query: &Query,
+) -> Result<Report, Memory>
+    ensures { IfOk result (λ report. report ≡ report_by query.now (is_before order.now) edges) }
+{
+    let found = search(alloc, &edges, order, query)?;
+    report_found(alloc, edges, order, query, found)
+}
+
+/// The same as [`report_by`], with the search for cycles on several threads.
+///
+/// Err where memory was refused.
+pub fn report_by_parallel(
+    rt: &(impl Threads + Sync),
+    alloc: Global,
+    edges: EdgeList,
+    order: &Order,
+    query: &Query,
+) -> Result<Report, Memory>
+    ensures { IfOk result (λ report. report ≡ report_by query.now (is_before order.now) edges) }
+{
+    let found = search_parallel(rt, alloc, &edges, order, query)?;
+    report_found(alloc, edges, order, query, found)
+}
+
 /// The report over these edges, by the order of the segments of these lists: the first cycles that
-/// are asked for, and whether there are more. A thread's number is the position of its list.
+/// are asked for, whether there are more, and the order in which trimming takes away all edges, where
+/// it does. A thread's number is the position of its list.
 ///
 /// Whichever edges they are, they keep their order; over the edges of the lists themselves it is the
 /// Goodlock report of the lists (Havelund 2000; Bensalem and Havelund 2005).
@@ -49,12 +129,7 @@ pub fn report_over(
         Ok(order) => order,
         Err(fault) => return Err(no_report(fault)),
     };
-    let found = search(alloc, &edges, &order, query)?;
-    Ok(Report {
-        query: *query,
-        edges,
-        found,
-    })
+    Ok(report_by(alloc, edges, &order, query)?)
 }
 
 /// The same as [`report_over`], with the search for cycles on several threads.
@@ -77,10 +152,5 @@ pub fn report_over_parallel(
         Ok(order) => order,
         Err(fault) => return Err(no_report(fault)),
     };
-    let found = search_parallel(rt, alloc, &edges, &order, query)?;
-    Ok(Report {
-        query: *query,
-        edges,
-        found,
-    })
+    Ok(report_by_parallel(rt, alloc, edges, &order, query)?)
 }

@@ -12,7 +12,8 @@ use Rattle.gl_edges.specs.declared.edge.Edge.{Edge}
 use Rattle.gl_filters.specs.declared.query.Mode.{Mode}
 use Rattle.gl_filters.specs.Cycle.{asks_guards, first_segment, second_segment, LeadsOn, IsCycle}
 use Rattle.gl_filters.specs.Judging.{following}
-use Rattle.gl_filters.specs.Test.{guards_clash, is_clear, goes_with, kinds_go_together, is_compatible}
+use Rattle.gl_edges.specs.Clashes.{guards_clash}
+use Rattle.gl_filters.specs.Test.{is_clear, goes_with, kinds_go_together, is_compatible}
 use Rattle.gl_filters.proofs.Cycling.{AreFit, fit_from, leads_from}
 
 conflict-sym : (a b : LockMode) → conflict a b ≡ conflict b a

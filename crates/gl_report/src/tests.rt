@@ -104,6 +104,7 @@ fn report_of(
             cycles: Cycles::from_vec(cycles),
             more,
         },
+        trim: None,
     })
 }
 

@@ -1,18 +1,18 @@
 -- Numbers and queries that are read of options.
-use Rattle.std.proofs.Common.{◌≡◌, length, ◌<◌, ◌≤◌, ◌∙◌, ◌⊎◌, inl, inr, ℕ, Bool, true, false, List, [], Option, Some, None, Result, Ok, Err, refl, sym, ap, subst, arith, nat_lt, IfSome, option_map}
+use Rattle.std.proofs.Common.{◌≡◌, length, ◌<◌, ◌∙◌, ◌⊎◌, inl, inr, ℕ, true, false, List, [], Option, Some, None, Result, Ok, Err, refl, sym, ap, subst, IfSome, option_map}
 use Rattle.std.specs.Prelude.{◌==◌, unwrap_or}
-use Rattle.std.specs.Str.Parse.{ParsesUnsigned, IsNumeral, digits_value, without_leading_plus}
+use Rattle.std.specs.Str.Parse.{ParsesUnsigned, digits_value, without_leading_plus}
 use Rattle.clap.specs.Matches.{ReadsOne}
 use Rattle.std.specs.Prelude.{codes}
 use Rattle.std.specs.Box.{box_value}
-use Rattle.clap.specs.Words.{IsAmong, Row, Text, fault_of, found_of, is_simple, is_simple_and_free, one_of, rows_of, subcommand_name_of, subcommand_of, subcommand_rows_of}
+use Rattle.clap.specs.Words.{IsAmong, Row, Text, fault_of, found_of, is_simple, is_simple_and_free, one_of, rows_of, subcommand_name_of, subcommand_rows_of}
 use Rattle.clap.specs.declared.parser.matches.ArgMatches.{ArgMatches}
 use Rattle.clap.specs.declared.parser.matches.ArgMatches.TheViews.{out-ArgMatches, out-SubCommand}
 use Rattle.clap.proofs.OnLiterals.{clap_on_literals}
 use Rattle.clap.specs.declared.error.kind.ErrorKind.{ErrorKind}
 use Rattle.clap.specs.declared.error.kind.ErrorKind.TheVariants as kind
 use Rattle.gl_filters.specs.Asked.{Asked}
-use Rattle.goodlock.specs.Options.{Asks, AsksForSession, AsksIn, IsCommand, IsEntered, IsNumberAt, IsNumberIn, IsUsageFor, IsUsageOf, goodlock}
+use Rattle.goodlock.specs.Options.{Asks, AsksForSession, AsksIn, IsCommand, IsEntered, IsNumberAt, IsUsageFor, IsUsageOf, goodlock}
 use Rattle.goodlock.specs.Sessions.{CanRun}
 use Rattle.goodlock.specs.declared.live_options.LiveOptions.{LiveOptions}
 use Rattle.goodlock.specs.declared.options.Command.{Command}

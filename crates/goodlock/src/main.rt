@@ -6,9 +6,10 @@ ghost use Rattle.std.specs.Prelude.{◌≡◌};
 ghost use Rattle.goodlock.specs.Said.{line_of, status_of, shown_text, refused_text, usage_status};
 ghost use Rattle.goodlock.specs.Sessions.{CanRun};
 
-use commands::{live, predict, replay, stats};
+use commands::perform;
 use ended::Ended;
 use gl_io::FromStd;
+use gl_std::Seed;
 use options::{Command, Usage, parse};
 use std::env;
 use std::io::{ErrorKind, Write};
@@ -27,9 +28,6 @@ mod options;
 mod recorded;
 #[cfg(test)]
 mod tests;
-
-// The most reads of standard input.
-const TURNS: u64 = 1_000_000_000;
 
 // What is said of words that are no text.
 const NOT_TEXT: &str = "error: the words of the command line are no UTF-8 text\n";
@@ -74,8 +72,8 @@ fn words(rt: &HostRuntime) -> Result<Vec<String>, Usage> {
     }
 }
 
-// Does what the words ask for, from standard input to standard output. A session's threads are started
-// with the second handle.
+// Does what the words ask for, from standard input to standard output. Where no seed can be drawn for
+// the names, the input isn't read. Threads are started with the second handle.
 fn run<T: AllocGlobal + Threads + Wait + Sync>(
     rt: &HostRuntime,
     threads: &T,
@@ -85,13 +83,9 @@ fn run<T: AllocGlobal + Threads + Wait + Sync>(
 {
     let mut input = FromStd::new(rt.stdin());
     let mut output = FromStd::new(rt.stdout());
-    let ended = match command {
-        Command::Predict { query, form } => {
-            predict(rt, &mut input, &mut output, TURNS, query, *form)
-        }
-        Command::Live(options) => live(threads, &mut input, &mut output, TURNS, options),
-        Command::Stats { query } => stats(rt, &mut input, &mut output, TURNS, query),
-        Command::Replay => replay(rt, &mut input, &mut output, TURNS),
+    let ended = match Seed::random(rt) {
+        Ok(seed) => perform(threads, &mut input, &mut output, seed, command),
+        Err(_) => Ended::ReadFailed,
     };
     let (line, status) = said(&ended);
     let _ = rt.stderr().write_all(line);

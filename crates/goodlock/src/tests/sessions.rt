@@ -1,5 +1,5 @@
 //! What `live` prints: the bytes of `predict`.
-ghost use Rattle.std.specs.Prelude.{◌≡◌};
+ghost use Rattle.std.specs.Prelude.{◌≡◌, ◌≤◌};
 ghost use Rattle.goodlock.specs.Sessions.{AreOfSession};
 
 use super::{
@@ -13,6 +13,7 @@ use crate::options::Command;
 use gl_filters::{Mode, Query};
 use gl_io::FromStd;
 use gl_shards::Gate;
+use gl_std::Seed;
 use itoa::Buffer;
 use std::alloc::{AllocError, Global};
 use std::io::Cursor;
@@ -50,7 +51,7 @@ fn expect_live<R: Abort + AllocGlobal + Threads + Wait + Sync>(
 {
     let mut input = FromStd::new(text);
     let mut output = FromStd::new(Vec::new(rt.alloc()));
-    match live(rt, &mut input, &mut output, TURNS, options) {
+    match live(rt, &mut input, &mut output, TURNS, Seed::fixed(), options) {
         Ended::Cycles => assert!(rt; lists_cycle),
         Ended::Clean => assert!(rt; !lists_cycle),
         other => assert!(rt; false, "{other:?}"),
@@ -74,11 +75,13 @@ fn live_refused(rt: HostRuntime) -> Result<(), Fail> {
     let options = session(full()?, 4, 4, 256);
     let mut output = FromStd::new(Vec::new(rt.alloc()));
     let mut input = FromStd::new(b"T0|join(T1)|1\nT1|join(T0)|2\n".as_slice());
-    let ended = live(&rt, &mut input, &mut output, TURNS, &options);
+    let ended = live(&rt, &mut input, &mut output, TURNS, Seed::fixed(), &options);
     let said = b"goodlock: inconsistent: T0.1 precedes itself\n";
     expect_line(&rt, ended, said);
+    assert!(rt; output.into_inner().is_empty());
+    let mut output = FromStd::new(Vec::new(rt.alloc()));
     let mut input = FromStd::new(b"T0|acq(|3".as_slice());
-    let ended = live(&rt, &mut input, &mut output, TURNS, &options);
+    let ended = live(&rt, &mut input, &mut output, TURNS, Seed::fixed(), &options);
     expect_line(&rt, ended, b"goodlock: line 1: bad operand\n");
     assert!(rt; output.into_inner().is_empty());
     Ok(())
@@ -89,7 +92,7 @@ fn live_cut(rt: HostRuntime) -> Result<(), Fail> {
     let options = session(full()?, 4, 4, 256);
     let mut output = FromStd::new(Cursor::new([0u8; 5]));
     let mut input = FromStd::new(OPPOSITE_ORDER);
-    match live(&rt, &mut input, &mut output, TURNS, &options) {
+    match live(&rt, &mut input, &mut output, TURNS, Seed::fixed(), &options) {
         Ended::WriteFailed { written } => assert_eq!(rt; written, 5),
         other => assert!(rt; false, "{other:?}"),
     }
@@ -99,7 +102,7 @@ fn live_cut(rt: HostRuntime) -> Result<(), Fail> {
         is_failed: false,
     };
     let mut output = FromStd::new(Vec::new(rt.alloc()));
-    match live(&rt, &mut input, &mut output, TURNS, &options) {
+    match live(&rt, &mut input, &mut output, TURNS, Seed::fixed(), &options) {
         Ended::ReadFailed => assert!(rt; output.into_inner().is_empty()),
         other => assert!(rt; false, "{other:?}"),
     }
@@ -160,7 +163,7 @@ fn gated_workers(rt: HostRuntime) -> Result<(), Fail> {
     let options = session(full()?, 2, 2, 256);
     let mut input = FromStd::new(OPPOSITE_ORDER);
     let mut output = FromStd::new(Vec::new(rt.alloc()));
-    let ended = live_gated(&rt, &mut input, &mut output, TURNS, &options, &gate);
+    let ended = live_gated(&rt, &mut input, &mut output, TURNS, Seed::fixed(), &options, &gate);
     assert!(rt; matches!(ended, Ended::Cycles));
     assert_eq!(rt; output.into_inner().as_slice(), OPPOSITE_ORDER_REPORT);
     assert_eq!(rt; gate.passes(), (1, 1, 0, 0));
@@ -193,11 +196,14 @@ fn lock_ring(alloc: Global) -> Result<Vec<u8>, AllocError> {
 }
 
 // The report of the ring by `predict`: one cycle of 16 edges.
-fn ring_report<R: Abort + AllocGlobal>(rt: &R, text: &[u8]) -> Result<Vec<u8>, Fail> {
+fn ring_report<R: Abort + AllocGlobal + Threads + Sync>(
+    rt: &R,
+    text: &[u8],
+) -> Result<Vec<u8>, Fail> {
     let mut input = FromStd::new(text);
     let mut output = FromStd::new(Vec::new(rt.alloc()));
     let asked = query(Mode::Full, 16, 1_000)?;
-    let ended = predict(rt, &mut input, &mut output, TURNS, &asked, Form::Text);
+    let ended = predict(rt, &mut input, &mut output, TURNS, Seed::fixed(), &asked, Form::Text);
     assert!(rt; matches!(ended, Ended::Cycles));
     let report = output.into_inner();
     assert!(rt; report.as_slice().starts_with(b"cycle 1: 16 edges\n"));

@@ -1,36 +1,23 @@
-use Rattle.std.proofs.Common.{◌≡◌, ◌<◌, ◌≤◌, length, Some, arith, sym, ap, subst, ◌∙◌, false, true, refl}
-use Rattle.std.proofs.lemmas.Option.{slice_get-get_or, same_Some}
-use Rattle.std.proofs.lemmas.Bool.{false≢true}
+use Rattle.std.proofs.Common.{length, sym, ◌∙◌, arith}
+use Rattle.std.proofs.lemmas.List.{length-map}
 use Rattle.gl_segments.specs.Clocks.{is_before}
 use Rattle.gl_cycles.specs.AllCycles.{edges_of_table}
-use Rattle.std.proofs.lemmas.List.{length-map}
-use Rattle.gl_cycles.specs.Trimming.{AreBothHints}
-use Rattle.gl_cycles.proofs.Fronts.{element_at}
-use Rattle.gl_cycles.proofs.Beside.{first_from, settled_more}
+use Rattle.gl_cycles.proofs.Watching.{least_read, none_below, none_read, member_read}
+use Rattle.gl_cycles.proofs.Beside.{settled_below, first_from}
 use Rattle.gl_cycles.proofs.trims.Trimming.first_stuck.Goals as goal
-use Rattle.gl_cycles.proofs.trims.Trimming.first_stuck.Goals.{else-not-gone-i-via-then-not-gone-i+else-not-is_settled, else-not-gone-i-via-else-not-gone-i}
 
--- all before it are settled
-pub returns-then-not-is_settled-clause-found : goal.returns-then-not-is_settled-clause-found
-returns-then-not-is_settled-clause-found c =
+-- nothing below it waits
+pub returns-then-branch-clause-found : goal.returns-then-branch-clause-found
+returns-then-branch-clause-found c =
     let s = c.args.self.now in
-    let flag = slice_get-get_or c.args.gone.now c.loop-i.i false (omega (arith, c.loop-i-test.true, c.requires.flags)) ∙ ap Some c.if-not-gone-i.true in
-    first_from (is_before s.order.now) s.mode (edges_of_table s.table.now) c.args.gone.now c.loop-i.i (c.requires.flags ∙ sym (length-map s.table.now (λ pair. pair.0))) flag c.loop-i.invariant.settled
-    (c.if-not-is_settled.ensures.no refl)
+    let edges = edges_of_table s.table.now in
+    let is_least = least_read c.loop-i.waiting c.first.result c.in-Some.i (sym c.copied.ensures ∙ c.in-Some.is) c.first.ensures.least in
+    let inside = c.loop-i.invariant.awake.within c.in-Some.i (member_read c.loop-i.waiting c.first.result c.in-Some.i (sym c.copied.ensures ∙ c.in-Some.is) c.first.ensures.member) in
+    first_from (is_before s.order.now) s.mode edges c.args.gone.now c.in-Some.i (c.requires.flags ∙ sym (length-map s.table.now (λ pair. pair.0))) (c.in_ok-is_stuck.ensures.tells.yes c.if-branch.true)
+    (settled_below (is_before s.order.now) s.mode edges c.args.gone.now (length s.table.now) c.in-Some.i c.loop-i.sides c.loop-i.waiting c.loop-i.invariant.hints c.loop-i.invariant.awake (omega (arith, inside)) (none_below c.loop-i.waiting c.in-Some.i is_least))
 
--- one edge more is settled, or gone
-pub loop-i-preserved : goal.loop-i-preserved
-loop-i-preserved c =
+-- nothing waits
+pub returns-clause-found : goal.returns-clause-found
+returns-clause-found c =
     let s = c.args.self.now in
-    elim c.else-not-gone-i.branch [
-      | else-not-gone-i-via-then-not-gone-i+else-not-is_settled w ↦ record {
-        hints = subst (AreBothHints (is_before s.order.now) s.mode (edges_of_table s.table.now) c.args.gone.now) (sym w.hints-is) w.is_settled.ensures.hints;
-        settled = settled_more (is_before s.order.now) s.mode (edges_of_table s.table.now) c.args.gone.now c.loop-i.i c.loop-i.invariant.settled (λ e side at_e left. w.is_settled.ensures.yes w.if-not-is_settled.false e side at_e);
-      }
-      | else-not-gone-i-via-else-not-gone-i w ↦
-          let flag = slice_get-get_or c.args.gone.now c.loop-i.i false (omega (arith, c.loop-i-test.true, c.requires.flags)) ∙ ap Some w.if-not-gone-i.false in
-          record {
-            hints = subst (AreBothHints (is_before s.order.now) s.mode (edges_of_table s.table.now) c.args.gone.now) (sym w.hints-is) c.loop-i.invariant.hints;
-            settled = settled_more (is_before s.order.now) s.mode (edges_of_table s.table.now) c.args.gone.now c.loop-i.i c.loop-i.invariant.settled (λ e side at_e left. absurd (false≢true (same_Some false true (sym left ∙ flag))));
-          }
-    ]
+    settled_below (is_before s.order.now) s.mode (edges_of_table s.table.now) c.args.gone.now (length s.table.now) (length s.table.now) c.loop-i.sides c.loop-i.waiting c.loop-i.invariant.hints c.loop-i.invariant.awake (omega arith) (λ j below. none_read c.loop-i.waiting c.first.result (sym c.copied.ensures ∙ c.in_default.is) c.first.ensures.variant.1 j)

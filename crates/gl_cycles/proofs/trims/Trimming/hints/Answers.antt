@@ -1,17 +1,20 @@
-use Rattle.std.proofs.Common.{◌≡◌, ◌+◌, length, subst, sym, ap, ◌∙◌, arith}
-use Rattle.std.proofs.lemmas.List.{length_push}
+use Rattle.std.proofs.Common.{◌≡◌, length, sym, subst, arith}
+use Rattle.std.proofs.lemmas.List.{length-map}
 use Rattle.gl_segments.specs.Clocks.{is_before}
 use Rattle.gl_cycles.specs.AllCycles.{edges_of_table}
-use Rattle.std.proofs.lemmas.List.{length-map}
-use Rattle.gl_cycles.proofs.Beside.{hint_from_next, hints_more}
+use Rattle.gl_cycles.specs.Trimming.{AreHints, AreChained}
+use Rattle.gl_cycles.proofs.Beside.{hints_none}
 use Rattle.gl_cycles.proofs.trims.Trimming.hints.Goals as goal
 
-pub loop-i-preserved : goal.loop-i-preserved
-loop-i-preserved c =
+pub loop-i-init : goal.loop-i-init
+loop-i-init c =
     let s = c.args.self.now in
-    record {
-      long = ap length c.in_ok-push.ensures.items ∙ length_push c.loop-i.hints.items _ ∙ ap (λ n. n + 1) c.loop-i.invariant.long;
-      each = λ i place at.
-          hints_more (is_before s.order.now) s.mode (edges_of_table s.table.now) c.args.gone.now c.args.side c.loop-i.hints.items c.loop-i.i c.next_beside.result c.loop-i.invariant.long c.loop-i.invariant.each
-          (hint_from_next (is_before s.order.now) s.mode (edges_of_table s.table.now) c.args.gone.now c.args.side c.loop-i.i _ c.next_beside.ensures.next) i place (rw c.in_ok-push.ensures.items at at);
-    }
+    let long = length-map s.table.now (λ pair. pair.0) in
+    hints_none (is_before s.order.now) s.mode (edges_of_table s.table.now) c.args.gone.now c.args.side _ (length s.table.now) (sym long) (omega (arith, c.in_ok-vec.field-0.ok.0, c.in_ok-vec.ensures.len)) c.in_ok-none.ensures
+    (subst (λ side. AreChained side (edges_of_table s.table.now) 0 c.in_ok-of.field-0) c.opposite.ensures c.in_ok-of.ensures)
+
+pub returns : goal.returns
+returns c =
+    let s = c.args.self.now in
+    let at_end : c.loop-i.i ≡ length s.table.now = omega arith in
+    subst (λ n. AreHints (is_before s.order.now) s.mode (edges_of_table s.table.now) c.args.gone.now c.args.side n c.loop-i.hints) at_end c.loop-i.invariant

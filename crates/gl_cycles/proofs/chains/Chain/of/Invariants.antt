@@ -1,0 +1,7 @@
+use Rattle.gl_cycles.specs.AllCycles.{edges_of_table}
+use Rattle.gl_cycles.specs.Trimming.{AreChained}
+use Rattle.gl_cycles.proofs.chains.Chain.of.Given as goal
+
+-- the edges from position i on are in the index
+abbrev pub invariant-loop-i : goal.invariant-loop-i
+invariant-loop-i l = AreChained l.side (edges_of_table l.table) l.i l.chain
