@@ -85,7 +85,7 @@ module _ (names : NameLists) (table : List (Edge × Sample)) (before : Segment �
 
 -- the report that was listed, with these cycles
 abbrev pub report_said : Trace → Data → List (List ℕ) → Report
-report_said trace d found = record { query = asked_in d; edges = edges trace.lists; found = record { cycles = found; more = more_under d } }
+report_said trace d found = record { query = asked_in d; edges = edges trace.lists; found = record { cycles = found; more = more_under d }; trim = None }
 
 module _ (trace : Trace) (before : Segment → Segment → Bool) (d : Data) (found : List (List ℕ)) (shaped : is_report d ≡ true) (are : AreCyclesOf trace.names (edges trace.lists) before (asked_in d) (cycles_in d) found) where
   -- the tests of the shape

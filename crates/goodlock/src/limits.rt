@@ -4,6 +4,7 @@ ghost use Rattle.gl_event.specs.declared.limits.TheConstants.{MAX_THREADS, MAX_R
 ghost use Rattle.gl_event.specs.declared.held.TheConstants.{MAX_HELD, MAX_DEPTH};
 ghost use Rattle.gl_filters.specs.declared.query.TheConstants.{MAX_LEN, MAX_CYCLES};
 ghost use Rattle.gl_std.specs.declared.line.TheConstants.{MAX_LINE};
+ghost use Rattle.gl_shards.specs.declared.shard.TheConstants.{MAX_SHARDS};
 
 /// The limits of the program, in numbers. It does nothing: its contract is the table.
 pub fn limits_in_numbers()
@@ -16,4 +17,5 @@ pub fn limits_in_numbers()
     ensures line { MAX_LINE ≡ 65536 }
     ensures length { MAX_LEN ≡ 16 }
     ensures cycles { MAX_CYCLES ≡ 100000 }
+    ensures shards { MAX_SHARDS ≡ 16 }
 {}
