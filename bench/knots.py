@@ -2,10 +2,11 @@
 """Time and memory of goodlock, a plain and a tuned Rust program on traces whose edges lie in one knot, or whose names
 were chosen to collide.
 
-    bench/knots.py [--seconds N] [--cores LIST] [--shapes LIST] [--query WORDS] [--sizes small|large] [PROGRAM]
+    bench/knots.py [--seconds N] [--cores LIST] [--shapes LIST] [--query WORDS] [--sizes small|large] [--runs N] [PROGRAM]
 
-PROGRAM is goodlock's (crates/goodlock/out/goodlock unless given). Each run ends after --seconds (20). --cores, as
-`1,2,4`, gives goodlock one row for each number of cores; the peers run on one thread always. --query is what all
+PROGRAM is goodlock's (crates/goodlock/out/goodlock unless given). The output is a table with a row for each shape and its
+parameters. Each run ends after --seconds (20). --cores, as `1,2,4`, gives goodlock one column for each number of cores; the
+peers run on one thread always. Of --runs (1), which the programs take in turn, the least time counts. --query is what all
 three are asked (--mode full --len 4 --max 1000). BENCH_DIR is the folder for the Rust programs (/tmp/goodlock-bench).
 Seconds are of the clock, MB are the greatest resident memory that was seen (- where the run was too short for that).
 The status is 1 where two answers differ.
@@ -84,10 +85,12 @@ def run(command, trace, limit, cores):
     return Run(answer, seconds, megabytes)
 
 
-def shown(result, limit):
-    seconds = f"over {limit:g} s" if result.answer is None else f"{result.seconds:.3f} s"
-    memory = f"{result.megabytes:.0f} MB" if result.megabytes > 0 else "-"
-    return f"{seconds:>12} {memory:>9}"
+def shown(results, limit):
+    """The least time, and the greatest memory that was seen."""
+    ended = [result.seconds for result in results if result.answer is not None]
+    seconds = f"{min(ended):.3f} s" if ended else f"over {limit:g} s"
+    megabytes = max(result.megabytes for result in results)
+    return f"{seconds}, {megabytes:.0f} MB" if megabytes > 0 else seconds
 
 
 def main():
@@ -97,6 +100,7 @@ def main():
     parser.add_argument("--shapes", default=",".join(SHAPES))
     parser.add_argument("--sizes", choices=["small", "large"], help="both unless given")
     parser.add_argument("--query", default="--mode full --len 4 --max 1000")
+    parser.add_argument("--runs", type=int, default=1)
     parser.add_argument("program", nargs="?", default=BUILT)
     options = parser.parse_args()
     if not os.access(options.program, os.X_OK):
@@ -107,10 +111,12 @@ def main():
         subprocess.run(["rustc", "--edition", "2021", "-C", "opt-level=3", "-o", built, source], check=True)
     query = options.query.split()
     goodlock = [os.path.abspath(options.program), "predict", *query]
-    programs = [(f"goodlock, {n} cores", goodlock, int(n)) for n in options.cores.split(",") if n]
-    programs = programs or [("goodlock", goodlock, None)]
+    cores = [int(n) for n in options.cores.split(",") if n]
+    programs = [(f"goodlock, {n} core{'s' * (n > 1)}", goodlock, n) for n in cores] or [("goodlock", goodlock, None)]
     programs += [(peer, [os.path.join(FOLDER, peer), *query], None) for peer in ("plain", "tuned")]
-    print(f"{options.query}; each run is ended after {options.seconds:g} seconds")
+    print(f"{options.query}; each run is ended after {options.seconds:g} seconds\n")
+    print("| Trace | KB | " + " | ".join(name for name, _, _ in programs) + " |")
+    print("|---" * (len(programs) + 2) + "|")
     differ = False
     for shape in options.shapes.split(","):
         for size in [options.sizes] if options.sizes else ["small", "large"]:
@@ -118,15 +124,18 @@ def main():
                 with tempfile.NamedTemporaryFile(suffix=".std") as trace:
                     maker = [sys.executable, os.path.join(HERE, "make_trace.py"), "--shape", shape, *settings.split()]
                     subprocess.run(maker, stdout=trace, check=True)
-                    print(f"{shape} {settings}: {os.path.getsize(trace.name) / 1_000:.0f} KB", flush=True)
-                    answers = []
-                    for name, command, cores in programs:
-                        result = run(command, trace.name, options.seconds, cores)
-                        answers += [result.answer] if result.answer is not None else []
-                        print(f"    {name:<18} {shown(result, options.seconds)}", flush=True)
-                if any(answer != answers[0] for answer in answers):
-                    print("    the answers DIFFER")
-                    differ = True
+                    results = [[] for _ in programs]
+                    for turn in range(options.runs):
+                        for (_, command, count), seen in zip(programs, results):
+                            if not any(result.answer is None for result in seen):
+                                seen.append(run(command, trace.name, options.seconds, count))
+                    answers = [result.answer for seen in results for result in seen if result.answer is not None]
+                    is_equal = all(answer == answers[0] for answer in answers)
+                    kilobytes = os.path.getsize(trace.name) / 1_000
+                cells = [shown(seen, options.seconds) for seen in results]
+                told = "" if is_equal else " the answers DIFFER"
+                print(f"| `{shape} {settings}`{told} | {kilobytes:.0f} | {' | '.join(cells)} |", flush=True)
+                differ = differ or not is_equal
     return 1 if differ else 0
 
 

@@ -325,23 +325,50 @@ def worked(stage):
     ]
 
 
-def edge(thread, held, held_at, wanted, wanted_at, place, guards=None):
-    """An edge of JSON in the first segment, its names as JSON spells them; guards are the held lock unless given."""
-    guards = ",".join(f'"{lock}"' for lock in guards or [held])
-    return (
-        f'{{"first":0,"guards":[{guards}],"held":"{held}","held_at":"{held_at}","place":{place},"second":0,'
-        f'"thread":"{thread}","wanted":"{wanted}","wanted_at":"{wanted_at}"}}'
-    )
+def edge(thread, held, held_at, wanted, wanted_at, place, guards=None, segment=0):
+    """An edge of exclusive locks, in one segment, as JSON spells it: in format 1 and in format 2. Guards are the held
+    lock unless given."""
+    guards = guards or [held]
+    names, modes = (",".join(f'"{word}"' for word in words) for words in (guards, "x" * len(guards)))
+
+    def spelled(guard_modes, held_mode, wanted_mode):
+        return (
+            f'{{"first":{segment},{guard_modes}"guards":[{names}],"held":"{held}","held_at":"{held_at}",{held_mode}'
+            f'"place":{place},"second":{segment},"thread":"{thread}","wanted":"{wanted}","wanted_at":"{wanted_at}"'
+            f"{wanted_mode}}}"
+        )
+
+    return spelled("", "", ""), spelled(f'"guard_modes":[{modes}],', '"held_mode":"x",', ',"wanted_mode":"x"')
 
 
-def as_json(*cycles):
-    """The answer that lists these cycles for the query of the program."""
-    listed = ",".join("[" + ",".join(edges) + "]" for edges in cycles)
-    report = f'{{"cycles":[{listed}],"format":1,"len":4,"max":1000,"mode":"full","more":false}}\n'
-    return report.encode(), b"", 1 if cycles else 0
+def as_json(table, cycles, trim="null"):
+    """The answers that list these cycles, by positions in the table of edges, for the query of the program; by format."""
+    asked = '"len":4,"max":1000,"mode":"full","more":false'
+    listed = ",".join("[" + ",".join(table[at][0] for at in cycle) + "]" for cycle in cycles)
+    first = f'{{"cycles":[{listed}],"format":1,{asked}}}\n'
+    listed = ",".join("[" + ",".join(map(str, cycle)) + "]" for cycle in cycles)
+    edges = ",".join(in_format_2 for _, in_format_2 in table)
+    second = f'{{"cycles":[{listed}],"edges":[{edges}],"format":2,{asked},"trim":{trim}}}\n'
+    return {form: (text.encode(), b"", 1 if cycles else 0) for form, text in ((1, first), (2, second))}
 
 
-OPPOSITE_JSON = as_json([edge("T0", "a", 1, "b", 2, 1), edge("T1", "b", 5, "a", 6, 1)])
+NONE_JSON = as_json([], [], "[]")
+OPPOSITE_JSON = as_json([edge("T0", "a", 1, "b", 2, 1), edge("T1", "b", 5, "a", 6, 1)], [[0, 1]])
+
+
+def in_format(by_hand, form):
+    """The answer by hand; where there is one for each format of JSON, that of this format."""
+    return by_hand[form] if isinstance(by_hand, dict) else by_hand
+
+
+def format_of(command):
+    """The format of the program's JSON, as its report of nothing says."""
+    output, errors, status = run([*command[:1], "predict", "--json"], b"")
+    for form in (1, 2):
+        if (output, errors, status) == NONE_JSON[form]:
+            return form
+    print(f"predict --json says no known format of an empty trace: {show((output, errors, status))}")
+    return 1
 
 
 def counts(events, skipped, stray, threads, locks, segments, edges, cycles):
@@ -363,12 +390,13 @@ def worked_of_commands():
     odd_edges = [edge("T 0", "a\\\\xc3\\\\xa9", "x|y\\\\x5c", "\\\\x7f", "", 1)]
     odd_edges += [edge("T1", "\\\\x7f", " ~", "a\\\\xc3\\\\xa9", "\\\\x00", 1)]
     nested = ["T0 acq c @1", "T0 acq a @2", "T0 acq b @3", "T1 acq b @4", "T1 acq a @5"]
-    guarded = [edge("T0", "a", 2, "b", 3, 2, ["c", "a"]), edge("T1", "b", 4, "a", 5, 1)]
+    guarded = [edge("T0", "c", 1, "a", 2, 1), edge("T0", "c", 1, "b", 3, 2, ["c", "a"])]
+    guarded += [edge("T0", "a", 2, "b", 3, 2, ["c", "a"]), edge("T1", "b", 4, "a", 5, 1)]
     return [
-        ("empty_input", "predict --json", b"", as_json()),
+        ("empty_input", "predict --json", b"", NONE_JSON),
         ("opposite_order", "predict --json", lines(*OPPOSITE), OPPOSITE_JSON),
-        ("guards by number", "predict --json", lines(*nested), as_json(guarded)),
-        ("escaped names", "predict --json", odd, as_json(odd_edges)),
+        ("guards by number", "predict --json", lines(*nested), as_json(guarded, [[2, 3]])),
+        ("escaped names", "predict --json", odd, as_json(odd_edges, [[0, 1]])),
         ("an unclosed operand", "predict --json", unclosed, refused(2, "bad operand")),
         ("empty_input", "stats", b"", counts(0, 0, 0, 0, 0, 0, 0, 0)),
         ("opposite_order", "stats", lines(*OPPOSITE), counts(6, 0, 0, 2, 2, 2, 2, 1)),
@@ -382,7 +410,7 @@ def worked_of_commands():
         ("an unclosed operand", "stats", unclosed, refused(2, "bad operand")),
         ("fork_join_fork", "stats", fork_loop, (b"", b"goodlock: inconsistent: T0.2 precedes itself\n", 2)),
         ("empty_input", "live", b"", NONE),
-        ("empty_input", "live --json", b"", as_json()),
+        ("empty_input", "live --json", b"", NONE_JSON),
         ("empty_input", "live --stream", b"", NONE),
         ("opposite_order", "live", lines(*OPPOSITE), (OPPOSITE_REPORT, b"", 1)),
         ("opposite_order", "live --recorders 2 --shards 3 --ring 1", lines(*OPPOSITE), (OPPOSITE_REPORT, b"", 1)),
@@ -596,17 +624,17 @@ FLAGS = ["--json", "--stream"]
 STREAM_THREADS = 64  # unless --threads is given
 
 
-def by_reference(words, text):
-    """The reference's answer to these words and this text."""
+def by_reference(words, text, form=1):
+    """The reference's answer to these words and this text, with JSON of this format."""
     word, *options = words
     values = {name: value for name, value in zip(options, [*options[1:], ""]) if name not in FLAGS}
     query = reference.Query(values.get("--mode", "full"), int(values.get("--len", 4)), int(values.get("--max", 1000)))
     if "--stream" in options:
         query.threads = int(values.get("--threads", STREAM_THREADS))
-    return reference.answer(word, text, query, 1 if "--json" in options else None)
+    return reference.answer(word, text, query, form if "--json" in options else None)
 
 
-def asked(random_, command):
+def asked(random_, command, has_stream=True):
     """The command's words, with options of its own."""
     word, *flags = command.split()
     options = []
@@ -618,7 +646,8 @@ def asked(random_, command):
         options.append(["--recorders", random_.choice([1, 2, 3, 16])])
         options.append(["--shards", random_.choice([1, 2, 3, 16])])
         options.append(["--ring", random_.choice([1, 2, 7, 256, 65_536])])
-        options.append(["--threads", random_.choice([1, 2, 3, 5, 64, 1024])])
+        if has_stream:
+            options.append(["--threads", random_.choice([1, 2, 3, 5, 64, 1024])])
     chosen = [[flag] for flag in flags] + random_.sample(options, random_.randint(0, len(options)))
     random_.shuffle(chosen)
     return [word, *(str(part) for option in chosen for part in option)]
@@ -701,6 +730,8 @@ def main():
     known = {plain(words) for _, words, _, _ in worked_of_commands()} | {"predict"}
     if not known.issuperset(commands):
         parser.error(f"--commands knows {', '.join(sorted(known))}")
+    form = format_of(command) if commands else 1
+    has_stream = any("--stream" in words for words in commands)  # then --threads is known, of every live
     tried = wrong = 0
     seen = {}
     by_command = {}
@@ -730,8 +761,12 @@ def main():
                     answers.append(("program", run(command, text)))
                 compare(f"{name}, mode {mode}", answers)
         for name, words, text, by_hand in worked_of_commands():
-            answers = [("by hand", by_hand), ("reference", by_reference(words.split(), text))]
-            if plain(words) in commands:
+            other = 3 - form  # the reference is tried in both formats
+            if "--json" in words:
+                answers = [("by hand", in_format(by_hand, other)), ("reference", by_reference(words.split(), text, other))]
+                compare(f"{name}, {words}, format {other}", answers)
+            answers = [("by hand", in_format(by_hand, form)), ("reference", by_reference(words.split(), text, form))]
+            if plain(words) in commands and (has_stream or "--threads" not in words):
                 answers.append(("program", run(command[:1] + words.split(), text)))
             compare(f"{name}, {words}", answers)
         for name, expected, got in unreadable(command):
@@ -765,8 +800,8 @@ def main():
         if commands:
             random_ = random.Random(f"{options.seed}/{number}/command")
             drawn = random_.choice(commands)
-            words = asked(random_, drawn)
-            compare_case(number, text, command[:1] + words, lambda t: by_reference(words, t))
+            words = asked(random_, drawn, has_stream)
+            compare_case(number, text, command[:1] + words, lambda t: by_reference(words, t, form))
             by_command[drawn] = by_command.get(drawn, 0) + 1
         if wrong >= 10:
             print("stopped at 10 differences")

@@ -37,14 +37,16 @@ TRACES["bad line"] = compare.lines("T0 acq a @1") + b"T0|rel(a|2\n" + compare.li
 BAD_LINE = compare.refused(2, "bad operand")
 LOOP = WORKED["join_loop"][1]
 TEXTS = {name: WORKED[name][1] for name in TRACES if name in WORKED} | {"bad line": BAD_LINE}
+JOINED = [compare.edge("T0", "a", 1, "b", 2, 1), compare.edge("T1", "b", 5, "a", 6, 1)]
 TWO_CYCLES = [
-    [compare.edge("T0", "a", 1, "b", 2, 1), compare.edge("T1", "b", 9, "a", 10, 1)],
-    [compare.edge("T0", "c", 5, "d", 6, 5), compare.edge("T1", "d", 13, "c", 14, 5)],
-]
+    compare.edge("T0", "a", 1, "b", 2, 1), compare.edge("T0", "c", 5, "d", 6, 5),
+    compare.edge("T1", "b", 9, "a", 10, 1), compare.edge("T1", "d", 13, "c", 14, 5),
+]  # fmt: skip
+# By the format of JSON, where there are two.
 OBJECTS = {
     "opposite_order": compare.OPPOSITE_JSON,
-    "joined_before": compare.as_json(),
-    "first_of_two_cycles": compare.as_json(*TWO_CYCLES),
+    "joined_before": compare.as_json(JOINED, [], "[0,1]"),
+    "first_of_two_cycles": compare.as_json(TWO_CYCLES, [[0, 2], [1, 3]]),
     "join_loop": LOOP,
     "bad line": BAD_LINE,
 }
@@ -52,6 +54,14 @@ COUNTS = {
     "opposite_order": compare.counts(6, 0, 0, 2, 2, 2, 2, 1),
     "joined_before": compare.counts(9, 0, 0, 3, 2, 6, 2, 0),
     "first_of_two_cycles": compare.counts(14, 0, 0, 2, 4, 2, 4, 2),
+    "join_loop": LOOP,
+    "bad line": BAD_LINE,
+}
+# For `check` a line with a report, of the format that the program prints, stands before the trace.
+CHECKS = {
+    "opposite_order": (b"ok, cycles: 1\n", b"", 0),
+    "joined_before": {1: (b"ok, cycles: 0\n", b"", 0), 2: (b"ok, cycles: 0, none of any length\n", b"", 0)},
+    "first_of_two_cycles": (b"ok, cycles: 2\n", b"", 0),
     "join_loop": LOOP,
     "bad line": BAD_LINE,
 }
@@ -67,10 +77,26 @@ ANSWERS = {
     "live --json": OBJECTS,
     "live --stream": TEXTS,
     "live --stream --json": OBJECTS,
+    "check": CHECKS,
 }
 
-# Words that are answered without any input, and the status; what they print is theirs.
-USAGE = {"--help": 0, "--version": 0, "predict --help": 0, "": 2, "predict --len 17": 2, "predict --mode Full": 2}
+# Words that are answered without any input, and the status; what they print is theirs. By the command that knows them.
+USAGE = {
+    "predict": {"--help": 0, "--version": 0, "predict --help": 0, "": 2, "predict --len 17": 2, "predict --mode Full": 2},
+    "stats": {"stats --json": 2},
+    "live": {"live --help": 0, "live --ring 0": 2, "live --ring 65537": 2, "live --shards 0": 2, "live --recorders 17": 2},
+    "live --stream": {"live --stream --threads 0": 2, "live --threads 1025": 2},
+    "check": {"check --help": 0, "check --json": 2},
+}
+
+
+def text_of(words, name, form):
+    """What the command reads for the trace of this name."""
+    if words != "check":
+        return TRACES[name]
+    report = compare.in_format(OBJECTS[name], form)[0] or compare.NONE_JSON[form][0]
+    return report + TRACES[name]
+
 
 # --- Disturbed runs -------------------------------------------------------------------------------------
 
@@ -165,7 +191,8 @@ class Tests:
             count = 0
             for number, run in self.runner.sweep(words, text, "read", how, is_short):
                 read = text[: number - 1] if is_short else text if number > 1 else b""
-                right = ample if ample == BAD_LINE and read.count(b"\n") >= 2 else READ_FAILED
+                is_told = ample == BAD_LINE and read.count(b"\n") >= (3 if words == "check" else 2)
+                right = ample if is_told else READ_FAILED
                 self.check(f"{words}, {name}, read {how}{' short' * is_short} call {number}", [right], run)
                 is_input = set(run.refused) == {"0"}
                 self.check_that(f"{words}, {name}, read call {number}", is_input, "not of standard input")
@@ -258,9 +285,10 @@ def main():
         flags = ["-std=gnu11", "-Wall", "-Wextra", "-O1", "-fPIC", "-shared", "-fvisibility=hidden"]
         subprocess.run(["gcc", *flags, "-o", library, SOURCE, "-ldl"], check=True)
         tests = Tests(Runner(os.path.abspath(options.program), library))
+        form = compare.format_of([os.path.abspath(options.program)])
         for words in commands:
-            for name, text in TRACES.items():
-                ample = ANSWERS[words][name]
+            for name in TRACES:
+                text, ample = text_of(words, name, form), compare.in_format(ANSWERS[words][name], form)
                 before = tests.passed + tests.failed
                 tests.check(f"{words}, {name}", [ample], tests.runner.run(words, text))
                 tests.memory(words, name, text, ample)
@@ -268,9 +296,11 @@ def main():
                 tests.reads(words, name, text, ample)
                 tests.writes(words, name, text, ample)
                 print(f"{words}, {name}: {tests.passed + tests.failed - before} answers")
-            tests.ends(words, TRACES["opposite_order"], ANSWERS[words]["opposite_order"])
-        for words, status in USAGE.items():
-            tests.usage(words, status)
+            tests.ends(
+                words, text_of(words, "opposite_order", form), compare.in_format(ANSWERS[words]["opposite_order"], form)
+            )
+            for usage, status in USAGE.get(words, {}).items():
+                tests.usage(usage, status)
     print(f"{tests.passed} passed, {tests.failed} failed")
     return 1 if tests.failed or tests.passed == 0 else 0
 

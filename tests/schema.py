@@ -32,6 +32,7 @@ TYPES = {
     "array": lambda value: isinstance(value, list),
     "string": lambda value: isinstance(value, str),
     "boolean": lambda value: isinstance(value, bool),
+    "null": lambda value: value is None,
     "integer": lambda value: is_number(value) and value == int(value),
 }
 
@@ -51,9 +52,13 @@ def matches(pattern, text):
     return re.fullmatch(pattern[1:-1], text) is not None
 
 
+def each(kinds):
+    return kinds if isinstance(kinds, list) else [kinds]
+
+
 # By keyword, the kind of document that it speaks of and what it refuses.
 TESTS = {
-    "type": (lambda value: True, lambda kind, value: not TYPES[kind](value)),
+    "type": (lambda value: True, lambda kinds, value: not any(TYPES[kind](value) for kind in each(kinds))),
     "const": (lambda value: True, lambda wanted, value: not is_same(value, wanted)),
     "enum": (lambda value: True, lambda words, value: not any(is_same(value, word) for word in words)),
     "minimum": (is_number, lambda least, value: value < least),
@@ -65,7 +70,7 @@ TESTS = {
     "pattern": (TYPES["string"], lambda pattern, value: not matches(pattern, value)),
 }
 WORDS = ["$schema", "$id", "$defs", "title", "description"]
-PARTS = ["$ref", "properties", "required", "additionalProperties", "items"]
+PARTS = ["$ref", "properties", "required", "additionalProperties", "items", "if", "then", "else"]
 
 
 def target(schema, reference):
@@ -91,8 +96,8 @@ def rules(schema, part, at=""):
         elif keyword == "properties":
             for name, inner in value.items():
                 yield from rules(schema, inner, f"{here}/{name}")
-        elif keyword in ("items", "$ref"):
-            yield from rules(schema, value if keyword == "items" else target(schema, value), here)
+        elif keyword in ("items", "$ref", "then", "else"):  # an `if` refuses nothing by itself
+            yield from rules(schema, target(schema, value) if keyword == "$ref" else value, here)
 
 
 def broken(schema, part, value, at=""):
@@ -105,6 +110,9 @@ def broken(schema, part, value, at=""):
                 yield here
         elif keyword == "$ref":
             yield from broken(schema, target(schema, asked), value, here)
+        elif keyword == "if":
+            branch = "else" if any(broken(schema, asked, value)) else "then"
+            yield from broken(schema, part[branch], value, f"{at}/{branch}")
         elif keyword == "items" and isinstance(value, list):
             for item in {id(item): item for item in value}.values():  # one that stands there often is looked at once
                 yield from broken(schema, asked, item, here)
@@ -126,6 +134,9 @@ EDGES = [
 ]
 REPORT = dict(cycles=[EDGES], format=1, len=4, max=1000, mode="full", more=False)
 NONE = dict(REPORT, cycles=[])
+TABLE = [dict(edge, guard_modes=["x"], held_mode="x", wanted_mode="x") for edge in EDGES]
+REPORT_2 = dict(REPORT, format=2, cycles=[[0, 1]], edges=TABLE, trim=None)
+NONE_2 = dict(REPORT_2, cycles=[], edges=[], trim=[])
 LEFT_OUT = object()
 
 
@@ -145,82 +156,137 @@ def changed(report, *way_and_value):
 
 def right_documents():
     ring = [dict(EDGES[0], thread=f"T{i}", held=f"l{i}", wanted=f"l{(i + 1) % 16}") for i in range(16)]
-    yield REPORT
-    yield NONE
-    yield dict(REPORT, mode="basic", len=2, max=1, more=True)
-    yield dict(REPORT, mode="guarded", len=16, max=100_000)
     yield dict(REPORT, cycles=[ring], len=16)
     yield dict(REPORT, cycles=[EDGES] * 100_000, max=100_000, more=True)
-    for number in (0, 4_294_967_295):
-        for key in ("first", "second", "place"):
-            yield changed(REPORT, "cycles", 0, 0, key, number)
-    for at in ("held_at", "wanted_at"):
-        yield changed(REPORT, "cycles", 0, 0, at, "")
-    # é, a backslash, the bytes next to those that stand for themselves, and `\x41` as a name of four bytes.
-    for name in ("\\xc3\\xa9", "\\x5c", "\\x1f !~\\x7f[]", "\\x5cx41", "\\x00\\x0a\\x80\\xff", '"', "(|)"):
-        for key in ("held", "wanted", "thread", "held_at", "wanted_at"):
-            yield changed(REPORT, "cycles", 0, 1, key, name)
-    yield changed(REPORT, "cycles", 0, 0, "guards", [f"l{i}" for i in range(64)])
+    yield dict(REPORT_2, cycles=[list(range(16))], len=16)
+    yield dict(REPORT_2, cycles=[[0, 1]] * 100_000, max=100_000, more=True)
+    yield dict(REPORT_2, cycles=[], trim=[1, 0])
+    yield changed(REPORT_2, "edges", 0, "guard_modes", ["s"] * 64)
+    for report, none, way in ((REPORT, NONE, ("cycles", 0)), (REPORT_2, NONE_2, ("edges",))):
+        yield report
+        yield none
+        yield dict(report, mode="basic", len=2, max=1, more=True)
+        yield dict(report, mode="guarded", len=16, max=100_000)
+        for number in (0, 4_294_967_295):
+            for key in ("first", "second", "place"):
+                yield changed(report, *way, 0, key, number)
+        for at in ("held_at", "wanted_at"):
+            yield changed(report, *way, 0, at, "")
+        # é, a backslash, the bytes next to those that stand for themselves, and `\x41` as a name of four bytes.
+        for name in ("\\xc3\\xa9", "\\x5c", "\\x1f !~\\x7f[]", "\\x5cx41", "\\x00\\x0a\\x80\\xff", '"', "(|)"):
+            for key in ("held", "wanted", "thread", "held_at", "wanted_at"):
+                yield changed(report, *way, 1, key, name)
+        yield changed(report, *way, 0, "guards", [f"l{i}" for i in range(64)])
+    for mode in ("x", "s"):
+        for key in ("held_mode", "wanted_mode"):
+            yield changed(REPORT_2, "edges", 1, key, mode)
 
 
 def wrong_documents():
     """The one rule that the document breaks, and the document."""
     for kind in ([], "x", 1, True, None):
         yield "/type", kind
-    yield "/additionalProperties", dict(REPORT, edges=[])
-    for name in REPORT:
-        yield f"/required/{name}", changed(REPORT, name, LEFT_OUT)
-    yield "/properties/cycles/type", dict(REPORT, cycles={})
-    yield "/properties/cycles/maxItems", dict(REPORT, cycles=[EDGES] * 100_001)
-    for value in (2, 0, "1", True, None, [1]):
-        yield "/properties/format/const", dict(REPORT, format=value)
-    for name, least, most in (("len", 2, 16), ("max", 1, 100_000)):
-        for value in ("4", 4.5, True, None, [4]):
-            yield f"/properties/{name}/type", changed(REPORT, name, value)
-        yield f"/properties/{name}/minimum", changed(REPORT, name, least - 1)
-        yield f"/properties/{name}/maximum", changed(REPORT, name, most + 1)
-    for value in ("Full", "", "full ", 2, None, ["full"]):
-        yield "/properties/mode/enum", dict(REPORT, mode=value)
-    for value in (0, 1, "false", None):
-        yield "/properties/more/type", dict(REPORT, more=value)
+    for value in (3, 0, "1", "2", True, None, [1]):
+        yield "/else/$ref/properties/format/const", dict(REPORT, format=value)
+    yield "/else/$ref/required/format", changed(REPORT, "format", LEFT_OUT)
+    yield from wrong_in_both(REPORT, "/else/$ref")
+    yield from wrong_in_both(REPORT_2, "/then/$ref")
+    yield "/else/$ref/additionalProperties", dict(REPORT, edges=[])
+    yield "/then/$ref/additionalProperties", dict(REPORT_2, seed=0)
 
-    cycle = "/properties/cycles/items/$ref"
+    cycle = "/else/$ref/properties/cycles/items/$ref"
     for value in ({}, "ab", 0, None):
         yield f"{cycle}/type", dict(REPORT, cycles=[EDGES, value])
     yield f"{cycle}/minItems", dict(REPORT, cycles=[EDGES[:1]])
     yield f"{cycle}/maxItems", dict(REPORT, cycles=[EDGES[:1] * 17])
+    yield from wrong_edges(REPORT, f"{cycle}/items/$ref", "cycles", 0)
+    yield f"{cycle}/items/$ref/additionalProperties", changed(REPORT, "cycles", 0, 1, "held_mode", "x")
 
-    edge = f"{cycle}/items/$ref"
-    yield f"{edge}/type", changed(REPORT, "cycles", 0, 1, [])
-    yield f"{edge}/additionalProperties", changed(REPORT, "cycles", 0, 1, "held_mode", "x")
-    for name in EDGES[0]:
-        yield f"{edge}/required/{name}", changed(REPORT, "cycles", 0, 1, name, LEFT_OUT)
+    cycle = "/then/$ref/properties/cycles/items/$ref"
+    for value in ({}, "01", 0, None):
+        yield f"{cycle}/type", dict(REPORT_2, cycles=[[0, 1], value])
+    yield f"{cycle}/minItems", dict(REPORT_2, cycles=[[1]])
+    yield f"{cycle}/maxItems", dict(REPORT_2, cycles=[list(range(17))])
+    yield f"{cycle}/uniqueItems", dict(REPORT_2, cycles=[[0, 1, 0]])
+    yield from wrong_numbers(f"{cycle}/items/$ref", lambda value: dict(REPORT_2, cycles=[[0, value]]))
 
-    def with_value(*way_and_value):
-        return changed(REPORT, "cycles", 0, 1, *way_and_value)
+    trim = "/then/$ref/properties/trim"
+    for value in ({}, "", 0, False):
+        yield f"{trim}/type", dict(REPORT_2, trim=value)
+    yield f"{trim}/uniqueItems", dict(REPORT_2, cycles=[], trim=[0, 1, 0])
+    yield from wrong_numbers(f"{trim}/items/$ref", lambda value: dict(REPORT_2, cycles=[], trim=[0, value]))
+
+    table = "/then/$ref/properties/edges"
+    for value in ({}, "", 0, None):
+        yield f"{table}/type", dict(REPORT_2, edges=value)
+    yield f"{table}/uniqueItems", dict(REPORT_2, edges=TABLE + TABLE[:1])
+    edge = f"{table}/items/$ref"
+    yield from wrong_edges(REPORT_2, edge, "edges")
+    yield f"{edge}/additionalProperties", changed(REPORT_2, "edges", 1, "mode", "x")
+    for name in ("held_mode", "wanted_mode"):
+        for value in ("X", "", "xs", None, 0):
+            yield f"{edge}/properties/{name}/$ref/enum", changed(REPORT_2, "edges", 1, name, value)
+    modes = f"{edge}/properties/guard_modes/$ref"
+    for value in ("x", {"x": 0}, None):
+        yield f"{modes}/type", changed(REPORT_2, "edges", 1, "guard_modes", value)
+    yield f"{modes}/minItems", changed(REPORT_2, "edges", 1, "guard_modes", [])
+    yield f"{modes}/maxItems", changed(REPORT_2, "edges", 1, "guard_modes", ["x"] * 65)
+    for value in ("e", "", None, 1):
+        yield f"{modes}/items/$ref/enum", changed(REPORT_2, "edges", 1, "guard_modes", ["x", value])
+
+
+def wrong_in_both(report, top):
+    """What either format refuses of what was asked and of the list of cycles."""
+    for name in report:
+        if name != "format":  # without it a report isn't of format 2
+            yield f"{top}/required/{name}", changed(report, name, LEFT_OUT)
+    yield f"{top}/properties/cycles/type", dict(report, cycles={})
+    yield f"{top}/properties/cycles/maxItems", dict(report, cycles=report["cycles"] * 100_001)
+    for name, least, most in (("len", 2, 16), ("max", 1, 100_000)):
+        for value in ("4", 4.5, True, None, [4]):
+            yield f"{top}/properties/{name}/$ref/type", changed(report, name, value)
+        yield f"{top}/properties/{name}/$ref/minimum", changed(report, name, least - 1)
+        yield f"{top}/properties/{name}/$ref/maximum", changed(report, name, most + 1)
+    for value in ("Full", "", "full ", 2, None, ["full"]):
+        yield f"{top}/properties/mode/$ref/enum", dict(report, mode=value)
+    for value in (0, 1, "false", None):
+        yield f"{top}/properties/more/$ref/type", dict(report, more=value)
+
+
+def wrong_numbers(at, with_number):
+    for value in ("0", 0.5, False, None):
+        yield f"{at}/type", with_number(value)
+    yield f"{at}/minimum", with_number(-1)
+    yield f"{at}/maximum", with_number(4_294_967_296)
+
+
+def wrong_edges(report, edge, *way):
+    """What either format refuses of the second edge that lies on this way."""
+    yield f"{edge}/type", changed(report, *way, 1, [])
+    for name in report[way[0]][0][0] if len(way) > 1 else report[way[0]][0]:
+        yield f"{edge}/required/{name}", changed(report, *way, 1, name, LEFT_OUT)
+
+    def with_value(*rest_and_value):
+        return changed(report, *way, 1, *rest_and_value)
 
     for name in ("first", "second", "place"):
-        at = f"{edge}/properties/{name}/$ref"
-        for value in ("0", 0.5, False, None):
-            yield f"{at}/type", with_value(name, value)
-        yield f"{at}/minimum", with_value(name, -1)
-        yield f"{at}/maximum", with_value(name, 4_294_967_296)
+        yield from wrong_numbers(f"{edge}/properties/{name}/$ref/$ref", lambda value, name=name: with_value(name, value))
 
     # A byte that isn't escaped or needn't be, upper-case digits, a digit too few, an unknown escape, a letter that
     # isn't one byte.
     misspelled = ["\n", "a\x7f", "\xe9", "\\x41", "\\x7e", "\\x20", "\\x5C", "\\xC3", "\\x8", "\\n", "\\", "\\\\"]
     names = [(f"{edge}/properties/{name}/$ref", [name]) for name in ("thread", "held", "wanted")]
-    for at, way in names + [(f"{edge}/properties/guards/items/$ref", ["guards", 0])]:
-        yield f"{at}/minLength", with_value(*way, "")
-        yield f"{at}/$ref/type", with_value(*way, 7)
+    for at, rest in names + [(f"{edge}/properties/guards/$ref/items/$ref", ["guards", 0])]:
+        yield f"{at}/minLength", with_value(*rest, "")
+        yield f"{at}/$ref/type", with_value(*rest, 7)
         for text in misspelled:
-            yield f"{at}/$ref/pattern", with_value(*way, text)
+            yield f"{at}/$ref/pattern", with_value(*rest, text)
     for name in ("held_at", "wanted_at"):
-        yield f"{edge}/properties/{name}/$ref/type", with_value(name, None)
+        yield f"{edge}/properties/{name}/$ref/$ref/type", with_value(name, None)
         for text in misspelled:
-            yield f"{edge}/properties/{name}/$ref/pattern", with_value(name, text)
+            yield f"{edge}/properties/{name}/$ref/$ref/pattern", with_value(name, text)
 
-    guards = f"{edge}/properties/guards"
+    guards = f"{edge}/properties/guards/$ref"
     for value in ("b", {"b": 0}, None):
         yield f"{guards}/type", with_value("guards", value)
     yield f"{guards}/minItems", with_value("guards", [])
@@ -262,6 +328,14 @@ def wrong_in(schema, output, status, mode, length, most):
         return "lists more or longer cycles than were asked for"
     if status != (1 if count else 0):
         return f"{count} cycles with status {status}"
+    if report["format"] == 2:
+        size = len(report["edges"])
+        if any(position >= size for cycle in report["cycles"] for position in cycle):
+            return "has a cycle of an edge that isn't in the table"
+        if any(len(edge["guards"]) != len(edge["guard_modes"]) for edge in report["edges"]):
+            return "has guards and no mode for each"
+        if report["trim"] is not None and (sorted(report["trim"]) != list(range(size)) or count):
+            return "takes away other edges than there are, or with cycles"
     return None
 
 
@@ -304,6 +378,13 @@ def main():
         check(f"wrong document for {rule}", found != [rule] and f"breaks {found}: {json.dumps(document)[:400]}")
     for place in places:
         check(f"rule {place}", place not in tried and "no wrong document breaks it")
+    queries = [compare.reference.Query(mode, length) for mode, length in (("full", 4), ("guarded", 2), ("basic", 3))]
+    for number, (name, text) in enumerate(traces(min(options.cases, 100))):
+        query = queries[number % 3]
+        for form in (1, 2):
+            output, _, status = compare.reference.answer("predict", text, query, form)
+            problem = status != 2 and wrong_in(schema, output, status, query.mode, query.length, query.most)
+            check(f"the reference's report of {name}, format {form}", problem and f"{problem}: {output[:400]!r}")
 
     if options.program:
         command = [os.path.abspath(options.program), *options.arguments, "--json"]

@@ -648,9 +648,9 @@ def true_report(text, query, form):
 
 
 class Tests:
-    def __init__(self, program, has_check):
-        self.program, self.has_check = program, has_check
-        self.passed = self.failed = 0
+    def __init__(self, program, has_check, has_format_2):
+        self.program, self.has_check, self.has_format_2 = program, has_check, has_format_2
+        self.passed = self.failed = self.skipped = 0
 
     def that(self, name, is_right, told):
         self.passed, self.failed = self.passed + is_right, self.failed + (not is_right)
@@ -660,6 +660,9 @@ class Tests:
     def by_program(self, name, text, trace):
         """The program's answer is that of tests/check.py, byte for byte."""
         if not self.has_check:
+            return
+        if not self.has_format_2 and is_of_format_2(text):
+            self.skipped += 1
             return
         given = text + b"\n" + trace
         expected = check.answer(given)
@@ -678,6 +681,14 @@ def has_command(program, command):
     return done.returncode == 0
 
 
+def is_of_format_2(text):
+    try:
+        value = check.read_json(text)
+    except check.Fault:
+        return False
+    return isinstance(value, dict) and check.is_number(value.get("format"), 2, 2)
+
+
 def main():
     parser = argparse.ArgumentParser(description=__doc__, formatter_class=argparse.RawDescriptionHelpFormatter)
     parser.add_argument("--cases", type=int, default=3000)
@@ -688,8 +699,11 @@ def main():
     program = os.path.abspath(options.program) if options.program else None
     has_check = program is not None and has_command(program, "check")
     if not has_check:
-        print(f"{program or 'no program'}: no command check, so what is compared is tests/check.py with answers by hand")
-    tests = Tests(program, has_check)
+        print(f"{program or 'no program'}: no command check, so its answers are SKIPPED: tests/check.py is tried alone")
+    has_format_2 = has_check and compare.run([program, "check"], EMPTY_LINE)[2] == 0
+    if has_check and not has_format_2:
+        print(f"{program}: check reads no reports of format 2, so what it says of them is SKIPPED")
+    tests = Tests(program, has_check, has_format_2)
     if options.only is None:
         for name, text, trace, line, verdict in worked():
             told = check.answer(text + b"\n" + trace)
@@ -736,6 +750,8 @@ def main():
     if options.only is None and options.cases >= 1000:
         for name in check.LINES:
             tests.that(f"answers of the kind {name}", seen.get(name, 0) >= 10, f"only {seen.get(name, 0)}")
+    if tests.skipped:
+        print(f"{tests.skipped} reports of format 2 weren't given to the program")
     print("answers: " + ", ".join(f"{name} {count}" for name, count in sorted(seen.items())))
     print(f"{tests.passed} passed, {tests.failed} failed")
     return 1 if tests.failed or tests.passed == 0 else 0

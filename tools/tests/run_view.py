@@ -298,9 +298,18 @@ def findings_come_shortest_first_then_most_cycles():
 @test
 def both_formats_give_the_same_findings():
     write("1.json", report(pair(), ring("abc", "p", "q")))
-    write("2.json", second_format(pair(), ring("abc", "p", "q"), trim=["T0"]))
+    write("2.json", second_format(pair(), ring("abc", "p", "q")))
     equal(view("2.json"), view("1.json"))
     equal(heads(view("1.json", "2.json")[1])[1], "2 findings, 4 cycles in 2 reports")
+
+
+@test
+def a_trim_order_shows_no_findings():
+    for trim in ("[0,1]", "[1,0]"):
+        write("r.json", broken(lambda v: v.update(cycles=[], trim=json.loads(trim)), TWO))
+        equal(view("r.json")[::2], (0, ""))
+    write("none.json", broken(lambda v: v.update(cycles=[], edges=[], trim=[]), TWO))
+    equal(view("none.json")[::2], (0, ""))
 
 
 @test
@@ -427,6 +436,11 @@ MALFORMED = [
     (broken(put("held_at", "\x7f" * 99_999)), f"{FIRST}.held_at isn't an escaped name"),
     (broken(put("held_at", "a" * 60_000 + "\x00")), f"{FIRST}.held_at isn't an escaped name"),
     (broken(put_top("trim", 1), TWO), "not a report: trim is a number, not an array or null"),
+    (broken(put_top("trim", ["T0"]), TWO), "not a report: trim[0] isn't a position in `edges`"),
+    (broken(put_top("trim", [0, 2]), TWO), "not a report: trim[1] isn't a position in `edges`"),
+    (broken(put_top("trim", [1, True]), TWO), "not a report: trim[1] isn't a position in `edges`"),
+    (broken(put_top("trim", [1, 1]), TWO), "not a report: trim has a position twice"),
+    (broken(put_top("trim", [1]), TWO), "not a report: trim has 1 position for 2 edges"),
     (broken(put_top("edges", {}), TWO), "not a report: edges is an object, not an array"),
     (broken(put_top("cycles", [[0, 2]]), TWO), "not a report: cycles[0][1] isn't a position in `edges`"),
     (broken(put_top("cycles", [[0, -1]]), TWO), "not a report: cycles[0][1] isn't a position in `edges`"),

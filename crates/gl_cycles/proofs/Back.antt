@@ -25,7 +25,7 @@ ends_of_pairs number (pair ∷ table) = ap (λ l. ends_in number pair.0 ∷ l) (
 module _ (before : Segment → Segment → Bool) (mode : Mode) (len : ℕ) (edges : List Edge) (kept : List Bool) (keeps : KeepsCycles before mode len edges kept) where
   module _ (cycle : List Edge) (among : All (Contains edges) cycle) (is : IsCycle before mode len cycle) where
     -- each edge of a cycle is kept
-    kept_at : (j : ℕ) (e : Edge) → slice_get cycle j ≡ Some e → (i : ℕ) × (slice_get edges i ≡ Some e) × (slice_get kept i ≡ Some true)
+    pub kept_at : (j : ℕ) (e : Edge) → slice_get cycle j ≡ Some e → (i : ℕ) × (slice_get edges i ≡ Some e) × (slice_get kept i ≡ Some true)
     kept_at j e at =
         let below = slice_get_within cycle j e at in
         let is_e = get_or_from_slice_get cycle j e e at in

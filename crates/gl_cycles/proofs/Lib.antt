@@ -12,6 +12,7 @@ pub mod Off
 pub mod Back
 pub mod Watching
 pub mod Beside
+pub mod ByKinds
 pub mod Removing
 pub mod Whole
 pub mod Surviving

@@ -2,6 +2,7 @@ pub mod AllCycles
 pub mod Blocks
 pub mod Faults
 pub mod Followers
+pub mod Kinds
 pub mod Laws
 pub mod Loops
 pub mod OffCycles

@@ -146,6 +146,7 @@ impl Sought<'_> {
         ensures { IfOk result (λ kept. KeepsCycles (is_before self.now.order.now) self.now.mode self.now.len (edges_of_table self.now.table.now) kept.items) }
     {
         let mut kept = edges_on_loops(alloc, self.table)?;
+        self.leave_out_kinds(alloc, &mut kept)?;
         self.narrow(alloc, &mut kept)?;
         Ok(kept)
     }

@@ -20,7 +20,7 @@ use gl_segments::Order;
 use std::alloc::Global;
 
 // How many edges a path may have.
-const PATH: usize = 16;
+pub(crate) const PATH: usize = 16;
 
 // What a search looks at, and when it has enough.
 #[derive(Drop)]
@@ -254,7 +254,7 @@ impl Searcher<'_> {
 }
 
 // The path with one more edge.
-fn longer_path(path: &[usize], next: usize) -> ArrayVec<usize, PATH>
+pub(crate) fn longer_path(path: &[usize], next: usize) -> ArrayVec<usize, PATH>
     requires { length path.now < PATH }
     ensures { result.items ≡ path.now ++ next ∷ [] }
 {

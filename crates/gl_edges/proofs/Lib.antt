@@ -1,5 +1,7 @@
 pub mod Orders
 pub mod Guarding
+pub mod Clashing
+pub mod Numbering
 pub mod Membership
 pub mod Least
 pub mod Tables

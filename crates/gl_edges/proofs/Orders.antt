@@ -1,14 +1,16 @@
 -- The orders of edges and of samples are total, and only equal ones tie.
-use Rattle.std.proofs.Common.{◌≡◌, refl, rules, arith}
+use Rattle.std.proofs.Common.{◌≡◌, ◌&&◌, true, eqb, List, [], ◌∷◌, refl, rules, arith}
+use Rattle.std.proofs.lemmas.Bool.{and_parts, eqb-true}
 use Rattle.std.specs.Cmp.{IsTotalOrder, nat_cmp_total, on_total, then_total}
-use Rattle.std.specs.Cmp.Lexicographic.{lists_total}
+use Rattle.std.specs.Cmp.Lexicographic.{pointwise, lists_total}
 use Rattle.std.specs.Cmp.Rules.{comparing}
 use Rattle.std.specs.FinMap.{IsAntisymmetric, nat_cmp-IsAntisymmetric, slice_cmp-IsAntisymmetric}
 use Rattle.std.specs.Ordering.{nat_cmp, ordering_then}
 use Rattle.gl_event.specs.Modes.{rank, mode_cmp}
 use Rattle.gl_event.specs.declared.events.LockMode.{LockMode}
 use Rattle.gl_event.specs.declared.events.LockMode.TheVariants.{Exclusive, Shared}
-use Rattle.gl_edges.specs.Guards.{guard_cmp, guard_total}
+use Rattle.gl_edges.specs.Guards.{guard_cmp, guard_eq, guard_total}
+use Rattle.gl_edges.specs.declared.guards.Guard.{Guard}
 use Rattle.gl_edges.specs.declared.edge.Edge.{Edge}
 use Rattle.std.specs.declared.cmp.Ordering.{Ordering}
 use Rattle.std.specs.declared.cmp.Ordering.TheVariants.{Less, Equal, Greater}
@@ -87,3 +89,29 @@ edge_cmp_exact a b e =
     let guards : a.guards ≡ b.guards =
     slice_cmp-IsAntisymmetric guard_cmp_exact _ _ (ties_second (nat_cmp a.second b.second) _ e4) in
     λ i. record { thread = thread i; held = held i; held_mode = held_mode i; wanted = wanted i; wanted_mode = wanted_mode i; first = first i; second = second i; guards = guards i }
+
+-- modes of one rank are equal
+pub modes_same : (a b : LockMode) → eqb (rank a) (rank b) ≡ true → a ≡ b
+modes_same Exclusive Exclusive e = refl
+modes_same Exclusive Shared e = let never = eqb-true 0 1 e in absurd (omega arith)
+modes_same Shared Exclusive e = let never = eqb-true 1 0 e in absurd (omega arith)
+modes_same Shared Shared e = refl
+
+-- guards that pass the test of equality are equal
+guard_same : (a b : Guard) → guard_eq a b ≡ true → a ≡ b
+guard_same a b e =
+    let parts = and_parts (eqb a.lock b.lock) _ e in
+    let lock = eqb-true a.lock b.lock parts.0 in
+    let mode = modes_same a.mode b.mode parts.1 in
+    λ i. record { lock = lock i; mode = mode i }
+
+-- and so are lists of guards
+pub guards_same : (gs hs : List Guard) → pointwise guard_eq gs hs ≡ true → gs ≡ hs
+guards_same [] [] e = refl
+guards_same [] (h ∷ hs) e = absurd (cc)
+guards_same (g ∷ gs) [] e = absurd (cc)
+guards_same (g ∷ gs) (h ∷ hs) e =
+    let parts = and_parts (guard_eq g h) _ e in
+    let head = guard_same g h parts.0 in
+    let tail = guards_same gs hs parts.1 in
+    λ i. head i ∷ tail i

@@ -1,7 +1,10 @@
+pub mod Clashes
 pub mod Edges
 pub mod Gatherers
 pub mod Guards
 pub mod Laws
+pub mod Numbered
+pub mod Numberers
 pub mod Order
 pub mod Samples
 pub mod Seen

@@ -12,11 +12,14 @@
 //! say what holds of them in the words of the events.
 #![tactic(auto)]
 
+mod clashes;
 mod edge;
 mod gather;
+mod guard_sets;
 mod guards;
 mod laws;
 mod list;
+mod numberer;
 mod seen;
 mod table;
 #[cfg(test)]
@@ -25,6 +28,7 @@ mod tracker;
 
 pub use edge::{Edge, Sample};
 pub use gather::edges_of;
+pub use guard_sets::GuardSets;
 pub use guards::{Guard, Guards};
 pub use laws::{
     edges_are_ordered_by_their_fields, edges_are_those_made, edges_ascend, edges_come_step_by_step,

@@ -4,6 +4,8 @@ ghost use Rattle.gl_event.specs.Bounds.{greatest};
 ghost use Rattle.gl_event.specs.Lawful.{IsLawful};
 ghost use Rattle.gl_event.specs.declared.events.Event.{Event};
 
+mod numbered;
+
 use crate::edge::{Edge, Sample};
 use crate::gather::edges_of;
 use crate::guards::{Guard, Guards};

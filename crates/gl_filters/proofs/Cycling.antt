@@ -13,7 +13,8 @@ use Rattle.gl_filters.specs.declared.query.Mode.{Mode}
 use Rattle.gl_filters.specs.Cycle.{asks_guards, asks_order, is_ordered, LeadsOn, HasGate, AreApart, IsCycle}
 use Rattle.gl_event.specs.Modes.{conflict}
 use Rattle.gl_edges.specs.declared.guards.Guard.{Guard}
-use Rattle.gl_filters.specs.Test.{clash_on, guards_clash, leads_to, is_clear, goes_with, go_together, lead_on, begins_least, is_path, last_of, is_cycle}
+use Rattle.gl_edges.specs.Clashes.{clash_on, guards_clash}
+use Rattle.gl_filters.specs.Test.{leads_to, is_clear, goes_with, go_together, lead_on, begins_least, is_path, last_of, is_cycle}
 
 -- guards of one lock, not both shared, clash
 clash_from : (g h : Guard) → g.lock ≡ h.lock → conflict g.mode h.mode ≡ true → clash_on g h ≡ true

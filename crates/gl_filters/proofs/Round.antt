@@ -10,9 +10,10 @@ use Rattle.gl_event.specs.declared.events.LockMode.TheVariants.{Exclusive, Share
 use Rattle.gl_event.specs.declared.events.Segment.{Segment}
 use Rattle.gl_edges.specs.declared.edge.Edge.{Edge}
 use Rattle.gl_filters.specs.declared.query.Mode.{Mode}
-use Rattle.gl_filters.specs.Cycle.{first_segment, second_segment, LeadsOn, IsCycle}
+use Rattle.gl_filters.specs.Cycle.{asks_guards, first_segment, second_segment, LeadsOn, IsCycle}
 use Rattle.gl_filters.specs.Judging.{following}
-use Rattle.gl_filters.specs.Test.{goes_with, is_compatible}
+use Rattle.gl_edges.specs.Clashes.{guards_clash}
+use Rattle.gl_filters.specs.Test.{is_clear, goes_with, kinds_go_together, is_compatible}
 use Rattle.gl_filters.proofs.Cycling.{AreFit, fit_from, leads_from}
 
 conflict-sym : (a b : LockMode) → conflict a b ≡ conflict b a
@@ -44,6 +45,13 @@ module _ (before : Segment → Segment → Bool) (mode : Mode) where
       let parts = and_parts (not (eqb e.held f.held) && not (eqb e.thread f.thread)) _ goes in
       and_from _ _ (and_from _ _ (leads_from e f leads) (and_parts (not (eqb e.held f.held)) _ parts.0).1) parts.1
 
+  -- where edges go with each other, their kinds do
+  kinds_go : (e f : Edge) → goes_with before mode e f ≡ true → kinds_go_together mode e f ≡ true
+  unfolding goes_with is_clear kinds_go_together
+  kinds_go e f goes =
+      let parts = and_parts (not (eqb e.held f.held) && not (eqb e.thread f.thread)) _ goes in
+      and_from _ _ (and_parts (not (eqb e.held f.held)) _ parts.0).0 (and_parts (not (asks_guards mode && guards_clash e.guards f.guards)) _ parts.1).0
+
   module _ (len : ℕ) (es : List Edge) (cycle : IsCycle before mode len es) where
     fit_pair : (i j : ℕ) (e f : Edge) → i < j → slice_get es i ≡ Some e → slice_get es j ≡ Some f → AreFit before mode e f
     fit_pair i j e f lower at_e at_f =
@@ -70,6 +78,10 @@ module _ (before : Segment → Segment → Bool) (mode : Mode) where
           | inl le ↦ inl (omega (arith, leb-true a b le))
           | inr not ↦ inr (omega (arith, leb-false a b not))
         ]
+
+    -- and so do their kinds
+    pub pair_goes_by_kind : (i j : ℕ) (e f : Edge) → i ≢ j → slice_get es i ≡ Some e → slice_get es j ≡ Some f → kinds_go_together mode e f ≡ true
+    pair_goes_by_kind i j e f differ at_e at_f = kinds_go e f (pair_goes i j e f differ at_e at_f)
 
     -- each edge leads on to the next one, round
     pub leads_round : (i : ℕ) (e f : Edge) → slice_get es i ≡ Some e → slice_get es (following (length es) i) ≡ Some f → LeadsOn e f

@@ -6,7 +6,7 @@ use Rattle.gl_edges.specs.declared.edge.Edge.{Edge}
 use Rattle.gl_edges.specs.declared.edge.Sample.{Sample}
 use Rattle.gl_filters.specs.Asked.{Asked}
 use Rattle.gl_filters.specs.Cycle.{asks_guards, asks_order, is_ordered, LeadsOn, HasGate}
-use Rattle.gl_filters.specs.Test.{guards_clash}
+use Rattle.gl_edges.specs.Clashes.{guards_clash}
 use Rattle.gl_filters.specs.declared.verdict.Clash.{Clash}
 use Rattle.gl_filters.specs.declared.verdict.Clash.TheVariants.{SameHeld, SameThreads, Shared, InOrder}
 use Rattle.gl_filters.specs.declared.verdict.Verdict.{Verdict}

@@ -3,4 +3,3 @@ pub mod Cycle
 pub mod Test
 pub mod Judging
 pub mod Faults
-pub mod Merging

@@ -1,20 +1,12 @@
 -- The test of a cycle: what of a list of edges is looked at, in the order in which it grows.
 use Rattle.std.specs.Prelude.{Bool, true, false, not, ◌&&◌, List, [], ◌∷◌, length, ◌==◌, nat_le}
-use Rattle.std.specs.List.{list_any, list_all}
+use Rattle.std.specs.List.{list_all}
 use Rattle.gl_event.specs.declared.events.Segment.{Segment}
 use Rattle.gl_event.specs.Modes.{conflict}
+use Rattle.gl_edges.specs.Clashes.{guards_clash}
 use Rattle.gl_edges.specs.declared.edge.Edge.{Edge}
-use Rattle.gl_edges.specs.declared.guards.Guard.{Guard}
 use Rattle.gl_filters.specs.Cycle.{asks_guards, asks_order, is_ordered}
 use Rattle.gl_filters.specs.declared.query.Mode.{Mode}
-
--- two guards clash: they are of one lock, and not both shared
-abbrev pub clash_on : Guard → Guard → Bool
-clash_on g h = (g.lock == h.lock) && conflict g.mode h.mode
-
--- a guard of the first set clashes with one of the second
-abbrev pub guards_clash : List Guard → List Guard → Bool
-guards_clash gs hs = list_any (λ g. list_any (clash_on g) hs) gs
 
 -- the first edge wants the lock that the second one holds, and not both as readers
 abbrev pub leads_to : Edge → Edge → Bool
@@ -28,6 +20,10 @@ is_clear before mode e f =
 -- the two edges may stand in one cycle of this mode
 unfoldable pub goes_with : (Segment → Segment → Bool) → Mode → Edge → Edge → Bool
 goes_with before mode e f = (not (e.held == f.held) && not (e.thread == f.thread)) && is_clear before mode e f
+
+-- held locks and guards let edges of the kinds of these two stand in one cycle of this mode
+unfoldable pub kinds_go_together : Mode → Edge → Edge → Bool
+kinds_go_together mode e f = not (e.held == f.held) && not (asks_guards mode && guards_clash e.guards f.guards)
 
 -- each edge goes with each later one
 abbrev pub go_together : (Segment → Segment → Bool) → Mode → List Edge → Bool

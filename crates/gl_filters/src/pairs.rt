@@ -1,12 +1,14 @@
 //! Which two edges may stand in one cycle.
-ghost use Rattle.std.specs.Prelude.{◌≡◌};
+ghost use Rattle.std.specs.Prelude.{◌≡◌, ◌<◌, length, map, slice_get, Some};
+ghost use Rattle.gl_edges.specs.Clashes.{guards_clash};
+ghost use Rattle.gl_edges.specs.Numbered.{guards_in, AreNumbered};
+ghost use Rattle.gl_edges.specs.declared.edge.Edge.{Edge};
 ghost use Rattle.gl_segments.specs.Clocks.{is_before};
 ghost use Rattle.gl_filters.specs.Cycle.{asks_guards, asks_order, is_ordered};
-ghost use Rattle.gl_filters.specs.Test.{leads_to, is_clear, goes_with, is_compatible};
+ghost use Rattle.gl_filters.specs.Test.{leads_to, is_clear, goes_with, kinds_go_together, is_compatible};
 
-use crate::gate_locks::have_gate;
 use crate::query::Mode;
-use gl_edges::Edge;
+use gl_edges::{Edge, EdgeList, GuardSets, Guards};
 use gl_event::Segment;
 use gl_segments::Order;
 
@@ -73,7 +75,7 @@ pub(crate) fn are_ordered(order: &Order, e: &Edge, f: &Edge) -> bool
 fn are_clear(mode: Mode, order: &Order, e: &Edge, f: &Edge) -> bool
     ensures { result ≡ is_clear (is_before order.now) mode e.now f.now }
 {
-    if mode.asks_guards() && have_gate(&e.guards, &f.guards) {
+    if mode.asks_guards() && e.guards.clash_with(&f.guards) {
         return false;
     }
     if mode.asks_order() && are_ordered(order, e, f) {
@@ -95,6 +97,19 @@ pub fn goes_with(mode: Mode, order: &Order, e: &Edge, f: &Edge) -> bool
     are_clear(mode, order, e, f)
 }
 
+/// Whether edges of the kinds of these two may stand in one cycle of this mode, as far as held locks
+/// and guards tell: their held locks differ, and from Guarded on their guards have no gate lock.
+/// Threads and segments aren't looked at.
+#[tactic(auto, unfolding(crate::specs::Test::kinds_go_together))]
+pub fn kinds_go_together(mode: Mode, e: &Edge, f: &Edge) -> bool
+    ensures { result ≡ kinds_go_together mode e.now f.now }
+{
+    if e.held == f.held {
+        return false;
+    }
+    !(mode.asks_guards() && e.guards.clash_with(&f.guards))
+}
+
 /// Whether the second edge may follow the first one in a cycle of this mode: the first leads on to
 /// the second, their threads differ, from Guarded on their guards have no gate lock, and in Full
 /// they aren't ordered.
@@ -106,4 +121,60 @@ pub fn compatible(mode: Mode, order: &Order, e: &Edge, f: &Edge) -> bool
         return false;
     }
     are_clear(mode, order, e, f)
+}
+
+// Whether the second edge may follow the first one, whose guard sets have these numbers.
+#[tactic(auto, unfolding(crate::specs::Test::is_compatible, crate::specs::Test::is_clear))]
+fn compatible_by(
+    mode: Mode,
+    order: &Order,
+    sets: &GuardSets,
+    e: &Edge,
+    f: &Edge,
+    a: usize,
+    b: usize,
+) -> bool
+    requires one { slice_get sets.now.sets a ≡ Some e.now.guards }
+    requires other { slice_get sets.now.sets b ≡ Some f.now.guards }
+    ensures { result ≡ is_compatible (is_before order.now) mode e.now f.now }
+{
+    if e.thread == f.thread || !leads_on(e, f) {
+        return false;
+    }
+    if mode.asks_guards() && have_gate(sets, &e.guards, &f.guards, a, b) {
+        return false;
+    }
+    !(mode.asks_order() && are_ordered(order, e, f))
+}
+
+// Whether guard sets clash, by their numbers.
+fn have_gate(sets: &GuardSets, guards: &Guards, others: &Guards, a: usize, b: usize) -> bool
+    requires one { slice_get sets.now.sets a ≡ Some guards.now }
+    requires other { slice_get sets.now.sets b ≡ Some others.now }
+    ensures { result ≡ guards_clash guards.now others.now }
+{
+    sets.clash(a, b)
+}
+
+/// The same as [`compatible`] of the entries at two positions of a list, of which these are the guard
+/// sets.
+pub fn compatible_at(
+    mode: Mode,
+    order: &Order,
+    edges: &EdgeList,
+    sets: &GuardSets,
+    i: usize,
+    j: usize,
+) -> bool
+    requires one { i < length edges.now }
+    requires other { j < length edges.now }
+    requires sets { AreNumbered (guards_in edges.now) sets.now }
+    ensures { (e f : Edge) → slice_get (map (λ pair. pair.0) edges.now) i ≡ Some e → slice_get (map (λ pair. pair.0) edges.now) j ≡ Some f → result ≡ is_compatible (is_before order.now) mode e f }
+{
+    let entries = edges.entries();
+    let e = &entries[i].0;
+    let f = &entries[j].0;
+    let a = sets.id(i);
+    let b = sets.id(j);
+    compatible_by(mode, order, sets, e, f, a, b)
 }

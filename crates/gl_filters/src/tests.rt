@@ -8,9 +8,11 @@ ghost use Rattle.gl_segments.specs.Orders.{lists_of};
 use crate::pairs::{compatible, goes_with};
 use crate::query::{BadQuery, MAX_CYCLES, MAX_LEN, Mode, Query};
 use crate::verdict::{Verdict, judge};
-use gl_edges::{EdgeList, edges_of};
-use gl_event::{Event, Limits, LocId, LockId, LockMode, ThreadId};
+use gl_edges::{Edge, EdgeList, edges_of};
+use gl_event::{Event, Limits, LocId, LockId, LockMode, Memory, ThreadId};
 use gl_segments::Order;
+use std::alloc::Global;
+use std::process::Abort;
 use std::test::Fail;
 
 // An acquire.
@@ -114,135 +116,135 @@ fn verdicts_differ(rt: HostRuntime) {
     assert!(rt; Verdict::TooShort != Verdict::Valid);
 }
 
+// Lists of events, each a copy of one of these.
+fn copied(alloc: Global, lists: &[&[Event]]) -> Result<Vec<Vec<Event>>, Memory> {
+    let mut copies = Vec::new(alloc);
+    for list in lists {
+        copies.push(Vec::from_slice(alloc, list)?)?;
+    }
+    Ok(copies)
+}
+
+// The edges of lists of events, and the order of their segments.
+#[derive(Drop)]
+struct Known {
+    edges: EdgeList,
+    order: Order,
+}
+
+impl Known {
+    // Of copies of these lists, which have to be lawful.
+    fn of(rt: &impl Abort, alloc: Global, lists: &[&[Event]]) -> Result<Known, Fail> {
+        let lists = copied(alloc, lists)?;
+        assert!(rt; are_lawful(&lists));
+        let edges = edges_of(alloc, &lists)?;
+        let order = Order::of(alloc, &lists)?;
+        Ok(Known { edges, order })
+    }
+
+    // Whether the verdict on the edges at these positions is this one.
+    fn is_judged(&self, query: &Query, cycle: &[usize], wanted: Verdict) -> bool {
+        let count = self.edges.entries().len();
+        if !cycle.iter().all(|p| *p < count) {
+            return false;
+        }
+        judge(query, &self.order, &self.edges, cycle) == wanted
+    }
+}
+
+// The verdict on the edges at these positions, where a cycle of the mode has at most so many.
+fn expect(
+    rt: &impl Abort,
+    known: &Known,
+    mode: Mode,
+    len: u32,
+    cycle: &[usize],
+    wanted: Verdict,
+) -> Result<(), Fail> {
+    let query = Query::new(mode, len, 1)?;
+    assert!(rt; known.is_judged(&query, cycle, wanted));
+    Ok(())
+}
+
+// Two edges go on from each other until the order of segments is looked at.
+fn expect_apart_in_full(rt: &impl Abort, order: &Order, e: &Edge, f: &Edge) {
+    assert!(rt; compatible(Mode::Basic, order, e, f));
+    assert!(rt; compatible(Mode::Guarded, order, e, f));
+    assert!(rt; compatible(Mode::Guarded, order, f, e));
+    assert!(rt; !compatible(Mode::Full, order, e, f));
+    assert!(rt; !compatible(Mode::Full, order, f, e));
+    assert!(rt; goes_with(Mode::Guarded, order, e, f));
+    assert!(rt; !goes_with(Mode::Full, order, e, f));
+}
+
 // M (thread 0) joins T0 (thread 1) before it forks T1 (thread 2), and these take two locks in
 // opposite orders: only Full sees that they never wait for each other.
 #[test]
 fn ordered_or_shared_guard(rt: HostRuntime) -> Result<(), Fail> {
-    let alloc = rt.alloc();
-    let lists = vec![in alloc;
-        vec![in alloc; fork(1, 1), join(1, 2), fork(2, 3)]?,
-        vec![in alloc; acq(0, 4), acq(1, 5)]?,
-        vec![in alloc; acq(1, 6), acq(0, 7)]?,
-    ]?;
-    assert!(rt; are_lawful(&lists));
-    let order = Order::of(alloc, &lists)?;
-    let edges = edges_of(alloc, &lists)?;
-    match edges.entries() {
-        [(e, _), (f, _)] => {
-            assert!(rt; compatible(Mode::Basic, &order, e, f));
-            assert!(rt; compatible(Mode::Guarded, &order, e, f));
-            assert!(rt; compatible(Mode::Guarded, &order, f, e));
-            assert!(rt; !compatible(Mode::Full, &order, e, f));
-            assert!(rt; !compatible(Mode::Full, &order, f, e));
-            assert!(rt; goes_with(Mode::Guarded, &order, e, f));
-            assert!(rt; !goes_with(Mode::Full, &order, e, f));
-        }
+    let first = [fork(1, 1), join(1, 2), fork(2, 3)];
+    let second = [acq(0, 4), acq(1, 5)];
+    let third = [acq(1, 6), acq(0, 7)];
+    let known = Known::of(&rt, rt.alloc(), &[&first, &second, &third])?;
+    match known.edges.entries() {
+        [(e, _), (f, _)] => expect_apart_in_full(&rt, &known.order, e, f),
         _ => assert!(rt; false),
     }
-    if let (Ok(full), Ok(guarded)) = (
-        Query::new(Mode::Full, 4, 1),
-        Query::new(Mode::Guarded, 4, 1),
-    ) {
-        assert!(rt; is_judged(&full, &order, &edges, &[0, 1], Verdict::Ordered(0, 1)));
-        assert!(rt; is_judged(&guarded, &order, &edges, &[0, 1], Verdict::Valid));
-    } else {
-        assert!(rt; false);
-    }
-    Ok(())
+    expect(&rt, &known, Mode::Full, 4, &[0, 1], Verdict::Ordered(0, 1))?;
+    expect(&rt, &known, Mode::Guarded, 4, &[0, 1], Verdict::Valid)
+}
+
+// Two edges go on from each other until guards are looked at.
+fn expect_apart_from_guarded(rt: &impl Abort, order: &Order, e: &Edge, f: &Edge) {
+    assert!(rt; compatible(Mode::Basic, order, e, f));
+    assert!(rt; compatible(Mode::Basic, order, f, e));
+    assert!(rt; !compatible(Mode::Guarded, order, e, f));
+    assert!(rt; !compatible(Mode::Full, order, e, f));
+}
+
+// The edges d and f are of one thread, and e leads on to no edge from lock 0, as d is.
+fn expect_no_next(rt: &impl Abort, order: &Order, d: &Edge, e: &Edge, f: &Edge) {
+    assert!(rt; !compatible(Mode::Basic, order, d, f));
+    assert!(rt; !compatible(Mode::Basic, order, e, d));
+    assert!(rt; goes_with(Mode::Basic, order, e, d));
+    assert!(rt; !goes_with(Mode::Basic, order, d, f));
 }
 
 // Two threads take locks 1 and 2 in opposite orders, but both hold lock 0: a gate lock.
 #[test]
 fn gate_lock(rt: HostRuntime) -> Result<(), Fail> {
-    let alloc = rt.alloc();
-    let lists = vec![in alloc;
-        vec![in alloc; acq(0, 1), acq(1, 2), acq(2, 3)]?,
-        vec![in alloc; acq(0, 7), acq(2, 8), acq(1, 9)]?,
-    ]?;
-    assert!(rt; are_lawful(&lists));
-    let order = Order::of(alloc, &lists)?;
-    let edges = edges_of(alloc, &lists)?;
-    match edges.entries() {
+    let first = [acq(0, 1), acq(1, 2), acq(2, 3)];
+    let second = [acq(0, 7), acq(2, 8), acq(1, 9)];
+    let known = Known::of(&rt, rt.alloc(), &[&first, &second])?;
+    match known.edges.entries() {
         [_, _, (e, _), _, (d, _), (f, _)] => {
-            assert!(rt; compatible(Mode::Basic, &order, e, f));
-            assert!(rt; compatible(Mode::Basic, &order, f, e));
-            assert!(rt; !compatible(Mode::Guarded, &order, e, f));
-            assert!(rt; !compatible(Mode::Full, &order, e, f));
-            // The edges d and f are of one thread, and e leads on to no edge from lock 0.
-            assert!(rt; !compatible(Mode::Basic, &order, d, f));
-            assert!(rt; !compatible(Mode::Basic, &order, e, d));
-            assert!(rt; goes_with(Mode::Basic, &order, e, d));
-            assert!(rt; !goes_with(Mode::Basic, &order, d, f));
+            expect_apart_from_guarded(&rt, &known.order, e, f);
+            expect_no_next(&rt, &known.order, d, e, f);
         }
         _ => assert!(rt; false),
     }
     let gate = Verdict::SharedGuard(0, 1, LockId::new(0));
-    if let (Ok(guarded), Ok(basic)) = (
-        Query::new(Mode::Guarded, 4, 1),
-        Query::new(Mode::Basic, 4, 1),
-    ) {
-        assert!(rt; is_judged(&guarded, &order, &edges, &[2, 5], gate));
-        assert!(rt; is_judged(&basic, &order, &edges, &[2, 5], Verdict::Valid));
-    } else {
-        assert!(rt; false);
-    }
-    Ok(())
-}
-
-// Whether the verdict on the edges at these positions is this one.
-fn is_judged(
-    query: &Query,
-    order: &Order,
-    edges: &EdgeList,
-    cycle: &[usize],
-    wanted: Verdict,
-) -> bool {
-    let count = edges.entries().len();
-    if !cycle.iter().all(|p| *p < count) {
-        return false;
-    }
-    judge(query, order, edges, cycle) == wanted
+    expect(&rt, &known, Mode::Guarded, 4, &[2, 5], gate)?;
+    expect(&rt, &known, Mode::Basic, 4, &[2, 5], Verdict::Valid)
 }
 
 // The edges are 0 to 1, 0 to 2 and 1 to 2 of the first thread, and 2 to 0 of the second.
 #[test]
 fn judge_by_cases(rt: HostRuntime) -> Result<(), Fail> {
-    let alloc = rt.alloc();
-    let lists = vec![in alloc;
-        vec![in alloc; acq(0, 1), acq(0, 2), acq(1, 3), acq(2, 4)]?,
-        vec![in alloc; acq(2, 5), acq(0, 6)]?,
-    ]?;
-    assert!(rt; are_lawful(&lists));
-    let order = Order::of(alloc, &lists)?;
-    let edges = edges_of(alloc, &lists)?;
-    if let (Ok(query), Ok(short)) = (Query::new(Mode::Full, 4, 1), Query::new(Mode::Full, 2, 1)) {
-        assert!(rt; is_judged(&query, &order, &edges, &[], Verdict::TooShort));
-        assert!(rt; is_judged(&query, &order, &edges, &[1], Verdict::TooShort));
-        assert!(rt; is_judged(&query, &order, &edges, &[0, 3], Verdict::NotClosed(0)));
-        assert!(rt; is_judged(&query, &order, &edges, &[2, 3], Verdict::NotClosed(1)));
-        assert!(rt;
-            is_judged(
-                &query,
-                &order,
-                &edges,
-                &[1, 3, 1, 3],
-                Verdict::SameLock(0, 2)
-            )
-        );
-        assert!(rt;
-            is_judged(
-                &query,
-                &order,
-                &edges,
-                &[0, 2, 3],
-                Verdict::SameThread(0, 1)
-            )
-        );
-        assert!(rt; is_judged(&query, &order, &edges, &[3, 1], Verdict::NotLeast(1)));
-        assert!(rt; is_judged(&query, &order, &edges, &[1, 3], Verdict::Valid));
-        assert!(rt; is_judged(&short, &order, &edges, &[0, 2, 3], Verdict::TooLong));
-    } else {
-        assert!(rt; false);
+    let first = [acq(0, 1), acq(0, 2), acq(1, 3), acq(2, 4)];
+    let second = [acq(2, 5), acq(0, 6)];
+    let known = Known::of(&rt, rt.alloc(), &[&first, &second])?;
+    let cases: [(&[usize], Verdict); 8] = [
+        (&[], Verdict::TooShort),
+        (&[1], Verdict::TooShort),
+        (&[0, 3], Verdict::NotClosed(0)),
+        (&[2, 3], Verdict::NotClosed(1)),
+        (&[1, 3, 1, 3], Verdict::SameLock(0, 2)),
+        (&[0, 2, 3], Verdict::SameThread(0, 1)),
+        (&[3, 1], Verdict::NotLeast(1)),
+        (&[1, 3], Verdict::Valid),
+    ];
+    for (cycle, wanted) in cases {
+        expect(&rt, &known, Mode::Full, 4, cycle, wanted)?;
     }
-    Ok(())
+    expect(&rt, &known, Mode::Full, 2, &[0, 2, 3], Verdict::TooLong)
 }

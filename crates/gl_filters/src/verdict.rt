@@ -5,11 +5,11 @@ ghost use Rattle.gl_edges.specs.declared.edge.Edge.{Edge};
 ghost use Rattle.gl_filters.specs.Judging.{picked, clashes, IsFree, IsFirstAfter, NoPair, IsFirstPair, following, IsClosedAt, IsFirstOpen, IsNotLesserAt, IsFirstLesser, IsVerdict, IsLeastShared};
 ghost use Rattle.gl_filters.specs.declared.verdict.Clash.TheVariants.{Shared};
 ghost use Rattle.gl_filters.specs.Cycle.{HasGate};
-ghost use Rattle.gl_filters.specs.Test.{guards_clash};
+ghost use Rattle.gl_edges.specs.Clashes.{guards_clash};
 ghost use Rattle.std.specs.List.Sorted.{IsStrictlySortedBy};
 ghost use Rattle.gl_edges.specs.Guards.{guard_cmp};
 
-use crate::gate_locks::{clashes_with_any, have_gate};
+use crate::gate_locks::clashes_with_any;
 use crate::pairs::{are_ordered, leads_on};
 use crate::query::Query;
 use gl_edges::{Edge, EdgeList, Guard, Sample};
@@ -66,7 +66,7 @@ fn do_clash(clash: Clash, order: &Order, e: &Edge, f: &Edge) -> bool
     match clash {
         Clash::SameHeld => e.held == f.held,
         Clash::SameThreads => e.thread == f.thread,
-        Clash::Shared => have_gate(&e.guards, &f.guards),
+        Clash::Shared => e.guards.clash_with(&f.guards),
         Clash::InOrder => are_ordered(order, e, f),
     }
 }

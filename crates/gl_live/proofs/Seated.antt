@@ -9,7 +9,7 @@ use Rattle.std.specs.Prelude.{IfSome}
 use Rattle.std.proofs.lemmas.List.Elements.{All-append}
 use Rattle.gl_live.specs.Seats.{Seat, Seating, seating_of, seat_of, left_by, IsSeatOf, IsRecorderOf, IsReceiptOf}
 use Rattle.gl_engine.specs.Collecting.{Collecting}
-use Rattle.gl_engine.specs.Recording.{Recording, Closed, recorded, recorded_whole, push_note, next_note, last_note, closed_of}
+use Rattle.gl_engine.specs.Recording.{Recording, Closed, recorded, recorded_whole, with_pushed, next_note, last_note, closed_of}
 
 -- ---- one recorder
 
@@ -18,7 +18,7 @@ unfolding events_of
 events_none thread = refl
 
 -- one event more
-pub recorded_more : (r later : Recording) (event : Event) (room : ℕ) → later ≡ push_note r (next_note r event) room → recorded later ≡ recorded r ++ event ∷ []
+pub recorded_more : (r later : Recording) (event : Event) (room : ℕ) → later ≡ with_pushed r (next_note r event) room → recorded later ≡ recorded r ++ event ∷ []
 recorded_more r later event room is = ap recorded is ∙ events_more r.pushed (next_note r event) event refl
 
 -- a receipt has what its recorder took

@@ -78,11 +78,16 @@ fn settle(
 }
 
 // The report of what was settled, over the tables of all workers.
-fn report_settled(settled: Settled, tables: Vec<Table>, query: &Query) -> Result<Report, LiveFault>
+fn report_settled(
+    rt: &(impl Threads + Sync),
+    settled: Settled,
+    tables: Vec<Table>,
+    query: &Query,
+) -> Result<Report, LiveFault>
     ensures report { (receipts : List Closed) (sent : List AllSent) → IsSettled receipts settled sent → tables.items ≡ map (λ s. once s.sent) sent → IfOk result (λ report. IsGoodlockReport query.now settled report) }
     ensures fault { IfErr result (IsLiveFault settled) }
 {
-    match settled.report(tables, query) {
+    match settled.report(rt, tables, query) {
         Ok(report) => Ok(report),
         Err(fault) => Err(unreported(fault)),
     }
@@ -90,6 +95,7 @@ fn report_settled(settled: Settled, tables: Vec<Table>, query: &Query) -> Result
 
 // The report of a session that has run.
 fn conclude(
+    rt: &(impl Threads + Sync),
     ran: Ran,
     tables: Vec<Table>,
     lists: &[Vec<Event>],
@@ -110,7 +116,7 @@ fn conclude(
     let mut tables = tables;
     match settle(gathered, receipts.as_mut_slice(), lists) {
         Ok((settled, sent)) => match settle_workers(served, sent, &mut tables) {
-            Ok(()) => report_settled(settled, tables, query),
+            Ok(()) => report_settled(rt, settled, tables, query),
             Err(fault) => Err(fault),
         },
         Err(fault) => Err(fault),
@@ -168,7 +174,7 @@ pub fn live_report<R: Threads + Wait + Sync, G: Gate + Sync>(
         return Err(LiveFault::Memory);
     };
     match run_session(rt, alloc, lists, gate, session) {
-        Ok(ran) => conclude(ran, tables, lists, query),
+        Ok(ran) => conclude(rt, ran, tables, lists, query),
         Err(fault) => Err(fault),
     }
 }

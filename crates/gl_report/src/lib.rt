@@ -9,7 +9,7 @@ mod tree;
 pub use escapes::escaped_name;
 pub use printing::text;
 pub use stats::{Stats, stats_text};
-pub use tree::{json, json_text};
+pub use tree::{edge_json, json, json_text};
 
 #[cfg(test)]
 mod tests;

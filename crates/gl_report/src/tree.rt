@@ -73,9 +73,15 @@ fn guards_value(alloc: Global, names: &Names, guards: &Guards) -> Result<Value, 
     Ok(Value::from(values))
 }
 
-// An edge, with where it was seen.
+/// An edge as a JSON value of format 1, with where it was seen. Names are text, with odd bytes escaped.
+/// Err where memory was refused.
 #[tactic(auto, unfolding(crate::specs::Tree::edge_tree))]
-fn edge_value(alloc: Global, names: &Names, edge: &Edge, sample: &Sample) -> Result<Value, Memory>
+pub fn edge_json(
+    alloc: Global,
+    names: &Names,
+    edge: &Edge,
+    sample: &Sample,
+) -> Result<Value, Memory>
     ensures { IfOk result (λ v. view v ≡ edge_tree names.now (edge.now, sample.now)) }
 {
     let guards = guards_value(alloc, names, &edge.guards)?;
@@ -111,7 +117,7 @@ fn push_edge(
         return Ok(());
     }
     let pair = &table[position];
-    let value = edge_value(alloc, names, &pair.0, &pair.1)?;
+    let value = edge_json(alloc, names, &pair.0, &pair.1)?;
     values.push(value)?;
     Ok(())
 }

@@ -36,11 +36,24 @@ fn at(place: u32) -> Sample {
     }
 }
 
-// A table with one edge of thread 0.
-fn table_of(alloc: Global, held: u32, wanted: u32, place: u32) -> Result<Table, Memory> {
+// A table of edges of thread 0: from this lock to that one, at a place each.
+fn table_of(alloc: Global, rows: &[(u32, u32, u32)]) -> Result<Table, Memory> {
     let mut table = Table::new(alloc);
-    table.insert(edge(alloc, 0, held, wanted)?, at(place))?;
+    for (held, wanted, place) in rows {
+        table.insert(edge(alloc, 0, *held, *wanted)?, at(*place))?;
+    }
     Ok(table)
+}
+
+// The sample that the table has of an edge.
+fn sample_of(
+    alloc: Global,
+    table: &Table,
+    thread: u32,
+    held: u32,
+    wanted: u32,
+) -> Result<Option<Sample>, Memory> {
+    Ok(table.get(&edge(alloc, thread, held, wanted)?))
 }
 
 // Whether the edges are from these held locks, each with its place.
@@ -60,37 +73,40 @@ fn are_as_wanted(pairs: &[(Edge, Sample)], wants: &[(u32, u32)]) -> bool {
 #[test]
 fn least_sample(rt: HostRuntime) -> Result<(), Fail> {
     let alloc = rt.alloc();
-    let mut table = Table::new(alloc);
-    assert!(rt; table.len() == 0);
-    for place in [5, 2, 9] {
-        table.insert(edge(alloc, 0, 1, 2)?, at(place))?;
-    }
-    let wanted = edge(alloc, 0, 1, 2)?;
+    let table = table_of(alloc, &[(1, 2, 5), (1, 2, 2), (1, 2, 9)])?;
+    assert!(rt; Table::new(alloc).len() == 0);
     assert!(rt; table.len() == 1);
-    assert!(rt; table.get(&wanted) == Some(at(2)));
+    assert!(rt; sample_of(alloc, &table, 0, 1, 2)? == Some(at(2)));
 
     let copy = table.copy(alloc)?;
     assert!(rt; copy.len() == 1);
-    assert!(rt; copy.get(&wanted) == Some(at(2)));
+    assert!(rt; sample_of(alloc, &copy, 0, 1, 2)? == Some(at(2)));
     Ok(())
+}
+
+// A table with two edges that differ in their threads.
+fn two_threads(alloc: Global) -> Result<Table, Memory> {
+    let mut table = Table::new(alloc);
+    table.insert(edge(alloc, 1, 1, 2)?, at(7))?;
+    table.insert(edge(alloc, 0, 1, 2)?, at(8))?;
+    Ok(table)
+}
+
+// Whether the table has these two, and not one that wasn't inserted.
+fn has_both(alloc: Global, table: &Table) -> Result<bool, Memory> {
+    let first = sample_of(alloc, table, 0, 1, 2)?;
+    let second = sample_of(alloc, table, 1, 1, 2)?;
+    let none = sample_of(alloc, table, 1, 2, 1)?;
+    Ok(table.len() == 2 && first == Some(at(8)) && second == Some(at(7)) && none.is_none())
 }
 
 // Edges that differ are apart, and one that wasn't inserted isn't there.
 #[test]
 fn two_edges(rt: HostRuntime) -> Result<(), Fail> {
     let alloc = rt.alloc();
-    let mut table = Table::new(alloc);
-    table.insert(edge(alloc, 1, 1, 2)?, at(7))?;
-    table.insert(edge(alloc, 0, 1, 2)?, at(8))?;
-    assert!(rt; table.len() == 2);
-    assert!(rt; table.get(&edge(alloc, 0, 1, 2)?) == Some(at(8)));
-    assert!(rt; table.get(&edge(alloc, 1, 1, 2)?) == Some(at(7)));
-    assert!(rt; table.get(&edge(alloc, 1, 2, 1)?).is_none());
-
-    let copy = table.copy(alloc)?;
-    assert!(rt; copy.len() == 2);
-    assert!(rt; copy.get(&edge(alloc, 0, 1, 2)?) == Some(at(8)));
-    assert!(rt; copy.get(&edge(alloc, 1, 1, 2)?) == Some(at(7)));
+    let table = two_threads(alloc)?;
+    assert!(rt; has_both(alloc, &table)?);
+    assert!(rt; has_both(alloc, &table.copy(alloc)?)?);
     Ok(())
 }
 
@@ -102,6 +118,13 @@ fn shards(rt: HostRuntime) -> Result<(), Fail> {
     assert!(rt; shard_of(&edge(alloc, 3, 0, 7)?, 1) == 0);
     assert!(rt; shard_of(&edge(alloc, 3, 7, 0)?, 4) == 3);
     assert!(rt; shard_of(&edge(alloc, 5, 7, 1)?, 4) == 3);
+    Ok(())
+}
+
+// Of the most shards.
+#[test]
+fn sixteen_shards(rt: HostRuntime) -> Result<(), Fail> {
+    let alloc = rt.alloc();
     assert!(rt; shard_of(&edge(alloc, 0, 32, 1)?, MAX_SHARDS) == 0);
     assert!(rt; shard_of(&edge(alloc, 0, 31, 1)?, MAX_SHARDS) == 15);
     Ok(())
@@ -120,11 +143,8 @@ fn merge_of_none(rt: HostRuntime) -> Result<(), Fail> {
 #[test]
 fn merge_of_two(rt: HostRuntime) -> Result<(), Fail> {
     let alloc = rt.alloc();
-    let mut first = table_of(alloc, 5, 6, 3)?;
-    first.insert(edge(alloc, 0, 2, 3)?, at(9))?;
-    let mut second = table_of(alloc, 4, 5, 1)?;
-    second.insert(edge(alloc, 0, 2, 3)?, at(6))?;
-    second.insert(edge(alloc, 0, 5, 6)?, at(8))?;
+    let first = table_of(alloc, &[(5, 6, 3), (2, 3, 9)])?;
+    let second = table_of(alloc, &[(4, 5, 1), (2, 3, 6), (5, 6, 8)])?;
     let list = merge(alloc, vec![in alloc; first, second]?)?;
     assert!(rt; are_as_wanted(list.entries(), &[(2, 6), (4, 1), (5, 3)]));
     Ok(())

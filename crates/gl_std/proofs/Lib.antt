@@ -1,5 +1,6 @@
 pub mod CutLemmas
 pub mod FaultLemmas
+pub mod FeedLemmas
 mod GrowthLemmas
 pub mod HeardLemmas
 pub mod JudgingLemmas
@@ -13,5 +14,6 @@ pub mod SayingLemmas
 pub mod ShapeLemmas
 pub mod StandingLemmas
 pub mod StepLemmas
+pub mod StreamLemmas
 pub mod ToldLemmas
 pub mod WrittenLemmas

@@ -1,12 +1,10 @@
 -- A text that comes in pieces.
-use Rattle.std.proofs.Common.{◌≡◌, ◌≢◌, ℕ, ◌+◌, Bool, true, false, ◌||◌, cond, eqb, List, [], ◌∷◌, ◌++◌, length, Contains, Option, Some, None, is_some, Result, Ok, Err, refl, sym, ap, subst, ◌∙◌, append_assoc, length-append, arith}
-use Rattle.std.proofs.lemmas.Bool.{false≢true}
+use Rattle.std.proofs.Common.{◌≡◌, ◌≢◌, ℕ, ◌+◌, Bool, true, false, ◌||◌, cond, eqb, List, [], ◌∷◌, ◌++◌, length, Contains, Some, None, Result, Ok, Err, refl, sym, ap, subst, ◌∙◌, append_assoc, arith}
 use Rattle.std.proofs.lemmas.List.Folds.{list_any-append}
 use Rattle.gl_event.specs.Bounds.{Bounds}
 use Rattle.gl_std.specs.Line.{cut_at}
 use Rattle.gl_std.specs.Lines.{LF, lines, ended_lines, without_cr}
-use Rattle.gl_std.specs.Pieces.{judged, IsTold, IsFaulty, Knows}
-use Rattle.gl_std.specs.declared.pieces.PieceReader.{PieceReader}
+use Rattle.gl_std.specs.Pieces.{judged, IsTold, IsFaulty}
 use Rattle.gl_std.specs.Trace.{after_line, and_then, nothing, read_from, trace_of}
 use Rattle.gl_std.specs.declared.faults.StdKind.{StdKind}
 use Rattle.gl_std.specs.declared.faults.ReadFault.{ReadFault}
@@ -156,29 +154,9 @@ first_end rest end after cut =
 pub no_end : (rest : List ℕ) → None ≡ cut_at LF rest → ¬ Contains rest LF
 no_end rest cut = lf_free rest (cut_at-None LF rest (sym cut))
 
-pub end_behind : (text read end : List ℕ) → with_end (text ++ read) end ≡ text ++ with_end read end
-end_behind text read end =
-    append_assoc (text ++ read) end (LF ∷ []) ∙ append_assoc text read (end ++ LF ∷ []) ∙ ap (λ t. text ++ t) (sym (append_assoc read end (LF ∷ [])))
-
 pub more_read : (piece read rest end after : List ℕ) → piece ≡ read ++ rest → rest ≡ end ++ LF ∷ after → piece ≡ with_end read end ++ after
 more_read piece read rest end after is cut =
     is ∙ ap (λ t. read ++ t) cut ∙ sym (append_assoc read end (LF ∷ after)) ∙ sym (append_assoc (read ++ end) (LF ∷ []) after)
-
-pub lengths : (rest end after : List ℕ) → rest ≡ end ++ LF ∷ after → length rest ≡ length end + (1 + length after)
-lengths rest end after cut = let long = ap length cut in let parts = length-append end (LF ∷ after) in omega (arith, long, parts)
-
--- a fault in a line of the piece
-pub faulty_piece : (limits limits2 : Bounds) (text piece read rest end after : List ℕ) (at : ℕ) (kind : StdKind) → limits2 ≡ limits → piece ≡ read ++ rest → rest ≡ end ++ LF ∷ after → IsFaulty limits2 (with_end (text ++ read) end) at kind → IsFaulty limits (text ++ piece) at kind
-faulty_piece limits limits2 text piece read rest end after at kind same is cut faulty =
-    let whole : with_end (text ++ read) end ++ after ≡ text ++ piece =
-    ap (λ t. t ++ after) (end_behind text read end) ∙ append_assoc text (with_end read end) after ∙ ap (λ t. text ++ t) (sym (more_read piece read rest end after is cut)) in
-    subst (λ l. IsFaulty l (text ++ piece) at kind) same (subst (λ t. IsFaulty limits2 t at kind) whole (faulty_more limits2 (with_end (text ++ read) end) after at kind faulty))
-
--- the end of the piece, where no line ends
-pub told_piece : (limits : Bounds) (number : ℕ) (told : Trace) (unfinished unfinished2 text piece read rest : List ℕ) → piece ≡ read ++ rest → IsTold limits number told unfinished (text ++ read) → ¬ Contains rest LF → unfinished2 ≡ unfinished ++ rest → IsTold limits number told unfinished2 (text ++ piece)
-told_piece limits number told unfinished unfinished2 text piece read rest is so_far one same =
-    let whole : (text ++ read) ++ rest ≡ text ++ piece = append_assoc text read rest ∙ ap (λ t. text ++ t) (sym is) in
-    subst (λ u. IsTold limits number told u (text ++ piece)) (sym same) (subst (IsTold limits number told (unfinished ++ rest)) whole (told_more limits number told unfinished rest (text ++ read) so_far one))
 
 -- ---- the end of the text
 
@@ -204,15 +182,7 @@ some_of xs some e = some (ap length e)
 
 -- ---- also after a fault
 
--- what is known after a fault stays
-pub knows_more : (fault : Option (ℕ × StdKind)) (r : PieceReader) (text more : List ℕ) → is_some fault ≡ true → Knows fault r text → Knows fault r (text ++ more)
-knows_more None r text more some known = absurd (false≢true some)
-knows_more (Some fault) r text more some known = faulty_more r.reader.judge.limits text more fault.0 fault.1 known
-
 -- a fault in the lines that LF has ended is that of the text, whole or not
 pub faulty_judged : (limits : Bounds) (text : List ℕ) (at : ℕ) (kind : StdKind) (whole : Bool) → IsFaulty limits text at kind → trace_of limits (judged whole text) ≡ Err (Line at kind)
 faulty_judged limits text at kind true faulty = let rest = ended-part text in ap (trace_of limits) rest.1 ∙ faulty rest.0
 faulty_judged limits text at kind false faulty = ap (trace_of limits) (sym (append_nil (ended_lines text))) ∙ faulty []
-
-pub knows_fault : (fault : Option (ℕ × StdKind)) (r : PieceReader) (text : List ℕ) (at : ℕ) (kind : StdKind) (whole : Bool) → fault ≡ Some (at, kind) → Knows fault r text → trace_of r.reader.judge.limits (judged whole text) ≡ Err (Line at kind)
-knows_fault fault r text at kind whole is known = faulty_judged r.reader.judge.limits text at kind whole (subst (λ f. Knows f r text) is known)

@@ -126,7 +126,7 @@ shape_of-short line fits some =
     let empty : eqb (length line) 0 ≡ false = grind (arith, nat_tests, any) in
     sym (ap (λ v. cond v (Bad TooLong) (cond (eqb (length line) 0) Blank (short_shape line))) long ∙ ap (λ v. cond v Blank (short_shape line)) empty)
 
-shape_of-long : (line : List ℕ) → MAX_LINE < length line → Bad TooLong ≡ shape_of line
+pub shape_of-long : (line : List ℕ) → MAX_LINE < length line → Bad TooLong ≡ shape_of line
 shape_of-long line h =
     let long : nat_lt MAX_LINE (length line) ≡ true = grind (arith, nat_tests, h) in
     sym (ap (λ v. cond v (Bad TooLong) (cond (eqb (length line) 0) Blank (short_shape line))) long)

@@ -1,6 +1,8 @@
 -- The faults of a line in words.
 use Rattle.std.specs.Prelude.{ℕ, List, ◌++◌, codes}
 use Rattle.std.specs.Fmt.{decimal}
+use Rattle.gl_std.specs.declared.faults.LinesFault.{LinesFault}
+use Rattle.gl_std.specs.declared.faults.LinesFault.TheVariants.{Line as LinesLine, Read, Memory as LinesMemory}
 use Rattle.gl_std.specs.declared.faults.ReadFault.{ReadFault}
 use Rattle.gl_std.specs.declared.faults.ReadFault.TheVariants.{Line, Memory}
 use Rattle.gl_std.specs.declared.faults.StdKind.{StdKind}
@@ -25,3 +27,9 @@ text_of TooManyNames = codes "too many names"
 abbrev pub fault_text_of : ReadFault → List ℕ
 fault_text_of (Line line kind) = codes "line " ++ decimal line ++ codes ": " ++ text_of kind
 fault_text_of Memory = codes "out of memory"
+
+-- what is printed of why no further item comes
+abbrev pub lines_text_of : LinesFault → List ℕ
+lines_text_of (LinesLine line kind) = codes "line " ++ decimal line ++ codes ": " ++ text_of kind
+lines_text_of Read = codes "the text could not be read whole"
+lines_text_of LinesMemory = codes "out of memory"

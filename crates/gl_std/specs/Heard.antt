@@ -1,15 +1,16 @@
 -- What was heard of a source.
-use Rattle.std.specs.Prelude.{◌≡◌, ◌<◌, ◌≤◌, ℕ, Bool, true, false, List, [], ◌++◌, Option, length}
-use Rattle.std.specs.Io.KnownBytes.{Consumes, IsAtEnd}
+use Rattle.std.specs.Prelude.{◌≡◌, ℕ, Bool, true, false, List, ◌++◌, Option, Ok}
 use Rattle.gl_event.specs.Bounds.{Bounds}
 use Rattle.gl_io.specs.Reads.{HasRead}
-use Rattle.gl_io.specs.declared.source.TheConstants.{CHUNK}
-use Rattle.gl_std.specs.Pieces.{judged, Knows}
+use Rattle.gl_std.specs.Feeding.{HasGiven, IsOver, ReadsOn}
+use Rattle.gl_std.specs.Lines.{ended_lines}
+use Rattle.gl_std.specs.Pieces.{judged, IsFaulty}
 use Rattle.gl_std.specs.Trace.{trace_of}
 use Rattle.gl_std.specs.declared.text.Heard.{Heard}
-use Rattle.gl_std.specs.declared.text.TextReader.{TextReader}
-use Rattle.gl_std.specs.declared.text.Turn.{Turn}
-use Rattle.gl_std.specs.declared.text.Turn.TheVariants.{Gave, End, Broke}
+use Rattle.gl_std.specs.declared.text.Listing.{Listing}
+use Rattle.gl_std.specs.declared.text.Progress.{Progress}
+use Rattle.gl_std.specs.declared.text.Progress.TheVariants.{More, End, Fault, Broke}
+use Rattle.gl_std.specs.declared.trace.Trace.{Trace}
 
 -- the reads gave this text; what was heard is its trace, or its first fault: of all of it where it was read whole, else of the
 -- lines that LF has ended
@@ -18,14 +19,18 @@ pub record HasHeard (limits : Bounds) (turns : ℕ) (old new : Option (List ℕ)
   pub read : HasRead turns old new failed text heard.is_whole
   pub trace : trace_of limits (judged heard.is_whole text) ≡ heard.trace
 
--- the turn gave some bytes, a chunk at most, met the end, or broke off; what a piece is, the turn consumed
-abbrev pub TurnHeard : Turn → Option (List ℕ) → Option (List ℕ) → Bool → List ℕ → Type 0
-TurnHeard Gave old new failed piece = Consumes old new piece × (failed ≡ false) × (0 < length piece) × (length piece ≤ CHUNK)
-TurnHeard End old new failed piece = Consumes old new piece × (failed ≡ false) × IsAtEnd new × (piece ≡ [])
-TurnHeard Broke old new failed piece = Consumes old new piece × (failed ≡ true) × (piece ≡ [])
+-- the trace of the lines so far
+abbrev pub listed_by : Listing → Trace
+listed_by l = record { names = l.feed.judge.names; lists = l.lists; skipped = l.feed.judge.skipped; stray = l.feed.judge.stray }
 
--- a turn's piece joined the text that was known
-pub record HasTaken (turn : Turn) (old new : Option (List ℕ)) (failed : Bool) (before after : TextReader) : Type 0 where
+-- what was met where the reads gave this text by then: its lines so far told the trace of the lists, or one of them is at fault
+abbrev pub HasMet : Bounds → ℕ → Option (List ℕ) → Option (List ℕ) → Bool → Listing → List ℕ → Progress → Type 0
+HasMet limits turns start now failed l text More = ReadsOn limits turns start now l.feed text (listed_by l)
+HasMet limits turns start now failed l text End = HasRead turns start now failed text true × (l.feed.judge.limits ≡ limits) × IsOver l.feed text (listed_by l)
+HasMet limits turns start now failed l text (Fault number kind) = HasGiven turns start now l.feed.turns text × IsFaulty limits text number kind
+HasMet limits turns start now failed l text Broke = HasRead turns start now failed text false × (trace_of limits (ended_lines text) ≡ Ok (listed_by l))
+
+-- that was met from such a text on, after which a piece more may have been read
+pub record Meets (limits : Bounds) (turns : ℕ) (start now : Option (List ℕ)) (failed : Bool) (l : Listing) (text : List ℕ) (progress : Progress) : Type 0 where
   pub piece : List ℕ
-  pub heard : TurnHeard turn old new failed piece
-  pub knows : (text : List ℕ) → Knows before.fault before.pieces text → Knows after.fault after.pieces (text ++ piece)
+  pub met : HasMet limits turns start now failed l (text ++ piece) progress

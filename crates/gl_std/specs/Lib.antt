@@ -1,4 +1,5 @@
 pub mod Faults
+pub mod Feeding
 pub mod Heard
 pub mod Judging
 pub mod Laws
@@ -9,5 +10,6 @@ pub mod Names
 pub mod Pieces
 pub mod Reading
 pub mod Standings
+pub mod Streaming
 pub mod Trace
 pub mod Written

@@ -1,12 +1,10 @@
 -- A text that comes in pieces: what is known of it after each.
-use Rattle.std.specs.Prelude.{◌≡◌, ℕ, Bool, List, ◌++◌, Contains, Option, Some, None, Err, if◌then◌else◌}
+use Rattle.std.specs.Prelude.{◌≡◌, ℕ, Bool, List, ◌++◌, Contains, Err, if◌then◌else◌}
 use Rattle.gl_event.specs.Bounds.{Bounds}
 use Rattle.gl_std.specs.Lines.{LF, lines, ended_lines}
-use Rattle.gl_std.specs.Reading.{told_by}
 use Rattle.gl_std.specs.Trace.{read_from, trace_of}
 use Rattle.gl_std.specs.declared.faults.StdKind.{StdKind}
 use Rattle.gl_std.specs.declared.faults.ReadFault.TheVariants.{Line}
-use Rattle.gl_std.specs.declared.pieces.PieceReader.{PieceReader}
 use Rattle.gl_std.specs.declared.trace.Trace.{Trace}
 
 -- `told` is the trace of the text's lines that LF has ended, and any text that begins with them goes on from there, with the
@@ -20,15 +18,6 @@ pub record IsTold (limits : Bounds) (number : ℕ) (told : Trace) (unfinished te
 abbrev pub IsFaulty : Bounds → List ℕ → ℕ → StdKind → Type 0
 IsFaulty limits text number kind = (rest : List ℕ) → trace_of limits (ended_lines text ++ rest) ≡ Err (Line number kind)
 
--- this is known of the text
-abbrev pub Tells : PieceReader → List ℕ → Type 0
-Tells r text = IsTold r.reader.judge.limits r.reader.judge.line (told_by r.reader) r.unfinished.items text
-
 -- the part of a text that is judged: all of it where it is whole, else the lines that LF has ended
 abbrev pub judged : Bool → List ℕ → List ℕ
 judged whole text = if whole then text else ended_lines text
-
--- this is known of the text: its trace so far, or its first fault
-abbrev pub Knows : Option (ℕ × StdKind) → PieceReader → List ℕ → Type 0
-Knows None r text = Tells r text
-Knows (Some fault) r text = IsFaulty r.reader.judge.limits text fault.0 fault.1

@@ -113,3 +113,31 @@ impl<T: Drop> From<AllocFailed<T>> for ReadFault {
         ReadFault::Memory
     }
 }
+
+/// Why no further item comes.
+#[derive(Clone, Copy, Debug, PartialEq, Eq, Hash)]
+pub enum LinesFault {
+    /// The first line that is no event, with its number from 1 on.
+    Line { line: u64, kind: StdKind },
+    /// A read failed, or the turns were used up before the end.
+    Read,
+    /// A growth was refused.
+    Memory,
+}
+
+impl fmt::Display for LinesFault {
+    ghost use Rattle.std.specs.Prelude.{Some};
+    ghost use Rattle.gl_std.specs.Faults.{lines_text_of};
+
+    ghost output = { λ fault. Some (lines_text_of fault) };
+
+    fn fmt<W: fmt::Write>(&self, f: &mut fmt::Formatter<W>) -> fmt::Result {
+        match self {
+            LinesFault::Line { line, kind } => write!(f, "line {line}: {kind}"),
+            LinesFault::Read => f.write_str("the text could not be read whole"),
+            LinesFault::Memory => f.write_str("out of memory"),
+        }
+    }
+}
+
+impl Error for LinesFault {}

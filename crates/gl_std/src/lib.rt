@@ -36,6 +36,7 @@
 #![tactic(auto)]
 
 mod faults;
+mod feed;
 mod judge;
 mod laws;
 mod line;
@@ -43,18 +44,18 @@ mod lines;
 mod lists;
 mod name;
 mod names;
-mod pieces;
 mod read;
 mod reader;
 mod seed;
 mod standing;
+mod stream;
 #[cfg(test)]
 mod tests;
 mod text;
 mod trace;
 mod writing;
 
-pub use faults::{ReadFault, StdKind};
+pub use faults::{LinesFault, ReadFault, StdKind};
 pub use gl_io::{Failed, FromStd, Sink, Source};
 pub use laws::{
     faults_come_first, lines_are_unique, lines_follow_lines, lines_say_one_thing, reading_goes_on,
@@ -66,6 +67,7 @@ pub use lists::Lists;
 pub use names::Names;
 pub use read::read_trace;
 pub use seed::Seed;
+pub use stream::{Item, Lines};
 pub use text::{Heard, read_source};
 pub use trace::Trace;
 pub use writing::write_trace;

@@ -1,15 +1,23 @@
 //! Reading the text that a source gives.
-ghost use Rattle.std.specs.Prelude.{◌≡◌, ℕ, ◌+◌, ◌^◌, ◌<◌, ◌≤◌, List, [], ◌++◌, None, IfOk, OnOk, length, false};
-ghost use Rattle.gl_std.specs.Heard.{HasHeard, HasTaken};
-ghost use Rattle.gl_std.specs.Reading.{IsReady};
-ghost use Rattle.gl_std.specs.Trace.{IsTraceOver};
+ghost use Rattle.std.specs.Prelude.{◌≡◌, ℕ, ◌^◌, ◌<◌, ◌≤◌, List, [], Option, Ok, IfOk, OnOk, length, vec_len, false, true};
+ghost use Rattle.gl_event.specs.Bounds.{Bounds};
+ghost use Rattle.gl_io.specs.declared.source.TheConstants.{CHUNK};
+ghost use Rattle.gl_std.specs.Feeding.{fuel, HasGiven, IsFit, IsOver, ReadsOn};
+ghost use Rattle.gl_std.specs.Heard.{listed_by, HasHeard, Meets};
+ghost use Rattle.gl_std.specs.Judging.{with_judged, IsKnown};
+ghost use Rattle.gl_std.specs.Pieces.{IsFaulty};
+ghost use Rattle.gl_std.specs.Trace.{nothing, trace_of, IsTraceOver};
+ghost use Rattle.gl_std.specs.declared.faults.StdKind.{StdKind as Kind};
+ghost use Rattle.gl_std.specs.declared.trace.Trace.{Trace};
 
-use crate::faults::{ReadFault, StdKind};
-use crate::pieces::PieceReader;
+use crate::faults::{LinesFault, ReadFault, StdKind};
+use crate::feed::{Feed, Step};
+use crate::judge::Judged;
+use crate::lists::Lists;
 use crate::seed::Seed;
 use crate::trace::Trace;
 use gl_event::Limits;
-use gl_io::{CHUNK, Failed, Source};
+use gl_io::Source;
 use std::alloc::{AllocError, Global};
 
 /// What was heard of a source.
@@ -22,107 +30,128 @@ pub struct Heard {
     pub is_whole: bool,
 }
 
-/// A text that comes in pieces, also after its first fault.
+/// The lists of the lines so far, beside what comes after them.
 #[derive(Drop)]
-pub(crate) struct TextReader {
-    pieces: PieceReader,
-    fault: Option<(u64, StdKind)>,
+pub(crate) struct Listing {
+    alloc: Global,
+    feed: Feed,
+    lists: Lists,
 }
 
-impl TextReader {
-    ghost use Rattle.gl_std.specs.Pieces.{judged, Knows};
-    ghost use Rattle.gl_std.specs.Trace.{trace_of};
-
-    /// No byte has come.
-    fn new(alloc: Global, limits: Limits, seed: Seed) -> TextReader
-        ensures knows { Knows result.fault result.pieces [] }
-        ensures ready { IsReady result.pieces.reader }
-        ensures limits { result.pieces.reader.judge.limits ≡ limits }
-        ensures line { result.pieces.reader.judge.line ≡ 1 }
-    {
-        TextReader {
-            pieces: PieceReader::new(alloc, limits, seed),
-            fault: None,
-        }
-    }
-
-    /// Reads the next piece, if there was no fault.
-    fn take(&mut self, piece: &[u8]) -> Result<(), AllocError>
-        requires ready { self.old.fault ≡ None → IsReady self.old.pieces.reader }
-        requires countable { self.old.fault ≡ None → self.old.pieces.reader.judge.line + length piece.now + 1 < 2 ^ 64 }
-        ensures knows { OnOk result ((text : List ℕ) → Knows self.old.fault self.old.pieces text → Knows self.new.fault self.new.pieces (text ++ piece.now)) }
-        ensures ready { OnOk result (self.new.fault ≡ None → IsReady self.new.pieces.reader) }
-        ensures line { OnOk result (self.new.fault ≡ None → (self.old.fault ≡ None) × (self.new.pieces.reader.judge.line ≤ self.old.pieces.reader.judge.line + length piece.now)) }
-        ensures limits { self.new.pieces.reader.judge.limits ≡ self.old.pieces.reader.judge.limits }
-    {
-        if self.fault.is_some() {
-            return Ok(());
-        }
-        match self.pieces.take(piece) {
-            Ok(()) => Ok(()),
-            Err(ReadFault::Line { line, kind }) => {
-                self.fault = Some((line, kind));
-                Ok(())
-            }
-            Err(ReadFault::Memory) => Err(AllocError),
-        }
-    }
-
-    /// What was heard, where no more comes.
-    fn finish(self, is_whole: bool) -> Result<Heard, AllocError>
-        requires ready { self.fault ≡ None → IsReady self.pieces.reader }
-        requires countable { self.fault ≡ None → self.pieces.reader.judge.line + 1 < 2 ^ 64 }
-        ensures trace { IfOk result (λ h. (text : List ℕ) → Knows self.fault self.pieces text → trace_of self.pieces.reader.judge.limits (judged is_whole text) ≡ h.trace) }
-        ensures whole { IfOk result (λ h. h.is_whole ≡ is_whole) }
-    {
-        if let Some((line, kind)) = self.fault {
-            let trace = Err(ReadFault::Line { line, kind });
-            return Ok(Heard { trace, is_whole });
-        }
-        match self.pieces.finish(is_whole) {
-            Ok(trace) => Ok(Heard {
-                trace: Ok(trace),
-                is_whole,
-            }),
-            Err(ReadFault::Line { line, kind }) => {
-                let trace = Err(ReadFault::Line { line, kind });
-                Ok(Heard { trace, is_whole })
-            }
-            Err(ReadFault::Memory) => Err(AllocError),
-        }
-    }
-}
-
-// What one turn of reading met.
+// What a step of reading met.
 #[derive(Clone, Copy)]
-enum Turn {
-    Gave,
+enum Progress {
+    More,
     End,
+    Fault { line: u64, kind: StdKind },
     Broke,
 }
 
-// One read, whose bytes the reader takes.
-fn take_turn<R: Source>(
-    input: &mut R,
-    buffer: &mut [u8],
-    reader: &mut TextReader,
-) -> Result<Turn, AllocError>
-    requires not_failed { R.failed input.old ≡ false }
-    requires room { length buffer.old ≡ CHUNK }
-    requires ready { reader.old.fault ≡ None → IsReady reader.old.pieces.reader }
-    requires countable { reader.old.fault ≡ None → reader.old.pieces.reader.judge.line + CHUNK + 1 < 2 ^ 64 }
-    ensures taken { IfOk result (λ turn. HasTaken turn (R.remaining input.old) (R.remaining input.new) (R.failed input.new) reader.old reader.new) }
-    ensures ready { OnOk result (reader.new.fault ≡ None → IsReady reader.new.pieces.reader) }
-    ensures line { OnOk result (reader.new.fault ≡ None → (reader.old.fault ≡ None) × (reader.new.pieces.reader.judge.line ≤ reader.old.pieces.reader.judge.line + CHUNK)) }
-    ensures limits { reader.new.pieces.reader.judge.limits ≡ reader.old.pieces.reader.judge.limits }
-{
-    match input.read(buffer) {
-        Ok(0) => Ok(Turn::End),
-        Ok(count) => {
-            reader.take(&buffer[..count])?;
-            Ok(Turn::Gave)
+impl Listing {
+    /// No line was read.
+    fn new(alloc: Global, limits: &Limits, turns: u64, seed: Seed) -> Result<Listing, AllocError>
+        requires few_turns { turns ≤ 2 ^ 40 }
+        ensures fit { IfOk result (λ l. IsFit l.feed) }
+        ensures reads { IfOk result (λ l. (start : Option (List ℕ)) → ReadsOn limits.now turns start start l.feed [] nothing) }
+        ensures none { IfOk result (λ l. l.lists ≡ []) }
+    {
+        Ok(Listing {
+            alloc,
+            feed: Feed::new(alloc, limits, turns, seed)?,
+            lists: Lists::new(Vec::new(alloc)),
+        })
+    }
+
+    /// One line, or one read.
+    fn take<R: Source>(&mut self, input: &mut R) -> Result<Progress, AllocError>
+        requires fit { IsFit self.old.feed }
+        requires not_failed { R.failed input.old ≡ false }
+        ensures meets { IfOk result (λ progress. (limits : Bounds) (turns : ℕ) (start : Option (List ℕ)) (text : List ℕ) → ReadsOn limits turns start (R.remaining input.old) self.old.feed text (listed_by self.old)
+            → Meets limits turns start (R.remaining input.new) (R.failed input.new) self.new text progress) }
+        ensures fit { result ≡ Ok Progress.More → IsFit self.new.feed }
+        ensures fit_end { result ≡ Ok Progress.End → IsFit self.new.feed }
+        ensures smaller { result ≡ Ok Progress.More → fuel self.new.feed < fuel self.old.feed }
+        ensures sound { result ≡ Ok Progress.More → R.failed input.new ≡ false }
+        ensures sound_at_fault { (line : ℕ) (kind : Kind) → result ≡ Ok (Progress.Fault line kind) → R.failed input.new ≡ false }
+        ensures room { vec_len self.new.feed.buffer ≡ vec_len self.old.feed.buffer }
+    {
+        match self.feed.step(input) {
+            Ok(Step::More) => Ok(Progress::More),
+            Ok(Step::Told(judged)) => {
+                self.put(judged)?;
+                Ok(Progress::More)
+            }
+            Ok(Step::End) => Ok(Progress::End),
+            Err(LinesFault::Line { line, kind }) => Ok(Progress::Fault { line, kind }),
+            Err(LinesFault::Read) => Ok(Progress::Broke),
+            Err(LinesFault::Memory) => Err(AllocError),
         }
-        Err(Failed) => Ok(Turn::Broke),
+    }
+
+    // Puts an event into its thread's list.
+    fn put(&mut self, judged: Judged) -> Result<(), AllocError>
+        requires known { IsKnown judged (length self.old.feed.judge.names.threads) }
+        ensures lists { OnOk result ((told : Trace) → told.lists ≡ self.old.lists → self.new.lists ≡ (with_judged judged self.old.feed.judge.names told).lists) }
+        ensures same { self.new.feed ≡ self.old.feed }
+    {
+        match judged {
+            Judged::Blank => Ok(()),
+            Judged::Skipped => Ok(()),
+            Judged::Stray => Ok(()),
+            Judged::Event { thread, event } => {
+                let threads = self.feed.threads();
+                self.lists.put(self.alloc, threads, thread, event)
+            }
+        }
+    }
+
+    /// What was heard, where the source has ended.
+    fn finish(mut self) -> Result<Heard, AllocError>
+        requires fit { IsFit self.feed }
+        ensures trace { IfOk result (λ h. (text : List ℕ) → IsOver self.feed text (listed_by self) → trace_of self.feed.judge.limits text ≡ h.trace) }
+        ensures whole { IfOk result (λ h. h.is_whole ≡ true) }
+    {
+        match self.feed.last() {
+            Ok(judged) => {
+                self.put(judged)?;
+                Ok(Heard {
+                    trace: Ok(self.into_trace()),
+                    is_whole: true,
+                })
+            }
+            Err(ReadFault::Line { line, kind }) => Ok(Heard {
+                trace: Err(ReadFault::Line { line, kind }),
+                is_whole: true,
+            }),
+            Err(ReadFault::Memory) => Err(AllocError),
+        }
+    }
+
+    /// What was heard, where a line is at fault. The source is still read to its end.
+    fn drain<R: Source>(mut self, input: &mut R, line: u64, kind: StdKind) -> Heard
+        requires room { vec_len self.feed.buffer ≡ CHUNK }
+        requires not_failed { R.failed input.old ≡ false }
+        ensures { (limits : Bounds) (turns : ℕ) (start : Option (List ℕ)) (text : List ℕ) → HasGiven turns start (R.remaining input.old) self.feed.turns text → IsFaulty limits text line kind
+            → HasHeard limits turns start (R.remaining input.new) (R.failed input.new) result }
+    {
+        let is_whole = self.feed.drain(input);
+        Heard {
+            trace: Err(ReadFault::Line { line, kind }),
+            is_whole,
+        }
+    }
+
+    /// The trace of the lines so far.
+    fn into_trace(self) -> Trace
+        ensures { result ≡ listed_by self }
+    {
+        let (names, skipped, stray) = self.feed.into_parts();
+        Trace {
+            names,
+            lists: self.lists,
+            skipped,
+            stray,
+        }
     }
 }
 
@@ -131,9 +160,10 @@ fn take_turn<R: Source>(
 /// before. Then only the lines that LF has ended are judged. After a fault the source is still read
 /// to its end.
 ///
-/// Err where memory was refused. Only names, events and one line are kept in memory, and [`CHUNK`]
-/// bytes. Time grows with the length of the text: each line is cut once, and each of its names is
-/// looked up once by hash. For texts of others the seed is one that was drawn at random.
+/// Err where memory was refused. Only names, events and what was read last are kept in memory, and of
+/// a line that isn't ended so much as tells that it is too long. Time grows with the length of the
+/// text: each line is cut once, and each of its names is looked up once by hash. For texts of others
+/// the seed is one that was drawn at random.
 pub fn read_source<R: Source>(
     alloc: Global,
     input: &mut R,
@@ -146,14 +176,18 @@ pub fn read_source<R: Source>(
     ensures heard { IfOk result (HasHeard limits.now turns (R.remaining input.old) (R.remaining input.new) (R.failed input.new)) }
     ensures over { IfOk result (λ h. IfOk h.trace (IsTraceOver limits.now)) }
 {
-    let mut buffer = vec![in alloc; 0u8; CHUNK]?;
-    let mut reader = TextReader::new(alloc, *limits, seed);
-    for turn in 0..turns {
-        match take_turn(input, buffer.as_mut_slice(), &mut reader)? {
-            Turn::Gave => {}
-            Turn::End => return reader.finish(true),
-            Turn::Broke => return reader.finish(false),
+    let mut listing = Listing::new(alloc, limits, turns, seed)?;
+    'lines: loop {
+        match listing.take(input)? {
+            Progress::More => {}
+            Progress::End => return listing.finish(),
+            Progress::Fault { line, kind } => return Ok(listing.drain(input, line, kind)),
+            Progress::Broke => {
+                return Ok(Heard {
+                    trace: Ok(listing.into_trace()),
+                    is_whole: false,
+                });
+            }
         }
     }
-    reader.finish(false)
 }

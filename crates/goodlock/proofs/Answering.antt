@@ -1,22 +1,30 @@
 -- What is answered to a text of which the trace, or the first fault, is known.
-use Rattle.std.proofs.Common.{◌≡◌, ◌∙◌, ℕ, Bool, List, Option, Result, Ok, Err, IfOk, IfErr, sym, ap, subst, inl, inr}
+use Rattle.std.proofs.Common.{◌≡◌, ◌∙◌, ℕ, Bool, List, [], ◌∷◌, Option, Some, Result, Ok, Err, IfOk, IfErr, sym, ap, subst, inl, inr}
+use Rattle.std.specs.Prelude.{slice_get}
+use Rattle.std.proofs.lemmas.Option.{same_Some}
 use Rattle.gl_event.specs.Bounds.{greatest}
+use Rattle.gl_event.specs.declared.events.Event.{Event}
 use Rattle.gl_event.specs.declared.events.Segment.{Segment}
 use Rattle.gl_std.specs.Trace.{trace_of}
 use Rattle.gl_std.specs.declared.faults.ReadFault.{ReadFault}
 use Rattle.gl_std.specs.declared.trace.Trace.{Trace}
+use Rattle.gl_segments.specs.Segments.{Before, IsLeastInRing, IsRing}
 use Rattle.gl_filters.specs.Asked.{Asked}
+use Rattle.gl_cycles.specs.Reports.{IsGoodlockReport}
 use Rattle.gl_cycles.specs.declared.found.Report.{Report}
-use Rattle.goodlock.specs.Answer.{Answer, IsAnswer, IsPlainAnswer, report_of}
+use Rattle.goodlock.specs.Answer.{Answer, IsAnswer, IsLeastBeforeItself, IsPlainAnswer, report_of}
 use Rattle.goodlock.specs.Answer.Answer.{Prints, Refusal}
 use Rattle.goodlock.specs.Answer.IsAnswer.{bad_line, no_order, ordered}
 use Rattle.goodlock.specs.Answer.IsPlainAnswer.{bad_line as plain_fault}
-use Rattle.goodlock.specs.Ending.{EndsAs, EndsWith, HasEnded, HasHeardAll}
+use Rattle.goodlock.specs.Ending.{EndsAs, EndsLiveWith, EndsWith, HasEnded, HasEndedLive, HasHeardAll}
 use Rattle.goodlock.specs.Ending.HasEnded.{ended_so}
-use Rattle.goodlock.specs.Stops.{IfRefused, IsFaultIn, IsReportOf, SaysWhyNoReport}
+use Rattle.goodlock.specs.Ending.HasEndedLive.{confirmed, unconfirmed}
+use Rattle.goodlock.specs.Stops.{IfRefused, IfStopped, IsFaultIn, IsReportOf, SaysWhyNoReport}
 use Rattle.goodlock.specs.declared.answer.Printed.{Printed}
 use Rattle.goodlock.specs.declared.answer.Stop.{Stop}
 use Rattle.goodlock.specs.declared.answer.Stop.TheVariants.{Refused, Memory}
+use Rattle.goodlock.specs.declared.recorded.LiveStop.{LiveStop}
+use Rattle.goodlock.specs.declared.recorded.LiveStop.TheVariants.{Stopped, Unconfirmed}
 use Rattle.goodlock.specs.declared.ended.Ended.{Ended}
 use Rattle.goodlock.specs.declared.ended.Ended.TheVariants as variant
 
@@ -24,6 +32,10 @@ use Rattle.goodlock.specs.declared.ended.Ended.TheVariants as variant
 pub refused_then : (stop : Stop) (P Q : List ℕ → Type 0) → ((line : List ℕ) → P line → Q line) → IfRefused stop P → IfRefused stop Q
 refused_then (Refused line) P Q then said = then line.items said
 refused_then Memory P Q then said = tt
+
+pub stopped_then : (stop : LiveStop) (P Q : List ℕ → Type 0) → ((line : List ℕ) → P line → Q line) → IfStopped stop P → IfStopped stop Q
+stopped_then (Stopped stop) P Q then said = refused_then stop P Q then said
+stopped_then Unconfirmed P Q then said = tt
 
 -- a line that says why there is no report
 pub no_report : (printed : (Segment → Segment → Bool) → Trace → Answer) (read : Result Trace ReadFault) (line : List ℕ) → SaysWhyNoReport read line
@@ -42,6 +54,22 @@ pub with_report : (printed : (Segment → Segment → Bool) → Trace → Answer
     → (text : List ℕ) → trace_of greatest text ≡ read → IsAnswer printed text (from report)
 with_report printed from asked read trace report of same text is =
     subst (IsAnswer printed text) (same of.before ∙ ap from (sym of.is_report)) (ordered trace of.before (is ∙ of.is_read) of.consistent of.decides)
+
+-- where a session gave the report
+pub with_session : (printed : (Segment → Segment → Bool) → Trace → Answer) (from : Report → Answer) (asked : Asked) (read : Result Trace ReadFault) (trace : Trace) (report : Report)
+    → read ≡ Ok trace → IsGoodlockReport asked trace.lists report → ((before : Segment → Segment → Bool) → printed before trace ≡ from (report_of asked before trace))
+    → (text : List ℕ) → trace_of greatest text ≡ read → IsAnswer printed text (from report)
+with_session printed from asked read trace report was of =
+    with_report printed from asked read trace report (record { is_read = was; before = of.before; consistent = of.consistent; decides = of.decides; is_report = of.is })
+
+-- a ring leads from its first segment back to it
+before_itself : (lists : List (List Event)) (ring : List Segment) (at : Segment) → slice_get ring 0 ≡ Some at → IsRing lists ring → Before lists at at
+before_itself lists [] at begins rings = absurd rings
+before_itself lists (s ∷ via) at begins rings = subst (λ x. Before lists x x) (same_Some s at begins) (via, rings)
+
+-- the least segment in a ring is before itself
+pub least_of_ring : (lists : List (List Event)) (at : Segment) (ring : List Segment) → IsLeastInRing lists at ring → IsLeastBeforeItself lists at
+least_of_ring lists at ring is = record { loops = before_itself lists ring at is.begins is.rings; least = is.least }
 
 -- an answer to the text that was read whole, written or refused, ends a command
 pub ends : (IsAnswered : List ℕ → Answer → Type 0) (turns : ℕ) (given left : Option (List ℕ)) (read_failed : Bool) (read : Result Trace ReadFault) (answered : Result Printed Stop) (old new : Option (List ℕ)) (failed : Bool) (ended : Ended)
@@ -62,5 +90,19 @@ ends A turns given left read_failed read answered old new failed ended heard goo
     go (Ok p) (variant.Refused line) good bad how = absurd how
     go (Ok p) variant.Memory good bad how = absurd how
     go (Ok p) variant.ReadFailed good bad how = absurd how
+    go (Ok p) variant.Unconfirmed good bad how = absurd how
     go (Err (Refused line)) end good bad how = subst (EndsAs A heard.text old new failed) (sym how.0) (how.1, bad heard.text heard.trace, how.2)
     go (Err Memory) end good bad how = subst (EndsAs A heard.text old new failed) (sym how.0) (how.1, how.2)
+
+-- and so does that of a session, unless it isn't confirmed
+pub ends_live : (IsAnswered : List ℕ → Answer → Type 0) (turns : ℕ) (given left : Option (List ℕ)) (read_failed : Bool) (read : Result Trace ReadFault) (answered : Result Printed LiveStop) (old new : Option (List ℕ)) (failed : Bool) (ended : Ended)
+    → HasHeardAll turns given left read_failed read
+    → IfOk answered (λ p. (text : List ℕ) → trace_of greatest text ≡ read → IsAnswered text (Prints p.text.items p.outcome))
+    → IfErr answered (λ stop. IfStopped stop (λ line. (text : List ℕ) → trace_of greatest text ≡ read → IsAnswered text (Refusal line)))
+    → EndsLiveWith answered old new failed ended → HasEndedLive IsAnswered turns given left read_failed old new failed ended
+ends_live A turns given left read_failed read (Ok p) old new failed ended heard good bad how =
+    confirmed ended (ends A turns given left read_failed read (Ok p) old new failed ended heard good tt how)
+ends_live A turns given left read_failed read (Err (Stopped stop)) old new failed ended heard good bad how =
+    confirmed ended (ends A turns given left read_failed read (Err stop) old new failed ended heard tt bad how)
+ends_live A turns given left read_failed read (Err Unconfirmed) old new failed ended heard good bad how =
+    subst (HasEndedLive A turns given left read_failed old new failed) (sym how.0) (unconfirmed heard.text heard.whole how.1 how.2)

@@ -1,20 +1,22 @@
 -- Numbers and queries that are read of options.
-use Rattle.std.proofs.Common.{◌≡◌, length, ◌<◌, ◌≤◌, ◌∙◌, ◌⊎◌, inl, inr, ℕ, Bool, true, false, List, [], Option, Some, None, Result, Ok, Err, refl, sym, ap, subst, arith, nat_lt, IfSome, option_map}
+use Rattle.std.proofs.Common.{◌≡◌, length, ◌<◌, ◌∙◌, ◌⊎◌, inl, inr, ℕ, true, false, List, [], Option, Some, None, Result, Ok, Err, refl, sym, ap, subst, IfSome, option_map}
 use Rattle.std.specs.Prelude.{◌==◌, unwrap_or}
-use Rattle.std.specs.Str.Parse.{ParsesUnsigned, IsNumeral, digits_value, without_leading_plus}
+use Rattle.std.specs.Str.Parse.{ParsesUnsigned, digits_value, without_leading_plus}
 use Rattle.clap.specs.Matches.{ReadsOne}
 use Rattle.std.specs.Prelude.{codes}
 use Rattle.std.specs.Box.{box_value}
-use Rattle.clap.specs.Words.{IsAmong, Row, Text, fault_of, found_of, is_simple, is_simple_and_free, one_of, rows_of, subcommand_name_of, subcommand_of, subcommand_rows_of}
+use Rattle.clap.specs.Words.{IsAmong, Row, Text, fault_of, found_of, is_simple, is_simple_and_free, one_of, rows_of, subcommand_name_of, subcommand_rows_of}
 use Rattle.clap.specs.declared.parser.matches.ArgMatches.{ArgMatches}
 use Rattle.clap.specs.declared.parser.matches.ArgMatches.TheViews.{out-ArgMatches, out-SubCommand}
 use Rattle.clap.proofs.OnLiterals.{clap_on_literals}
 use Rattle.clap.specs.declared.error.kind.ErrorKind.{ErrorKind}
 use Rattle.clap.specs.declared.error.kind.ErrorKind.TheVariants as kind
 use Rattle.gl_filters.specs.Asked.{Asked}
-use Rattle.goodlock.specs.Options.{Asks, AsksIn, IsCommand, IsEntered, IsNumberAt, IsUsageFor, IsUsageOf, goodlock}
+use Rattle.goodlock.specs.Options.{Asks, AsksForSession, AsksIn, IsCommand, IsEntered, IsNumberAt, IsUsageFor, IsUsageOf, goodlock}
+use Rattle.goodlock.specs.Sessions.{CanRun}
+use Rattle.goodlock.specs.declared.live_options.LiveOptions.{LiveOptions}
 use Rattle.goodlock.specs.declared.options.Command.{Command}
-use Rattle.goodlock.specs.declared.options.Command.TheVariants.{Predict, Stats, Replay}
+use Rattle.goodlock.specs.declared.options.Command.TheVariants.{Predict, Live, Stats, Replay}
 use Rattle.goodlock.specs.declared.options.Usage.{Usage}
 use Rattle.goodlock.specs.declared.options.Usage.TheVariants.{Shown, Refused, Memory}
 
@@ -84,15 +86,19 @@ entered_name : (m : ArgMatches) (c : Command) (name : Text) (of : IsEntered (sub
 entered_name m c name of is = name_of_rows m ∙ ap (option_map (λ p. p.0)) of.is_there ∙ ap Some is
 
 -- no command was entered
-pub unentered : (m : ArgMatches) → (subcommand_name_of m ≡ Some (codes "predict") → ⊥) → (subcommand_name_of m ≡ Some (codes "stats") → ⊥)
-    → (subcommand_name_of m ≡ Some (codes "replay") → ⊥) → (c : Command) → IsEntered (subcommand_rows_of m) c → ⊥
-unentered m no_predict no_stats no_replay (Predict q form) of = no_predict (entered_name m (Predict q form) (codes "predict") of of.is_command.0)
-unentered m no_predict no_stats no_replay (Stats q) of = no_stats (entered_name m (Stats q) (codes "stats") of of.is_command.0)
-unentered m no_predict no_stats no_replay Replay of = no_replay (entered_name m Replay (codes "replay") of of.is_command)
+pub unentered : (m : ArgMatches) → (subcommand_name_of m ≡ Some (codes "predict") → ⊥) → (subcommand_name_of m ≡ Some (codes "live") → ⊥)
+    → (subcommand_name_of m ≡ Some (codes "stats") → ⊥) → (subcommand_name_of m ≡ Some (codes "replay") → ⊥) → (c : Command) → IsEntered (subcommand_rows_of m) c → ⊥
+unentered m no_predict no_live no_stats no_replay (Predict q form) of = no_predict (entered_name m (Predict q form) (codes "predict") of of.is_command.0)
+unentered m no_predict no_live no_stats no_replay (Live o) of = no_live (entered_name m (Live o) (codes "live") of of.is_command.0)
+unentered m no_predict no_live no_stats no_replay (Stats q) of = no_stats (entered_name m (Stats q) (codes "stats") of of.is_command.0)
+unentered m no_predict no_live no_stats no_replay Replay of = no_replay (entered_name m Replay (codes "replay") of of.is_command)
 
 -- options that give no query
 pub no_prediction : (rows : List Row) → ((q : Asked) → AsksIn rows q → ⊥) → (c : Command) → IsCommand (codes "predict") rows c → ⊥
 no_prediction rows none (Predict q form) is = none q is.1
+no_prediction rows none (Live o) is =
+    let bad : true ≡ false = ap (λ (name : Text). length name == 7) is.0 in
+    cc
 no_prediction rows none (Stats q) is =
     let bad : true ≡ false = ap (λ (name : Text). length name == 7) is.0 in
     cc
@@ -104,10 +110,46 @@ pub no_stats : (rows : List Row) → ((q : Asked) → AsksIn rows q → ⊥) →
 no_stats rows none (Predict q form) is =
     let bad : true ≡ false = ap (λ (name : Text). length name == 5) is.0 in
     cc
+no_stats rows none (Live o) is =
+    let bad : true ≡ false = ap (λ (name : Text). length name == 5) is.0 in
+    cc
 no_stats rows none (Stats q) is = none q is.1
 no_stats rows none Replay is =
     let bad : true ≡ false = ap (λ (name : Text). length name == 5) is in
     cc
+
+pub no_session : (rows : List Row) → ((o : LiveOptions) → AsksIn rows o.query → AsksForSession rows o → ⊥) → (c : Command) → IsCommand (codes "live") rows c → ⊥
+no_session rows none (Predict q form) is =
+    let bad : true ≡ false = ap (λ (name : Text). length name == 4) is.0 in
+    cc
+no_session rows none (Live o) is = none o is.1 is.3
+no_session rows none (Stats q) is =
+    let bad : true ≡ false = ap (λ (name : Text). length name == 4) is.0 in
+    cc
+no_session rows none Replay is =
+    let bad : true ≡ false = ap (λ (name : Text). length name == 4) is in
+    cc
+
+-- an option has one number
+pub same_number : (rows : List Row) (id : Text) (m n : ℕ) → IsNumberAt rows id m → IsNumberAt rows id n → m ≡ n
+same_number rows id m n of_m of_n =
+    let same : of_m.0 ≡ of_n.0 = ap (λ o. unwrap_or o of_m.0) (sym of_m.1 ∙ of_n.1) in
+    of_m.3 ∙ ap (λ text. digits_value 10 (without_leading_plus text)) same ∙ sym of_n.3
+
+-- what words ask for can be run
+pub can_run : (words : List Text) (c : Command) → Asks words c → CanRun c
+can_run words (Predict q form) asks = tt
+can_run words (Live o) asks =
+    let numbers = asks.enters.is_command.3 in
+    record {
+      some_recorder = numbers.recorders.some;
+      some_shard = numbers.shards.some;
+      shards_fit = numbers.shards.fits;
+      some_ring = numbers.ring.some;
+      ring_fits = numbers.ring.fits;
+    }
+can_run words (Stats q) asks = tt
+can_run words Replay asks = tt
 
 -- a value that no option takes
 pub refused_value : (words : List Text) (u : Usage) → IsUsageFor kind.InvalidValue u → ((c : Command) → Asks words c → ⊥)

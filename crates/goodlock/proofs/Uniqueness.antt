@@ -1,5 +1,5 @@
 -- A text has one answer.
-use Rattle.std.proofs.Common.{◌≡◌, ℕ, ◌<◌, Bool, List, [], Result, Ok, Err, sym, ap, subst, ◌∙◌, inl, inr, arith}
+use Rattle.std.proofs.Common.{◌≡◌, ℕ, Bool, List, [], Result, Ok, Err, sym, ap, subst, ◌∙◌}
 use Rattle.gl_event.specs.Bounds.{greatest}
 use Rattle.gl_event.specs.declared.events.Event.{Event}
 use Rattle.gl_event.specs.declared.events.Segment.{Segment}
@@ -8,7 +8,7 @@ use Rattle.gl_std.specs.declared.faults.ReadFault.{ReadFault}
 use Rattle.gl_std.specs.declared.faults.ReadFault.TheVariants.{Line, Memory}
 use Rattle.gl_std.specs.declared.trace.Trace.{Trace}
 use Rattle.gl_segments.specs.Laws.{DecidesBefore}
-use Rattle.gl_segments.specs.Segments.{Before, IsBelow}
+use Rattle.gl_segments.specs.Segments.{Before}
 use Rattle.gl_segments.proofs.LawLemmas.{agree}
 use Rattle.gl_cycles.proofs.Uniqueness.{same_segment}
 use Rattle.goodlock.specs.Answer.{Answer, IsLeastBeforeItself, AnswersAreUnique, PlainAnswersAreUnique}

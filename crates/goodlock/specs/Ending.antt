@@ -15,8 +15,10 @@ use Rattle.goodlock.specs.Lines.{fault_line}
 use Rattle.goodlock.specs.declared.answer.Printed.{Printed}
 use Rattle.goodlock.specs.declared.answer.Stop.{Stop}
 use Rattle.goodlock.specs.declared.answer.Stop.TheVariants as stop
+use Rattle.goodlock.specs.declared.recorded.LiveStop.{LiveStop}
+use Rattle.goodlock.specs.declared.recorded.LiveStop.TheVariants as live_stop
 use Rattle.goodlock.specs.declared.ended.Ended.{Ended}
-use Rattle.goodlock.specs.declared.ended.Ended.TheVariants.{Clean, Cycles, Done, Refused, Memory, ReadFailed, WriteFailed}
+use Rattle.goodlock.specs.declared.ended.Ended.TheVariants.{Clean, Cycles, Done, Refused, Memory, ReadFailed, WriteFailed, Unconfirmed}
 use Rattle.goodlock.specs.declared.ended.Outcome.{Outcome}
 use Rattle.goodlock.specs.declared.ended.Outcome.TheVariants as outcome
 
@@ -47,6 +49,7 @@ EndsAs IsAnswered text old new failed (Refused line) = Keeps old new × IsAnswer
 EndsAs IsAnswered text old new failed (WriteFailed count) = HasWrittenFront IsAnswered text count old new failed
 EndsAs IsAnswered text old new failed Memory = Keeps old new × (failed ≡ false)
 EndsAs IsAnswered text old new failed ReadFailed = ⊥
+EndsAs IsAnswered text old new failed Unconfirmed = ⊥
 
 -- ---- it wasn't
 
@@ -87,6 +90,15 @@ pub data HasEnded (IsAnswered : List ℕ → Answer → Type 0) (turns : ℕ) (o
   ended_so : (text : List ℕ) (ended : Ended) → HasRead turns old new read_failed text true → EndsAs IsAnswered text before after write_failed ended
       → HasEnded IsAnswered turns old new read_failed before after write_failed ended
 
+-- the end of a command that runs a session to answer so: as any other, or nothing is written because the session isn't confirmed
+pub data HasEndedLive (IsAnswered : List ℕ → Answer → Type 0) (turns : ℕ) (old new : Option (List ℕ)) (read_failed : Bool) (before after : Option (List ℕ)) (write_failed : Bool) : Ended → Type 0 where
+  -- as any other command that answers so
+  confirmed : (ended : Ended) → HasEnded IsAnswered turns old new read_failed before after write_failed ended
+      → HasEndedLive IsAnswered turns old new read_failed before after write_failed ended
+  -- a text was read whole, and nothing was written
+  unconfirmed : (text : List ℕ) → HasRead turns old new read_failed text true → Keeps before after → write_failed ≡ false
+      → HasEndedLive IsAnswered turns old new read_failed before after write_failed Unconfirmed
+
 -- ---- the two halves
 
 -- a text was read whole, and this is its trace or its first fault
@@ -108,3 +120,9 @@ abbrev pub EndsWith : Result Printed Stop → Option (List ℕ) → Option (List
 EndsWith (Ok printed) old new failed ended = HasWrittenText printed.text.items printed.outcome old new failed ended
 EndsWith (Err (stop.Refused line)) old new failed ended = (ended ≡ Refused line) × Keeps old new × (failed ≡ false)
 EndsWith (Err stop.Memory) old new failed ended = (ended ≡ Memory) × Keeps old new × (failed ≡ false)
+
+-- what became of the answer of a session
+abbrev pub EndsLiveWith : Result Printed LiveStop → Option (List ℕ) → Option (List ℕ) → Bool → Ended → Type 0
+EndsLiveWith (Ok printed) old new failed ended = EndsWith (Ok printed) old new failed ended
+EndsLiveWith (Err (live_stop.Stopped why)) old new failed ended = EndsWith (Err why) old new failed ended
+EndsLiveWith (Err live_stop.Unconfirmed) old new failed ended = (ended ≡ Unconfirmed) × Keeps old new × (failed ≡ false)

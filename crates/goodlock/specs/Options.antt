@@ -1,8 +1,8 @@
 -- The command line: its commands and options, and what words ask for.
-use Rattle.std.specs.Prelude.{◌≡◌, ◌≢◌, ◌⊎◌, ⊤, ◌++◌, ℕ, Bool, true, false, List, [], ◌∷◌, Option, Some, None, codes, pos, if◌then◌else◌, option_and_then}
+use Rattle.std.specs.Prelude.{◌≡◌, ◌≢◌, ◌≤◌, ◌⊎◌, ⊤, ℕ, Bool, true, false, List, [], ◌∷◌, Option, Some, None, codes, pos, if◌then◌else◌, option_and_then}
 use Rattle.std.specs.Str.{bytes_eq}
 use Rattle.std.specs.Str.Parse.{IsNumeral, digits_value, without_leading_plus}
-use Rattle.clap.specs.Words.{App, IsAmong, Row, Rule, Shape, Text, fault_of, first_of, new_app, new_rule, one_of, subcommand_of, with_rule, with_subcommand}
+use Rattle.clap.specs.Words.{App, IsAmong, Row, Rule, Text, fault_of, first_of, new_app, new_rule, one_of, subcommand_of, with_rule, with_subcommand}
 use Rattle.clap.specs.declared.builder.value_parser.ValueParser.TheVariants as takes
 use Rattle.clap.specs.declared.error.kind.ErrorKind.{ErrorKind}
 use Rattle.clap.specs.declared.error.kind.ErrorKind.TheVariants as kind
@@ -13,7 +13,8 @@ use Rattle.clap.specs.declared.builder.action.ArgAction.TheVariants.{SetTrue}
 use Rattle.goodlock.specs.declared.ended.Form.{Form}
 use Rattle.goodlock.specs.declared.ended.Form.TheVariants.{Text as Plain, Json}
 use Rattle.goodlock.specs.declared.options.Command.{Command}
-use Rattle.goodlock.specs.declared.options.Command.TheVariants.{Predict, Stats, Replay}
+use Rattle.goodlock.specs.declared.options.Command.TheVariants.{Predict, Live, Stats, Replay}
+use Rattle.goodlock.specs.declared.live_options.LiveOptions.{LiveOptions}
 use Rattle.goodlock.specs.declared.options.Usage.{Usage}
 use Rattle.goodlock.specs.declared.options.Usage.TheVariants.{Shown, Refused, Memory}
 
@@ -38,6 +39,17 @@ len_rule = record (option_rule (codes "len") (codes "4")) { parser = Some (takes
 abbrev pub max_rule : Rule
 max_rule = record (option_rule (codes "max") (codes "1000")) { parser = Some (takes.Signed (pos 1) (pos 100000)) }
 
+-- whole numbers from 1 to 16
+abbrev pub recorders_rule : Rule
+recorders_rule = record (option_rule (codes "recorders") (codes "4")) { parser = Some (takes.Signed (pos 1) (pos 16)) }
+
+abbrev pub shards_rule : Rule
+shards_rule = record (option_rule (codes "shards") (codes "4")) { parser = Some (takes.Signed (pos 1) (pos 16)) }
+
+-- whole numbers from 1 to 65,536
+abbrev pub ring_rule : Rule
+ring_rule = record (option_rule (codes "ring") (codes "256")) { parser = Some (takes.Signed (pos 1) (pos 65536)) }
+
 -- a flag
 abbrev pub json_rule : Rule
 json_rule = record (new_rule (codes "json")) { long = Some (codes "json"); action = Some SetTrue }
@@ -49,6 +61,10 @@ query_app name = with_rule (with_rule (with_rule (new_app name) mode_rule) len_r
 -- the command that predicts, with the form of its report
 abbrev pub predict : App
 predict = with_rule (query_app (codes "predict")) json_rule
+
+-- the command that predicts by a session, with the numbers of its recorder threads, of its shards, and of the notes in a ring
+abbrev pub live : App
+live = with_rule (with_rule (with_rule (with_rule (query_app (codes "live")) json_rule) recorders_rule) shards_rule) ring_rule
 
 -- the command that counts
 abbrev pub stats : App
@@ -71,7 +87,7 @@ program = record {
 
 -- with its commands
 abbrev pub goodlock : App
-goodlock = with_subcommand (with_subcommand (with_subcommand program predict.top) stats.top) replay.top
+goodlock = with_subcommand (with_subcommand (with_subcommand (with_subcommand program predict.top) live.top) stats.top) replay.top
 
 -- ---- what words ask for
 
@@ -95,6 +111,18 @@ pub record AsksIn (rows : List Row) (asked : Asked) : Type 0 where
   pub max : IsNumberAt rows (codes "max") asked.max
   pub range : IsInRange asked
 
+-- the option's value is this number, and it is from 1 to the greatest
+pub record IsNumberIn (rows : List Row) (id : Text) (greatest number : ℕ) : Type 0 where
+  pub value : IsNumberAt rows id number
+  pub some : 1 ≤ number
+  pub fits : number ≤ greatest
+
+-- the options' values are these numbers of a session, each within its range
+pub record AsksForSession (rows : List Row) (options : LiveOptions) : Type 0 where
+  pub recorders : IsNumberIn rows (codes "recorders") 16 options.recorders
+  pub shards : IsNumberIn rows (codes "shards") 16 options.shards
+  pub ring : IsNumberIn rows (codes "ring") 65536 options.ring
+
 -- the flag asks for this form
 pub record IsFormIn (rows : List Row) (form : Form) : Type 0 where
   pub given : one_of (codes "json") rows ≡ Some (codes "true") → form ≡ Json
@@ -103,6 +131,7 @@ pub record IsFormIn (rows : List Row) (form : Form) : Type 0 where
 -- a command of this name, whose options have these values, is this
 abbrev pub IsCommand : Text → List Row → Command → Type 0
 IsCommand name rows (Predict query form) = (name ≡ codes "predict") × AsksIn rows query × IsFormIn rows form
+IsCommand name rows (Live options) = (name ≡ codes "live") × AsksIn rows options.query × IsFormIn rows options.form × AsksForSession rows options
 IsCommand name rows (Stats query) = (name ≡ codes "stats") × AsksIn rows query
 IsCommand name rows Replay = name ≡ codes "replay"
 

@@ -2,7 +2,7 @@
 -- and to standard error, and its exit status.
 use Rattle.std.specs.Prelude.{ℕ, List, [], codes, string_bytes}
 use Rattle.goodlock.specs.declared.ended.Ended.{Ended}
-use Rattle.goodlock.specs.declared.ended.Ended.TheVariants.{Clean, Cycles, Done, Refused, Memory, ReadFailed, WriteFailed}
+use Rattle.goodlock.specs.declared.ended.Ended.TheVariants.{Clean, Cycles, Done, Refused, Memory, ReadFailed, WriteFailed, Unconfirmed}
 use Rattle.goodlock.specs.declared.options.Usage.{Usage}
 use Rattle.goodlock.specs.declared.options.Usage.TheVariants as usage
 
@@ -17,6 +17,7 @@ line_of (Refused line) = line.items
 line_of Memory = codes "goodlock: out of memory\n"
 line_of ReadFailed = codes "goodlock: read failed\n"
 line_of (WriteFailed written) = codes "goodlock: write failed\n"
+line_of Unconfirmed = codes "goodlock: session not confirmed\n"
 
 -- the exit status
 abbrev pub status_of : Ended → ℕ
@@ -27,6 +28,7 @@ status_of (Refused line) = 2
 status_of Memory = 3
 status_of ReadFailed = 4
 status_of (WriteFailed written) = 4
+status_of Unconfirmed = 4
 
 -- ---- of words that ask for nothing to be done
 

@@ -13,11 +13,18 @@ use Rattle.goodlock.specs.Answer.{IsLeastBeforeItself, report_of}
 use Rattle.goodlock.specs.Lines.{fault_line, inconsistent_line}
 use Rattle.goodlock.specs.declared.answer.Stop.{Stop}
 use Rattle.goodlock.specs.declared.answer.Stop.TheVariants.{Refused, Memory}
+use Rattle.goodlock.specs.declared.recorded.LiveStop.{LiveStop}
+use Rattle.goodlock.specs.declared.recorded.LiveStop.TheVariants.{Stopped, Unconfirmed}
 
 -- what holds of the line, if it isn't want of memory
 abbrev pub IfRefused : Stop → (List ℕ → Type 0) → Type 0
 IfRefused (Refused line) P = P line.items
 IfRefused Memory P = Unit {0}
+
+-- what holds of the line, if the session stopped with one
+abbrev pub IfStopped : LiveStop → (List ℕ → Type 0) → Type 0
+IfStopped (Stopped stop) P = IfRefused stop P
+IfStopped Unconfirmed P = Unit {0}
 
 -- the line says the fault that was read in a trace's place
 pub record IsFaultIn (read : Result Trace ReadFault) (line : List ℕ) : Type 0 where

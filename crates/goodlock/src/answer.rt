@@ -12,7 +12,7 @@ ghost use Rattle.gl_std.specs.declared.faults.ReadFault.TheVariants.{Line};
 
 use crate::ended::{Form, Outcome};
 use crate::lines::{fault_line, inconsistent_line};
-use gl_cycles::{Report, search};
+use gl_cycles::{Report, search_parallel};
 use gl_edges::edges_of;
 use gl_event::{Limits, MAX_EVENTS, MAX_NAMES, MAX_RING, MAX_THREADS, Memory};
 use gl_filters::Query;
@@ -20,6 +20,7 @@ use gl_report::{Stats, json_text, stats_text, text};
 use gl_segments::{Order, OrderFault};
 use gl_std::{Names, ReadFault, Trace, write_trace};
 use std::alloc::{AllocError, Global};
+use std::thread::Threads;
 
 /// What a command prints of a text.
 #[derive(Drop, Debug)]
@@ -66,8 +67,8 @@ pub(crate) fn greatest_limits() -> Limits
     }
 }
 
-// The trace that was read, or the line that says its first fault.
-fn trace_or_line(alloc: Global, read: Result<Trace, ReadFault>) -> Result<Trace, Stop>
+/// The trace that was read, or the line that says its first fault.
+pub(crate) fn trace_or_line(alloc: Global, read: Result<Trace, ReadFault>) -> Result<Trace, Stop>
     ensures trace { IfOk result (λ t. read ≡ Ok t) }
     ensures refused { IfErr result (λ stop. IfRefused stop (IsFaultIn read)) }
 {
@@ -98,8 +99,13 @@ fn order_or_line(alloc: Global, trace: &Trace) -> Result<Order, Stop>
     }
 }
 
-// The report in this form.
-fn print(alloc: Global, form: Form, names: &Names, report: &Report) -> Result<Vec<u8>, Memory>
+/// The report in this form.
+pub(crate) fn print(
+    alloc: Global,
+    form: Form,
+    names: &Names,
+    report: &Report,
+) -> Result<Vec<u8>, Memory>
     ensures { IfOk result (λ t. t.items ≡ printed_report form names.now report.now) }
 {
     match form {
@@ -109,12 +115,18 @@ fn print(alloc: Global, form: Form, names: &Names, report: &Report) -> Result<Ve
 }
 
 // The report of a trace whose segments have this order.
-fn report_by(alloc: Global, trace: &Trace, order: &Order, query: &Query) -> Result<Report, Memory>
+fn report_by(
+    rt: &(impl Threads + Sync),
+    alloc: Global,
+    trace: &Trace,
+    order: &Order,
+    query: &Query,
+) -> Result<Report, Memory>
     requires { IsTraceOver greatest trace.now }
     ensures { IfOk result (λ r. r ≡ report_of query.now (is_before order.now) trace.now) }
 {
     let edges = edges_of(alloc, trace.lists.as_slice())?;
-    let found = search(alloc, &edges, order, query)?;
+    let found = search_parallel(rt, alloc, &edges, order, query)?;
     Ok(Report {
         query: *query,
         edges,
@@ -124,6 +136,7 @@ fn report_by(alloc: Global, trace: &Trace, order: &Order, query: &Query) -> Resu
 
 // The report of the trace that was read, or why there is none.
 fn trace_and_report(
+    rt: &(impl Threads + Sync),
     alloc: Global,
     read: Result<Trace, ReadFault>,
     query: &Query,
@@ -135,12 +148,12 @@ fn trace_and_report(
 {
     let trace = trace_or_line(alloc, read)?;
     let order = order_or_line(alloc, &trace)?;
-    let report = report_by(alloc, &trace, &order, query)?;
+    let report = report_by(rt, alloc, &trace, &order, query)?;
     Ok(Reported { trace, report })
 }
 
-// Whether a report lists a cycle.
-fn outcome_of(report: &Report) -> Outcome
+/// Whether a report lists a cycle.
+pub(crate) fn outcome_of(report: &Report) -> Outcome
     ensures { result ≡ outcome_of report.now }
 {
     if report.found.cycles.as_slice().is_empty() {
@@ -151,6 +164,7 @@ fn outcome_of(report: &Report) -> Outcome
 
 /// The report of the texts that have this trace or first fault, in this form, or why they have none.
 pub(crate) fn predicted(
+    rt: &(impl Threads + Sync),
     alloc: Global,
     read: Result<Trace, ReadFault>,
     query: &Query,
@@ -160,7 +174,7 @@ pub(crate) fn predicted(
     ensures printed { IfOk result (λ p. (text : List ℕ) → trace_of greatest text ≡ read → IsAnswer (prediction query.now form) text (Prints p.text.items p.outcome)) }
     ensures refused { IfErr result (λ stop. IfRefused stop (λ line. (text : List ℕ) → trace_of greatest text ≡ read → IsAnswer (prediction query.now form) text (Refusal line))) }
 {
-    let Reported { trace, report } = trace_and_report(alloc, read, query)?;
+    let Reported { trace, report } = trace_and_report(rt, alloc, read, query)?;
     let outcome = outcome_of(&report);
     let text = print(alloc, form, &trace.names, &report)?;
     Ok(Printed { text, outcome })
@@ -169,6 +183,7 @@ pub(crate) fn predicted(
 /// The counts of the texts that have this trace or first fault, and of their report, or why they have
 /// none.
 pub(crate) fn counted(
+    rt: &(impl Threads + Sync),
     alloc: Global,
     read: Result<Trace, ReadFault>,
     query: &Query,
@@ -177,7 +192,7 @@ pub(crate) fn counted(
     ensures printed { IfOk result (λ p. (text : List ℕ) → trace_of greatest text ≡ read → IsAnswer (counts query.now) text (Prints p.text.items p.outcome)) }
     ensures refused { IfErr result (λ stop. IfRefused stop (λ line. (text : List ℕ) → trace_of greatest text ≡ read → IsAnswer (counts query.now) text (Refusal line))) }
 {
-    let Reported { trace, report } = trace_and_report(alloc, read, query)?;
+    let Reported { trace, report } = trace_and_report(rt, alloc, read, query)?;
     let text = stats_text(alloc, &Stats::of(&trace, &report))?;
     Ok(Printed {
         text,

@@ -7,14 +7,25 @@ ghost use Rattle.gl_event.specs.Bounds.{greatest};
 ghost use Rattle.gl_std.specs.Lines.{ended_lines};
 ghost use Rattle.gl_std.specs.Trace.{trace_of, IsTraceOver};
 ghost use Rattle.goodlock.specs.Answer.{IsAnswer, IsPlainAnswer, counts, prediction, replay};
-ghost use Rattle.goodlock.specs.Ending.{EndsEarlyAs, EndsWith, HasEnded, HasEndedEarly, HasHeardAll, HasWrittenText};
+ghost use Rattle.goodlock.specs.Ending.{EndsEarlyAs, EndsLiveWith, EndsWith, HasEnded, HasEndedEarly, HasEndedLive, HasHeardAll, HasWrittenText};
+ghost use Rattle.goodlock.specs.Performed.{HasPerformed};
+ghost use Rattle.goodlock.specs.Sessions.{AreOfSession, CanRun};
 
 use crate::answer::{Printed, Stop, counted, greatest_limits, judge, predicted, replayed};
 use crate::ended::{Ended, Form, Outcome};
+use crate::live_options::LiveOptions;
+use crate::options::Command;
+use crate::recorded::{LiveStop, recorded};
 use gl_filters::Query;
 use gl_io::{Sink, Source, WriteFault, write_out};
-use gl_std::{ReadFault, Trace, read_source};
+use gl_shards::{Gate, Open};
+use gl_std::{ReadFault, Seed, Trace, read_source};
 use std::alloc::Global;
+use std::sync::Wait;
+use std::thread::Threads;
+
+// The most reads of the program's input.
+const TURNS: u64 = 1_000_000_000;
 
 // How a command ends over a text that wasn't read whole, with this trace or first fault of the
 // lines that LF has ended.
@@ -34,6 +45,7 @@ fn hear<I: Source>(
     alloc: Global,
     input: &mut I,
     turns: u64,
+    seed: Seed,
 ) -> Result<Result<Trace, ReadFault>, Ended>
     requires readable { I.failed input.old ≡ false }
     requires few_turns { turns ≤ 2 ^ 40 }
@@ -41,7 +53,7 @@ fn hear<I: Source>(
     ensures over { IfOk result (λ read. IfOk read (IsTraceOver greatest)) }
     ensures early { IfErr result (HasEndedEarly turns (I.remaining input.old) (I.remaining input.new) (I.failed input.new)) }
 {
-    let Ok(heard) = read_source(alloc, input, turns, &greatest_limits()) else {
+    let Ok(heard) = read_source(alloc, input, turns, &greatest_limits(), seed) else {
         return Err(Ended::Memory);
     };
     if heard.is_whole {
@@ -84,17 +96,31 @@ fn end<O: Sink>(output: &mut O, answered: Result<Printed, Stop>) -> Ended
     }
 }
 
+// Writes what a session answers, if it is a text to be printed.
+fn end_live<O: Sink>(output: &mut O, answered: Result<Printed, LiveStop>) -> Ended
+    requires { O.failed output.old ≡ false }
+    ensures { EndsLiveWith answered (O.contents output.old) (O.contents output.new) (O.failed output.new) result }
+{
+    match answered {
+        Ok(printed) => end(output, Ok(printed)),
+        Err(LiveStop::Stopped(stop)) => end(output, Err(stop)),
+        Err(LiveStop::Unconfirmed) => Ended::Unconfirmed,
+    }
+}
+
 /// Reads a trace, predicts its deadlocks and writes the report in the form asked for.
 ///
 /// The input is read to its end, in at most `turns` reads, before anything else; its text isn't kept.
 /// The report is made whole before its first byte is written. Where the input can't be read to its
 /// end, the first fault in the lines that were ended before is answered, else
-/// [`Ended::ReadFailed`]. Each reader and writer is used only while it hasn't failed.
-pub fn predict<R: AllocGlobal, I: Source, O: Sink>(
+/// [`Ended::ReadFailed`]. Each reader and writer is used only while it hasn't failed. Cycles are sought in
+/// several threads.
+pub fn predict<R: AllocGlobal + Threads + Sync, I: Source, O: Sink>(
     rt: &R,
     input: &mut I,
     output: &mut O,
     turns: u64,
+    seed: Seed,
     query: &Query,
     form: Form,
 ) -> Ended
@@ -104,8 +130,57 @@ pub fn predict<R: AllocGlobal, I: Source, O: Sink>(
     ensures { HasEnded (IsAnswer (prediction query.now form)) turns (I.remaining input.old) (I.remaining input.new) (I.failed input.new) (O.contents output.old) (O.contents output.new) (O.failed output.new) result }
 {
     let alloc = rt.alloc();
-    match hear(alloc, input, turns) {
-        Ok(read) => end(output, predicted(alloc, read, query, form)),
+    match hear(alloc, input, turns, seed) {
+        Ok(read) => end(output, predicted(rt, alloc, read, query, form)),
+        Err(ended) => ended,
+    }
+}
+
+/// Reads a trace, records it again in running threads, and writes the report of what was recorded, in
+/// the form asked for.
+///
+/// **Unless it answers [`Ended::Memory`] or [`Ended::Unconfirmed`], it ends as [`predict`] does and writes
+/// the same bytes**, whatever the threads' timing. Each thread of the trace has a lane of its own; lane `t`
+/// is recorded by recorder thread `t` modulo their number, event after event; the collector runs in the
+/// calling thread, and a worker keeps the edges of each shard. A trace without threads opens no session.
+///
+/// The input is read whole before a thread is started, and no thread records before all were.
+pub fn live<R: AllocGlobal + Threads + Wait + Sync, I: Source, O: Sink>(
+    rt: &R,
+    input: &mut I,
+    output: &mut O,
+    turns: u64,
+    seed: Seed,
+    options: &LiveOptions,
+) -> Ended
+    requires readable { I.failed input.old ≡ false }
+    requires writable { O.failed output.old ≡ false }
+    requires few_turns { turns ≤ 2 ^ 40 }
+    requires session { AreOfSession options.now }
+    ensures { HasEndedLive (IsAnswer (prediction options.now.query options.now.form)) turns (I.remaining input.old) (I.remaining input.new) (I.failed input.new) (O.contents output.old) (O.contents output.new) (O.failed output.new) result }
+{
+    live_gated(rt, input, output, turns, seed, options, &Open)
+}
+
+/// As [`live`], with a gate that each worker passes before it keeps an edge.
+pub fn live_gated<R: AllocGlobal + Threads + Wait + Sync, I: Source, O: Sink, G: Gate + Sync>(
+    rt: &R,
+    input: &mut I,
+    output: &mut O,
+    turns: u64,
+    seed: Seed,
+    options: &LiveOptions,
+    gate: &G,
+) -> Ended
+    requires readable { I.failed input.old ≡ false }
+    requires writable { O.failed output.old ≡ false }
+    requires few_turns { turns ≤ 2 ^ 40 }
+    requires session { AreOfSession options.now }
+    ensures { HasEndedLive (IsAnswer (prediction options.now.query options.now.form)) turns (I.remaining input.old) (I.remaining input.new) (I.failed input.new) (O.contents output.old) (O.contents output.new) (O.failed output.new) result }
+{
+    let alloc = rt.alloc();
+    match hear(alloc, input, turns, seed) {
+        Ok(read) => end_live(output, recorded(rt, alloc, read, options, gate)),
         Err(ended) => ended,
     }
 }
@@ -113,11 +188,12 @@ pub fn predict<R: AllocGlobal, I: Source, O: Sink>(
 /// Reads a trace and writes eight counts of it and of its report, each on a line.
 ///
 /// Reads, refuses and fails as [`predict`] does.
-pub fn stats<R: AllocGlobal, I: Source, O: Sink>(
+pub fn stats<R: AllocGlobal + Threads + Sync, I: Source, O: Sink>(
     rt: &R,
     input: &mut I,
     output: &mut O,
     turns: u64,
+    seed: Seed,
     query: &Query,
 ) -> Ended
     requires readable { I.failed input.old ≡ false }
@@ -126,8 +202,8 @@ pub fn stats<R: AllocGlobal, I: Source, O: Sink>(
     ensures { HasEnded (IsAnswer (counts query.now)) turns (I.remaining input.old) (I.remaining input.new) (I.failed input.new) (O.contents output.old) (O.contents output.new) (O.failed output.new) result }
 {
     let alloc = rt.alloc();
-    match hear(alloc, input, turns) {
-        Ok(read) => end(output, counted(alloc, read, query)),
+    match hear(alloc, input, turns, seed) {
+        Ok(read) => end(output, counted(rt, alloc, read, query)),
         Err(ended) => ended,
     }
 }
@@ -141,6 +217,7 @@ pub fn replay<R: AllocGlobal, I: Source, O: Sink>(
     input: &mut I,
     output: &mut O,
     turns: u64,
+    seed: Seed,
 ) -> Ended
     requires readable { I.failed input.old ≡ false }
     requires writable { O.failed output.old ≡ false }
@@ -148,8 +225,30 @@ pub fn replay<R: AllocGlobal, I: Source, O: Sink>(
     ensures { HasEnded (IsPlainAnswer replay) turns (I.remaining input.old) (I.remaining input.new) (I.failed input.new) (O.contents output.old) (O.contents output.new) (O.failed output.new) result }
 {
     let alloc = rt.alloc();
-    match hear(alloc, input, turns) {
+    match hear(alloc, input, turns, seed) {
         Ok(read) => end(output, replayed(alloc, read)),
         Err(ended) => ended,
+    }
+}
+
+/// Does what the words of the command line ask for, from the input to the output, in at most
+/// 1,000,000,000 reads. The seed is that of the names' hash: no answer depends on it.
+pub fn perform<R: AllocGlobal + Threads + Wait + Sync, I: Source, O: Sink>(
+    rt: &R,
+    input: &mut I,
+    output: &mut O,
+    seed: Seed,
+    command: &Command,
+) -> Ended
+    requires readable { I.failed input.old ≡ false }
+    requires writable { O.failed output.old ≡ false }
+    requires runs { CanRun command.now }
+    ensures { HasPerformed command.now 1000000000 (I.remaining input.old) (I.remaining input.new) (I.failed input.new) (O.contents output.old) (O.contents output.new) (O.failed output.new) result }
+{
+    match command {
+        Command::Predict { query, form } => predict(rt, input, output, TURNS, seed, query, *form),
+        Command::Live(options) => live(rt, input, output, TURNS, seed, options),
+        Command::Stats { query } => stats(rt, input, output, TURNS, seed, query),
+        Command::Replay => replay(rt, input, output, TURNS, seed),
     }
 }

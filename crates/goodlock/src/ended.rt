@@ -19,6 +19,9 @@ pub enum Ended {
     ReadFailed,
     /// The writer failed after this many bytes of what was to be written.
     WriteFailed { written: usize },
+    /// A thread of a session couldn't be started, or it isn't confirmed that all that was recorded was
+    /// collected. Nothing was written.
+    Unconfirmed,
 }
 
 /// How a command ends once what it prints is written.

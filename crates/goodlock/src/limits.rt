@@ -1,6 +1,5 @@
-//! What bounds traces, queries and readings.
+//! What bounds traces and queries.
 ghost use Rattle.std.specs.Prelude.{◌≡◌};
-ghost use Rattle.goodlock.specs.declared.TheConstants.{TURNS};
 ghost use Rattle.gl_event.specs.declared.limits.TheConstants.{MAX_THREADS, MAX_RING, MAX_EVENTS, MAX_NAMES};
 ghost use Rattle.gl_event.specs.declared.held.TheConstants.{MAX_HELD, MAX_DEPTH};
 ghost use Rattle.gl_filters.specs.declared.query.TheConstants.{MAX_LEN, MAX_CYCLES};
@@ -17,5 +16,4 @@ pub fn limits_in_numbers()
     ensures line { MAX_LINE ≡ 65536 }
     ensures length { MAX_LEN ≡ 16 }
     ensures cycles { MAX_CYCLES ≡ 100000 }
-    ensures turns { TURNS ≡ 1000000000 }
 {}

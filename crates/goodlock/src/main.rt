@@ -4,14 +4,18 @@
 
 ghost use Rattle.std.specs.Prelude.{◌≡◌};
 ghost use Rattle.goodlock.specs.Said.{line_of, status_of, shown_text, refused_text, usage_status};
+ghost use Rattle.goodlock.specs.Sessions.{CanRun};
 
-use commands::{predict, replay, stats};
+use commands::perform;
 use ended::Ended;
 use gl_io::FromStd;
+use gl_std::Seed;
 use options::{Command, Usage, parse};
 use std::env;
 use std::io::{ErrorKind, Write};
 use std::process::ExitCode;
+use std::sync::Wait;
+use std::thread::Threads;
 
 mod answer;
 mod commands;
@@ -19,12 +23,11 @@ mod ended;
 mod laws;
 mod limits;
 mod lines;
+mod live_options;
 mod options;
+mod recorded;
 #[cfg(test)]
 mod tests;
-
-// The most reads of standard input.
-const TURNS: u64 = 1_000_000_000;
 
 // What is said of words that are no text.
 const NOT_TEXT: &str = "error: the words of the command line are no UTF-8 text\n";
@@ -42,6 +45,7 @@ fn said(ended: &Ended) -> (&[u8], u8)
         Ended::Memory => (b"goodlock: out of memory\n", 3),
         Ended::ReadFailed => (b"goodlock: read failed\n", 4),
         Ended::WriteFailed { .. } => (b"goodlock: write failed\n", 4),
+        Ended::Unconfirmed => (b"goodlock: session not confirmed\n", 4),
     }
 }
 
@@ -68,16 +72,20 @@ fn words(rt: &HostRuntime) -> Result<Vec<String>, Usage> {
     }
 }
 
-// Does what the words ask for, from standard input to standard output.
-fn run(rt: &HostRuntime, command: &Command) -> ExitCode {
+// Does what the words ask for, from standard input to standard output. Where no seed can be drawn for
+// the names, the input isn't read. Threads are started with the second handle.
+fn run<T: AllocGlobal + Threads + Wait + Sync>(
+    rt: &HostRuntime,
+    threads: &T,
+    command: &Command,
+) -> ExitCode
+    requires { CanRun command.now }
+{
     let mut input = FromStd::new(rt.stdin());
     let mut output = FromStd::new(rt.stdout());
-    let ended = match command {
-        Command::Predict { query, form } => {
-            predict(rt, &mut input, &mut output, TURNS, query, *form)
-        }
-        Command::Stats { query } => stats(rt, &mut input, &mut output, TURNS, query),
-        Command::Replay => replay(rt, &mut input, &mut output, TURNS),
+    let ended = match Seed::random(rt) {
+        Ok(seed) => perform(threads, &mut input, &mut output, seed, command),
+        Err(_) => Ended::ReadFailed,
     };
     let (line, status) = said(&ended);
     let _ = rt.stderr().write_all(line);
@@ -102,7 +110,7 @@ fn main(rt: HostRuntime) -> ExitCode {
         Err(usage) => return tell(&rt, &usage),
     };
     match parse(rt.alloc(), words.as_slice()) {
-        Ok(command) => run(&rt, &command),
+        Ok(command) => run(&rt, &rt, &command),
         Err(usage) => tell(&rt, &usage),
     }
 }

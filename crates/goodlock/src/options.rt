@@ -4,10 +4,11 @@ ghost use Rattle.clap.specs.declared.error.kind.ErrorKind.TheVariants.{InvalidVa
 ghost use Rattle.clap.specs.Words.{app_of, first_of, found_of, kind_of, rows_of, rule_of, subcommand_rows_of, with_subcommand};
 ghost use Rattle.clap.specs.declared.builder.command.Command.TheViews.{out-Command as fields_of};
 ghost use Rattle.gl_filters.specs.Asked.{Asked};
-ghost use Rattle.goodlock.specs.Options.{goodlock, program, predict, stats, replay, query_app, mode_rule, len_rule, max_rule, json_rule};
+ghost use Rattle.goodlock.specs.Options.{goodlock, program, predict, live, stats, replay, query_app, mode_rule, len_rule, max_rule, json_rule};
 ghost use Rattle.goodlock.specs.Options.{Asks, AsksIn, IsCommand, IsEntered, IsFormIn, IsNumberAt, IsUsageFor, IsUsageOf, mode_named};
 
 use crate::ended::Form;
+use crate::live_options::{LiveOptions, live_command, live_in};
 use clap::error::ErrorKind;
 use clap::{Arg, ArgAction, ArgMatches, Error, value_parser};
 use gl_filters::{Mode, Query};
@@ -23,6 +24,8 @@ const REFUSED: &str =
 pub enum Command {
     /// Read a trace and print the cycles that this query asks for, in this form.
     Predict { query: Query, form: Form },
+    /// Read a trace, run a session over it and print the cycles that its options ask for.
+    Live(LiveOptions),
     /// Read a trace and print counts of it and of the cycles that this query asks for.
     Stats { query: Query },
     /// Read a trace and print it as a text.
@@ -90,8 +93,8 @@ fn max_option<'a>(alloc: Global) -> Arg<'a>
         .help("The most cycles that are listed, 1 to 100000")
 }
 
-// The form of the report.
-fn json_option<'a>(alloc: Global) -> Arg<'a>
+/// The form of the report.
+pub(crate) fn json_option<'a>(alloc: Global) -> Arg<'a>
     ensures rule { rule_of result ≡ json_rule }
     ensures local { result.global ≡ false }
 {
@@ -101,8 +104,11 @@ fn json_option<'a>(alloc: Global) -> Arg<'a>
         .help("Prints the report as JSON, one object on a line")
 }
 
-// A command of this name with the options of a query.
-fn query_command<'a>(alloc: Global, name: &'a str) -> Result<clap::Command<'a>, AllocError>
+/// A command of this name with the options of a query.
+pub(crate) fn query_command<'a>(
+    alloc: Global,
+    name: &'a str,
+) -> Result<clap::Command<'a>, AllocError>
     ensures shape { IfOk result (λ c. app_of c ≡ query_app name.entry.now) }
     ensures local { IfOk result (λ c. (fields_of c).has_globals ≡ false) }
 {
@@ -169,11 +175,18 @@ fn predicting<'a>(alloc: Global) -> Result<clap::Command<'a>, AllocError>
         .subcommand(predict_command(alloc)?)
 }
 
+// And with the one that runs a session.
+fn recording<'a>(alloc: Global) -> Result<clap::Command<'a>, AllocError>
+    ensures { IfOk result (λ c. app_of c ≡ with_subcommand (with_subcommand program predict.top) live.top) }
+{
+    predicting(alloc)?.subcommand(live_command(alloc)?)
+}
+
 // And with the one that counts.
 fn counting<'a>(alloc: Global) -> Result<clap::Command<'a>, AllocError>
-    ensures { IfOk result (λ c. app_of c ≡ with_subcommand (with_subcommand program predict.top) stats.top) }
+    ensures { IfOk result (λ c. app_of c ≡ with_subcommand (with_subcommand (with_subcommand program predict.top) live.top) stats.top) }
 {
-    predicting(alloc)?.subcommand(stats_command(alloc)?)
+    recording(alloc)?.subcommand(stats_command(alloc)?)
 }
 
 // The whole command line.
@@ -199,8 +212,8 @@ fn mode_named(name: &str) -> Option<Mode>
     None
 }
 
-// The number that was read for an option.
-fn number_at(matches: &ArgMatches<'_>, id: &str) -> Option<u32>
+/// The number that was read for an option.
+pub(crate) fn number_at(matches: &ArgMatches<'_>, id: &str) -> Option<u32>
     ensures some { IfSome result (λ n. IsNumberAt (rows_of (found_of matches.now)) id.now n) }
     ensures none { result ≡ None → (n : ℕ) → n < 2 ^ 32 → IsNumberAt (rows_of (found_of matches.now)) id.now n → ⊥ }
 {
@@ -217,8 +230,8 @@ fn mode_in(matches: &ArgMatches<'_>) -> Option<Mode>
     }
 }
 
-// The query that was read, where its options have values in their ranges.
-fn query_in(matches: &ArgMatches<'_>) -> Option<Query>
+/// The query that was read, where its options have values in their ranges.
+pub(crate) fn query_in(matches: &ArgMatches<'_>) -> Option<Query>
     ensures some { IfSome result (λ q. AsksIn (rows_of (found_of matches.now)) q) }
     ensures none { result ≡ None → (q : Asked) → AsksIn (rows_of (found_of matches.now)) q → ⊥ }
 {
@@ -231,8 +244,8 @@ fn query_in(matches: &ArgMatches<'_>) -> Option<Query>
     }
 }
 
-// The form that was read.
-fn form_in(matches: &ArgMatches<'_>) -> Form
+/// The form that was read.
+pub(crate) fn form_in(matches: &ArgMatches<'_>) -> Form
     ensures { IsFormIn (rows_of (found_of matches.now)) result }
 {
     if matches.get_flag("json") {
@@ -297,6 +310,9 @@ fn command_in(matches: &ArgMatches<'_>) -> Option<Command>
     if let Some(options) = matches.subcommand_matches("predict") {
         return predict_in(options);
     }
+    if let Some(options) = matches.subcommand_matches("live") {
+        return live_in(options);
+    }
     if let Some(options) = matches.subcommand_matches("stats") {
         return stats_in(options);
     }
@@ -308,10 +324,12 @@ fn command_in(matches: &ArgMatches<'_>) -> Option<Command>
 
 /// What these words ask for, of which the first is the program's name, or why they ask for nothing.
 ///
-/// The words are `goodlock predict` or `goodlock stats`, then any of `--mode` with `basic`,
-/// `guarded` or `full` (the default), `--len` with a number from 2 to 16 (4), and `--max` with one
-/// from 1 to 100,000 (1,000), and of `predict` also `--json`, each once at the most; or `goodlock
-/// replay`. `--help`, of the program or of a command, and `--version` ask for a text.
+/// The words are `goodlock predict`, `goodlock live` or `goodlock stats`, then any of `--mode` with
+/// `basic`, `guarded` or `full` (the default), `--len` with a number from 2 to 16 (4), and `--max` with
+/// one from 1 to 100,000 (1,000), of `predict` and `live` also `--json`, and of `live` `--recorders` and
+/// `--shards` with numbers from 1 to 16 (4 each) and `--ring` with one from 1 to 65,536 (256), each once
+/// at the most; or `goodlock replay`. `--help`, of the program or of a command, and `--version` ask for a
+/// text.
 pub fn parse<'a, S: AsStr>(alloc: Global, words: &'a [S]) -> Result<Command, Usage>
     ensures asks { IfOk result (Asks (map S.text words.entry.now)) }
     ensures usage { IfErr result (IsUsageOf (map S.text words.entry.now)) }

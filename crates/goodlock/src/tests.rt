@@ -6,10 +6,14 @@ use crate::ended::{Ended, Form};
 use crate::options::{Command, Usage, parse};
 use gl_filters::{Mode, Query};
 use gl_io::{Failed, FromStd, Source};
+use gl_std::Seed;
 use itoa::Buffer;
 use std::io::Cursor;
 use std::process::Abort;
 use std::test::Fail;
+use std::thread::Threads;
+
+mod sessions;
 
 const TURNS: u64 = 1_000_000_000;
 
@@ -30,7 +34,7 @@ fn query(mode: Mode, len: u32, max: u32) -> Result<Query, Fail> {
 }
 
 // The text's report is this one, and it lists cycles or doesn't.
-fn expect_report<R: Abort + AllocGlobal>(
+fn expect_report<R: Abort + AllocGlobal + Threads + Sync>(
     rt: &R,
     query: &Query,
     text: &[u8],
@@ -39,7 +43,7 @@ fn expect_report<R: Abort + AllocGlobal>(
 ) {
     let mut input = FromStd::new(text);
     let mut output = FromStd::new(Vec::new(rt.alloc()));
-    match predict(rt, &mut input, &mut output, TURNS, query, Form::Text) {
+    match predict(rt, &mut input, &mut output, TURNS, Seed::fixed(), query, Form::Text) {
         Ended::Cycles => assert!(rt; lists_cycle),
         Ended::Clean => assert!(rt; !lists_cycle),
         other => assert!(rt; false, "{other:?}"),
@@ -48,10 +52,15 @@ fn expect_report<R: Abort + AllocGlobal>(
 }
 
 // The text is refused with this line, and nothing is written.
-fn expect_refused<R: Abort + AllocGlobal>(rt: &R, query: &Query, text: &[u8], said: &[u8]) {
+fn expect_refused<R: Abort + AllocGlobal + Threads + Sync>(
+    rt: &R,
+    query: &Query,
+    text: &[u8],
+    said: &[u8],
+) {
     let mut input = FromStd::new(text);
     let mut output = FromStd::new(Vec::new(rt.alloc()));
-    match predict(rt, &mut input, &mut output, TURNS, query, Form::Text) {
+    match predict(rt, &mut input, &mut output, TURNS, Seed::fixed(), query, Form::Text) {
         Ended::Refused(line) => assert_eq!(rt; line.as_slice(), said),
         other => assert!(rt; false, "{other:?}"),
     }
@@ -290,7 +299,7 @@ fn turns_used_up(rt: HostRuntime) -> Result<(), Fail> {
     for (text, is_clean) in [(nothing, true), (OPPOSITE_ORDER, false)] {
         let mut input = FromStd::new(text);
         let mut output = FromStd::new(Vec::new(rt.alloc()));
-        match predict(&rt, &mut input, &mut output, 1, &full()?, Form::Text) {
+        match predict(&rt, &mut input, &mut output, 1, Seed::fixed(), &full()?, Form::Text) {
             Ended::Clean => assert!(rt; is_clean),
             Ended::ReadFailed => assert!(rt; !is_clean),
             other => assert!(rt; false, "{other:?}"),
@@ -327,7 +336,7 @@ impl Source for Cut<'_> {
 fn writer_and_reader_fail(rt: HostRuntime) -> Result<(), Fail> {
     let mut output = FromStd::new(Cursor::new([0u8; 5]));
     let mut input = FromStd::new(OPPOSITE_ORDER);
-    match predict(&rt, &mut input, &mut output, TURNS, &full()?, Form::Text) {
+    match predict(&rt, &mut input, &mut output, TURNS, Seed::fixed(), &full()?, Form::Text) {
         Ended::WriteFailed { written } => assert_eq!(rt; written, 5),
         other => assert!(rt; false, "{other:?}"),
     }
@@ -341,7 +350,7 @@ fn writer_and_reader_fail(rt: HostRuntime) -> Result<(), Fail> {
             is_failed: false,
         };
         let mut output = FromStd::new(Vec::new(rt.alloc()));
-        match predict(&rt, &mut input, &mut output, TURNS, &full()?, Form::Text) {
+        match predict(&rt, &mut input, &mut output, TURNS, Seed::fixed(), &full()?, Form::Text) {
             Ended::Refused(line) => assert_eq!(rt; line.as_slice(), said),
             Ended::ReadFailed => assert!(rt; said.is_empty()),
             other => assert!(rt; false, "{other:?}"),
@@ -352,10 +361,15 @@ fn writer_and_reader_fail(rt: HostRuntime) -> Result<(), Fail> {
 }
 
 // The counts of the text and of its report are these.
-fn expect_counts<R: Abort + AllocGlobal>(rt: &R, query: &Query, text: &[u8], counts: &[u8]) {
+fn expect_counts<R: Abort + AllocGlobal + Threads + Sync>(
+    rt: &R,
+    query: &Query,
+    text: &[u8],
+    counts: &[u8],
+) {
     let mut input = FromStd::new(text);
     let mut output = FromStd::new(Vec::new(rt.alloc()));
-    match stats(rt, &mut input, &mut output, TURNS, query) {
+    match stats(rt, &mut input, &mut output, TURNS, Seed::fixed(), query) {
         Ended::Done => assert_eq!(rt; output.into_inner().as_slice(), counts),
         other => assert!(rt; false, "{other:?}"),
     }
@@ -400,7 +414,7 @@ fn counted_lines_and_cycles(rt: HostRuntime) -> Result<(), Fail> {
 fn expect_replay<R: Abort + AllocGlobal>(rt: &R, text: &[u8], replayed: &[u8]) {
     let mut input = FromStd::new(text);
     let mut output = FromStd::new(Vec::new(rt.alloc()));
-    match replay(rt, &mut input, &mut output, TURNS) {
+    match replay(rt, &mut input, &mut output, TURNS, Seed::fixed()) {
         Ended::Done => assert_eq!(rt; output.into_inner().as_slice(), replayed),
         other => assert!(rt; false, "{other:?}"),
     }
@@ -428,13 +442,13 @@ fn expect_line<R: Abort>(rt: &R, ended: Ended, said: &[u8]) {
 fn counts_and_replays_refused(rt: HostRuntime) -> Result<(), Fail> {
     let mut output = FromStd::new(Vec::new(rt.alloc()));
     let mut input = FromStd::new(b"T0|join(T1)|1\nT1|join(T0)|2\n".as_slice());
-    let counted = stats(&rt, &mut input, &mut output, TURNS, &full()?);
+    let counted = stats(&rt, &mut input, &mut output, TURNS, Seed::fixed(), &full()?);
     let said = b"goodlock: inconsistent: T0.1 precedes itself\n";
     expect_line(&rt, counted, said);
     assert!(rt; output.into_inner().is_empty());
     let mut output = FromStd::new(Vec::new(rt.alloc()));
     let mut input = FromStd::new(b"T0|acq(|3".as_slice());
-    let replayed = replay(&rt, &mut input, &mut output, TURNS);
+    let replayed = replay(&rt, &mut input, &mut output, TURNS, Seed::fixed());
     expect_line(&rt, replayed, b"goodlock: line 1: bad operand\n");
     assert!(rt; output.into_inner().is_empty());
     Ok(())
@@ -444,7 +458,7 @@ fn counts_and_replays_refused(rt: HostRuntime) -> Result<(), Fail> {
 fn counts_and_replays_cut(rt: HostRuntime) -> Result<(), Fail> {
     let mut output = FromStd::new(Cursor::new([0u8; 9]));
     let mut input = FromStd::new(OPPOSITE_ORDER);
-    match stats(&rt, &mut input, &mut output, TURNS, &full()?) {
+    match stats(&rt, &mut input, &mut output, TURNS, Seed::fixed(), &full()?) {
         Ended::WriteFailed { written } => assert_eq!(rt; written, 9),
         other => assert!(rt; false, "{other:?}"),
     }
@@ -454,7 +468,7 @@ fn counts_and_replays_cut(rt: HostRuntime) -> Result<(), Fail> {
         is_failed: false,
     };
     let mut output = FromStd::new(Vec::new(rt.alloc()));
-    match replay(&rt, &mut input, &mut output, TURNS) {
+    match replay(&rt, &mut input, &mut output, TURNS, Seed::fixed()) {
         Ended::ReadFailed => assert!(rt; output.into_inner().is_empty()),
         other => assert!(rt; false, "{other:?}"),
     }
@@ -490,7 +504,7 @@ fn empty_input_as_json(rt: HostRuntime) -> Result<(), Fail> {
     let none: &[u8] = b"";
     let mut input = FromStd::new(none);
     let mut output = FromStd::new(Vec::new(rt.alloc()));
-    let ended = predict(&rt, &mut input, &mut output, TURNS, &full()?, Form::Json);
+    let ended = predict(&rt, &mut input, &mut output, TURNS, Seed::fixed(), &full()?, Form::Json);
     assert!(rt; matches!(ended, Ended::Clean));
     let said =
         b"{\"cycles\":[],\"format\":1,\"len\":4,\"max\":1000,\"mode\":\"full\",\"more\":false}\n";

@@ -4,7 +4,7 @@ ghost use Rattle.gl_shards.specs.Feeds.{Sending};
 ghost use Rattle.gl_engine.specs.Gathering.{AreOurs};
 ghost use Rattle.gl_engine.specs.Recording.{Closed, Recording};
 
-use super::{acquire, cycles};
+use super::acquire;
 use crate::{Collector, Gathered, Receipt, Recorder, SettleFault, Settled, open};
 use gl_event::{Event, Limits, Memory};
 use gl_filters::{Mode, Query};
@@ -12,6 +12,7 @@ use gl_shards::{Inlet, Open, Outlet, Sent, Table, feed, serve};
 use std::alloc::{AllocError, Global};
 use std::sync::Wait;
 use std::test::Fail;
+use std::thread::Threads;
 
 // Records the events and closes.
 fn recorded(recorder: Recorder, events: &[Event]) -> Option<Receipt>
@@ -50,12 +51,13 @@ fn recorded_alone(
     Ok(Some((receipt, collector)))
 }
 
-// What was gathered, where a thread has no receipt.
-fn missing(gathered: Gathered, receipts: &mut [Receipt]) -> Option<Gathered>
-    requires ours { AreOurs gathered receipts.old }
+// What was gathered, where a thread has no receipt: here none has one.
+#[tactic(auto, using(crate::proofs::Alone::none_ours))]
+fn missing(alloc: Global, gathered: Gathered) -> Option<Gathered>
     ensures back { IfSome result (λ back. back ≡ gathered) }
 {
-    match gathered.settle(receipts) {
+    let mut none: Vec<Receipt> = Vec::new(alloc);
+    match gathered.settle(none.as_mut_slice()) {
         Err(SettleFault::Missing { gathered, .. }) => Some(gathered),
         _ => None,
     }
@@ -126,12 +128,14 @@ fn settled_alone<R: Wait>(
     Some((settled, table))
 }
 
-// A session of one thread that has recorded nothing, run with one worker.
-fn nothing_recorded<R: Wait>(
+// A session of one thread that has recorded these few events, run with one worker whose feed has room
+// for all that is sent.
+fn gathered_alone<R: Wait>(
     rt: &R,
     alloc: Global,
     session: u64,
     limits: &Limits,
+    events: &[Event],
 ) -> Result<Option<(Receipt, Gathered, Inlet)>, Memory>
     requires one { limits.now.threads ≡ 1 }
     ensures sessions { IfOk result (λ done. IfSome done (λ d. (d.0.session ≡ session) × (d.1.session ≡ session))) }
@@ -139,10 +143,10 @@ fn nothing_recorded<R: Wait>(
     ensures lane { IfOk result (λ done. IfSome done (λ d. d.1.lanes ≡ d.0.lane ∷ [])) }
     ensures feed { IfOk result (λ done. IfSome done (λ d. d.1.fault ≡ None → map (λ s. s.feed) d.1.sent ≡ d.2.feed ∷ [])) }
 {
-    let Some((receipt, collector)) = recorded_alone(alloc, session, limits, &[])? else {
+    let Some((receipt, collector)) = recorded_alone(alloc, session, limits, events)? else {
         return Ok(None);
     };
-    let (outlet, inlet) = feed(alloc, 1)?;
+    let (outlet, inlet) = feed(alloc, 8)?;
     let gathered = run_alone(rt, alloc, collector, outlet)?;
     Ok(Some((receipt, gathered, inlet)))
 }
@@ -167,14 +171,31 @@ fn worker_gone<R: Wait>(
     Ok(Some((receipt, gathered)))
 }
 
+// How many edges and cycles are reported over this one table, and whether there are more cycles.
+fn counts_over<R: Threads + Sync>(
+    rt: &R,
+    alloc: Global,
+    settled: &Settled,
+    table: Table,
+) -> Option<(usize, usize, bool)> {
+    let query = Query::new(Mode::Full, 4, 1_000).ok()?;
+    let tables = vec![in alloc; table].ok()?;
+    let report = settled.report(rt, tables, &query).ok()?;
+    Some((
+        report.edges.entries().len(),
+        report.found.cycles.as_slice().len(),
+        report.found.more,
+    ))
+}
+
 // A receipt of another session is strange.
 #[test]
-#[tactic(auto, using(crate::proofs::Alone::none_ours, crate::proofs::Alone::one_ours, crate::proofs::Alone::foreign_ours))]
+#[tactic(auto, using(crate::proofs::Alone::foreign_ours))]
 fn foreign_receipt(rt: HostRuntime) -> Result<(), Fail> {
     let alloc = rt.alloc();
     let limits = Limits::new(1, 8, 100, 100)?;
-    let (_, gathered, _) = nothing_recorded(&rt, alloc, 7, &limits)?.expect(&rt, "a session");
-    let (foreign, _, _) = nothing_recorded(&rt, alloc, 8, &limits)?.expect(&rt, "a session");
+    let (_, gathered, _) = gathered_alone(&rt, alloc, 7, &limits, &[])?.expect(&rt, "a session");
+    let (foreign, _, _) = gathered_alone(&rt, alloc, 8, &limits, &[])?.expect(&rt, "a session");
     let mut receipts = vec![in alloc; foreign]?;
     let (at, _) = strange(gathered, receipts.as_mut_slice()).expect(&rt, "a strange one");
     assert_eq!(rt; at, 0);
@@ -183,13 +204,15 @@ fn foreign_receipt(rt: HostRuntime) -> Result<(), Fail> {
 
 // A session without an event, settled with no receipt, and with its own.
 #[test]
-#[tactic(auto, using(crate::proofs::Alone::none_ours, crate::proofs::Alone::one_ours, crate::proofs::Alone::foreign_ours))]
+#[tactic(auto, using(crate::proofs::Alone::one_ours))]
 fn settle_receipts(rt: HostRuntime) -> Result<(), Fail> {
     let alloc = rt.alloc();
     let limits = Limits::new(1, 8, 100, 100)?;
-    let (own, gathered, inlet) = nothing_recorded(&rt, alloc, 7, &limits)?.expect(&rt, "a session");
-    let mut none: Vec<Receipt> = Vec::new(alloc);
-    let gathered = missing(gathered, none.as_mut_slice()).expect(&rt, "no receipt");
+    let (own, gathered, inlet) = gathered_alone(&rt, alloc, 7, &limits, &[])?.expect(
+        &rt,
+        "a session",
+    );
+    let gathered = missing(alloc, gathered).expect(&rt, "no receipt");
     let mut own = vec![in alloc; own]?;
     let (settled, table) = settled_alone(&rt, alloc, gathered, own.as_mut_slice(), inlet).expect(
         &rt,
@@ -197,22 +220,47 @@ fn settle_receipts(rt: HostRuntime) -> Result<(), Fail> {
     );
     assert_eq!(rt; table.len(), 0);
     assert_eq!(rt; settled.lists().len(), 1);
-    let query = Query::new(Mode::Full, 4, 1_000)?;
-    let report = settled.report(&rt, vec![in alloc; table]?, &query);
-    assert_eq!(rt; cycles(&report), Some((0, false)));
+    assert_eq!(rt;
+        counts_over(&rt, alloc, &settled, table),
+        Some((0, 0, false))
+    );
+    Ok(())
+}
+
+// A report has the edges of the tables that it is given, and no others.
+#[test]
+#[tactic(auto, using(crate::proofs::Alone::one_ours))]
+fn empty_tables(rt: HostRuntime) -> Result<(), Fail> {
+    let alloc = rt.alloc();
+    let limits = Limits::new(1, 8, 100, 100)?;
+    let events = [acquire(0, 1), acquire(1, 2)];
+    let (own, gathered, inlet) = gathered_alone(&rt, alloc, 7, &limits, &events)?.expect(
+        &rt,
+        "a session",
+    );
+    let mut own = vec![in alloc; own]?;
+    let (settled, table) = settled_alone(&rt, alloc, gathered, own.as_mut_slice(), inlet).expect(
+        &rt,
+        "the receipt is that of the thread",
+    );
+    let over_none = counts_over(&rt, alloc, &settled, Table::new(alloc));
+    assert_eq!(rt; over_none, Some((0, 0, false)));
+    assert_eq!(rt;
+        counts_over(&rt, alloc, &settled, table),
+        Some((1, 0, false))
+    );
     Ok(())
 }
 
 // The worker's end was dropped before the run: that is answered where the receipt is there, and else
 // that it is missing.
 #[test]
-#[tactic(auto, using(crate::proofs::Alone::none_ours, crate::proofs::Alone::one_ours, crate::proofs::Alone::foreign_ours))]
+#[tactic(auto, using(crate::proofs::Alone::one_ours))]
 fn inlet_dropped(rt: HostRuntime) -> Result<(), Fail> {
     let alloc = rt.alloc();
     let limits = Limits::new(1, 8, 100, 100)?;
     let (own, gathered) = worker_gone(&rt, alloc, &limits)?.expect(&rt, "a session");
-    let mut none: Vec<Receipt> = Vec::new(alloc);
-    let gathered = missing(gathered, none.as_mut_slice()).expect(&rt, "no receipt");
+    let gathered = missing(alloc, gathered).expect(&rt, "no receipt");
     let mut own = vec![in alloc; own]?;
     assert_eq!(rt; gone(gathered, own.as_mut_slice()), Some(0));
     Ok(())

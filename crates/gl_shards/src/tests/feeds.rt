@@ -1,8 +1,8 @@
 //! Edges through feeds, in one thread and in several.
 ghost use Rattle.std.specs.Prelude.{◌≡◌, IfSome};
 
-use super::{are_as_wanted, at, edge};
-use crate::{Gate, Gone, Inlet, Open, Outlet, Sent, Served, feed, merge, serve};
+use super::{are_as_wanted, at, edge, sample_of};
+use crate::{Gate, Gone, Inlet, Open, Outlet, Sent, Served, Table, feed, merge, serve};
 use gl_edges::{Edge, Sample};
 use gl_event::{MAX_RING, Memory};
 use std::alloc::Global;
@@ -34,6 +34,13 @@ fn edges_from(alloc: Global, locks: u32) -> Result<Vec<(Edge, Sample)>, Memory> 
     Ok(pairs)
 }
 
+// Whether the table has as many edges as these, and the first and the last one of them.
+fn has_edges_from(alloc: Global, table: &Table, locks: u32) -> Result<bool, Memory> {
+    let first = sample_of(alloc, table, 0, 1, 0)?;
+    let last = sample_of(alloc, table, 0, locks, 0)?;
+    Ok(table.len() == locks as usize && first == Some(at(1)) && last == Some(at(locks)))
+}
+
 // Edges that are sent before the worker begins are in its table.
 #[test]
 fn sent_before(rt: HostRuntime) -> Result<(), Fail> {
@@ -45,9 +52,7 @@ fn sent_before(rt: HostRuntime) -> Result<(), Fail> {
     let table = served
         .settle(sent)
         .expect(&rt, "every edge came, and there is memory");
-    assert!(rt; table.len() == 2);
-    assert!(rt; table.get(&edge(alloc, 0, 1, 0)?) == Some(at(1)));
-    assert!(rt; table.get(&edge(alloc, 0, 2, 0)?) == Some(at(2)));
+    assert!(rt; has_edges_from(alloc, &table, 2)?);
     Ok(())
 }
 
@@ -183,9 +188,7 @@ fn thousand_edges(rt: HostRuntime) -> Result<(), Fail> {
     let table = served
         .settle(sent)
         .expect(&rt, "every edge came, and there is memory");
-    assert!(rt; table.len() == 1_000);
-    assert!(rt; table.get(&edge(alloc, 0, 1, 0)?) == Some(at(1)));
-    assert!(rt; table.get(&edge(alloc, 0, 1_000, 0)?) == Some(at(1_000)));
+    assert!(rt; has_edges_from(alloc, &table, 1_000)?);
     Ok(())
 }
 
@@ -211,12 +214,12 @@ impl Meeting {
         }
     }
 
-    // How often each worker passed.
-    fn passes(&self) -> (u64, u64) {
-        (
-            self.first.load(Ordering::SeqCst),
-            self.second.load(Ordering::SeqCst),
-        )
+    // Whether each of the two workers passed once, at its first edge, and met the other one.
+    fn is_passed_by_both(&self) -> bool {
+        self.first.load(Ordering::SeqCst) == 1
+            && self.second.load(Ordering::SeqCst) == 1
+            && self.passed.load(Ordering::SeqCst) == 1_001
+            && self.alone.load(Ordering::SeqCst) == 0
     }
 }
 
@@ -263,28 +266,40 @@ fn work_at_once<R: Threads + Wait + Sync>(
     )
 }
 
+// Sends one edge and the end mark.
+fn send_last<R: Wait>(rt: &R, outlet: Outlet, edge: Edge, sample: Sample) -> Option<Sent>
+    ensures feed { IfSome result (λ sent. sent.feed ≡ outlet.feed) }
+{
+    let mut outlet = outlet;
+    if outlet.send(rt, edge, sample).is_err() {
+        return None;
+    }
+    outlet.end(rt).ok()
+}
+
+// Whether each of the two tables has one edge, and the two make the list of both.
+fn are_one_each(alloc: Global, first: Table, second: Table) -> Result<bool, Memory> {
+    if first.len() != 1 || second.len() != 1 {
+        return Ok(false);
+    }
+    let list = merge(alloc, vec![in alloc; first, second]?)?;
+    Ok(are_as_wanted(list.entries(), &[(2, 4), (3, 5)]))
+}
+
 // Two workers are both between a receive and an insert at one moment.
 #[test]
 fn workers_at_once(rt: HostRuntime) -> Result<(), Fail> {
     let alloc = rt.alloc();
-    let (mut one, first) = feed(alloc, 2)?;
-    let (mut two, second) = feed(alloc, 2)?;
-    assert!(rt; one.send(&rt, edge(alloc, 0, 2, 3)?, at(4)).is_ok());
-    assert!(rt; two.send(&rt, edge(alloc, 1, 3, 2)?, at(5)).is_ok());
-    let one = one.end(&rt).expect(&rt, "the inlet is there");
-    let two = two.end(&rt).expect(&rt, "the inlet is there");
+    let (one, first) = feed(alloc, 2)?;
+    let (two, second) = feed(alloc, 2)?;
+    let one = send_last(&rt, one, edge(alloc, 0, 2, 3)?, at(4)).expect(&rt, "the inlet is there");
+    let two = send_last(&rt, two, edge(alloc, 1, 3, 2)?, at(5)).expect(&rt, "the inlet is there");
 
     let gate = Meeting::new();
     let (first, second) = work_at_once(&rt, alloc, first, second, &gate);
-    assert!(rt; gate.passes() == (1, 1));
-    assert!(rt; gate.passed.load(Ordering::SeqCst) == 1_001);
-    assert!(rt; gate.alone.load(Ordering::SeqCst) == 0);
-
+    assert!(rt; gate.is_passed_by_both());
     let first = first.settle(one).expect(&rt, "the end mark came");
     let second = second.settle(two).expect(&rt, "the end mark came");
-    assert!(rt; first.len() == 1);
-    assert!(rt; second.len() == 1);
-    let list = merge(alloc, vec![in alloc; first, second]?)?;
-    assert!(rt; are_as_wanted(list.entries(), &[(2, 4), (3, 5)]));
+    assert!(rt; are_one_each(alloc, first, second)?);
     Ok(())
 }

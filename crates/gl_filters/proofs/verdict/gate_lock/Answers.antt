@@ -2,9 +2,10 @@ use Rattle.std.proofs.Common.{◌≡◌, false, get_or, below_more, sym, ap, ◌
 use Rattle.std.specs.List.{list_any}
 use Rattle.std.proofs.lemmas.List.{get_or_default}
 use Rattle.gl_edges.specs.declared.guards.Guard.{Guard}
-use Rattle.gl_filters.specs.Test.{clash_on}
+use Rattle.gl_edges.specs.Clashes.{clash_on}
 use Rattle.gl_filters.proofs.Cycling.{gate_from}
-use Rattle.gl_filters.proofs.Gates.{first_is_least, some_clashes}
+use Rattle.gl_edges.proofs.Clashing.{some_clashes}
+use Rattle.gl_filters.proofs.Gates.{first_is_least}
 use Rattle.gl_filters.proofs.verdict.gate_lock.Goals as goal
 
 pub returns-then-clashes_with_any-clause-gate : goal.returns-then-clashes_with_any-clause-gate

@@ -1,4 +1,4 @@
-use Rattle.gl_filters.proofs.Gates.{NoneBelow}
+use Rattle.gl_edges.proofs.Clashing.{NoneBelow}
 use Rattle.gl_filters.proofs.verdict.gate_lock.Given as goal
 
 -- none of the guards so far clashes with the other set

@@ -2,7 +2,7 @@ use Rattle.std.proofs.Common.{◌≡◌, true, sym, subst, ◌∙◌, arith}
 use Rattle.std.proofs.lemmas.Option.{same_Some, slice_get_within}
 use Rattle.gl_edges.specs.declared.edge.Edge.{Edge}
 use Rattle.gl_filters.specs.Judging.{picked, clashes}
-use Rattle.gl_filters.specs.Test.{guards_clash}
+use Rattle.gl_edges.specs.Clashes.{guards_clash}
 use Rattle.gl_filters.proofs.Gates.{IsLeastGate}
 use Rattle.gl_filters.proofs.Judged.{picked_length}
 use Rattle.gl_filters.proofs.verdict.guard_at.Goals as goal

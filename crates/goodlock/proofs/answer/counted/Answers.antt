@@ -11,14 +11,14 @@ use Rattle.goodlock.proofs.Answering.{no_report, refused_then, with_report}
 use Rattle.goodlock.proofs.answer.counted.Goals as goal
 
 pub returns-in_err-trace-clause-refused : goal.returns-in_err-trace-clause-refused
-returns-in_err-trace-clause-refused c =
+returns-in_err-trace-clause-refused g c =
     let p = err_from_is_err_and c.from_residual.result c.from_residual.ensures.1 in
     let asked = counts c.args.query.now in
     rw (p.1, p.2) (refused_then c.in_err-trace.field-0.0 (SaysWhyNoReport c.args.read) (λ line. (text : List ℕ) → trace_of greatest text ≡ c.args.read → IsAnswer asked text (Refusal line))
     (no_report asked c.args.read) c.in_err-trace.ensures.refused)
 
 pub returns-clause-printed : goal.returns-clause-printed
-returns-clause-printed c = λ text is.
+returns-clause-printed g c = λ text is.
     let asked = counts c.args.query.now in
     let both = c.in_ok-trace.field-0 in
     let text_is = c.in_ok-text.ensures ∙ ap stats_text c.of.ensures in

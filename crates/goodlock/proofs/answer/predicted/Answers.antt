@@ -1,4 +1,4 @@
-use Rattle.std.proofs.Common.{◌≡◌, ◌∙◌, List, ℕ, ap, sym, subst, refl}
+use Rattle.std.proofs.Common.{◌≡◌, List, ℕ, sym, subst, refl}
 use Rattle.std.proofs.lemmas.Result.{err_from_is_err_and}
 use Rattle.gl_event.specs.Bounds.{greatest}
 use Rattle.gl_std.specs.Trace.{trace_of}
@@ -9,14 +9,14 @@ use Rattle.goodlock.proofs.Answering.{no_report, refused_then, with_report}
 use Rattle.goodlock.proofs.answer.predicted.Goals as goal
 
 pub returns-in_err-trace-clause-refused : goal.returns-in_err-trace-clause-refused
-returns-in_err-trace-clause-refused c =
+returns-in_err-trace-clause-refused g c =
     let p = err_from_is_err_and c.from_residual.result c.from_residual.ensures.1 in
     let asked = prediction c.args.query.now c.args.form in
     rw (p.1, p.2) (refused_then c.in_err-trace.field-0.0 (SaysWhyNoReport c.args.read) (λ line. (text : List ℕ) → trace_of greatest text ≡ c.args.read → IsAnswer asked text (Refusal line))
     (no_report asked c.args.read) c.in_err-trace.ensures.refused)
 
 pub returns-clause-printed : goal.returns-clause-printed
-returns-clause-printed c = λ text is.
+returns-clause-printed g c = λ text is.
     let asked = prediction c.args.query.now c.args.form in
     let both = c.in_ok-trace.field-0 in
     subst (IsAnswer asked text) (λ i. Prints (sym c.in_ok-text.ensures i) (sym c.outcome_of-outcome.ensures i))

@@ -8,7 +8,7 @@ use Rattle.gl_cycles.specs.AllCycles.{edges_of_table, all_cycles}
 use Rattle.goodlock.proofs.answer.report_by.Goals as goal
 
 pub returns : goal.returns
-returns c =
+returns g c =
     let asked = c.args.query.now in
     let all = λ (table : List (Edge × Sample)). all_cycles (is_before c.args.order.now) asked.mode asked.len (edges_of_table table) in
     let same_edges = c.in_ok-edges.ensures ∙ ap edges c.as_slice.ensures in

@@ -1,4 +1,3 @@
-use Rattle.std.proofs.Common.{refl}
 use Rattle.std.proofs.KnownBytes.{Keeps-refl}
 use Rattle.goodlock.specs.Answer.{IsAnswer, prediction}
 use Rattle.goodlock.specs.Ending.HasEnded.{early}

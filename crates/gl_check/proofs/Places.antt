@@ -1,0 +1,33 @@
+-- Which edge stands at a position.
+use Rattle.std.proofs.Common.{◌≡◌, ℕ, zero, suc, ◌+◌, ◌<◌, ◌≤◌, List, [], ◌∷◌, length, Some, sym, ap, subst, ◌∙◌, arith, inl, inr}
+use Rattle.std.specs.Prelude.{slice_get, All}
+use Rattle.std.proofs.lemmas.Bool.{cases_lt}
+use Rattle.std.proofs.lemmas.Option.{slice_get_within, same_Some}
+use Rattle.serde_json.specs.Data.{Data}
+use Rattle.gl_std.specs.Names.{NameLists}
+use Rattle.gl_edges.specs.declared.edge.Edge.{Edge}
+use Rattle.gl_edges.specs.declared.edge.Sample.{Sample}
+use Rattle.gl_check.specs.Edges.{IsPrintOf, IsEdgeAt, IsNoEdge, AreEdgesAt}
+
+module _ (names : NameLists) (table : List (Edge × Sample)) (d : Data) where
+  -- no edge below a position has this JSON, nor the one there
+  pub none_more : (i : ℕ) (pair : Edge × Sample) → slice_get table i ≡ Some pair → ¬ IsPrintOf names d pair → ((position : ℕ) → position < i → ¬ IsEdgeAt names table d position)
+      → (position : ℕ) → position < i + 1 → ¬ IsEdgeAt names table d position
+  none_more i pair there not before position below at = elim (cases_lt position i) [
+    | inl earlier ↦ before position earlier at
+    | inr later ↦
+        let same : position ≡ i = omega arith in
+        not (subst (IsPrintOf names d) (same_Some at.pair pair (sym at.there ∙ ap (slice_get table) same ∙ there)) at.prints)
+  ]
+
+  -- none below the end is none at all
+  pub none_at_all : (n : ℕ) → length table ≤ n → ((position : ℕ) → position < n → ¬ IsEdgeAt names table d position) → IsNoEdge names table d
+  none_at_all n whole before position at = before position (let within = slice_get_within table position at.pair at.there in omega arith) at
+
+-- the positions of edges are those of the table
+pub edges_within : (names : NameLists) (table : List (Edge × Sample)) (ds : List Data) (positions : List ℕ) → AreEdgesAt names table ds positions → All (λ p. p < length table) positions
+edges_within names table [] [] edges k d within = absurd (omega arith)
+edges_within names table [] (p ∷ positions) edges k d within = absurd edges
+edges_within names table (d ∷ ds) [] edges k x within = absurd edges
+edges_within names table (d ∷ ds) (p ∷ positions) edges zero x within = slice_get_within table p edges.0.pair edges.0.there
+edges_within names table (d ∷ ds) (p ∷ positions) edges (suc k) x within = edges_within names table ds positions edges.1 k x (omega arith)

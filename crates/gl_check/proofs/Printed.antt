@@ -1,0 +1,138 @@
+-- JSON of the shape of a report is what is printed of the report that it lists.
+use Rattle.std.proofs.Common.{◌≡◌, ℕ, Bool, true, false, cond, ◌&&◌, List, [], ◌∷◌, Some, None, refl, sym, ap, subst, ◌∙◌}
+use Rattle.std.specs.Prelude.{codes, is_some, option_and_then, unwrap_or}
+use Rattle.std.specs.Str.{bytes_eq}
+use Rattle.std.proofs.lemmas.Bool.{and_parts, eqb-true, false≢true}
+use Rattle.std.proofs.lemmas.Slice.Eq.{bytes_eq-Decides}
+use Rattle.serde_json.specs.Data.{unsigned, negative, float, Data, null, boolean, number, string, array, object, Items, no_items, item, Members, no_members, member}
+use Rattle.serde_json.specs.Find.{as_array, as_bool, as_str, get}
+use Rattle.serde_json.specs.View.{items_of}
+use Rattle.gl_filters.specs.declared.query.Mode.TheVariants.{Basic, Guarded, Full}
+use Rattle.gl_report.specs.Tree.{mode_word}
+use Rattle.gl_check.specs.Shape.{has_fields, have_fields, is_of, items_in, listed, mode_said, mode_under, number_under, report_fields, under_cycles, whole}
+use Rattle.gl_check.specs.declared.fields.Kind.{Kind}
+use Rattle.gl_check.specs.declared.fields.Kind.TheVariants.{Number, Exactly, Word, Flag, Array}
+
+-- what stands under `more`
+abbrev pub more_under : Data → Bool
+more_under d = unwrap_or (option_and_then as_bool (get (codes "more") d)) false
+
+items_of_listed : (ds : Items) → items_of (listed ds) ≡ ds
+items_of_listed no_items = refl
+items_of_listed (item d ds) = ap (item d) (items_of_listed ds)
+
+-- an array is that of its items
+pub array_is : (d : Data) → is_some (as_array d) ≡ true → d ≡ array (items_of (items_in d))
+array_is null is = absurd (false≢true is)
+array_is (boolean b) is = absurd (false≢true is)
+array_is (number n) is = absurd (false≢true is)
+array_is (string s) is = absurd (false≢true is)
+array_is (array ds) is = ap array (sym (items_of_listed ds))
+array_is (object ms) is = absurd (false≢true is)
+
+number_is : (d : Data) → is_of Number d ≡ true → d ≡ number (unsigned (unwrap_or (whole d) 0))
+number_is null is = absurd (false≢true is)
+number_is (boolean b) is = absurd (false≢true is)
+number_is (number (unsigned n)) is = refl
+number_is (number (negative z)) is = absurd (false≢true is)
+number_is (number (float x)) is = absurd (false≢true is)
+number_is (string s) is = absurd (false≢true is)
+number_is (array ds) is = absurd (false≢true is)
+number_is (object ms) is = absurd (false≢true is)
+
+exactly_is : (n : ℕ) (d : Data) → is_of (Exactly n) d ≡ true → d ≡ number (unsigned n)
+exactly_is n null is = absurd (false≢true is)
+exactly_is n (boolean b) is = absurd (false≢true is)
+exactly_is n (number (unsigned m)) is = ap (λ k. number (unsigned k)) (eqb-true m n is)
+exactly_is n (number (negative z)) is = absurd (false≢true is)
+exactly_is n (number (float x)) is = absurd (false≢true is)
+exactly_is n (string s) is = absurd (false≢true is)
+exactly_is n (array ds) is = absurd (false≢true is)
+exactly_is n (object ms) is = absurd (false≢true is)
+
+word_of : (s : List ℕ) → is_some (mode_said s) ≡ true → s ≡ mode_word (unwrap_or (mode_said s) Basic)
+word_of s is = by (bytes_eq s (codes "basic")) (bytes_eq s (codes "guarded")) (bytes_eq s (codes "full")) refl refl refl is
+  where
+    by : (a b c : Bool) → bytes_eq s (codes "basic") ≡ a → bytes_eq s (codes "guarded") ≡ b → bytes_eq s (codes "full") ≡ c
+        → is_some (cond a (Some Basic) (cond b (Some Guarded) (cond c (Some Full) None))) ≡ true
+        → s ≡ mode_word (unwrap_or (cond a (Some Basic) (cond b (Some Guarded) (cond c (Some Full) None))) Basic)
+    by true b c one two three is = (bytes_eq-Decides s (codes "basic")).0 one
+    by false true c one two three is = (bytes_eq-Decides s (codes "guarded")).0 two
+    by false false true one two three is = (bytes_eq-Decides s (codes "full")).0 three
+    by false false false one two three is = absurd (false≢true is)
+
+word_is : (d : Data) → is_of Word d ≡ true → d ≡ string (mode_word (unwrap_or (option_and_then mode_said (as_str d)) Basic))
+word_is null is = absurd (false≢true is)
+word_is (boolean b) is = absurd (false≢true is)
+word_is (number n) is = absurd (false≢true is)
+word_is (string s) is = ap string (word_of s is)
+word_is (array ds) is = absurd (false≢true is)
+word_is (object ms) is = absurd (false≢true is)
+
+flag_is : (d : Data) → is_of Flag d ≡ true → d ≡ boolean (unwrap_or (as_bool d) false)
+flag_is null is = absurd (false≢true is)
+flag_is (boolean b) is = refl
+flag_is (number n) is = absurd (false≢true is)
+flag_is (string s) is = absurd (false≢true is)
+flag_is (array ds) is = absurd (false≢true is)
+flag_is (object ms) is = absurd (false≢true is)
+
+-- the values of members that have these fields
+record Holds (field : List ℕ × Kind) (Others : Members → Type 0) (members : Members) : Type 0 where
+  value : Data
+  rest : Members
+  is : members ≡ member field.0 value rest
+  fits : is_of field.1 value ≡ true
+  others : Others rest
+
+abbrev Filled : List (List ℕ × Kind) → Members → Type 0
+Filled [] members = members ≡ no_members
+Filled (field ∷ fields) members = Holds field (Filled fields) members
+
+filled : (fields : List (List ℕ × Kind)) (members : Members) → have_fields fields members ≡ true → Filled fields members
+filled [] no_members is = refl
+filled [] (member key d rest) is = absurd (false≢true is)
+filled (field ∷ fields) no_members is = absurd (false≢true is)
+filled (field ∷ fields) (member key d rest) is =
+    let tests = and_parts (bytes_eq key field.0) (is_of field.1 d && have_fields fields rest) is in
+    let both = and_parts (is_of field.1 d) (have_fields fields rest) tests.1 in
+    record { value = d; rest = rest; is = ap (λ l. member l d rest) ((bytes_eq-Decides key field.0).0 tests.0); fits = both.0; others = filled fields rest both.1 }
+
+-- the object with these six values
+abbrev pub six : Data → Data → Data → Data → Data → Data → Data
+six a b c d e f =
+    object (member (codes "cycles") a (member (codes "format") b (member (codes "len") c (member (codes "max") d (member (codes "mode") e (member (codes "more") f no_members))))))
+
+-- an object with the keys of a report, by what stands under them
+abbrev Rebuilt : Data → Type 0
+Rebuilt d = d ≡ six (array (items_of (under_cycles d))) (number (unsigned 1)) (number (unsigned (number_under (codes "len") d))) (number (unsigned (number_under (codes "max") d))) (string (mode_word (mode_under d))) (boolean (more_under d))
+
+rebuilt_six : (a b c d e f : Data) → is_of Array a ≡ true → is_of (Exactly 1) b ≡ true → is_of Number c ≡ true → is_of Number d ≡ true → is_of Word e ≡ true → is_of Flag f ≡ true → Rebuilt (six a b c d e f)
+rebuilt_six a b c d e f one two three four five more =
+    λ i. six (array_is a one i) (exactly_is 1 b two i) (number_is c three i) (number_is d four i) (word_is e five i) (flag_is f more i)
+
+of_six : (m1 m2 m3 m4 m5 m6 m7 : Members) (a b c d e f : Data) → m1 ≡ member (codes "cycles") a m2 → m2 ≡ member (codes "format") b m3 → m3 ≡ member (codes "len") c m4 → m4 ≡ member (codes "max") d m5
+    → m5 ≡ member (codes "mode") e m6 → m6 ≡ member (codes "more") f m7 → m7 ≡ no_members
+    → is_of Array a ≡ true → is_of (Exactly 1) b ≡ true → is_of Number c ≡ true → is_of Number d ≡ true → is_of Word e ≡ true → is_of Flag f ≡ true → Rebuilt (object m1)
+of_six m1 m2 m3 m4 m5 m6 m7 a b c d e f one two three four five six_ done fits_a fits_b fits_c fits_d fits_e fits_f =
+    let last : m6 ≡ member (codes "more") f no_members = six_ ∙ ap (member (codes "more") f) done in
+    let fifth : m5 ≡ member (codes "mode") e (member (codes "more") f no_members) = five ∙ ap (member (codes "mode") e) last in
+    let fourth : m4 ≡ member (codes "max") d (member (codes "mode") e (member (codes "more") f no_members)) = four ∙ ap (member (codes "max") d) fifth in
+    let third : m3 ≡ member (codes "len") c (member (codes "max") d (member (codes "mode") e (member (codes "more") f no_members))) = three ∙ ap (member (codes "len") c) fourth in
+    let form : object m1 ≡ six a b c d e f = ap object (one ∙ ap (member (codes "cycles") a) (two ∙ ap (member (codes "format") b) third)) in
+    subst Rebuilt (sym form) (rebuilt_six a b c d e f fits_a fits_b fits_c fits_d fits_e fits_f)
+
+pub rebuilt : (d : Data) → has_fields report_fields d ≡ true → Rebuilt d
+rebuilt null is = absurd (false≢true is)
+rebuilt (boolean b) is = absurd (false≢true is)
+rebuilt (number n) is = absurd (false≢true is)
+rebuilt (string s) is = absurd (false≢true is)
+rebuilt (array ds) is = absurd (false≢true is)
+rebuilt (object ms) is =
+    let a = filled report_fields ms is in
+    let b = a.others in
+    let c = b.others in
+    let d = c.others in
+    let e = d.others in
+    let f = e.others in
+    of_six ms a.rest b.rest c.rest d.rest e.rest f.rest a.value b.value c.value d.value e.value f.value a.is b.is c.is d.is e.is f.is f.others a.fits b.fits c.fits d.fits e.fits f.fits

@@ -1,0 +1,64 @@
+-- Listed cycles beside the edges of a trace: which cycles they are, and the first fault.
+use Rattle.std.specs.Prelude.{◌≡◌, ◌≢◌, ℕ, ◌-◌, Bool, List, length, take, slice_get, Some, IfSome}
+use Rattle.std.specs.Cmp.Lexicographic.{slice_cmp}
+use Rattle.std.specs.List.{AllZip}
+use Rattle.std.specs.List.Sorted.{IsStrictlySortedBy}
+use Rattle.std.specs.Ordering.{nat_cmp}
+use Rattle.std.specs.declared.cmp.Ordering.TheVariants.{Less}
+use Rattle.serde_json.specs.Data.{Data}
+use Rattle.gl_event.specs.declared.events.Segment.{Segment}
+use Rattle.gl_std.specs.Names.{NameLists}
+use Rattle.gl_edges.specs.declared.edge.Edge.{Edge}
+use Rattle.gl_edges.specs.declared.edge.Sample.{Sample}
+use Rattle.gl_filters.specs.Asked.{Asked}
+use Rattle.gl_filters.specs.Judging.{picked, IsVerdict}
+use Rattle.gl_filters.specs.declared.verdict.Verdict.TheVariants.{Valid}
+use Rattle.gl_check.specs.Edges.{AreEdgesAt, IsNoEdge}
+use Rattle.gl_check.specs.declared.faults.CheckFault.{CheckFault}
+use Rattle.gl_check.specs.declared.faults.CheckFault.TheVariants.{Json, Shape, Inconsistent, Edge as AnEdge, Verdict, Order, Memory}
+
+-- the positions are above the last of these, by the first in which they differ
+abbrev pub IsAbove : List (List ℕ) → List ℕ → Type 0
+IsAbove found positions = IfSome (slice_get found (length found - 1)) (λ last. slice_cmp nat_cmp last positions ≡ Less)
+
+module _ (names : NameLists) (table : List (Edge × Sample)) where
+  -- the first of these that is the JSON of no edge is the one at this place
+  pub record IsFirstStrange (ds : List Data) (place : ℕ) : Type 0 where
+    pub d : Data
+    pub there : slice_get ds place ≡ Some d
+    pub strange : IsNoEdge names table d
+    -- those before it are edges
+    pub positions : List ℕ
+    pub before : AreEdgesAt names table (take place ds) positions
+
+module _ (names : NameLists) (table : List (Edge × Sample)) (before : Segment → Segment → Bool) (asked : Asked) where
+  -- these are the JSON of the edges at these positions, and the edges are a cycle that was asked for
+  pub record IsCycleOf (ds : List Data) (positions : List ℕ) : Type 0 where
+    pub edges : AreEdgesAt names table ds positions
+    pub valid : IsVerdict before asked (picked table positions) Valid
+
+  -- so it is with each of these, and they ascend
+  pub record AreCyclesOf (cycles : List (List Data)) (found : List (List ℕ)) : Type 0 where
+    pub each : AllZip IsCycleOf cycles found
+    pub ascend : IsStrictlySortedBy (slice_cmp nat_cmp) found
+
+  -- the fault is that of the listed cycle with this number, which comes after those found
+  abbrev pub IsFaultOf : ℕ → List (List ℕ) → List Data → CheckFault → Type 0
+  IsFaultOf number found ds (AnEdge i k) = (i ≡ number) × IsFirstStrange names table ds k
+  IsFaultOf number found ds (Verdict i verdict) =
+      (i ≡ number) × ((positions : List ℕ) × AreEdgesAt names table ds positions × IsVerdict before asked (picked table positions) verdict × (verdict ≢ Valid))
+  IsFaultOf number found ds (Order i) = (i ≡ number) × ((positions : List ℕ) × IsCycleOf ds positions × (¬ IsAbove found positions))
+  IsFaultOf number found ds Memory = Unit {0}
+  IsFaultOf number found ds Json = ⊥
+  IsFaultOf number found ds Shape = ⊥
+  IsFaultOf number found ds (Inconsistent at ring) = ⊥
+
+  -- the fault is that of the first listed cycle that has one
+  pub record IsFirstFault (cycles : List (List Data)) (fault : CheckFault) : Type 0 where
+    pub number : ℕ
+    pub ds : List Data
+    pub there : slice_get cycles number ≡ Some ds
+    -- those before it are cycles
+    pub found : List (List ℕ)
+    pub before_it : AreCyclesOf (take number cycles) found
+    pub is : IsFaultOf number found ds fault

@@ -1,0 +1,5 @@
+pub mod Checked
+pub mod Cycles
+pub mod Edges
+pub mod Faults
+pub mod Shape

@@ -1,0 +1,133 @@
+//! Which edge of a trace the JSON of an edge is.
+ghost use Rattle.std.specs.Prelude.{◌≡◌, ◌≤◌, true, false, codes, IfOk, MatchOption};
+ghost use Rattle.std.specs.Bool.{Decides};
+ghost use Rattle.std.specs.List.{list_all};
+ghost use Rattle.serde_json.specs.Data.{depth};
+ghost use Rattle.serde_json.specs.Read.{max_depth};
+ghost use Rattle.serde_json.specs.View.{view};
+ghost use Rattle.serde_json.specs.Written.{has_float};
+ghost use Rattle.gl_check.specs.Edges.{is_exclusive, is_exclusive_mode, IsEdgeAt, IsNoEdge, IsPrintOf};
+ghost use Rattle.gl_check.specs.Shape.{edge_fields, has_fields, number_under};
+
+use crate::claims::number_under;
+use gl_edges::{Edge, Guard, Sample};
+use gl_event::{LockMode, Memory};
+use gl_report::edge_json;
+use gl_std::Names;
+use serde_json::Value;
+use std::alloc::Global;
+
+// Whether two values are the same.
+fn are_same(alloc: Global, value: &Value, other: &Value) -> Result<bool, Memory>
+    requires plain { has_float (view value.now) ≡ false }
+    requires low { depth (view value.now) ≤ max_depth }
+    requires other_plain { has_float (view other.now) ≡ false }
+    requires other_low { depth (view other.now) ≤ max_depth }
+    ensures { IfOk result (λ same. Decides same (view value.now ≡ view other.now)) }
+{
+    let text = value.to_string(alloc)?;
+    let other_text = other.to_string(alloc)?;
+    Ok(text.as_str() == other_text.as_str())
+}
+
+// Whether the mode is exclusive.
+fn is_exclusive_mode(mode: LockMode) -> bool
+    ensures { result ≡ is_exclusive_mode mode }
+{
+    match mode {
+        LockMode::Exclusive => true,
+        LockMode::Shared => false,
+    }
+}
+
+// Whether all of these guards are held exclusively.
+fn are_exclusive(guards: &[Guard]) -> bool
+    ensures { result ≡ list_all (λ guard. is_exclusive_mode guard.mode) guards.now }
+{
+    for guard in guards {
+        if !is_exclusive_mode(guard.mode) {
+            return false;
+        }
+    }
+    true
+}
+
+// Whether the edge is of exclusive locks alone.
+fn is_exclusive(edge: &Edge) -> bool
+    ensures { result ≡ is_exclusive edge.now }
+{
+    is_exclusive_mode(edge.held_mode)
+        && is_exclusive_mode(edge.wanted_mode)
+        && are_exclusive(edge.guards.as_slice())
+}
+
+// Whether the JSON is that of this edge with its sample.
+fn is_print_of(
+    alloc: Global,
+    names: &Names,
+    edge: &Edge,
+    sample: &Sample,
+    value: &Value,
+) -> Result<bool, Memory>
+    requires { has_fields edge_fields (view value.now) ≡ true }
+    ensures { IfOk result (λ is. Decides is (IsPrintOf names.now (view value.now) (edge.now, sample.now))) }
+{
+    if !is_exclusive(edge) {
+        return Ok(false);
+    }
+    let printed = edge_json(alloc, names, edge, sample)?;
+    are_same(alloc, value, &printed)
+}
+
+// Whether the edge has this JSON, in which this place stands.
+fn has_json(
+    alloc: Global,
+    names: &Names,
+    pair: &(Edge, Sample),
+    place: u64,
+    value: &Value,
+) -> Result<bool, Memory>
+    requires shaped { has_fields edge_fields (view value.now) ≡ true }
+    requires place { place ≡ number_under (codes "place") (view value.now) }
+    ensures { IfOk result (λ is. Decides is (IsPrintOf names.now (view value.now) pair.now)) }
+{
+    if u64::from(pair.1.place) != place {
+        return Ok(false);
+    }
+    is_print_of(alloc, names, &pair.0, &pair.1, value)
+}
+
+// The first position whose edge has this JSON, in which this place stands. Edges of other places are
+// passed over.
+fn position_at(
+    alloc: Global,
+    names: &Names,
+    table: &[(Edge, Sample)],
+    place: u64,
+    value: &Value,
+) -> Result<Option<usize>, Memory>
+    requires shaped { has_fields edge_fields (view value.now) ≡ true }
+    requires place { place ≡ number_under (codes "place") (view value.now) }
+    ensures { IfOk result (λ found. MatchOption found (IsNoEdge names.now table.now (view value.now)) (IsEdgeAt names.now table.now (view value.now))) }
+{
+    for i in 0..table.len() {
+        let pair = &table[i];
+        if has_json(alloc, names, pair, place, value)? {
+            return Ok(Some(i));
+        }
+    }
+    Ok(None)
+}
+
+/// The first position whose edge has this JSON. A look at each edge until then.
+pub(crate) fn first_position(
+    alloc: Global,
+    names: &Names,
+    table: &[(Edge, Sample)],
+    value: &Value,
+) -> Result<Option<usize>, Memory>
+    requires { has_fields edge_fields (view value.now) ≡ true }
+    ensures { IfOk result (λ found. MatchOption found (IsNoEdge names.now table.now (view value.now)) (IsEdgeAt names.now table.now (view value.now))) }
+{
+    position_at(alloc, names, table, number_under(value, "place"), value)
+}

@@ -1,0 +1,72 @@
+//! Why a report isn't accepted.
+ghost use Rattle.std.specs.Prelude.{◌≡◌};
+
+use gl_event::Segment;
+use gl_filters::Verdict;
+use std::alloc::{AllocError, AllocFailed};
+use std::error::Error;
+use std::fmt;
+
+/// Why a report isn't accepted. Cycles and their edges count from 0.
+#[derive(Drop, Debug)]
+pub enum CheckFault {
+    /// It is no JSON.
+    Json,
+    /// It hasn't exactly the keys of a report, a value is of another kind or out of its range, or it
+    /// lists more cycles than were asked for.
+    Shape,
+    /// A segment of the trace is before itself: this is the least one, by thread and index, and a ring
+    /// of segments that begins with it, each one step from the one before and the first from the last.
+    Inconsistent { at: Segment, ring: Vec<Segment> },
+    /// This edge of this cycle is none of the trace, or has another sample.
+    Edge(usize, usize),
+    /// This cycle is none that was asked for, and why.
+    Verdict(usize, Verdict),
+    /// This cycle isn't above the one before it.
+    Order(usize),
+    /// Memory was refused.
+    Memory,
+}
+
+impl fmt::Display for CheckFault {
+    ghost use Rattle.std.specs.Prelude.{Some};
+    ghost use Rattle.gl_check.specs.Faults.{text_of};
+
+    ghost output = { λ fault. Some (text_of fault) };
+
+    fn fmt<W: fmt::Write>(&self, f: &mut fmt::Formatter<W>) -> fmt::Result {
+        match self {
+            CheckFault::Json => f.write_str("report is not JSON"),
+            CheckFault::Shape => f.write_str("report has the wrong shape"),
+            CheckFault::Inconsistent { .. } => f.write_str("a segment precedes itself"),
+            CheckFault::Edge(cycle, edge) => {
+                write!(f, "cycle {cycle} edge {edge} is not in the trace")
+            }
+            CheckFault::Verdict(cycle, _) => write!(f, "cycle {cycle} is not valid"),
+            CheckFault::Order(cycle) => write!(f, "cycle {cycle} is out of order"),
+            CheckFault::Memory => f.write_str("out of memory"),
+        }
+    }
+}
+
+impl Error for CheckFault {}
+
+impl From<AllocError> for CheckFault {
+    ghost use Rattle.gl_check.specs.declared.faults.CheckFault.TheVariants.{Memory};
+
+    ghost from_gives = { λ _ e. e ≡ Memory };
+
+    fn from(_e: AllocError) -> CheckFault {
+        CheckFault::Memory
+    }
+}
+
+impl<T: Drop> From<AllocFailed<T>> for CheckFault {
+    ghost use Rattle.gl_check.specs.declared.faults.CheckFault.TheVariants.{Memory};
+
+    ghost from_gives = { λ _ e. e ≡ Memory };
+
+    fn from(_e: AllocFailed<T>) -> CheckFault {
+        CheckFault::Memory
+    }
+}

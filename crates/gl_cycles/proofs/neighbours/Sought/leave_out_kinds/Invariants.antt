@@ -1,0 +1,9 @@
+use Rattle.std.proofs.Common.{◌≡◌, ℕ}
+use Rattle.gl_segments.specs.Clocks.{is_before}
+use Rattle.gl_cycles.specs.AllCycles.{edges_of_table}
+use Rattle.gl_cycles.specs.OffCycles.{KeepsCycles}
+use Rattle.gl_cycles.proofs.neighbours.Sought.leave_out_kinds.Given as goal
+
+-- so far only edges that are in no cycle are left out
+abbrev pub invariant-loop-i : goal.invariant-loop-i
+invariant-loop-i l = KeepsCycles (is_before l.self.order.now) l.self.mode l.self.len (edges_of_table l.self.table.now) l.kept.items

@@ -1,0 +1,92 @@
+//! Models of edges: the first edge of each kind.
+//!
+//! Nothing of this is proved, and nothing relies on it but for speed: that an edge and its model are
+//! alike is checked. So guards may be compared by a fingerprint.
+use gl_edges::{Edge, Guards, Sample};
+use gl_event::{LockId, LockMode, Memory};
+use std::alloc::Global;
+
+// An odd number with its ones spread evenly.
+const SPREAD: u64 = 0x9E37_79B9_7F4A_7C15;
+
+// What is looked at of an edge, and its position.
+#[derive(Clone, Copy, Debug, PartialEq, Eq, PartialOrd, Ord)]
+struct Kind {
+    held: LockId,
+    held_mode: LockMode,
+    wanted: LockId,
+    wanted_mode: LockMode,
+    guards: u64,
+    position: usize,
+}
+
+impl Kind {
+    // The kind of the edge at a position.
+    fn of(edge: &Edge, position: usize) -> Kind {
+        Kind {
+            held: edge.held,
+            held_mode: edge.held_mode,
+            wanted: edge.wanted,
+            wanted_mode: edge.wanted_mode,
+            guards: fingerprint(&edge.guards),
+            position,
+        }
+    }
+
+    // Whether both are of one kind.
+    fn is_alike(&self, other: &Kind) -> bool {
+        self.held == other.held
+            && self.held_mode == other.held_mode
+            && self.wanted == other.wanted
+            && self.wanted_mode == other.wanted_mode
+            && self.guards == other.guards
+    }
+}
+
+// A number that is the same for the same guards, and hardly ever for others.
+fn fingerprint(guards: &Guards) -> u64 {
+    let mut print: u64 = 0;
+    for guard in guards.as_slice() {
+        let is_shared = guard.mode == LockMode::Shared;
+        let number = (u64::from(guard.lock.number()) << 1) | u64::from(is_shared);
+        print = (print ^ number).wrapping_mul(SPREAD).rotate_left(29);
+    }
+    print
+}
+
+/// For each edge the position of the first edge of its kind. Sorts them.
+pub(crate) fn models(alloc: Global, table: &[(Edge, Sample)]) -> Result<Vec<usize>, Memory> {
+    let mut kinds = Vec::with_capacity(alloc, table.len())?;
+    for (position, (edge, _)) in table.iter().enumerate() {
+        kinds.push(Kind::of(edge, position))?;
+    }
+    kinds.sort_unstable();
+    let mut models = vec![in alloc; 0; table.len()]?;
+    let mut first = 0;
+    for i in 0..kinds.len() {
+        if !are_alike(&kinds, first, i) {
+            first = i;
+        }
+        put(&mut models, &kinds, first, i);
+    }
+    Ok(models)
+}
+
+// Whether the kinds at these places are one.
+fn are_alike(kinds: &[Kind], a: usize, b: usize) -> bool {
+    match (kinds.get(a), kinds.get(b)) {
+        (Some(a), Some(b)) => a.is_alike(b),
+        _ => false,
+    }
+}
+
+// Puts down that the edge of the first of these kinds is the model of the other one's.
+fn put(models: &mut Vec<usize>, kinds: &[Kind], first: usize, i: usize) {
+    let (Some(&model), Some(&kind)) = (kinds.get(first), kinds.get(i)) else {
+        return;
+    };
+    let position = kind.position;
+    if let Some(place) = models.get_mut(position) {
+        *place = model.position;
+    }
+}

@@ -1,6 +1,0 @@
-use Rattle.gl_filters.specs.Merging.{AreBelow}
-use Rattle.gl_filters.proofs.gate_locks.first_from.Given as goal
-
--- the guards so far have lesser locks
-abbrev pub invariant-loop-here : goal.invariant-loop-here
-invariant-loop-here l = AreBelow l.guards l.here l.lock

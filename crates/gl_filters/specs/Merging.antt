@@ -1,7 +1,0 @@
--- Two ascending lists of guards, walked through together.
-use Rattle.std.specs.Prelude.{ℕ, ◌<◌, List, get_or}
-use Rattle.gl_edges.specs.declared.guards.Guard.{Guard}
-
--- the guards before this place have lesser locks
-abbrev pub AreBelow : List Guard → ℕ → ℕ → Type 0
-AreBelow guards place lock = (k : ℕ) (d : Guard) → k < place → (get_or guards k d).lock < lock
