@@ -1,13 +1,13 @@
 -- Which edges a trim takes away follows from the edges.
-use Rattle.std.proofs.Common.{◌≡◌, ◌≢◌, ℕ, zero, suc, ◌+◌, ◌-◌, ◌<◌, ◌≤◌, ◌⊎◌, Bool, true, false, not, ◌&&◌, ◌||◌, cond, eqb, List, [], ◌∷◌, ◌++◌, length, filter, take, set, get_or, replicate, Option, Some, None, refl, sym, ap, subst, ◌∙◌, arith, inl, inr}
+use Rattle.std.proofs.Common.{◌≡◌, ℕ, zero, suc, ◌+◌, ◌<◌, ◌≤◌, ◌⊎◌, Bool, true, false, not, ◌&&◌, ◌||◌, cond, eqb, List, [], ◌∷◌, ◌++◌, length, filter, take, set, get_or, replicate, Option, Some, None, refl, sym, ap, subst, ◌∙◌, arith, inl, inr}
 use Rattle.std.specs.Prelude.{slice_get, Contains}
 use Rattle.std.specs.List.{list_any, range_with_len, cons_option}
 use Rattle.std.proofs.lemmas.Bool.{cases_eq, cases_lt, false≢true, false_from_ne_true, and_parts, and_from, and_left, and_right, not-true, ne_eqb}
 use Rattle.std.proofs.lemmas.List.{append-nil, take_more, take_all}
-use Rattle.std.proofs.lemmas.Option.{slice_get-get_or, slice_get_within, same_Some}
+use Rattle.std.proofs.lemmas.Option.{slice_get-get_or, slice_get_within}
 use Rattle.gl_event.specs.declared.events.Segment.{Segment}
 use Rattle.gl_edges.specs.declared.edge.Edge.{Edge}
-use Rattle.gl_edges.proofs.Membership.{any_from_contains, contains_from_any, contains_here, contains_later, contains_cases, contains_none, contains_range, contains_range_from}
+use Rattle.gl_edges.proofs.Membership.{any_from_contains, contains_from_any, contains_here, contains_later, contains_cases, contains_none, contains_range}
 use Rattle.gl_filters.specs.declared.query.Mode.{Mode}
 use Rattle.gl_cycles.specs.AllCycles.{picked, all_cycles}
 use Rattle.gl_cycles.specs.Trims.{is_beside, HasBeside, IsStuck, IsFirstStuck, IsTrimOrder, IsTrimmed, others, is_alone, is_stuck, removals, whole_trim}

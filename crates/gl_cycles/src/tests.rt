@@ -21,6 +21,7 @@ mod loops;
 mod parallel;
 mod pruning;
 mod reports;
+mod trim_orders;
 mod trims;
 
 // An acquire.

@@ -1,9 +1,9 @@
-use Rattle.std.proofs.Common.{◌≡◌, ◌<◌, eqb, cond, List, length, map, take, Some, None, sym, ap, subst, ◌∙◌, arith}
+use Rattle.std.proofs.Common.{◌≡◌, ◌<◌, eqb, cond, length, take, Some, None, sym, ap, ◌∙◌, arith}
 use Rattle.std.specs.Prelude.{vec_len}
 use Rattle.std.proofs.lemmas.List.{length-map}
 use Rattle.gl_segments.specs.Clocks.{is_before}
 use Rattle.gl_cycles.specs.AllCycles.{all_cycles, edges_of_table}
-use Rattle.gl_cycles.specs.Trims.{IsTrimmed, whole_trim}
+use Rattle.gl_cycles.specs.Trims.{IsTrimmed}
 use Rattle.gl_cycles.proofs.Whole.{first_of_taken, none_with_cycle, whole_is, some_from_test}
 use Rattle.gl_cycles.proofs.reports.whole_trim.Goals as goal
 
