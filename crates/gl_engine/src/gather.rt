@@ -22,6 +22,10 @@ use std::alloc::Global;
 use std::sync::Wait;
 use std::thread;
 
+// The most notes that are pulled off a lane before their edges are shipped. A worker that waits for edges
+// is woken once for all of them.
+const BURST: u32 = 64;
+
 // Ships an edge to its shard, or answers the shard whose worker is gone.
 fn ship_one<R: Wait>(
     rt: &R,
@@ -97,7 +101,41 @@ fn pull_at(
     has_pulled(thread, &pulled)
 }
 
-// Pulls the next note off the thread's lane, if there is one, and ships its edges. Whether there was one.
+// Pulls the next notes off the thread's lane, as many as a turn may at most, and makes their edges.
+// Whether there was one.
+fn pull_some(
+    alloc: Global,
+    thread: ThreadId,
+    rows: &mut Vec<Row>,
+    intake: &mut Intake,
+    made: &mut Vec<(Edge, Sample)>,
+) -> Result<bool, RunFault>
+    requires known { thread < intake.old.limits.threads }
+    requires none { made.old.items ≡ [] }
+    requires keeps { IsCollector intake.old.limits rows.old.items intake.old.stream (made_by intake.old.stream) intake.old.limits }
+    ensures keeps { IsCollector intake.old.limits rows.new.items intake.new.stream (made_by intake.new.stream) intake.old.limits }
+    ensures made { OnOk result (made_by intake.old.stream ++ made.new.items ≡ made_by intake.new.stream) }
+    ensures limits { intake.new.limits ≡ intake.old.limits }
+    ensures lanes { map lane_of rows.new.items ≡ map lane_of rows.old.items }
+    ensures grown { IsPrefix intake.old.stream intake.new.stream }
+    ensures blamed { IfErr result (IsBlamed intake.old.limits rows.new.items intake.new.stream) }
+{
+    let mut moved = false;
+    for _ in 0..BURST {
+        let mut next = Vec::new(alloc);
+        let pulled = pull_at(alloc, thread, rows, intake, &mut next)?;
+        let Ok(()) = made.append(&mut next) else {
+            return Err(RunFault::Memory);
+        };
+        if !pulled {
+            return Ok(moved);
+        }
+        moved = true;
+    }
+    Ok(moved)
+}
+
+// Pulls notes off the thread's lane, if there are any, and ships their edges. Whether there was one.
 fn turn<R: Wait>(
     rt: &R,
     alloc: Global,
@@ -118,7 +156,7 @@ fn turn<R: Wait>(
     ensures blamed { IfErr result (IsBlamed intake.old.limits rows.new.items intake.new.stream) }
 {
     let mut made = Vec::new(alloc);
-    let pulled = pull_at(alloc, thread, rows, intake, &mut made)?;
+    let pulled = pull_some(alloc, thread, rows, intake, &mut made)?;
     ship(rt, outlets, made)?;
     Ok(pulled)
 }
