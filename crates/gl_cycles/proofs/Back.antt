@@ -12,8 +12,8 @@ use Rattle.gl_filters.specs.declared.query.Mode.{Mode}
 use Rattle.gl_filters.proofs.Round.{pair_goes}
 use Rattle.gl_edges.specs.declared.edge.Sample.{Sample}
 use Rattle.gl_cycles.specs.AllCycles.{edges_of_table}
-use Rattle.gl_cycles.specs.OffCycles.{IsOffCycles, KeepsCycles}
-use Rattle.gl_cycles.specs.Walks.{ends_in, AreEnds, label_at, ShowsNoWay}
+use Rattle.gl_cycles.specs.bodies.OffCycles.{IsOffCycles, KeepsCycles}
+use Rattle.gl_cycles.specs.bodies.Walks.{ends_in, AreEnds, label_at, ShowsNoWay}
 use Rattle.gl_cycles.specs.declared.numbers.Ends.{Ends}
 use Rattle.gl_cycles.proofs.Fronts.{element_at}
 

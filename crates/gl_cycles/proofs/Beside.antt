@@ -11,8 +11,8 @@ use Rattle.gl_filters.specs.declared.query.Mode.{Mode}
 use Rattle.gl_cycles.specs.declared.trims.Side.{Side}
 use Rattle.gl_cycles.specs.declared.trims.Side.TheVariants.{Follower, Leader}
 use Rattle.gl_cycles.specs.Trims.{is_beside, HasBeside, IsStuck, IsFirstStuck}
-use Rattle.gl_cycles.specs.Trimming.{IsFlagged, NoneBeside, IsStart, IsHint, IsPlaced, KeepPlaced, AreHints, AreBothHints, AreAwake, AreChained, HasBesideAt, TellsStuck, AreSettled, opposite, lock_towards, places_of, watched_at}
-use Rattle.gl_cycles.specs.Followers.{IsNextWith}
+use Rattle.gl_cycles.specs.bodies.Trimming.{IsFlagged, NoneBeside, IsStart, IsHint, IsPlaced, KeepPlaced, AreHints, AreBothHints, AreAwake, AreChained, HasBesideAt, TellsStuck, AreSettled, opposite, lock_towards, places_of, watched_at}
+use Rattle.gl_cycles.specs.bodies.Followers.{IsNextWith}
 use Rattle.gl_cycles.specs.declared.trims.Hints.{Hints}
 use Rattle.gl_cycles.specs.declared.trims.Sides.{Sides}
 use Rattle.std.specs.BTreeSet.{BTreeSet, contains}

@@ -11,7 +11,7 @@ use Rattle.gl_filters.proofs.Cycling.{leads_not, leads_same}
 use Rattle.gl_filters.specs.Test.{goes_with, is_path, is_cycle, can_follow, leads_back, last_of}
 use Rattle.gl_filters.proofs.Paths.{is_path_push, is_path-cut}
 use Rattle.gl_cycles.specs.AllCycles.{picked, lists_below, all_cycles}
-use Rattle.gl_cycles.specs.Blocks.{block, blocks_below}
+use Rattle.gl_cycles.specs.bodies.Blocks.{block, blocks_below}
 use Rattle.gl_cycles.proofs.Lists.{filter-flat_map, map-flat_map, same_flat_map, map-one_more, map-nothing, filter-none}
 
 pub picked-append : (edges : List Edge) (xs ys : List ℕ) → picked edges (xs ++ ys) ≡ picked edges xs ++ picked edges ys

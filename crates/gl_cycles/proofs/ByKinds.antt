@@ -16,9 +16,9 @@ use Rattle.gl_filters.specs.Test.{leads_to, goes_with, kinds_go_together}
 use Rattle.gl_filters.proofs.Cycling.{leads_from, leads_same}
 use Rattle.gl_filters.proofs.Round.{pair_goes_by_kind, leads_round}
 use Rattle.gl_cycles.specs.AllCycles.{edges_of_table}
-use Rattle.gl_cycles.specs.Kinds.{AreAlike, HasModel, AreModels, place_after, GoesThrough, LastLeadsTo, KindsGoWith, NoCycleThrough, CyclesHaveModels, AreTried}
-use Rattle.gl_cycles.specs.Followers.{IsNextWith, held_lock}
-use Rattle.gl_cycles.specs.OffCycles.{IsOffCycles, KeepsCycles}
+use Rattle.gl_cycles.specs.bodies.Kinds.{AreAlike, HasModel, AreModels, place_after, GoesThrough, LastLeadsTo, KindsGoWith, NoCycleThrough, CyclesHaveModels, AreTried}
+use Rattle.gl_cycles.specs.bodies.Followers.{IsNextWith, held_lock}
+use Rattle.gl_cycles.specs.bodies.OffCycles.{IsOffCycles, KeepsCycles}
 use Rattle.gl_cycles.proofs.Back.{kept_at}
 use Rattle.gl_edges.specs.declared.guards.Guard.{Guard}
 use Rattle.gl_cycles.proofs.Beside.{set_here, push_before, push_at_end}

@@ -9,9 +9,9 @@ use Rattle.gl_edges.specs.declared.edge.Edge.{Edge}
 use Rattle.gl_filters.specs.declared.query.Mode.{Mode}
 use Rattle.gl_filters.specs.Test.{is_path, is_cycle, can_follow, leads_back}
 use Rattle.gl_cycles.specs.AllCycles.{picked, all_cycles}
-use Rattle.gl_cycles.specs.Blocks.{block, upto, blocks_below}
-use Rattle.gl_cycles.specs.Followers.{IsNextWith, held_lock, both_locks}
-use Rattle.gl_cycles.specs.OffCycles.{IsOffCycles}
+use Rattle.gl_cycles.specs.bodies.Blocks.{block, upto, blocks_below}
+use Rattle.gl_cycles.specs.bodies.Followers.{IsNextWith, held_lock, both_locks}
+use Rattle.gl_cycles.specs.bodies.OffCycles.{IsOffCycles}
 use Rattle.gl_cycles.proofs.Lists.{upto-more, upto-until, take-take_append, take-full}
 use Rattle.gl_cycles.proofs.Blocking.{all_cycles-block, block-zero, block-suc, block-stray, not_led_on, none_after_closed, picked-push}
 use Rattle.gl_filters.proofs.Paths.{is_path_push}

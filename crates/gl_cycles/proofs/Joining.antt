@@ -9,8 +9,8 @@ use Rattle.std.proofs.lemmas.Grind.{flat_map-append}
 use Rattle.gl_segments.specs.Clocks.{is_before}
 use Rattle.gl_cycles.specs.declared.paths.Searcher.{Searcher}
 use Rattle.gl_cycles.specs.AllCycles.{edges_of_table, all_cycles}
-use Rattle.gl_cycles.specs.Blocks.{block, blocks_below}
-use Rattle.gl_cycles.specs.Searching.{first_from}
+use Rattle.gl_cycles.specs.bodies.Blocks.{block, blocks_below}
+use Rattle.gl_cycles.specs.bodies.Searching.{first_from}
 use Rattle.rayon.specs.Shown.{run-append}
 use Rattle.gl_cycles.proofs.Lists.{take-take_append}
 use Rattle.gl_cycles.proofs.Growing.{all_from_roots}

@@ -15,7 +15,7 @@ use Rattle.std.proofs.lemmas.Option.{slice_get_within, get_or_from_slice_get, sl
 use Rattle.std.proofs.lemmas.List.{get_or-map, length-map, map-append, take_more}
 use Rattle.gl_edges.specs.declared.edge.Sample.{Sample}
 use Rattle.gl_cycles.specs.AllCycles.{edges_of_table, picked, lists_below, all_cycles}
-use Rattle.gl_cycles.specs.Blocks.{block}
+use Rattle.gl_cycles.specs.bodies.Blocks.{block}
 use Rattle.gl_cycles.specs.Loops.{IsLoop, IsOffLoops, IsNeverFalling, KeepsLoops, is_level}
 use Rattle.gl_cycles.proofs.Blocking.{picked-append, picked-push}
 use Rattle.gl_cycles.proofs.Lists.{filter-none}

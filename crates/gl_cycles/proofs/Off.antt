@@ -12,9 +12,9 @@ use Rattle.gl_filters.specs.declared.query.Mode.{Mode}
 use Rattle.gl_filters.specs.Test.{is_cycle}
 use Rattle.gl_filters.proofs.Cycling.{cycle_from_test, test_from_cycle}
 use Rattle.gl_cycles.specs.AllCycles.{picked, lists_below}
-use Rattle.gl_cycles.specs.Blocks.{block}
+use Rattle.gl_cycles.specs.bodies.Blocks.{block}
 use Rattle.gl_cycles.specs.Loops.{IsLoop, KeepsLoops}
-use Rattle.gl_cycles.specs.OffCycles.{IsOffCycles, KeepsCycles}
+use Rattle.gl_cycles.specs.bodies.OffCycles.{IsOffCycles, KeepsCycles}
 use Rattle.gl_cycles.proofs.Blocking.{picked-append, picked-push}
 use Rattle.gl_cycles.proofs.Level.{picked_among, loop_from_cycle}
 use Rattle.gl_cycles.proofs.Members.{lists_from}

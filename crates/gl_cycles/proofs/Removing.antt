@@ -12,7 +12,7 @@ use Rattle.gl_filters.specs.declared.query.Mode.{Mode}
 use Rattle.gl_cycles.specs.declared.trims.Side.{Side}
 use Rattle.gl_cycles.specs.declared.trims.Hints.{Hints}
 use Rattle.gl_cycles.specs.Trims.{HasBeside, IsStuck, IsFirstStuck, IsTrimOrder}
-use Rattle.gl_cycles.specs.Trimming.{IsFlagged, AreFlagsOf, AreChained, AreHints, AreBothHints, AreAwake, AreSettled, IsPlaced, IsWoken, opposite, places_of}
+use Rattle.gl_cycles.specs.bodies.Trimming.{IsFlagged, AreFlagsOf, AreChained, AreHints, AreBothHints, AreAwake, AreSettled, IsPlaced, IsWoken, opposite, places_of}
 use Rattle.gl_cycles.specs.declared.trims.Sides.{Sides}
 use Rattle.gl_cycles.specs.declared.trims.Side.TheVariants.{Follower, Leader}
 use Rattle.std.specs.BTreeSet.{BTreeSet, contains}

@@ -13,7 +13,7 @@ use Rattle.std.proofs.lemmas.Bool.{cases_eq, cases_lt, eq-eqb, ne_eqb, false≢t
 use Rattle.std.proofs.lemmas.List.{length-set, get_or-set_same, get_or-set_other}
 use Rattle.std.proofs.lemmas.List.Elements.{Contains-append_left, Contains-append_right, Contains-append_cases}
 use Rattle.gl_edges.proofs.Membership.{contains_here, contains_cases, contains_none}
-use Rattle.gl_cycles.specs.Trimming.{watched_at}
+use Rattle.gl_cycles.specs.bodies.Trimming.{watched_at}
 
 -- those that watch place q, as one list is set
 set_cases : (lists : List (List ℕ)) (p q : ℕ) (xs : List ℕ) → p < length lists → ((q ≡ p) × (get_or (set lists p xs) q [] ≡ xs)) ⊎ (get_or (set lists p xs) q [] ≡ get_or lists q [])

@@ -12,7 +12,7 @@ use Rattle.gl_filters.specs.declared.query.Mode.{Mode}
 use Rattle.gl_cycles.specs.AllCycles.{picked, all_cycles}
 use Rattle.gl_cycles.specs.Trims.{is_beside, HasBeside, IsStuck, IsFirstStuck, IsTrimOrder, IsTrimmed, others, is_alone, is_stuck, removals, whole_trim}
 use Rattle.gl_cycles.specs.declared.trims.Side.{Side}
-use Rattle.gl_cycles.specs.Trimming.{AreFlagsOf}
+use Rattle.gl_cycles.specs.bodies.Trimming.{AreFlagsOf}
 use Rattle.gl_cycles.proofs.Members.{filter_has, filter_from, there_is_cycle}
 use Rattle.gl_cycles.proofs.Removing.{flags_none, flags_more, left, fewer, none_set, unflagged, order_push}
 use Rattle.gl_cycles.proofs.Surviving.{cycles_survive, cycle_has_some}

@@ -1,14 +1,7 @@
 pub mod AllCycles
-pub mod Blocks
 pub mod Faults
-pub mod Followers
-pub mod Kinds
 pub mod Laws
 pub mod Loops
-pub mod OffCycles
-pub mod Ranks
 pub mod Reports
-pub mod Searching
-pub mod Trimming
 pub mod Trims
-pub mod Walks
+pub mod bodies

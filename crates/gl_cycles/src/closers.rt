@@ -1,7 +1,7 @@
 //! An index of the edges that may close a path.
 ghost use Rattle.std.specs.Prelude.{◌≡◌, ◌+◌, ◌<◌, ℕ, Bool, false, List, length, slice_get, vec_len, Some, IfOk, OnOk};
 ghost use Rattle.gl_cycles.specs.AllCycles.{edges_of_table};
-ghost use Rattle.gl_cycles.specs.Followers.{IsNextWith, AreClosers, both_locks};
+ghost use Rattle.gl_cycles.specs.bodies.Followers.{IsNextWith, AreClosers, both_locks};
 ghost use Rattle.gl_edges.specs.declared.edge.Edge.{Edge};
 
 use gl_edges::{Edge, Sample};

@@ -13,9 +13,9 @@ ghost use Rattle.gl_segments.specs.Clocks.{is_before};
 ghost use Rattle.gl_filters.specs.Test.{leads_to, kinds_go_together};
 ghost use Rattle.gl_cycles.specs.declared.paths.TheConstants.{PATH};
 ghost use Rattle.gl_cycles.specs.AllCycles.{edges_of_table, picked};
-ghost use Rattle.gl_cycles.specs.Followers.{IsIndexOf};
-ghost use Rattle.gl_cycles.specs.Kinds.{AreAlike, HasModel, AreModels, HasModels, LastLeadsTo, KindsGoWith, NoCycleThrough, AreDead};
-ghost use Rattle.gl_cycles.specs.OffCycles.{KeepsCycles};
+ghost use Rattle.gl_cycles.specs.bodies.Followers.{IsIndexOf};
+ghost use Rattle.gl_cycles.specs.bodies.Kinds.{AreAlike, HasModel, AreModels, HasModels, LastLeadsTo, KindsGoWith, NoCycleThrough, AreDead};
+ghost use Rattle.gl_cycles.specs.bodies.OffCycles.{KeepsCycles};
 ghost use Rattle.gl_edges.specs.declared.edge.Edge.{Edge};
 
 use crate::followers::Followers;

@@ -2,7 +2,7 @@
 ghost use Rattle.std.specs.Prelude.{◌≡◌, IfOk, IfSome, IfNone, map};
 ghost use Rattle.gl_cycles.specs.AllCycles.{edges_of_table};
 ghost use Rattle.gl_cycles.specs.Loops.{IsNeverFalling, KeepsLoops, is_level};
-ghost use Rattle.gl_cycles.specs.Ranks.{rank_in};
+ghost use Rattle.gl_cycles.specs.bodies.Ranks.{rank_in};
 
 use crate::ranks::Ranks;
 use gl_edges::{Edge, Sample};

@@ -10,8 +10,8 @@ ghost use Rattle.std.specs.Prelude.{◌≡◌, ◌+◌, ◌<◌, ◌≤◌, ℕ,
 ghost use Rattle.gl_segments.specs.Clocks.{is_before};
 ghost use Rattle.gl_filters.specs.Test.{goes_with};
 ghost use Rattle.gl_cycles.specs.AllCycles.{edges_of_table};
-ghost use Rattle.gl_cycles.specs.OffCycles.{KeepsCycles};
-ghost use Rattle.gl_cycles.specs.Walks.{IsNumbered, label_at, ShowsNoWay};
+ghost use Rattle.gl_cycles.specs.bodies.OffCycles.{KeepsCycles};
+ghost use Rattle.gl_cycles.specs.bodies.Walks.{IsNumbered, label_at, ShowsNoWay};
 
 use crate::loops::edges_on_loops;
 use crate::numbers::{Ends, Numbers};

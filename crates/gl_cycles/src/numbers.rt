@@ -1,7 +1,7 @@
 //! Numbers of locks, and distances between them.
 ghost use Rattle.std.specs.Prelude.{◌≡◌, map, IfOk};
 ghost use Rattle.gl_cycles.specs.AllCycles.{edges_of_table};
-ghost use Rattle.gl_cycles.specs.Walks.{number_in, ends_in, AreEnds};
+ghost use Rattle.gl_cycles.specs.bodies.Walks.{number_in, ends_in, AreEnds};
 
 use gl_edges::{Edge, Sample};
 use gl_event::{LockId, Memory};

@@ -3,7 +3,7 @@ ghost use Rattle.std.specs.Prelude.{◌≡◌, ◌↔◌, ◌-◌, ◌<◌, ◌�
 ghost use Rattle.std.specs.List.{flat_map, range_with_len};
 ghost use Rattle.gl_segments.specs.Clocks.{is_before};
 ghost use Rattle.gl_cycles.specs.AllCycles.{edges_of_table, all_cycles};
-ghost use Rattle.gl_cycles.specs.Searching.{IsReady, first_from};
+ghost use Rattle.gl_cycles.specs.bodies.Searching.{IsReady, first_from};
 
 use crate::found::Found;
 use crate::paths::{Searcher, listed};

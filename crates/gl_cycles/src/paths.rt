@@ -5,8 +5,8 @@ ghost use Rattle.gl_segments.specs.Clocks.{is_before};
 ghost use Rattle.std.specs.List.{list_all};
 ghost use Rattle.gl_filters.specs.Test.{can_follow, goes_with, leads_back, is_path};
 ghost use Rattle.gl_cycles.specs.AllCycles.{edges_of_table, picked, all_cycles};
-ghost use Rattle.gl_cycles.specs.Blocks.{block};
-ghost use Rattle.gl_cycles.specs.Searching.{IsReady, first_from};
+ghost use Rattle.gl_cycles.specs.bodies.Blocks.{block};
+ghost use Rattle.gl_cycles.specs.bodies.Searching.{IsReady, first_from};
 ghost use Rattle.gl_edges.specs.declared.edge.Edge.{Edge};
 
 use crate::followers::Followers;

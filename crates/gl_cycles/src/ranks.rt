@@ -4,7 +4,7 @@
 //! then it stays the same on the way round a loop. Ranks number the strongly connected components
 //! of the lock-order graph, so that all other edges rise. But only what a check finds counts.
 ghost use Rattle.std.specs.Prelude.{◌≡◌};
-ghost use Rattle.gl_cycles.specs.Ranks.{rank_in};
+ghost use Rattle.gl_cycles.specs.bodies.Ranks.{rank_in};
 
 use crate::components::{Step, components};
 use gl_edges::{Edge, Sample};

@@ -8,7 +8,7 @@ ghost use Rattle.gl_cycles.specs.AllCycles.{edges_of_table};
 ghost use Rattle.gl_cycles.specs.Trims.{is_beside, IsStuck, IsFirstStuck, IsTrimmed, others};
 ghost use Rattle.gl_cycles.specs.declared.trims.Side.{Side};
 ghost use Rattle.gl_edges.specs.declared.edge.Edge.{Edge};
-ghost use Rattle.gl_cycles.specs.Trimming.{IsFlagged, IsStart, IsHint, AreHints, AreBothHints, HasBesideAt, TellsStuck, KeepPlaced, AreSettled, AreFlagsOf, AreAwake, AreChained, IsWoken, lock_towards, opposite, places_of, watched_at};
+ghost use Rattle.gl_cycles.specs.bodies.Trimming.{IsFlagged, IsStart, IsHint, AreHints, AreBothHints, HasBesideAt, TellsStuck, KeepPlaced, AreSettled, AreFlagsOf, AreAwake, AreChained, IsWoken, lock_towards, opposite, places_of, watched_at};
 
 use crate::chains::Chain;
 use crate::watchers::Watchers;

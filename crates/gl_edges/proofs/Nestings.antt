@@ -15,7 +15,7 @@ use Rattle.gl_event.specs.Modes.{mode_cmp}
 use Rattle.gl_event.specs.declared.events.LockMode.{LockMode}
 use Rattle.gl_event.specs.declared.held.HeldEntry.{HeldEntry}
 use Rattle.gl_edges.specs.Guards.{guard_cmp, guard_of, guard_total, guards_of, ascending_guards}
-use Rattle.gl_edges.specs.Seen.{opened_of, guard_from, edge_from, edges_from, edges_from_all, edges_now}
+use Rattle.gl_edges.specs.bodies.Seen.{opened_of, guard_from, edge_from, edges_from, edges_from_all, edges_now}
 use Rattle.gl_edges.specs.declared.edge.Edge.{Edge}
 use Rattle.gl_edges.specs.declared.seen.Nesting.{Nesting}
 use Rattle.gl_edges.specs.declared.seen.Opened.{Opened}

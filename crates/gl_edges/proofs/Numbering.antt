@@ -16,7 +16,7 @@ use Rattle.gl_edges.specs.Guards.{guard_cmp, guard_total}
 use Rattle.gl_edges.specs.Numbered.{Numbering, AreNumbered, guards_in}
 use Rattle.gl_edges.specs.declared.edge.Edge.{Edge}
 use Rattle.gl_edges.specs.declared.edge.Sample.{Sample}
-use Rattle.gl_edges.specs.Numberers.{IsMapOf}
+use Rattle.gl_edges.specs.bodies.Numberers.{IsMapOf}
 use Rattle.gl_edges.specs.declared.guards.Guard.{Guard}
 use Rattle.gl_edges.proofs.Least.{tied, ties_itself}
 use Rattle.gl_edges.proofs.Orders.{guard_cmp_exact}

@@ -1,11 +1,9 @@
 pub mod Clashes
 pub mod Edges
-pub mod Gatherers
 pub mod Guards
 pub mod Laws
 pub mod Numbered
-pub mod Numberers
 pub mod Order
 pub mod Samples
-pub mod Seen
 pub mod Tracking
+pub mod bodies

@@ -3,7 +3,7 @@ ghost use Rattle.std.specs.Prelude.{◌≡◌, List, [], ◌∷◌, ◌++◌, So
 ghost use Rattle.std.specs.BTreeMap as tree;
 ghost use Rattle.std.specs.Cmp.Lexicographic.{slice_cmp};
 ghost use Rattle.gl_edges.specs.Guards.{guard_cmp};
-ghost use Rattle.gl_edges.specs.Numberers.{IsNumbering};
+ghost use Rattle.gl_edges.specs.bodies.Numberers.{IsNumbering};
 ghost use Rattle.gl_edges.specs.declared.guards.Guard.{Guard};
 
 use crate::guards::Guards;

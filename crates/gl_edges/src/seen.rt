@@ -8,7 +8,7 @@
 //! Places grow within a list, and with them the segments in which the held locks were opened. So each
 //! new acquire has an edge that is new, and what is noted stays in proportion to the edges.
 ghost use Rattle.std.specs.Prelude.{◌≡◌, ◌⊎◌, List, [], map, Contains, IsPermutation, IsTrue, IfOk, OnOk};
-ghost use Rattle.gl_edges.specs.Seen.{edges_now, opened_of};
+ghost use Rattle.gl_edges.specs.bodies.Seen.{edges_now, opened_of};
 ghost use Rattle.gl_edges.specs.declared.edge.Edge.{Edge};
 
 use crate::tracker::Tracker;
@@ -105,7 +105,7 @@ pub(crate) struct Seen {
 
 impl Model for Seen {
     ghost use Rattle.std.specs.Prelude.{List};
-    ghost use Rattle.gl_edges.specs.Seen.{edges_from_all};
+    ghost use Rattle.gl_edges.specs.bodies.Seen.{edges_from_all};
     ghost use Rattle.gl_edges.specs.declared.edge.Edge.{Edge};
 
     ghost Value = { List Edge };

@@ -12,7 +12,7 @@ use Rattle.gl_engine.specs.Gathering.{Gathering}
 use Rattle.gl_engine.specs.Recording.{Closed}
 use Rattle.gl_engine.specs.Settling.{IsSettled}
 use Rattle.gl_engine.proofs.Confirming.{receipt_of_thread}
-use Rattle.gl_live.specs.Seats.{Seating, seating_of, gathered_from, IsReceiptOf}
+use Rattle.gl_live.specs.bodies.Seats.{Seating, seating_of, gathered_from, IsReceiptOf}
 
 -- what holds of all elements holds of the one at a place
 pub all_get : {X : Type 0} (P : X → Type 0) (xs : List X) (at : ℕ) (x : X) → slice_get xs at ≡ Some x → All P xs → P x

@@ -12,9 +12,9 @@ use Rattle.gl_world.proofs.Lists.{get_in}
 use Rattle.gl_engine.specs.Collecting.{Collecting, IsOpened, fresh_row, lanes_of}
 use Rattle.gl_engine.specs.Recording.{Recording}
 use Rattle.gl_shards.specs.declared.shard.TheConstants.{MAX_SHARDS}
-use Rattle.gl_live.specs.Desks.{IsDeskOf}
-use Rattle.gl_live.specs.Ready.{IsReady}
-use Rattle.gl_live.specs.Seats.{Seating, seating_of, IsRecorderOf}
+use Rattle.gl_live.specs.bodies.Desks.{IsDeskOf}
+use Rattle.gl_live.specs.bodies.Ready.{IsReady}
+use Rattle.gl_live.specs.bodies.Seats.{Seating, seating_of, IsRecorderOf}
 use Rattle.gl_live.specs.declared.session.Session.{Session}
 
 lanes_of_fresh : (lanes : List LaneId) → map (λ row. row.lane) (map fresh_row lanes) ≡ lanes

@@ -1,5 +1,2 @@
-pub mod Seats
-pub mod Desks
-pub mod Ready
-pub mod Runs
 pub mod Faults
+pub mod bodies

@@ -15,8 +15,8 @@ ghost use Rattle.gl_shards.specs.Feeds.{AllSent};
 ghost use Rattle.gl_engine.specs.Recording.{Closed};
 ghost use Rattle.gl_engine.specs.Settling.{IsSettled};
 ghost use Rattle.gl_live.specs.Faults.{IsLiveFault};
-ghost use Rattle.gl_live.specs.Runs.{HasRun};
-ghost use Rattle.gl_live.specs.Seats.{gathered_from, IsReceiptOf};
+ghost use Rattle.gl_live.specs.bodies.Runs.{HasRun};
+ghost use Rattle.gl_live.specs.bodies.Seats.{gathered_from, IsReceiptOf};
 
 use crate::faults::{LiveFault, unreported, unserved, unsettled};
 use crate::room::keep;

@@ -6,8 +6,8 @@ ghost use Rattle.gl_segments.specs.Orders.{lists_of};
 ghost use Rattle.gl_event.specs.declared.events.Event.{Event};
 ghost use Rattle.gl_engine.specs.Collecting.{Collecting};
 ghost use Rattle.gl_engine.specs.Recording.{recorded, recorded_whole};
-ghost use Rattle.gl_live.specs.Desks.{IsDeskOf};
-ghost use Rattle.gl_live.specs.Seats.{Seating, seating_of, seat_of, left_by, IsRecorderOf, IsReceiptOf};
+ghost use Rattle.gl_live.specs.bodies.Desks.{IsDeskOf};
+ghost use Rattle.gl_live.specs.bodies.Seats.{Seating, seating_of, seat_of, left_by, IsRecorderOf, IsReceiptOf};
 
 use crate::room::keep;
 use crate::start::Start;

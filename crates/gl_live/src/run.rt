@@ -4,9 +4,9 @@ ghost use Rattle.std.specs.List.{All};
 ghost use Rattle.gl_event.specs.declared.events.Event.{Event};
 ghost use Rattle.gl_segments.specs.Orders.{lists_of};
 ghost use Rattle.gl_live.specs.Faults.{IsLiveFault};
-ghost use Rattle.gl_live.specs.Ready.{IsReady};
-ghost use Rattle.gl_live.specs.Runs.{HasRun};
-ghost use Rattle.gl_live.specs.Seats.{gathered_from, IsReceiptOf};
+ghost use Rattle.gl_live.specs.bodies.Ready.{IsReady};
+ghost use Rattle.gl_live.specs.bodies.Runs.{HasRun};
+ghost use Rattle.gl_live.specs.bodies.Seats.{gathered_from, IsReceiptOf};
 
 use crate::faults::LiveFault;
 use crate::recording::{join_recorders, start_recorders};

@@ -4,9 +4,9 @@ ghost use Rattle.std.specs.List.{All};
 ghost use Rattle.std.specs.Vec.{vec_len, vec_capacity};
 ghost use Rattle.gl_event.specs.declared.limits.TheConstants.{MAX_THREADS, MAX_RING};
 ghost use Rattle.gl_shards.specs.declared.shard.TheConstants.{MAX_SHARDS};
-ghost use Rattle.gl_live.specs.Desks.{IsDeskOf};
-ghost use Rattle.gl_live.specs.Seats.{Seating, seating_of, IsRecorderOf};
-ghost use Rattle.gl_live.specs.Ready.{IsReady};
+ghost use Rattle.gl_live.specs.bodies.Desks.{IsDeskOf};
+ghost use Rattle.gl_live.specs.bodies.Seats.{Seating, seating_of, IsRecorderOf};
+ghost use Rattle.gl_live.specs.bodies.Ready.{IsReady};
 
 use crate::recording::Desk;
 use gl_engine::{Collector, Receipt, Recorder, open};

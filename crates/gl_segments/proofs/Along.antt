@@ -3,7 +3,7 @@ use Rattle.std.proofs.Common.{◌≡◌, ◌≢◌, ℕ, ◌<◌, ◌≤◌, ◌
 use Rattle.std.specs.Prelude.{slice_index, slice_index_or}
 use Rattle.std.proofs.lemmas.Bool.{cases_lt}
 use Rattle.gl_segments.specs.declared.history.Growth.{Growth}
-use Rattle.gl_segments.specs.Histories.{count_at, count_along, clocks_along, tabulated}
+use Rattle.gl_segments.specs.bodies.Histories.{count_at, count_along, clocks_along, tabulated}
 use Rattle.gl_segments.proofs.Tabulating.{tabulated_at, tabulated_past}
 
 module _ (own segments threads : ℕ) (first : List ℕ) (gs : List Growth) (index thread : ℕ) where

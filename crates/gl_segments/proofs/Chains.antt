@@ -4,7 +4,7 @@ use Rattle.std.proofs.lemmas.Bool.{cases_lt}
 use Rattle.std.proofs.lemmas.List.{get_or_past}
 use Rattle.gl_event.specs.declared.events.Segment.{Segment}
 use Rattle.gl_segments.specs.Segments.{Leads}
-use Rattle.gl_segments.specs.Tables.{Sources, row, sources, Has, LeadsTo, Precedes, IsSound}
+use Rattle.gl_segments.specs.bodies.Tables.{Sources, row, sources, Has, LeadsTo, Precedes, IsSound}
 
 -- two chains end to end
 pub leads_append : (S : Segment → Segment → Type 0) (a : Segment) (v : List Segment) (b : Segment) (w : List Segment) (c : Segment) → Leads S a v b → Leads S b w c → Leads S a (v ++ b ∷ w) c

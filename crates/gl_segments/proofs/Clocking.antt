@@ -7,9 +7,9 @@ use Rattle.std.proofs.lemmas.Option.{same_Some, slice_get_within}
 use Rattle.gl_event.specs.declared.events.Segment.{Segment}
 use Rattle.gl_segments.specs.declared.search.Link.{Link}
 use Rattle.gl_segments.specs.Segments.{Leads}
-use Rattle.gl_segments.specs.Tables.{Sources, Has, LeadsTo, Precedes, IsSound}
-use Rattle.gl_segments.specs.Search.{Counts, IsClockOf, CountsSources, MayStart, AreLinks, Explores, FollowsLinks}
-use Rattle.gl_segments.specs.Rows.{AreClocksBelow}
+use Rattle.gl_segments.specs.bodies.Tables.{Sources, Has, LeadsTo, Precedes, IsSound}
+use Rattle.gl_segments.specs.bodies.Search.{Counts, IsClockOf, CountsSources, MayStart, AreLinks, Explores, FollowsLinks}
+use Rattle.gl_segments.specs.bodies.Rows.{AreClocksBelow}
 use Rattle.gl_segments.proofs.Chains.{precedes_cons, precedes_step, precedes_trans}
 
 -- a clock that counts the sources of the target and of what it counts counts all that is before the target

@@ -8,7 +8,7 @@ use Rattle.std.proofs.lemmas.List.Elements.{filter-append, All-nil, All-head, Al
 use Rattle.std.proofs.lemmas.List.Sorted.{IsNonDecreasingBy-push}
 use Rattle.gl_segments.specs.declared.history.Growth.{Growth}
 use Rattle.gl_segments.proofs.Clocking.{none_counted}
-use Rattle.gl_segments.specs.Histories.{is_past, last_count, count_at, Tells}
+use Rattle.gl_segments.specs.bodies.Histories.{is_past, last_count, count_at, Tells}
 
 -- the count of the last growth
 last_push : (first : ℕ) (gs : List Growth) (g : Growth) → last_count first (gs ++ g ∷ []) ≡ g.count

@@ -8,9 +8,9 @@ use Rattle.gl_event.specs.declared.events.Segment.{Segment}
 use Rattle.gl_segments.specs.Segments.{IsStep, Before, IsRing, IsConsistent, IsLeastInRing}
 use Rattle.gl_segments.specs.Clocks.{Clocks, ahead, OrdersBy, CountsBefore}
 use Rattle.gl_segments.specs.Orders.{IsFaultOf}
-use Rattle.gl_segments.specs.Tables.{Sources, Has, LeadsTo, Precedes, IsSound, ShowsSteps}
-use Rattle.gl_segments.specs.Search.{IsClockOf}
-use Rattle.gl_segments.specs.Rows.{AreClocksOf, IsFirstOfThread, IsThreadFault}
+use Rattle.gl_segments.specs.bodies.Tables.{Sources, Has, LeadsTo, Precedes, IsSound, ShowsSteps}
+use Rattle.gl_segments.specs.bodies.Search.{IsClockOf}
+use Rattle.gl_segments.specs.bodies.Rows.{AreClocksOf, IsFirstOfThread, IsThreadFault}
 use Rattle.gl_segments.specs.declared.faults.OrderFault.{OrderFault}
 use Rattle.gl_segments.specs.declared.faults.OrderFault.TheVariants.{Inconsistent, Memory}
 use Rattle.gl_segments.proofs.Chains.{leads_weaker, precedes_has, thread_inside}

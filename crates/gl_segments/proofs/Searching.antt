@@ -7,8 +7,8 @@ use Rattle.std.proofs.lemmas.Option.{same_Some, slice_get_within, slice_get_read
 use Rattle.gl_event.specs.declared.events.Segment.{Segment}
 use Rattle.gl_event.proofs.Depths.{slice_get_before, slice_get_last}
 use Rattle.gl_segments.specs.declared.search.Link.{Link}
-use Rattle.gl_segments.specs.Tables.{Sources, row, sources, Has, LeadsTo, Precedes, IsSound}
-use Rattle.gl_segments.specs.Search.{Counts, IsFound, MayStart, AreLinks, Explores, links_back, unseen}
+use Rattle.gl_segments.specs.bodies.Tables.{Sources, row, sources, Has, LeadsTo, Precedes, IsSound}
+use Rattle.gl_segments.specs.bodies.Search.{Counts, IsFound, MayStart, AreLinks, Explores, links_back, unseen}
 use Rattle.gl_segments.proofs.Chains.{precedes_cons, precedes_step, precedes_inside, thread_inside}
 
 -- a place within a list that grew by one

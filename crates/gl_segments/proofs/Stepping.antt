@@ -11,7 +11,7 @@ use Rattle.gl_event.specs.declared.events.Event.TheVariants.{Acquire, Release, T
 use Rattle.gl_event.specs.declared.events.Segment.{Segment}
 use Rattle.gl_segments.specs.Orders.{AreLawful}
 use Rattle.gl_segments.specs.Segments.{IsSegment, StandsIn, IsNext, IsFork, IsJoin, IsStep}
-use Rattle.gl_segments.specs.Tables.{Sources, row, sources, Has, LeadsTo, IsSound, ShowsSteps, cuts_of, AreSmall, joined_last, IsRowOf}
+use Rattle.gl_segments.specs.bodies.Tables.{Sources, row, sources, Has, LeadsTo, IsSound, ShowsSteps, cuts_of, AreSmall, joined_last, IsRowOf}
 use Rattle.gl_segments.proofs.Cutting.{place_to_cut, cut_to_place, segment_is_length, segment_at_most, segment_take, lawful_length, some_at}
 use Rattle.gl_segments.proofs.Tabling.{cut_at_is, cut_within}
 

@@ -11,7 +11,7 @@ use Rattle.gl_event.specs.declared.events.Event.{Event}
 use Rattle.gl_event.specs.declared.events.Event.TheVariants.{Acquire, Release, TryAcquire, Fork, Join}
 use Rattle.gl_event.specs.declared.events.Segment.{Segment}
 use Rattle.gl_segments.specs.Orders.{lists_of}
-use Rattle.gl_segments.specs.Tables.{row, AddsForks, Forks, cut_at, joined_last, IsRowOf}
+use Rattle.gl_segments.specs.bodies.Tables.{row, AddsForks, Forks, cut_at, joined_last, IsRowOf}
 
 -- a place below i + 1 is below i, or is i
 pub place_cases : (n k : ℕ) → k < n + 1 → (k < n) ⊎ (k ≡ n)

@@ -4,8 +4,8 @@ use Rattle.std.specs.Prelude.{slice_index, slice_index_or}
 use Rattle.std.proofs.Math.Seq.{drop-append_seam}
 use Rattle.std.proofs.lemmas.Bool.{cases_lt}
 use Rattle.std.proofs.lemmas.List.{length_push, length-drop, length-take-le, drop-append-le, get_or_append_left, get_or_push, take-append-le, take_all, take-take, drop-take}
-use Rattle.gl_segments.specs.Histories.{tabulated}
-use Rattle.gl_segments.specs.Packing.{between, lists_between, AreBounds}
+use Rattle.gl_segments.specs.bodies.Histories.{tabulated}
+use Rattle.gl_segments.specs.bodies.Packing.{between, lists_between, AreBounds}
 use Rattle.gl_segments.proofs.Tabulating.{length_tabulated, tabulated_at, tabulated_same}
 
 -- there are as many as bounds but one

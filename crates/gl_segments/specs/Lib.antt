@@ -1,10 +1,6 @@
 pub mod Clocks
 pub mod Faults
-pub mod Histories
 pub mod Orders
-pub mod Search
 pub mod Segments
-pub mod Tables
 pub mod Laws
-pub mod Packing
-pub mod Rows
+pub mod bodies

@@ -5,7 +5,7 @@
 //! how many segments of which thread are before.
 ghost use Rattle.std.specs.Prelude.{◌≡◌, ℕ, ◌+◌, ◌<◌, ◌≤◌, ◌^◌, List, [], ◌∷◌, ◌++◌, length, slice_index, slice_index_or, slice_set, IfOk, OnOk};
 ghost use Rattle.std.specs.List.Sorted.{IsNonDecreasingBy};
-ghost use Rattle.gl_segments.specs.Histories.{count_at, is_up_to, AreOrdered, IsNoted};
+ghost use Rattle.gl_segments.specs.bodies.Histories.{count_at, is_up_to, AreOrdered, IsNoted};
 
 use crate::clock::Clock;
 use gl_event::ThreadId;
@@ -37,7 +37,7 @@ pub struct History {
 
 impl Model for History {
     ghost use Rattle.std.specs.Prelude.{ℕ, List};
-    ghost use Rattle.gl_segments.specs.Histories.{clocks_along, AreOrdered};
+    ghost use Rattle.gl_segments.specs.bodies.Histories.{clocks_along, AreOrdered};
 
     ghost Value = { List (List ℕ) };
 

@@ -3,8 +3,8 @@ ghost use Rattle.gl_event.specs.declared.events.Event.{Event};
 ghost use Rattle.gl_segments.specs.Clocks.{OrdersBy};
 ghost use Rattle.gl_segments.specs.Orders.{IsFaultOf};
 ghost use Rattle.gl_segments.specs.Segments.{IsConsistent};
-ghost use Rattle.gl_segments.specs.Tables.{IsSound, ShowsSteps};
-ghost use Rattle.gl_segments.specs.Rows.{AreClocksOf, IsThreadFault};
+ghost use Rattle.gl_segments.specs.bodies.Tables.{IsSound, ShowsSteps};
+ghost use Rattle.gl_segments.specs.bodies.Rows.{AreClocksOf, IsThreadFault};
 ghost use Rattle.std.specs.Prelude.{◌≡◌, ℕ, ◌<◌, ◌≤◌, List, length, slice_get, Some, IfOk, OnOk, IfErr};
 
 use crate::faults::OrderFault;

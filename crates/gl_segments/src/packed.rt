@@ -1,6 +1,6 @@
 //! Lists of segments in one block of memory.
 ghost use Rattle.std.specs.Prelude.{◌≡◌, ◌<◌, ◌≤◌, [], ◌∷◌, ◌++◌, length, slice_index_or, IfOk, OnOk};
-ghost use Rattle.gl_segments.specs.Packing.{between};
+ghost use Rattle.gl_segments.specs.bodies.Packing.{between};
 
 use gl_event::Segment;
 use std::alloc::{AllocError, Global};
@@ -17,7 +17,7 @@ pub struct Packed {
 impl Model for Packed {
     ghost use Rattle.std.specs.Prelude.{List, length};
     ghost use Rattle.gl_event.specs.declared.events.Segment.{Segment};
-    ghost use Rattle.gl_segments.specs.Packing.{lists_between, AreBounds};
+    ghost use Rattle.gl_segments.specs.bodies.Packing.{lists_between, AreBounds};
 
     ghost Value = { List (List Segment) };
 

@@ -1,6 +1,6 @@
 //! A search backwards, over the steps, from one segment to all that are before it.
 ghost use Rattle.std.specs.Prelude.{◌≡◌, ℕ, ◌+◌, ◌-◌, ◌<◌, ◌≤◌, ◌++◌, ◌^◌, [], ◌∷◌, length, max, replicate, slice_get, slice_index, slice_set, Some, IfOk, OnOk};
-ghost use Rattle.gl_segments.specs.Search.{links_back, FollowsLinks};
+ghost use Rattle.gl_segments.specs.bodies.Search.{links_back, FollowsLinks};
 
 use crate::clock::Clock;
 use crate::steps::Steps;
@@ -27,8 +27,8 @@ pub struct Search {
 }
 
 impl Search {
-    ghost use Rattle.gl_segments.specs.Tables.{IsSound, Has};
-    ghost use Rattle.gl_segments.specs.Search.{Counts, MayStart, Explores, IsFound, unseen};
+    ghost use Rattle.gl_segments.specs.bodies.Tables.{IsSound, Has};
+    ghost use Rattle.gl_segments.specs.bodies.Search.{Counts, MayStart, Explores, IsFound, unseen};
 
     /// A search among these many threads that has found nothing.
     pub fn new(alloc: Global, threads: usize, target: Segment) -> Result<Search, AllocError>

@@ -1,7 +1,7 @@
 //! The steps between segments, by the segment to which they lead.
 ghost use Rattle.std.specs.Prelude.{◌≡◌, ◌↔◌, ◌⊎◌, ℕ, ◌+◌, ◌<◌, ◌^◌, List, ◌∷◌, filter, length, slice_get, Some, Contains, IsTrue, IfOk, OnOk};
 ghost use Rattle.gl_event.specs.Events.{closes};
-ghost use Rattle.gl_segments.specs.Tables.{cuts_of, AreSmall, Forks, joined_last, IsRowOf, AddsForks};
+ghost use Rattle.gl_segments.specs.bodies.Tables.{cuts_of, AreSmall, Forks, joined_last, IsRowOf, AddsForks};
 ghost use Rattle.gl_segments.specs.Orders.{lists_of};
 
 use crate::packed::Packed;
@@ -16,7 +16,7 @@ pub struct Steps {
 }
 
 impl Model for Steps {
-    ghost use Rattle.gl_segments.specs.Tables.{Sources};
+    ghost use Rattle.gl_segments.specs.bodies.Tables.{Sources};
 
     ghost Value = { Sources };
 
@@ -25,7 +25,7 @@ impl Model for Steps {
 
 impl Steps {
     ghost use Rattle.gl_segments.specs.Orders.{AreLawful};
-    ghost use Rattle.gl_segments.specs.Tables.{Has, IsSound, ShowsSteps, row, sources};
+    ghost use Rattle.gl_segments.specs.bodies.Tables.{Has, IsSound, ShowsSteps, row, sources};
 
     /// The steps between the segments of these lists. Takes time and memory as there are forks and
     /// joins, times the number of threads.

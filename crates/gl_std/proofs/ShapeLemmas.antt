@@ -13,7 +13,7 @@ use Rattle.gl_std.specs.Line.FieldsSay.{no_thread, other_word, no_operand, other
 use Rattle.gl_std.specs.declared.faults.StdKind.TheVariants.{TooLong, NoBar, NoLocation, NoThread, OnItself}
 use Rattle.gl_std.specs.declared.line.Operation.{Operation}
 use Rattle.gl_std.specs.declared.line.TheConstants.{MAX_LINE, BAR, OPEN, CLOSE}
-use Rattle.gl_std.specs.Reading.{AreApart}
+use Rattle.gl_std.specs.bodies.Reading.{AreApart}
 use Rattle.std.specs.Prelude.{IsTrue}
 use Rattle.std.specs.Str.{bytes_eq}
 use Rattle.std.proofs.lemmas.Slice.Eq.{bytes_eq-Decides}

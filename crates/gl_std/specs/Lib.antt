@@ -8,8 +8,8 @@ pub mod Lines
 pub mod Listed
 pub mod Names
 pub mod Pieces
-pub mod Reading
 pub mod Standings
 pub mod Streaming
 pub mod Trace
 pub mod Written
+pub mod bodies

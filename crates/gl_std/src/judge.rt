@@ -50,7 +50,7 @@ impl Judge {
     ghost use Rattle.gl_std.specs.Line.{is_on_itself, shown};
     ghost use Rattle.gl_std.specs.Standings.{count_of};
     ghost use Rattle.gl_std.specs.Judging.{with_judged, HasJudged, IsKnown, IsSound};
-    ghost use Rattle.gl_std.specs.Reading.{AreApart};
+    ghost use Rattle.gl_std.specs.bodies.Reading.{AreApart};
     ghost use Rattle.gl_std.specs.Trace.{after_line, after_shape, after_call, found_in, limit_reached, nothing};
     ghost use Rattle.gl_std.specs.declared.faults.StdKind.{StdKind};
     ghost use Rattle.gl_std.specs.declared.trace.Trace.{Trace};

@@ -18,7 +18,7 @@ pub(crate) struct Reader {
 }
 
 impl Reader {
-    ghost use Rattle.gl_std.specs.Reading.{told_by, IsReady};
+    ghost use Rattle.gl_std.specs.bodies.Reading.{told_by, IsReady};
     ghost use Rattle.gl_std.specs.Trace.{after_line, nothing};
     ghost use Rattle.gl_std.specs.declared.faults.StdKind.{StdKind};
 

@@ -19,7 +19,7 @@ use Rattle.goodlock.specs.Answer.IsPlainAnswer.{bad_line as plain_fault}
 use Rattle.goodlock.specs.Ending.{EndsAs, EndsLiveWith, EndsWith, HasEnded, HasEndedLive, HasHeardAll}
 use Rattle.goodlock.specs.Ending.HasEnded.{ended_so}
 use Rattle.goodlock.specs.Ending.HasEndedLive.{confirmed, unconfirmed}
-use Rattle.goodlock.specs.Stops.{IfRefused, IfStopped, IsFaultIn, IsReportOf, SaysWhyNoReport}
+use Rattle.goodlock.specs.bodies.Stops.{IfRefused, IfStopped, IsFaultIn, IsReportOf, SaysWhyNoReport}
 use Rattle.goodlock.specs.declared.answer.Printed.{Printed}
 use Rattle.goodlock.specs.declared.answer.Stop.{Stop}
 use Rattle.goodlock.specs.declared.answer.Stop.TheVariants.{Refused, Memory}

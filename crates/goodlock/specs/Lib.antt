@@ -5,4 +5,4 @@ pub mod Options
 pub mod Performed
 pub mod Said
 pub mod Sessions
-pub mod Stops
+pub mod bodies

@@ -6,7 +6,7 @@ ghost use Rattle.gl_segments.specs.Clocks.{is_before, OrdersBy};
 ghost use Rattle.gl_segments.specs.Segments.{IsConsistent};
 ghost use Rattle.goodlock.specs.Answer.{IsAnswer, IsPlainAnswer, counts, outcome_of, prediction, printed_report, replay, report_of};
 ghost use Rattle.goodlock.specs.Answer.Answer.{Prints, Refusal};
-ghost use Rattle.goodlock.specs.Stops.{IfRefused, IsFaultIn, IsLoopOf, IsReportOf, SaysWhyNoReport};
+ghost use Rattle.goodlock.specs.bodies.Stops.{IfRefused, IsFaultIn, IsLoopOf, IsReportOf, SaysWhyNoReport};
 ghost use Rattle.gl_std.specs.declared.faults.StdKind.{StdKind};
 ghost use Rattle.gl_std.specs.declared.faults.ReadFault.TheVariants.{Line};
 

@@ -6,7 +6,7 @@ ghost use Rattle.gl_std.specs.Trace.{trace_of, IsTraceOver};
 ghost use Rattle.goodlock.specs.Answer.{IsAnswer, prediction};
 ghost use Rattle.goodlock.specs.Answer.Answer.{Prints, Refusal};
 ghost use Rattle.goodlock.specs.Sessions.{AreOfSession};
-ghost use Rattle.goodlock.specs.Stops.{IfStopped, IsLoopOf};
+ghost use Rattle.goodlock.specs.bodies.Stops.{IfStopped, IsLoopOf};
 
 use crate::answer::{Printed, Stop, outcome_of, print, trace_or_line};
 use crate::lines::inconsistent_line;

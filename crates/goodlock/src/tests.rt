@@ -43,7 +43,15 @@ fn expect_report<R: Abort + AllocGlobal + Threads + Sync>(
 ) {
     let mut input = FromStd::new(text);
     let mut output = FromStd::new(Vec::new(rt.alloc()));
-    match predict(rt, &mut input, &mut output, TURNS, Seed::fixed(), query, Form::Text) {
+    match predict(
+        rt,
+        &mut input,
+        &mut output,
+        TURNS,
+        Seed::fixed(),
+        query,
+        Form::Text,
+    ) {
         Ended::Cycles => assert!(rt; lists_cycle),
         Ended::Clean => assert!(rt; !lists_cycle),
         other => assert!(rt; false, "{other:?}"),
@@ -60,7 +68,15 @@ fn expect_refused<R: Abort + AllocGlobal + Threads + Sync>(
 ) {
     let mut input = FromStd::new(text);
     let mut output = FromStd::new(Vec::new(rt.alloc()));
-    match predict(rt, &mut input, &mut output, TURNS, Seed::fixed(), query, Form::Text) {
+    match predict(
+        rt,
+        &mut input,
+        &mut output,
+        TURNS,
+        Seed::fixed(),
+        query,
+        Form::Text,
+    ) {
         Ended::Refused(line) => assert_eq!(rt; line.as_slice(), said),
         other => assert!(rt; false, "{other:?}"),
     }
@@ -299,7 +315,15 @@ fn turns_used_up(rt: HostRuntime) -> Result<(), Fail> {
     for (text, is_clean) in [(nothing, true), (OPPOSITE_ORDER, false)] {
         let mut input = FromStd::new(text);
         let mut output = FromStd::new(Vec::new(rt.alloc()));
-        match predict(&rt, &mut input, &mut output, 1, Seed::fixed(), &full()?, Form::Text) {
+        match predict(
+            &rt,
+            &mut input,
+            &mut output,
+            1,
+            Seed::fixed(),
+            &full()?,
+            Form::Text,
+        ) {
             Ended::Clean => assert!(rt; is_clean),
             Ended::ReadFailed => assert!(rt; !is_clean),
             other => assert!(rt; false, "{other:?}"),
@@ -336,7 +360,15 @@ impl Source for Cut<'_> {
 fn writer_and_reader_fail(rt: HostRuntime) -> Result<(), Fail> {
     let mut output = FromStd::new(Cursor::new([0u8; 5]));
     let mut input = FromStd::new(OPPOSITE_ORDER);
-    match predict(&rt, &mut input, &mut output, TURNS, Seed::fixed(), &full()?, Form::Text) {
+    match predict(
+        &rt,
+        &mut input,
+        &mut output,
+        TURNS,
+        Seed::fixed(),
+        &full()?,
+        Form::Text,
+    ) {
         Ended::WriteFailed { written } => assert_eq!(rt; written, 5),
         other => assert!(rt; false, "{other:?}"),
     }
@@ -350,7 +382,15 @@ fn writer_and_reader_fail(rt: HostRuntime) -> Result<(), Fail> {
             is_failed: false,
         };
         let mut output = FromStd::new(Vec::new(rt.alloc()));
-        match predict(&rt, &mut input, &mut output, TURNS, Seed::fixed(), &full()?, Form::Text) {
+        match predict(
+            &rt,
+            &mut input,
+            &mut output,
+            TURNS,
+            Seed::fixed(),
+            &full()?,
+            Form::Text,
+        ) {
             Ended::Refused(line) => assert_eq!(rt; line.as_slice(), said),
             Ended::ReadFailed => assert!(rt; said.is_empty()),
             other => assert!(rt; false, "{other:?}"),
@@ -504,7 +544,15 @@ fn empty_input_as_json(rt: HostRuntime) -> Result<(), Fail> {
     let none: &[u8] = b"";
     let mut input = FromStd::new(none);
     let mut output = FromStd::new(Vec::new(rt.alloc()));
-    let ended = predict(&rt, &mut input, &mut output, TURNS, Seed::fixed(), &full()?, Form::Json);
+    let ended = predict(
+        &rt,
+        &mut input,
+        &mut output,
+        TURNS,
+        Seed::fixed(),
+        &full()?,
+        Form::Json,
+    );
     assert!(rt; matches!(ended, Ended::Clean));
     let said =
         b"{\"cycles\":[],\"format\":1,\"len\":4,\"max\":1000,\"mode\":\"full\",\"more\":false}\n";

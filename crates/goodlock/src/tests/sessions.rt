@@ -163,7 +163,15 @@ fn gated_workers(rt: HostRuntime) -> Result<(), Fail> {
     let options = session(full()?, 2, 2, 256);
     let mut input = FromStd::new(OPPOSITE_ORDER);
     let mut output = FromStd::new(Vec::new(rt.alloc()));
-    let ended = live_gated(&rt, &mut input, &mut output, TURNS, Seed::fixed(), &options, &gate);
+    let ended = live_gated(
+        &rt,
+        &mut input,
+        &mut output,
+        TURNS,
+        Seed::fixed(),
+        &options,
+        &gate,
+    );
     assert!(rt; matches!(ended, Ended::Cycles));
     assert_eq!(rt; output.into_inner().as_slice(), OPPOSITE_ORDER_REPORT);
     assert_eq!(rt; gate.passes(), (1, 1, 0, 0));
@@ -203,7 +211,15 @@ fn ring_report<R: Abort + AllocGlobal + Threads + Sync>(
     let mut input = FromStd::new(text);
     let mut output = FromStd::new(Vec::new(rt.alloc()));
     let asked = query(Mode::Full, 16, 1_000)?;
-    let ended = predict(rt, &mut input, &mut output, TURNS, Seed::fixed(), &asked, Form::Text);
+    let ended = predict(
+        rt,
+        &mut input,
+        &mut output,
+        TURNS,
+        Seed::fixed(),
+        &asked,
+        Form::Text,
+    );
     assert!(rt; matches!(ended, Ended::Cycles));
     let report = output.into_inner();
     assert!(rt; report.as_slice().starts_with(b"cycle 1: 16 edges\n"));

@@ -1,5 +1,5 @@
 use Rattle.gl_cycles.specs.AllCycles.{edges_of_table}
-use Rattle.gl_cycles.specs.Ranks.{rank_in}
+use Rattle.gl_cycles.specs.bodies.Ranks.{rank_in}
 use Rattle.gl_cycles.proofs.Level.{level_keeps}
 use Rattle.gl_cycles.proofs.loops.edges_on_loops.Goals as goal
 

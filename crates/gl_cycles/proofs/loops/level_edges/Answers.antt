@@ -1,5 +1,5 @@
 use Rattle.std.proofs.Common.{◌∙◌, eqb, arith}
-use Rattle.gl_cycles.specs.Ranks.{rank_in}
+use Rattle.gl_cycles.specs.bodies.Ranks.{rank_in}
 use Rattle.gl_cycles.proofs.Level.{rises_at, rises_more, level_more}
 use Rattle.gl_cycles.proofs.loops.level_edges.Goals as goal
 

@@ -1,7 +1,7 @@
 use Rattle.std.proofs.Common.{◌≡◌, map, take}
 use Rattle.gl_cycles.specs.AllCycles.{edges_of_table}
 use Rattle.gl_cycles.specs.Loops.{IsNeverFalling, is_level}
-use Rattle.gl_cycles.specs.Ranks.{rank_in}
+use Rattle.gl_cycles.specs.bodies.Ranks.{rank_in}
 use Rattle.gl_cycles.proofs.loops.level_edges.Given as goal
 
 -- the rank falls along none of the edges so far, and these have their flags

@@ -3,8 +3,8 @@ use Rattle.std.specs.List.{flat_map, range_with_len}
 use Rattle.std.proofs.lemmas.List.{length-map}
 use Rattle.gl_segments.specs.Clocks.{is_before}
 use Rattle.gl_cycles.specs.AllCycles.{edges_of_table}
-use Rattle.gl_cycles.specs.Blocks.{block}
-use Rattle.gl_cycles.specs.Searching.{first_from}
+use Rattle.gl_cycles.specs.bodies.Blocks.{block}
+use Rattle.gl_cycles.specs.bodies.Searching.{first_from}
 use Rattle.gl_cycles.proofs.Joining.{root_more}
 use Rattle.gl_cycles.proofs.parallel.add_alone.Goals as goal
 

@@ -3,7 +3,7 @@ use Rattle.std.specs.Prelude.{IfOk}
 use Rattle.std.specs.List.{range_with_len, AllZip}
 use Rattle.rayon.specs.Numbers.{nat_range}
 use Rattle.rayon.proofs.ToStd.{nat_range-All}
-use Rattle.gl_cycles.specs.Searching.{IsReady, first_from}
+use Rattle.gl_cycles.specs.bodies.Searching.{IsReady, first_from}
 use Rattle.gl_cycles.proofs.Joining.{pieces_are, if_ok}
 use Rattle.gl_cycles.proofs.parallel.cycles_of_roots.Goals as goal
 

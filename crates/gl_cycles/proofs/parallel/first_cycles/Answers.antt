@@ -1,6 +1,6 @@
 use Rattle.std.proofs.Common.{◌≡◌, length, take, ap, ◌∙◌, arith}
 use Rattle.std.specs.List.{flat_map, range_with_len}
-use Rattle.gl_cycles.specs.Searching.{first_from}
+use Rattle.gl_cycles.specs.bodies.Searching.{first_from}
 use Rattle.gl_cycles.proofs.Joining.{runs_on, of_roots}
 use Rattle.gl_cycles.proofs.parallel.first_cycles.Goals as goal
 

@@ -3,7 +3,7 @@ use Rattle.std.specs.Prelude.{slice_get}
 use Rattle.std.specs.List.{list_any, range_with_len}
 use Rattle.std.proofs.lemmas.List.{append-nil}
 use Rattle.std.proofs.lemmas.Option.{slice_get-get_or, same_Some}
-use Rattle.gl_cycles.specs.Trimming.{AreFlagsOf}
+use Rattle.gl_cycles.specs.bodies.Trimming.{AreFlagsOf}
 use Rattle.gl_cycles.proofs.Removing.{others_more}
 use Rattle.gl_cycles.proofs.trims.left_of.Goals as goal
 use Rattle.gl_cycles.proofs.trims.left_of.Goals.{then-not-gone-i+in_ok-push, else-not-gone-i}

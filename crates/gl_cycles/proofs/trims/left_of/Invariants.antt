@@ -1,7 +1,7 @@
 use Rattle.std.proofs.Common.{◌≡◌, ℕ, List, length, filter, not, eqb}
 use Rattle.std.specs.List.{list_any, range_with_len}
 use Rattle.gl_edges.specs.declared.edge.Edge.{Edge}
-use Rattle.gl_cycles.specs.Trimming.{AreFlagsOf}
+use Rattle.gl_cycles.specs.bodies.Trimming.{AreFlagsOf}
 use Rattle.gl_cycles.proofs.trims.left_of.Given as goal
 
 -- those so far that aren't flagged

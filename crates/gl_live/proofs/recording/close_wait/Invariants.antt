@@ -1,6 +1,6 @@
 use Rattle.std.proofs.Common.{◌≡◌}
 use Rattle.gl_engine.specs.Recording.{recorded}
-use Rattle.gl_live.specs.Seats.{seat_of}
+use Rattle.gl_live.specs.bodies.Seats.{seat_of}
 use Rattle.gl_live.proofs.recording.close_wait.Given as goal
 
 -- the lane was full so far, and the recorder is as it was

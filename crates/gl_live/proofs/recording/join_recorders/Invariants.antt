@@ -4,7 +4,7 @@ use Rattle.std.specs.Vec.Iter.{into_iter_items}
 use Rattle.gl_event.specs.declared.events.Event.{Event}
 use Rattle.gl_segments.specs.Orders.{lists_of}
 use Rattle.gl_engine.specs.Collecting.{Collecting}
-use Rattle.gl_live.specs.Seats.{seating_of, IsReceiptOf}
+use Rattle.gl_live.specs.bodies.Seats.{seating_of, IsReceiptOf}
 use Rattle.gl_live.proofs.recording.join_recorders.Given as goal
 
 -- the receipts so far are of the session, and so is what the threads that are left promise

@@ -1,6 +1,6 @@
 use Rattle.std.proofs.Common.{length, ap, arith}
 use Rattle.gl_segments.specs.Orders.{lists_of}
-use Rattle.gl_live.specs.Seats.{IsRecorderOf}
+use Rattle.gl_live.specs.bodies.Seats.{IsRecorderOf}
 use Rattle.gl_live.proofs.Seated.{first_of_all, rest_of_all, receipts_more}
 use Rattle.gl_live.proofs.recording.record_all.Goals as goal
 

@@ -3,7 +3,7 @@ use Rattle.std.specs.List.{All}
 use Rattle.std.specs.Vec.{vec_len, vec_capacity}
 use Rattle.std.specs.Vec.Iter.{into_iter_items, into_iter_len}
 use Rattle.gl_segments.specs.Orders.{lists_of}
-use Rattle.gl_live.specs.Seats.{Seating, IsRecorderOf, IsReceiptOf}
+use Rattle.gl_live.specs.bodies.Seats.{Seating, IsRecorderOf, IsReceiptOf}
 use Rattle.gl_live.proofs.recording.record_all.Given as goal
 
 -- the receipts so far are of the session, and so are the recorders that are left

@@ -1,7 +1,7 @@
 use Rattle.std.proofs.Common.{◌∙◌, ◌++◌, ◌∷◌, [], sym, ap, append_assoc, take, arith}
 use Rattle.gl_world.proofs.Lists.{take_more, get_at}
 use Rattle.gl_engine.specs.Recording.{recorded}
-use Rattle.gl_live.specs.Seats.{seat_of}
+use Rattle.gl_live.specs.bodies.Seats.{seat_of}
 use Rattle.gl_live.proofs.Seated.{recorded_more}
 use Rattle.gl_live.proofs.recording.record_each.Goals as goal
 

@@ -1,6 +1,6 @@
 use Rattle.std.proofs.Common.{◌≡◌, ◌++◌, take}
 use Rattle.gl_engine.specs.Recording.{recorded}
-use Rattle.gl_live.specs.Seats.{seat_of}
+use Rattle.gl_live.specs.bodies.Seats.{seat_of}
 use Rattle.gl_live.proofs.recording.record_each.Given as goal
 
 -- the events so far are recorded

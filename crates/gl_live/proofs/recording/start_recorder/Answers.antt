@@ -1,4 +1,4 @@
-use Rattle.gl_live.specs.Seats.{seating_of}
+use Rattle.gl_live.specs.bodies.Seats.{seating_of}
 use Rattle.gl_live.proofs.recording.start_recorder.Goals as goal
 
 pub spawn_with-recorder-requires-clause-keeps : goal.spawn_with-recorder-requires-clause-keeps

@@ -1,7 +1,7 @@
 use Rattle.std.proofs.Common.{◌≡◌, length, ap, arith}
 use Rattle.gl_segments.specs.Orders.{lists_of}
-use Rattle.gl_live.specs.Desks.{IsDeskOf}
-use Rattle.gl_live.specs.Seats.{seating_of}
+use Rattle.gl_live.specs.bodies.Desks.{IsDeskOf}
+use Rattle.gl_live.specs.bodies.Seats.{seating_of}
 use Rattle.gl_live.proofs.Seated.{rest_of_all, all_more}
 use Rattle.gl_live.proofs.recording.start_recorders.Goals as goal
 

@@ -3,8 +3,8 @@ use Rattle.std.specs.List.{All}
 use Rattle.std.specs.Vec.{vec_len, vec_capacity}
 use Rattle.std.specs.Vec.Iter.{into_iter_items, into_iter_len}
 use Rattle.gl_segments.specs.Orders.{lists_of}
-use Rattle.gl_live.specs.Desks.{IsDeskOf}
-use Rattle.gl_live.specs.Seats.{seating_of}
+use Rattle.gl_live.specs.bodies.Desks.{IsDeskOf}
+use Rattle.gl_live.specs.bodies.Seats.{seating_of}
 use Rattle.gl_live.proofs.recording.start_recorders.Given as goal
 
 -- a thread was started for each desk so far, and the desks that are left are of the session

@@ -2,7 +2,7 @@ use Rattle.std.proofs.Common.{refl, sym, ap, ◌∙◌, arith}
 use Rattle.gl_segments.specs.Orders.{lists_of}
 use Rattle.std.proofs.lemmas.List.Elements.{All-nil}
 use Rattle.gl_event.specs.Bounds.{Bounds}
-use Rattle.gl_live.specs.Seats.{seating_of, IsReceiptOf}
+use Rattle.gl_live.specs.bodies.Seats.{seating_of, IsReceiptOf}
 use Rattle.gl_live.proofs.Seated.{all_same}
 use Rattle.gl_live.proofs.Leaving.{unsent_at, as_long, receipts_gathered}
 use Rattle.gl_live.proofs.run.run_threads.Goals as goal

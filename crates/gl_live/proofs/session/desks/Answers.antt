@@ -1,7 +1,7 @@
 use Rattle.std.specs.List.{All}
 use Rattle.std.proofs.lemmas.List.Elements.{All-nil}
-use Rattle.gl_live.specs.Desks.{IsDeskOf}
-use Rattle.gl_live.specs.Seats.{IsRecorderOf}
+use Rattle.gl_live.specs.bodies.Desks.{IsDeskOf}
+use Rattle.gl_live.specs.bodies.Seats.{IsRecorderOf}
 use Rattle.gl_live.proofs.Seated.{first_all, rest_all, all_same, all_more}
 use Rattle.gl_live.proofs.session.desks.Goals as goal
 

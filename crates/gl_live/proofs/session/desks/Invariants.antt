@@ -1,7 +1,7 @@
 use Rattle.std.specs.List.{All}
 use Rattle.std.specs.Vec.Iter.{into_iter_items}
-use Rattle.gl_live.specs.Desks.{IsDeskOf}
-use Rattle.gl_live.specs.Seats.{Seating, IsRecorderOf}
+use Rattle.gl_live.specs.bodies.Desks.{IsDeskOf}
+use Rattle.gl_live.specs.bodies.Seats.{Seating, IsRecorderOf}
 use Rattle.gl_live.proofs.session.desks.Given as goal
 
 -- the desks are of the session, and so are the groups that are left

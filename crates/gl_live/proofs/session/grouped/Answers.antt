@@ -3,7 +3,7 @@ use Rattle.std.specs.List.{All}
 use Rattle.std.proofs.lemmas.List.{length-set}
 use Rattle.std.proofs.lemmas.List.Elements.{All-set}
 use Rattle.std.proofs.lemmas.Nat.{mod_below}
-use Rattle.gl_live.specs.Seats.{IsRecorderOf}
+use Rattle.gl_live.specs.bodies.Seats.{IsRecorderOf}
 use Rattle.gl_live.proofs.Seated.{first_all, rest_all, all_more, all_at}
 use Rattle.gl_live.proofs.session.grouped.Goals as goal
 

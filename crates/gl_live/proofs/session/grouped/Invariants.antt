@@ -1,7 +1,7 @@
 use Rattle.std.proofs.Common.{◌≡◌, length}
 use Rattle.std.specs.List.{All}
 use Rattle.std.specs.Vec.Iter.{into_iter_items}
-use Rattle.gl_live.specs.Seats.{Seating, IsRecorderOf}
+use Rattle.gl_live.specs.bodies.Seats.{Seating, IsRecorderOf}
 use Rattle.gl_live.proofs.session.grouped.Given as goal
 
 -- the recorders in the groups, and those that are left, are of the session

@@ -1,7 +1,7 @@
 use Rattle.std.proofs.Common.{◌≡◌, false, true, sym, rules, arith}
 use Rattle.std.specs.List.Sorted.{IsPartitionPoint}
 use Rattle.std.proofs.lemmas.List.Sorted.{IsPartitionPoint-from_clause}
-use Rattle.gl_segments.specs.Histories.{is_up_to}
+use Rattle.gl_segments.specs.bodies.Histories.{is_up_to}
 use Rattle.gl_segments.proofs.Bisecting.{parted, count_before_all, count_of_last, count_without}
 use Rattle.gl_segments.proofs.history.count_in.Goals as goal
 

@@ -2,9 +2,9 @@ use Rattle.std.proofs.Common.{◌≡◌, ℕ, ◌+◌, ◌++◌, ◌∷◌, [], 
 use Rattle.std.specs.Prelude.{slice_index}
 use Rattle.gl_event.specs.declared.events.Segment.{Segment}
 use Rattle.gl_segments.specs.Segments.{Leads}
-use Rattle.gl_segments.specs.Tables.{row, Has, LeadsTo}
-use Rattle.gl_segments.specs.Search.{Counts, IsClockOf}
-use Rattle.gl_segments.specs.Rows.{AreClocksBelow}
+use Rattle.gl_segments.specs.bodies.Tables.{row, Has, LeadsTo}
+use Rattle.gl_segments.specs.bodies.Search.{Counts, IsClockOf}
+use Rattle.gl_segments.specs.bodies.Rows.{AreClocksBelow}
 use Rattle.gl_segments.proofs.Clocking.{explored_clock, may_start_next, may_start_zero, chain_of_links, clocks_more, own_count}
 use Rattle.gl_segments.proofs.order.history.Goals as goal
 

@@ -1,8 +1,8 @@
 use Rattle.std.proofs.Common.{◌≡◌, ℕ, List, length}
-use Rattle.gl_segments.specs.Histories.{IsNoted}
-use Rattle.gl_segments.specs.Tables.{Has}
-use Rattle.gl_segments.specs.Search.{MayStart}
-use Rattle.gl_segments.specs.Rows.{AreClocksBelow}
+use Rattle.gl_segments.specs.bodies.Histories.{IsNoted}
+use Rattle.gl_segments.specs.bodies.Tables.{Has}
+use Rattle.gl_segments.specs.bodies.Search.{MayStart}
+use Rattle.gl_segments.specs.bodies.Rows.{AreClocksBelow}
 use Rattle.gl_segments.proofs.order.history.Given as goal
 
 -- the clocks so far were noted, and the search may go on to the next segment

@@ -2,7 +2,7 @@ use Rattle.std.proofs.Common.{◌≡◌, ◌<◌, [], ◌∷◌, Some, refl, sub
 use Rattle.std.specs.Prelude.{slice_get}
 use Rattle.std.proofs.lemmas.List.{append-nil, append_assoc}
 use Rattle.std.proofs.lemmas.Option.{slice_get_read}
-use Rattle.gl_segments.specs.Search.{FollowsLinks}
+use Rattle.gl_segments.specs.bodies.Search.{FollowsLinks}
 use Rattle.gl_segments.specs.declared.search.Link.{Link}
 use Rattle.gl_segments.proofs.search.chain.Goals as goal
 

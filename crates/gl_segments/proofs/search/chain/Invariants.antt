@@ -1,6 +1,6 @@
 use Rattle.std.proofs.Common.{◌<◌, List, ◌++◌, length}
 use Rattle.gl_event.specs.declared.events.Segment.{Segment}
-use Rattle.gl_segments.specs.Search.{FollowsLinks}
+use Rattle.gl_segments.specs.bodies.Search.{FollowsLinks}
 use Rattle.gl_segments.proofs.search.chain.Given as goal
 
 -- what follows the links from here on comes after the segments so far

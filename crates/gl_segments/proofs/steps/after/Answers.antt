@@ -1,6 +1,6 @@
 use Rattle.std.proofs.Common.{◌≡◌, [], ◌∷◌, ◌++◌, length, ap, ◌∙◌, arith, rules}
 use Rattle.gl_segments.specs.Orders.{lists_of}
-use Rattle.gl_segments.specs.Tables.{joined_last}
+use Rattle.gl_segments.specs.bodies.Tables.{joined_last}
 use Rattle.gl_segments.proofs.Tabling.{items_at, joined_here, joined_none, joined_other}
 use Rattle.gl_segments.proofs.steps.after.Goals as goal
 use Rattle.gl_segments.proofs.steps.after.Goals.{in-Join+then-joined-cuts+in_ok-push-2, in-Join+else-joined-cuts, in_default}

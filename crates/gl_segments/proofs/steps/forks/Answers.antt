@@ -1,7 +1,7 @@
 use Rattle.std.proofs.Common.{arith}
 use Rattle.std.proofs.lemmas.List.{length-map}
 use Rattle.gl_segments.specs.Orders.{lists_of}
-use Rattle.gl_segments.specs.Tables.{AddsForks}
+use Rattle.gl_segments.specs.bodies.Tables.{AddsForks}
 use Rattle.gl_segments.proofs.Tabling.{items_at, forks_more, forks_all, forks_none}
 use Rattle.gl_segments.proofs.steps.forks.Goals as goal
 

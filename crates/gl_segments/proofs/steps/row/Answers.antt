@@ -2,7 +2,7 @@ use Rattle.std.proofs.Common.{◌≡◌, length, refl, sym, ap, subst, ◌∙◌
 use Rattle.std.specs.Prelude.{slice_get}
 use Rattle.std.proofs.lemmas.Option.{slice_get_read, same_Some}
 use Rattle.gl_segments.specs.Orders.{lists_of}
-use Rattle.gl_segments.specs.Tables.{IsRowOf}
+use Rattle.gl_segments.specs.bodies.Tables.{IsRowOf}
 use Rattle.gl_segments.proofs.Tabling.{items_at, row_begins, row_more, row_all}
 use Rattle.gl_segments.proofs.steps.row.Goals as goal
 

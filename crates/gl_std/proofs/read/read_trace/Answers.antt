@@ -1,6 +1,6 @@
 use Rattle.std.proofs.Common.{ap, ◌∙◌, arith}
 use Rattle.gl_std.specs.Lines.{lines}
-use Rattle.gl_std.specs.Reading.{told_by}
+use Rattle.gl_std.specs.bodies.Reading.{told_by}
 use Rattle.gl_std.specs.Trace.{read_from}
 use Rattle.gl_std.proofs.StepLemmas.{trace_of-lines}
 use Rattle.gl_std.proofs.read.read_trace.Goals as goal

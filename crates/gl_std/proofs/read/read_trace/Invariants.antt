@@ -1,6 +1,6 @@
 use Rattle.std.proofs.Common.{◌≡◌, ◌+◌, ◌≤◌, length}
 use Rattle.gl_std.specs.Lines.{lines}
-use Rattle.gl_std.specs.Reading.{told_by, IsReady}
+use Rattle.gl_std.specs.bodies.Reading.{told_by, IsReady}
 use Rattle.gl_std.specs.Trace.{read_from, trace_of}
 use Rattle.gl_std.proofs.read.read_trace.Given as goal
 

@@ -5,7 +5,7 @@ use Rattle.gl_std.specs.Trace.{trace_of}
 use Rattle.gl_report.specs.Counts.{stats_of, stats_text}
 use Rattle.goodlock.specs.Answer.{IsAnswer, counts}
 use Rattle.goodlock.specs.Answer.Answer.{Prints, Refusal}
-use Rattle.goodlock.specs.Stops.{SaysWhyNoReport}
+use Rattle.goodlock.specs.bodies.Stops.{SaysWhyNoReport}
 use Rattle.goodlock.specs.declared.ended.Outcome.TheVariants.{Done}
 use Rattle.goodlock.proofs.Answering.{no_report, refused_then, with_report}
 use Rattle.goodlock.proofs.answer.counted.Goals as goal

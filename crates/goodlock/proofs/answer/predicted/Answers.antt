@@ -4,7 +4,7 @@ use Rattle.gl_event.specs.Bounds.{greatest}
 use Rattle.gl_std.specs.Trace.{trace_of}
 use Rattle.goodlock.specs.Answer.{IsAnswer, outcome_of, prediction, printed_report}
 use Rattle.goodlock.specs.Answer.Answer.{Prints, Refusal}
-use Rattle.goodlock.specs.Stops.{SaysWhyNoReport}
+use Rattle.goodlock.specs.bodies.Stops.{SaysWhyNoReport}
 use Rattle.goodlock.proofs.Answering.{no_report, refused_then, with_report}
 use Rattle.goodlock.proofs.answer.predicted.Goals as goal
 

@@ -5,7 +5,7 @@ use Rattle.gl_std.specs.Trace.{trace_of}
 use Rattle.goodlock.specs.Answer.{IsPlainAnswer, replay}
 use Rattle.goodlock.specs.Answer.Answer.{Prints, Refusal}
 use Rattle.goodlock.specs.Answer.IsPlainAnswer.{plain}
-use Rattle.goodlock.specs.Stops.{IsFaultIn}
+use Rattle.goodlock.specs.bodies.Stops.{IsFaultIn}
 use Rattle.goodlock.specs.declared.ended.Outcome.TheVariants.{Done}
 use Rattle.goodlock.proofs.Answering.{no_trace, refused_then}
 use Rattle.goodlock.proofs.answer.replayed.Goals as goal

@@ -2,7 +2,7 @@ use Rattle.std.proofs.Common.{inl, inr}
 use Rattle.std.proofs.lemmas.Result.{err_from_is_err_and}
 use Rattle.gl_segments.specs.Clocks.{is_before}
 use Rattle.goodlock.proofs.Answering.{refused_then}
-use Rattle.goodlock.specs.Stops.{IsFaultIn, IsLoopOf, SaysWhyNoReport}
+use Rattle.goodlock.specs.bodies.Stops.{IsFaultIn, IsLoopOf, SaysWhyNoReport}
 use Rattle.goodlock.proofs.answer.trace_and_report.Goals as goal
 
 pub returns-in_err-trace-clause-refused : goal.returns-in_err-trace-clause-refused

@@ -4,7 +4,7 @@ use Rattle.gl_event.specs.Bounds.{greatest}
 use Rattle.gl_std.specs.Trace.{trace_of}
 use Rattle.goodlock.specs.Answer.{IsAnswer, outcome_of, prediction, printed_report}
 use Rattle.goodlock.specs.Answer.Answer.{Prints, Refusal}
-use Rattle.goodlock.specs.Stops.{IsFaultIn, IsLoopOf}
+use Rattle.goodlock.specs.bodies.Stops.{IsFaultIn, IsLoopOf}
 use Rattle.goodlock.proofs.Answering.{no_report, refused_then, stopped_then, with_session}
 use Rattle.goodlock.proofs.recorded.recorded.Goals as goal
 

@@ -1,6 +1,6 @@
 use Rattle.std.proofs.Common.{[], sym, subst, ◌∙◌}
-use Rattle.gl_cycles.specs.Followers.{IsNextWith}
-use Rattle.gl_cycles.specs.Trimming.{lock_towards}
+use Rattle.gl_cycles.specs.bodies.Followers.{IsNextWith}
+use Rattle.gl_cycles.specs.bodies.Trimming.{lock_towards}
 use Rattle.gl_cycles.proofs.chains.Chain.begin.Goals as goal
 
 pub returns : goal.returns

@@ -1,5 +1,5 @@
 use Rattle.gl_cycles.specs.AllCycles.{edges_of_table}
-use Rattle.gl_cycles.specs.Trimming.{AreChained}
+use Rattle.gl_cycles.specs.bodies.Trimming.{AreChained}
 use Rattle.gl_cycles.proofs.chains.Chain.of.Given as goal
 
 -- the edges from position i on are in the index

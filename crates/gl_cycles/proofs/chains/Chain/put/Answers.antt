@@ -1,5 +1,5 @@
 use Rattle.std.proofs.Common.{eqb, [], ap, set, sym, ◌∙◌}
-use Rattle.gl_cycles.specs.Trimming.{lock_towards, first_in_chain}
+use Rattle.gl_cycles.specs.bodies.Trimming.{lock_towards, first_in_chain}
 use Rattle.gl_cycles.proofs.Listed.{tells_lock, listed_more}
 use Rattle.gl_cycles.proofs.chains.Chain.put.Goals as goal
 

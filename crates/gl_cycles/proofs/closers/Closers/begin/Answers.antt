@@ -1,5 +1,5 @@
 use Rattle.std.proofs.Common.{sym, subst, ◌∙◌}
-use Rattle.gl_cycles.specs.Followers.{IsNextWith, both_locks}
+use Rattle.gl_cycles.specs.bodies.Followers.{IsNextWith, both_locks}
 use Rattle.gl_cycles.proofs.closers.Closers.begin.Goals as goal
 
 pub returns : goal.returns

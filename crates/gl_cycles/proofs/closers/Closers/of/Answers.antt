@@ -2,7 +2,7 @@ use Rattle.std.proofs.Common.{◌≡◌, ◌+◌, ◌-◌, ◌<◌, length, get_
 use Rattle.std.proofs.lemmas.Option.{slice_get-get_or}
 use Rattle.std.proofs.lemmas.List.{length-map}
 use Rattle.gl_cycles.specs.AllCycles.{edges_of_table}
-use Rattle.gl_cycles.specs.Followers.{AreClosers, both_locks, same_locks}
+use Rattle.gl_cycles.specs.bodies.Followers.{AreClosers, both_locks, same_locks}
 use Rattle.std.specs.Map.{lookup}
 use Rattle.gl_cycles.proofs.Listed.{none_listed}
 use Rattle.gl_cycles.proofs.Fronts.{edge_at}

@@ -1,5 +1,5 @@
 use Rattle.gl_cycles.specs.AllCycles.{edges_of_table}
-use Rattle.gl_cycles.specs.Followers.{AreClosers}
+use Rattle.gl_cycles.specs.bodies.Followers.{AreClosers}
 use Rattle.gl_cycles.proofs.closers.Closers.of.Given as goal
 
 -- the edges from position i on are in the index

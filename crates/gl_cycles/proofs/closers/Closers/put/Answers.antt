@@ -1,5 +1,5 @@
 use Rattle.std.proofs.Common.{cond, Some, ap, set, sym, refl, ◌∙◌}
-use Rattle.gl_cycles.specs.Followers.{both_locks, first_of_locks, same_locks}
+use Rattle.gl_cycles.specs.bodies.Followers.{both_locks, first_of_locks, same_locks}
 use Rattle.gl_cycles.proofs.Listed.{tells_locks, listed_passed, listed_more}
 use Rattle.gl_cycles.proofs.closers.Closers.put.Goals as goal
 

@@ -1,5 +1,5 @@
 use Rattle.std.proofs.Common.{◌≡◌, map, take}
-use Rattle.gl_cycles.specs.Followers.{first_of_lock}
+use Rattle.gl_cycles.specs.bodies.Followers.{first_of_lock}
 use Rattle.gl_cycles.proofs.followers.Holders.firsts.Given as goal
 
 -- those of the edges so far

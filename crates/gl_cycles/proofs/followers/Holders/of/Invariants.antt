@@ -1,5 +1,5 @@
 use Rattle.gl_cycles.specs.AllCycles.{edges_of_table}
-use Rattle.gl_cycles.specs.Followers.{AreHolders}
+use Rattle.gl_cycles.specs.bodies.Followers.{AreHolders}
 use Rattle.gl_cycles.proofs.followers.Holders.of.Given as goal
 
 -- the edges from position i on are in the index

@@ -1,5 +1,5 @@
 use Rattle.std.proofs.Common.{eqb, Some, ap, set, sym, refl, ◌∙◌}
-use Rattle.gl_cycles.specs.Followers.{held_lock, first_of_lock}
+use Rattle.gl_cycles.specs.bodies.Followers.{held_lock, first_of_lock}
 use Rattle.gl_cycles.proofs.Listed.{tells_lock, listed_passed, listed_more}
 use Rattle.gl_cycles.proofs.followers.Holders.put.Goals as goal
 

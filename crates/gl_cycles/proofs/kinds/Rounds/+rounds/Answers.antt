@@ -6,8 +6,8 @@ use Rattle.std.proofs.lemmas.Option.{slice_get-get_or}
 use Rattle.gl_segments.specs.Clocks.{is_before}
 use Rattle.gl_edges.specs.declared.edge.Edge.{Edge}
 use Rattle.gl_cycles.specs.AllCycles.{edges_of_table}
-use Rattle.gl_cycles.specs.Followers.{IsNextWith, held_lock}
-use Rattle.gl_cycles.specs.Kinds.{AreTried, NoCycleThrough}
+use Rattle.gl_cycles.specs.bodies.Followers.{IsNextWith, held_lock}
+use Rattle.gl_cycles.specs.bodies.Kinds.{AreTried, NoCycleThrough}
 use Rattle.gl_cycles.specs.declared.kinds.Rounds.{Rounds}
 use Rattle.gl_cycles.proofs.Fronts.{element_at, within_edges}
 use Rattle.gl_cycles.proofs.ByKinds.{tried_begin, tried_more, none_after, none_longer, none_joins}

@@ -4,7 +4,7 @@ use Rattle.gl_edges.specs.declared.edge.Edge.{Edge}
 use Rattle.gl_segments.specs.Clocks.{is_before}
 use Rattle.gl_cycles.specs.declared.paths.TheConstants.{PATH}
 use Rattle.gl_cycles.specs.AllCycles.{edges_of_table}
-use Rattle.gl_cycles.specs.Kinds.{AreTried}
+use Rattle.gl_cycles.specs.bodies.Kinds.{AreTried}
 use Rattle.gl_cycles.proofs.kinds.Rounds.+rounds.Given as goal
 
 -- how many more models the path may have; a call for one of them comes between two lengths

@@ -2,7 +2,7 @@ use Rattle.std.proofs.Common.{◌≡◌, ℕ, ◌<◌, true, Some, length}
 use Rattle.std.specs.Prelude.{slice_get}
 use Rattle.gl_edges.specs.declared.edge.Edge.{Edge}
 use Rattle.gl_cycles.specs.AllCycles.{edges_of_table}
-use Rattle.gl_cycles.specs.Kinds.{HasModel}
+use Rattle.gl_cycles.specs.bodies.Kinds.{HasModel}
 use Rattle.gl_cycles.proofs.neighbours.Sought.flags_of.Given as goal
 
 -- so far each edge that is kept has a model

@@ -1,5 +1,5 @@
 use Rattle.std.proofs.Common.{◌≡◌, map, take}
-use Rattle.gl_cycles.specs.Walks.{number_in, ends_in}
+use Rattle.gl_cycles.specs.bodies.Walks.{number_in, ends_in}
 use Rattle.gl_cycles.proofs.numbers.Numbers.of_edges.Given as goal
 
 -- those of the edges so far

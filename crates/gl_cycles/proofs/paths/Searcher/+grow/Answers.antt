@@ -3,15 +3,15 @@ use Rattle.std.specs.Prelude.{All, slice_get, unwrap_or}
 use Rattle.std.proofs.lemmas.List.{length-map, length_push}
 use Rattle.std.proofs.lemmas.List.Elements.{All-push}
 use Rattle.std.proofs.Common.{Option, None, take, ◌++◌}
-use Rattle.gl_cycles.specs.Blocks.{block}
+use Rattle.gl_cycles.specs.bodies.Blocks.{block}
 use Rattle.std.proofs.lemmas.Result.{on_ok_weaker}
 use Rattle.gl_cycles.specs.declared.paths.Searcher.{Searcher}
 use Rattle.gl_segments.specs.Clocks.{is_before}
 use Rattle.gl_edges.specs.declared.edge.Edge.{Edge}
 use Rattle.gl_cycles.specs.AllCycles.{edges_of_table, picked}
-use Rattle.gl_cycles.specs.Followers.{IsNextWith, held_lock, both_locks}
+use Rattle.gl_cycles.specs.bodies.Followers.{IsNextWith, held_lock, both_locks}
 use Rattle.gl_cycles.proofs.Fronts.{element_at, within_edges, wanted_after, wanted_last, held_first, wanted_by_table, held_by_table, some_picked}
-use Rattle.gl_cycles.specs.Searching.{IsReady}
+use Rattle.gl_cycles.specs.bodies.Searching.{IsReady}
 use Rattle.gl_cycles.proofs.Off.{block-off}
 use Rattle.gl_cycles.proofs.Growing.{HasGrown, OthersAreStray, LeftOutAreStray, other_lock, other_locks, grow_begin, grow_step, grow_end, grow_short, grow_closed, grown_room, goes_on, grow_stray, joined_path}
 use Rattle.gl_cycles.proofs.paths.Searcher.+grow.Goals as goal

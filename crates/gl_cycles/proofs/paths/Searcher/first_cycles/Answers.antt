@@ -2,7 +2,7 @@ use Rattle.std.proofs.Common.{◌≡◌, suc, [], ◌-◌, length, take, sym, ap
 use Rattle.std.proofs.lemmas.List.{length-map}
 use Rattle.gl_segments.specs.Clocks.{is_before}
 use Rattle.gl_cycles.specs.AllCycles.{edges_of_table, all_cycles}
-use Rattle.gl_cycles.specs.Blocks.{blocks_below}
+use Rattle.gl_cycles.specs.bodies.Blocks.{blocks_below}
 use Rattle.gl_cycles.proofs.Growing.{roots_more, all_from_roots}
 use Rattle.gl_cycles.proofs.paths.Searcher.first_cycles.Goals as goal
 

@@ -1,6 +1,6 @@
 use Rattle.gl_segments.specs.Clocks.{is_before}
 use Rattle.gl_cycles.specs.AllCycles.{edges_of_table}
-use Rattle.gl_cycles.specs.Trimming.{AreHints}
+use Rattle.gl_cycles.specs.bodies.Trimming.{AreHints}
 use Rattle.gl_cycles.proofs.trims.Trimming.hints.Given as goal
 
 -- each edge so far has one

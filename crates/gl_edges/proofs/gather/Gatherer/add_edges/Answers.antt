@@ -1,6 +1,6 @@
 use Rattle.std.proofs.Common.{length, sym, subst}
 use Rattle.std.proofs.lemmas.Result.{on_ok_weaker}
-use Rattle.gl_edges.specs.Gatherers.{Gathers}
+use Rattle.gl_edges.specs.bodies.Gatherers.{Gathers}
 use Rattle.gl_edges.proofs.Gathering.{wanting_none, not_deep}
 use Rattle.gl_edges.proofs.Remembering.{gathers_nothing, gathers_acquire, no_edges}
 use Rattle.gl_edges.proofs.gather.Gatherer.add_edges.Goals as goal

@@ -1,7 +1,7 @@
 use Rattle.std.proofs.Common.{◌+◌, ◌++◌, length, take, sym, subst, arith}
 use Rattle.std.proofs.lemmas.List.{length-take-le}
 use Rattle.gl_edges.specs.Edges.{edges_below}
-use Rattle.gl_edges.specs.Gatherers.{Gathers}
+use Rattle.gl_edges.specs.bodies.Gatherers.{Gathers}
 use Rattle.gl_edges.proofs.Gathering.{follows_next, followed, pairs_event, table_list}
 use Rattle.gl_edges.proofs.Remembering.{gathers_start}
 use Rattle.gl_edges.proofs.gather.Gatherer.take_list.Goals as goal

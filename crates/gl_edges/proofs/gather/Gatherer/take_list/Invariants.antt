@@ -1,6 +1,6 @@
 use Rattle.std.proofs.Common.{List, ◌++◌, take}
 use Rattle.gl_edges.specs.Edges.{edges_below}
-use Rattle.gl_edges.specs.Gatherers.{Gathers}
+use Rattle.gl_edges.specs.bodies.Gatherers.{Gathers}
 use Rattle.gl_edges.specs.Samples.{IsTableOf}
 use Rattle.gl_edges.specs.Tracking.{Tracks}
 use Rattle.gl_edges.specs.declared.edge.Edge.{Edge}

@@ -1,7 +1,7 @@
 use Rattle.std.proofs.Common.{◌≡◌, ◌+◌, length, take, sym, ap, subst, ◌∙◌, arith}
 use Rattle.std.proofs.lemmas.List.{length-map, take_all}
 use Rattle.gl_edges.specs.Numbered.{guards_in, AreNumbered}
-use Rattle.gl_edges.specs.Numberers.{IsNumbering}
+use Rattle.gl_edges.specs.bodies.Numberers.{IsNumbering}
 use Rattle.gl_edges.proofs.Numbering.{guards_more}
 use Rattle.gl_edges.proofs.guard_sets.GuardSets.of.Goals as goal
 

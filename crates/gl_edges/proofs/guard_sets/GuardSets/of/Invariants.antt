@@ -1,6 +1,6 @@
 use Rattle.std.proofs.Common.{take}
 use Rattle.gl_edges.specs.Numbered.{guards_in}
-use Rattle.gl_edges.specs.Numberers.{IsNumbering}
+use Rattle.gl_edges.specs.bodies.Numberers.{IsNumbering}
 use Rattle.gl_edges.proofs.guard_sets.GuardSets.of.Given as goal
 
 -- the guard sets so far are numbered

@@ -1,5 +1,5 @@
 use Rattle.std.proofs.Common.{◌≡◌, map, take}
-use Rattle.gl_edges.specs.Seen.{opened_of}
+use Rattle.gl_edges.specs.bodies.Seen.{opened_of}
 use Rattle.gl_edges.proofs.seen.Nesting.refill.Given as goal
 
 abbrev pub invariant-loop-entry : goal.invariant-loop-entry

@@ -1,6 +1,6 @@
 use Rattle.std.proofs.Common.{◌⊎◌, map, IsPermutation, sym, subst, ◌∙◌}
 use Rattle.std.specs.Prelude.{Contains}
-use Rattle.gl_edges.specs.Seen.{edges_from_all, edges_now, opened_of}
+use Rattle.gl_edges.specs.bodies.Seen.{edges_from_all, edges_now, opened_of}
 use Rattle.gl_edges.proofs.Nestings.{IsNow, found_now, noted_now}
 use Rattle.gl_edges.proofs.seen.Seen.note.Goals as goal
 

@@ -1,5 +1,5 @@
 use Rattle.std.proofs.Common.{◌≡◌, ℕ, ◌<◌, List, length, take}
-use Rattle.gl_segments.specs.Histories.{IsNoted}
+use Rattle.gl_segments.specs.bodies.Histories.{IsNoted}
 use Rattle.gl_segments.proofs.history.Growing.note.Given as goal
 
 -- the counts so far are the clock's

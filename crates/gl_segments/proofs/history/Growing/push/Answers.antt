@@ -1,7 +1,7 @@
 use Rattle.std.proofs.Common.{◌≡◌, ◌+◌, ◌++◌, ◌∷◌, [], length, sym, ap, subst, ◌∙◌}
 use Rattle.std.specs.Prelude.{slice_index}
 use Rattle.std.proofs.lemmas.List.{length_push}
-use Rattle.gl_segments.specs.Histories.{Tells}
+use Rattle.gl_segments.specs.bodies.Histories.{Tells}
 use Rattle.gl_segments.proofs.Noting.{tells_next}
 use Rattle.gl_segments.proofs.history.Growing.push.Goals as goal
 

@@ -1,6 +1,6 @@
 use Rattle.std.proofs.Common.{◌≡◌, [], sym, subst, ap, ◌∙◌, inl, inr, arith}
 use Rattle.std.specs.Prelude.{slice_index, slice_index_or}
-use Rattle.gl_segments.specs.Histories.{count_at}
+use Rattle.gl_segments.specs.bodies.Histories.{count_at}
 use Rattle.gl_segments.proofs.Along.{count_outside, count_own, count_of_other}
 use Rattle.gl_segments.proofs.history.History.ahead.Goals as goal
 

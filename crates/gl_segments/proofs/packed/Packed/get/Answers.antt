@@ -1,7 +1,7 @@
 use Rattle.std.proofs.Common.{◌≡◌, ◌+◌, ◌<◌, [], length, sym, ap, subst, ◌∙◌, arith, rules}
 use Rattle.std.specs.Prelude.{slice_index, slice_index_or}
 use Rattle.std.proofs.lemmas.Grind.{get_or_default_zero}
-use Rattle.gl_segments.specs.Packing.{between, lists_between}
+use Rattle.gl_segments.specs.bodies.Packing.{between, lists_between}
 use Rattle.gl_segments.proofs.Unpacking.{length_lists, list_at}
 use Rattle.gl_segments.proofs.packed.Packed.get.Goals as goal
 

@@ -1,5 +1,5 @@
 use Rattle.std.proofs.Common.{◌≡◌, length, ap, arith}
-use Rattle.gl_segments.specs.Packing.{lists_between}
+use Rattle.gl_segments.specs.bodies.Packing.{lists_between}
 use Rattle.gl_segments.proofs.Unpacking.{length_lists}
 use Rattle.gl_segments.proofs.packed.Packed.len.Goals as goal
 

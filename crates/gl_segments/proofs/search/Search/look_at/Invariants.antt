@@ -2,8 +2,8 @@ use Rattle.std.proofs.Common.{◌≡◌, ℕ, ◌+◌, ◌<◌, ◌≤◌, lengt
 use Rattle.std.specs.Prelude.{slice_get}
 use Rattle.gl_event.specs.declared.events.Segment.{Segment}
 use Rattle.gl_segments.specs.declared.search.Link.{Link}
-use Rattle.gl_segments.specs.Tables.{sources}
-use Rattle.gl_segments.specs.Search.{Counts, Explores, unseen}
+use Rattle.gl_segments.specs.bodies.Tables.{sources}
+use Rattle.gl_segments.specs.bodies.Search.{Counts, Explores, unseen}
 use Rattle.gl_segments.proofs.search.Search.look_at.Given as goal
 
 -- the search holds, and the sources so far are counted

@@ -1,5 +1,5 @@
 use Rattle.std.proofs.Common.{◌≡◌, ◌+◌, ◌-◌, ◌≤◌, ◌++◌, length}
-use Rattle.gl_segments.specs.Search.{links_back}
+use Rattle.gl_segments.specs.bodies.Search.{links_back}
 use Rattle.gl_segments.proofs.search.Search.reach.Given as goal
 
 -- what is still to be linked completes what there is

@@ -1,5 +1,5 @@
 use Rattle.std.proofs.Common.{◌≡◌, ◌+◌, subst, ◌∙◌, arith}
-use Rattle.gl_segments.specs.Search.{Explores}
+use Rattle.gl_segments.specs.bodies.Search.{Explores}
 use Rattle.gl_segments.proofs.Searching.{begin_explores}
 use Rattle.gl_segments.proofs.search.Search.run.Goals as goal
 

@@ -1,5 +1,5 @@
 use Rattle.std.proofs.Common.{◌≡◌, ◌+◌, ◌-◌, ◌≤◌, length}
-use Rattle.gl_segments.specs.Search.{Explores, unseen}
+use Rattle.gl_segments.specs.bodies.Search.{Explores, unseen}
 use Rattle.gl_segments.proofs.search.Search.run.Given as goal
 
 -- the entries before `done` were looked at

@@ -7,7 +7,7 @@ use Rattle.gl_event.specs.Events.{closes}
 use Rattle.gl_event.specs.declared.events.Event.{Event}
 use Rattle.gl_event.specs.declared.events.Segment.{Segment}
 use Rattle.gl_segments.specs.Orders.{lists_of}
-use Rattle.gl_segments.specs.Tables.{cuts_of, AreSmall, IsRowOf, row}
+use Rattle.gl_segments.specs.bodies.Tables.{cuts_of, AreSmall, IsRowOf, row}
 use Rattle.gl_segments.proofs.Tabling.{rows_more}
 use Rattle.gl_segments.proofs.Stepping.{cuts_small, shows_steps, steps_sound}
 use Rattle.gl_segments.proofs.steps.Steps.of.Goals as goal

@@ -2,7 +2,7 @@ use Rattle.std.proofs.Common.{◌≡◌, ℕ, ◌<◌, List, length, Some}
 use Rattle.std.specs.Prelude.{slice_get}
 use Rattle.gl_event.specs.declared.events.Event.{Event}
 use Rattle.gl_segments.specs.Orders.{lists_of}
-use Rattle.gl_segments.specs.Tables.{IsRowOf, row}
+use Rattle.gl_segments.specs.bodies.Tables.{IsRowOf, row}
 use Rattle.gl_segments.proofs.steps.Steps.of.Given as goal
 
 -- the rows of the threads so far

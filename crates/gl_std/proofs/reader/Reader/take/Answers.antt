@@ -1,7 +1,7 @@
 use Rattle.std.proofs.Common.{sym, ap, ◌∙◌}
 use Rattle.gl_std.specs.Judging.{with_judged}
 use Rattle.gl_std.specs.Listed.{listed}
-use Rattle.gl_std.specs.Reading.{told_by}
+use Rattle.gl_std.specs.bodies.Reading.{told_by}
 use Rattle.gl_std.proofs.ReadingLemmas.{line_ready}
 use Rattle.gl_std.proofs.reader.Reader.take.Goals as goal
 

@@ -2,7 +2,7 @@
 use Rattle.std.specs.Prelude.{◌≡◌, ◌+◌, ◌≤◌, [], length}
 use Rattle.std.specs.List.{All}
 use Rattle.std.specs.Vec.{vec_len, vec_capacity}
-use Rattle.gl_live.specs.Seats.{Seating, IsRecorderOf}
+use Rattle.gl_live.specs.bodies.Seats.{Seating, IsRecorderOf}
 use Rattle.gl_live.specs.declared.recording.Desk.{Desk}
 
 -- the recorders are of the session, and there is room for a receipt of each

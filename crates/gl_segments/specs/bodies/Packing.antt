@@ -1,6 +1,6 @@
 -- Lists that are kept one after the other.
 use Rattle.std.specs.Prelude.{ℕ, ◌+◌, ◌-◌, ◌<◌, ◌≤◌, List, length, take, drop, slice_index}
-use Rattle.gl_segments.specs.Histories.{tabulated}
+use Rattle.gl_segments.specs.bodies.Histories.{tabulated}
 
 -- what stands from place a to before place b
 abbrev pub between : {A : Type 0} → ℕ → ℕ → List A → List A

@@ -3,8 +3,8 @@ use Rattle.std.specs.Prelude.{◌≡◌, ℕ, ◌+◌, ◌≤◌, [], length, ma
 use Rattle.std.specs.List.{All}
 use Rattle.std.specs.Vec.{vec_len, vec_capacity}
 use Rattle.gl_shards.specs.declared.shard.TheConstants.{MAX_SHARDS}
-use Rattle.gl_live.specs.Desks.{IsDeskOf}
-use Rattle.gl_live.specs.Seats.{seating_of}
+use Rattle.gl_live.specs.bodies.Desks.{IsDeskOf}
+use Rattle.gl_live.specs.bodies.Seats.{seating_of}
 use Rattle.gl_live.specs.declared.session.Session.{Session}
 
 -- there are so many threads, whose recorders are those of the collector's session; a feed for each shard, 1 to 16, through which nothing

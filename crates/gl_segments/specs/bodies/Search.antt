@@ -2,7 +2,7 @@
 use Rattle.std.specs.Prelude.{◌≡◌, ◌↔◌, ℕ, zero, suc, ◌+◌, ◌-◌, ◌<◌, ◌⊎◌, List, [], ◌∷◌, length, Some, slice_get, slice_index}
 use Rattle.gl_event.specs.declared.events.Segment.{Segment}
 use Rattle.gl_segments.specs.declared.search.Link.{Link}
-use Rattle.gl_segments.specs.Tables.{Sources, LeadsTo, Precedes}
+use Rattle.gl_segments.specs.bodies.Tables.{Sources, LeadsTo, Precedes}
 
 -- the clock counts this segment
 abbrev pub Counts : List ℕ → Segment → Type 0

@@ -2,8 +2,8 @@
 use Rattle.std.specs.Prelude.{◌≡◌, ℕ, ◌<◌, List, [], ◌∷◌, length, slice_index_or}
 use Rattle.gl_event.specs.declared.events.Segment.{Segment}
 use Rattle.gl_segments.specs.Segments.{Leads}
-use Rattle.gl_segments.specs.Tables.{Sources, row, LeadsTo, Precedes}
-use Rattle.gl_segments.specs.Search.{IsClockOf}
+use Rattle.gl_segments.specs.bodies.Tables.{Sources, row, LeadsTo, Precedes}
+use Rattle.gl_segments.specs.bodies.Search.{IsClockOf}
 use Rattle.gl_segments.specs.declared.faults.OrderFault.{OrderFault}
 use Rattle.gl_segments.specs.declared.faults.OrderFault.TheVariants.{Inconsistent, Memory}
 

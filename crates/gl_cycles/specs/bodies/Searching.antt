@@ -2,9 +2,9 @@
 use Rattle.std.specs.Prelude.{ℕ, ◌≤◌, ◌-◌, List, [], ◌∷◌, take}
 use Rattle.gl_segments.specs.Clocks.{is_before}
 use Rattle.gl_cycles.specs.AllCycles.{edges_of_table}
-use Rattle.gl_cycles.specs.Blocks.{block}
-use Rattle.gl_cycles.specs.Followers.{IsIndexOf}
-use Rattle.gl_cycles.specs.OffCycles.{KeepsCycles}
+use Rattle.gl_cycles.specs.bodies.Blocks.{block}
+use Rattle.gl_cycles.specs.bodies.Followers.{IsIndexOf}
+use Rattle.gl_cycles.specs.bodies.OffCycles.{KeepsCycles}
 use Rattle.gl_cycles.specs.declared.paths.Searcher.{Searcher}
 use Rattle.gl_cycles.specs.declared.paths.TheConstants.{PATH}
 

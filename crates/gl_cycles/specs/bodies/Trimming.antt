@@ -7,7 +7,7 @@ use Rattle.std.specs.Ordering.{nat_cmp}
 use Rattle.gl_event.specs.declared.events.Segment.{Segment}
 use Rattle.gl_edges.specs.declared.edge.Edge.{Edge}
 use Rattle.gl_filters.specs.declared.query.Mode.{Mode}
-use Rattle.gl_cycles.specs.Followers.{AreListed}
+use Rattle.gl_cycles.specs.bodies.Followers.{AreListed}
 use Rattle.gl_cycles.specs.Trims.{is_beside, HasBeside, IsStuck}
 use Rattle.gl_cycles.specs.declared.chains.Chain.{Chain}
 use Rattle.gl_cycles.specs.declared.trims.Hints.{Hints}

@@ -1,0 +1,4 @@
+-- The words of loops and private functions. No public contract cites them.
+pub mod Gatherers
+pub mod Numberers
+pub mod Seen

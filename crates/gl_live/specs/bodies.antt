@@ -1,0 +1,5 @@
+-- The words of loops and private functions. No public contract cites them.
+pub mod Desks
+pub mod Ready
+pub mod Runs
+pub mod Seats

@@ -1,0 +1,6 @@
+-- The words of loops and private functions. No public contract cites them.
+pub mod Histories
+pub mod Packing
+pub mod Rows
+pub mod Search
+pub mod Tables
