@@ -39,7 +39,7 @@ def main():
         for (before, shown), status in zip(blocks, statuses):
             named = re.search(r"`goodlock (\w+)", before)
             command = [named[1]] if named else sys.argv[2:] or ["predict"]
-            options = re.findall(r"(--json\b|--(?:len|mode|max) \w+)", before)
+            options = re.findall(r"(--json\b|--(?:len|mode|max|recorders|shards|ring) \w+)", before)
             words = [*command, *(word for option in options for word in option.split())]
             answers = [("reference", compare.by_reference(words, text, form))]
             if len(sys.argv) > 1:

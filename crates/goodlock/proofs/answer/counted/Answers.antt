@@ -24,3 +24,8 @@ returns-clause-printed g c = λ text is.
     let text_is = c.in_ok-text.ensures ∙ ap stats_text c.of.ensures in
     subst (IsAnswer asked text) (ap (λ t. Prints t Done) (sym text_is))
     (with_report asked (λ report. Prints (stats_text (stats_of both.trace report)) Done) c.args.query.now c.args.read both.trace both.report c.in_ok-trace.ensures.report (λ before. refl) text is)
+
+pub returns-in_err-text-clause-refused : goal.returns-in_err-text-clause-refused
+returns-in_err-text-clause-refused g c =
+    let p = err_from_is_err_and c.from_residual-in_err-text.result c.from_residual-in_err-text.ensures.1 in
+    rw (p.1, p.2) tt

@@ -21,3 +21,8 @@ returns-clause-printed g c = λ text is.
     let both = c.in_ok-trace.field-0 in
     subst (IsAnswer asked text) (λ i. Prints (sym c.in_ok-text.ensures i) (sym c.outcome_of-outcome.ensures i))
     (with_report asked (λ report. Prints (printed_report c.args.form both.trace.names report) (outcome_of report)) c.args.query.now c.args.read both.trace both.report c.in_ok-trace.ensures.report (λ before. refl) text is)
+
+pub returns-in_err-text-clause-refused : goal.returns-in_err-text-clause-refused
+returns-in_err-text-clause-refused g c =
+    let p = err_from_is_err_and c.from_residual-in_err-text.result c.from_residual-in_err-text.ensures.1 in
+    rw (p.1, p.2) tt
