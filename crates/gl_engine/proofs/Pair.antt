@@ -1,12 +1,11 @@
 -- Sessions of two threads.
-use Rattle.std.proofs.Common.{◌≡◌, ℕ, zero, suc, List, [], ◌∷◌, ◌++◌, length, map, Some, ◌+◌, sym, ap, ◌∙◌, subst, arith}
+use Rattle.std.proofs.Common.{◌≡◌, ℕ, zero, suc, List, [], ◌∷◌, ◌++◌, length, Some, ◌+◌, sym, ap, ◌∙◌, subst, arith}
 use Rattle.std.proofs.lemmas.List.{length-append}
 use Rattle.std.specs.Prelude.{slice_get}
 use Rattle.gl_event.specs.Bounds.{Bounds}
 use Rattle.gl_lane.specs.Lanes.{LaneId}
-use Rattle.gl_shards.specs.Feeds.{FeedId, AllSent, Sending}
 use Rattle.gl_world.proofs.Lists.{same_some}
-use Rattle.gl_engine.specs.Collecting.{Collecting, IsOpened, fresh_row}
+use Rattle.gl_engine.specs.Collecting.{Collecting, IsOpened}
 use Rattle.gl_engine.specs.Gathering.{Gathering, AreOurs}
 use Rattle.gl_engine.specs.Recording.{Closed, Recording, IsFresh}
 
@@ -38,11 +37,6 @@ module _ (session : ℕ) (limits : Bounds) (recorders : List Recording) (c : Col
   pub second_is : IsFresh session limits 1 other
   second_is = opened.fresh 1 other (ap (λ rs. slice_get rs 1) both)
 
-  pub lanes_are : map (λ row. row.lane) c.rows ≡ one.lane ∷ other.lane ∷ []
-  lanes_are =
-      ap (λ (s : Collecting). map (λ row. row.lane) s.rows) opened.collects
-      ∙ ap (λ (rs : List Recording). map (λ row. row.lane) (map fresh_row (map (λ (r : Recording). r.lane) rs))) both
-
 -- the receipt is no stranger's in the place of the session's
 abbrev IsOurs : Gathering → Closed → Type 0
 IsOurs g r = r.session ≡ g.session → (lane : LaneId) → slice_get g.lanes r.thread ≡ Some lane → (r.lane ≡ lane) × (r.limits ≡ g.limits)
@@ -68,7 +62,3 @@ module _ (g : Gathering) (a b : Closed) (first : a.thread ≡ 0) (second : b.thr
 
   pub first_and_foreign_ours : (f : Closed) → a.limits ≡ g.limits → (f.session ≡ g.session → ⊥) → AreOurs g (a ∷ f ∷ [])
   first_and_foreign_ours f la foreign at x here = one_of_two (IsOurs g) a f x at (first_ours la) (λ same lane found. absurd (foreign same)) here
-
--- nothing was sent through either outlet
-pub both_unsent : (o p : Sending) → o.sent ≡ [] → p.sent ≡ [] → (shard : ℕ) (q : Sending) → slice_get (o ∷ p ∷ []) shard ≡ Some q → q.sent ≡ []
-both_unsent o p none neither shard q at = one_of_two (λ (s : Sending). s.sent ≡ []) o p q shard none neither at
