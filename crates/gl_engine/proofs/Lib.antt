@@ -7,4 +7,5 @@ pub mod Confirming
 pub mod Running
 pub mod Agreeing
 pub mod Alone
+pub mod Pair
 pub mod Unpulled

@@ -4,6 +4,8 @@ ghost use Rattle.gl_shards.specs.Feeds.{Sending};
 ghost use Rattle.gl_engine.specs.Gathering.{AreOurs};
 ghost use Rattle.gl_engine.specs.Recording.{Closed, Recording};
 
+mod two_threads;
+
 use super::acquire;
 use crate::{Collector, Gathered, Receipt, Recorder, SettleFault, Settled, open};
 use gl_event::{Event, Limits, Memory};
@@ -19,6 +21,7 @@ fn recorded(recorder: Recorder, events: &[Event]) -> Option<Receipt>
     ensures session { IfSome result (λ r. r.session ≡ recorder.session) }
     ensures limits { IfSome result (λ r. r.limits ≡ recorder.limits) }
     ensures lane { IfSome result (λ r. r.lane ≡ recorder.lane) }
+    ensures thread { IfSome result (λ r. r.thread ≡ recorder.thread) }
 {
     let mut recorder = recorder;
     for event in events {
@@ -171,15 +174,14 @@ fn worker_gone<R: Wait>(
     Ok(Some((receipt, gathered)))
 }
 
-// How many edges and cycles are reported over this one table, and whether there are more cycles.
+// How many edges and cycles are reported over these tables, and whether there are more cycles.
 fn counts_over<R: Threads + Sync>(
     rt: &R,
     alloc: Global,
     settled: &Settled,
-    table: Table,
+    tables: Vec<Table>,
 ) -> Option<(usize, usize, bool)> {
     let query = Query::new(Mode::Full, 4, 1_000).ok()?;
-    let tables = vec![in alloc; table].ok()?;
     let report = settled.report(rt, tables, &query).ok()?;
     Some((
         report.edges.entries().len(),
@@ -221,16 +223,16 @@ fn settle_receipts(rt: HostRuntime) -> Result<(), Fail> {
     assert_eq!(rt; table.len(), 0);
     assert_eq!(rt; settled.lists().len(), 1);
     assert_eq!(rt;
-        counts_over(&rt, alloc, &settled, table),
+        counts_over(&rt, alloc, &settled, vec![in alloc; table]?),
         Some((0, 0, false))
     );
     Ok(())
 }
 
-// A report has the edges of the tables that it is given, and no others.
+// A report has the edges of the table that it is given, and no others.
 #[test]
 #[tactic(auto, using(crate::proofs::Alone::one_ours))]
-fn empty_tables(rt: HostRuntime) -> Result<(), Fail> {
+fn empty_table(rt: HostRuntime) -> Result<(), Fail> {
     let alloc = rt.alloc();
     let limits = Limits::new(1, 8, 100, 100)?;
     let events = [acquire(0, 1), acquire(1, 2)];
@@ -243,10 +245,10 @@ fn empty_tables(rt: HostRuntime) -> Result<(), Fail> {
         &rt,
         "the receipt is that of the thread",
     );
-    let over_none = counts_over(&rt, alloc, &settled, Table::new(alloc));
+    let over_none = counts_over(&rt, alloc, &settled, vec![in alloc; Table::new(alloc)]?);
     assert_eq!(rt; over_none, Some((0, 0, false)));
     assert_eq!(rt;
-        counts_over(&rt, alloc, &settled, table),
+        counts_over(&rt, alloc, &settled, vec![in alloc; table]?),
         Some((1, 0, false))
     );
     Ok(())
