@@ -148,9 +148,10 @@ impl Judge {
         ensures few_stray { self.new.stray ≤ self.old.stray + 1 }
     {
         let alloc = self.alloc;
+        let innermost = self.likely_released(operation);
         let found = self
             .names
-            .find(self.latest, operation, thread, operand, location);
+            .find(self.latest, innermost, operation, thread, operand, location);
         self.latest = found.thread;
         let limit = self.limit_reached(operation, &found);
         let number = self.names.operand_or_next(operation, &found);
@@ -171,6 +172,18 @@ impl Judge {
                 line: self.line,
                 kind,
             }),
+        }
+    }
+
+    // The lock that a release is likely to be of: the innermost one that the latest thread holds.
+    fn likely_released(&self, operation: Operation) -> Option<LockId> {
+        match operation {
+            Operation::Release(_) => {
+                let thread = self.latest?;
+                let standing = self.standings.get(thread.number() as usize)?;
+                standing.innermost()
+            }
+            _ => None,
         }
     }
 

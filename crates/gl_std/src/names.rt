@@ -257,10 +257,11 @@ impl Names {
     }
 
     /// The numbers of the names in a line. One look-up by hash for each, but none for the thread
-    /// where it is `latest`.
+    /// where it is `latest`, and none for a lock that is `innermost`.
     pub(crate) fn find(
         &self,
         latest: Option<ThreadId>,
+        innermost: Option<LockId>,
         operation: Operation,
         thread: &[u8],
         operand: &[u8],
@@ -272,7 +273,8 @@ impl Names {
         let operand = if operation.is_on_thread() {
             self.threads.find(operand)
         } else {
-            self.locks.find(operand)
+            self.locks
+                .find_near(operand, innermost.map(LockId::number))
         };
         Found {
             thread: self
