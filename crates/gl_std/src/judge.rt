@@ -149,9 +149,7 @@ impl Judge {
     {
         let alloc = self.alloc;
         let innermost = self.likely_released(operation);
-        let found = self
-            .names
-            .find(self.latest, innermost, operation, thread, operand, location);
+        let found = self.names.find(self.latest, innermost, operation, thread, operand, location);
         self.latest = found.thread;
         let limit = self.limit_reached(operation, &found);
         let number = self.names.operand_or_next(operation, &found);

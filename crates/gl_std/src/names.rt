@@ -273,8 +273,7 @@ impl Names {
         let operand = if operation.is_on_thread() {
             self.threads.find(operand)
         } else {
-            self.locks
-                .find_near(operand, innermost.map(LockId::number))
+            self.locks.find_near(operand, innermost.map(LockId::number))
         };
         Found {
             thread: self
