@@ -172,7 +172,7 @@ impl Model for Names {
 }
 
 impl Names {
-    ghost use Rattle.std.specs.Prelude.{false, if◌then◌else◌};
+    ghost use Rattle.std.specs.Prelude.{if◌then◌else◌};
     ghost use Rattle.gl_std.specs.Line.{is_on_thread};
     ghost use Rattle.gl_std.specs.Trace.{found_in, if_new, locks_after, operand_number, threads_after, with_name, with_names};
 
