@@ -148,9 +148,7 @@ impl Judge {
         ensures few_stray { self.new.stray ≤ self.old.stray + 1 }
     {
         let alloc = self.alloc;
-        let found = self
-            .names
-            .find(self.latest, operation, thread, operand, location);
+        let found = self.find(operation, thread, operand, location);
         self.latest = found.thread;
         let limit = self.limit_reached(operation, &found);
         let number = self.names.operand_or_next(operation, &found);
@@ -171,6 +169,40 @@ impl Judge {
                 line: self.line,
                 kind,
             }),
+        }
+    }
+
+    // The numbers of the names in a line. One look-up by hash for each, but none for the thread of the
+    // latest event, and none for the lock that a release is likely to be of.
+    fn find(&self, operation: Operation, thread: &[u8], operand: &[u8], location: &[u8]) -> Found
+        requires { is_on_itself operation thread.now operand.now ≡ false }
+        ensures { result ≡ found_in self.now.names operation thread.now operand.now location.now }
+    {
+        let acting = self.names.find_thread_near(thread, self.latest);
+        let likely = self.likely_released(operation, &acting);
+        let operand = if operation.is_on_thread() {
+            self.names.find_thread(operand).map(ThreadId::number)
+        } else {
+            self.names
+                .find_lock_near(operand, likely)
+                .map(LockId::number)
+        };
+        Found {
+            thread: acting,
+            operand,
+            loc: self.names.find_loc(location),
+        }
+    }
+
+    // The lock that a release by this thread is likely to be of: the innermost one that it holds.
+    fn likely_released(&self, operation: Operation, thread: &Option<ThreadId>) -> Option<LockId> {
+        match operation {
+            Operation::Release(_) => {
+                let thread = thread.as_ref()?;
+                let standing = self.standings.get(thread.number() as usize)?;
+                standing.innermost()
+            }
+            _ => None,
         }
     }
 

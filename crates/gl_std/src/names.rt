@@ -172,8 +172,8 @@ impl Model for Names {
 }
 
 impl Names {
-    ghost use Rattle.std.specs.Prelude.{false, if◌then◌else◌};
-    ghost use Rattle.gl_std.specs.Line.{is_on_itself, is_on_thread};
+    ghost use Rattle.std.specs.Prelude.{if◌then◌else◌};
+    ghost use Rattle.gl_std.specs.Line.{is_on_thread};
     ghost use Rattle.gl_std.specs.Trace.{found_in, if_new, locks_after, operand_number, threads_after, with_name, with_names};
 
     /// No names.
@@ -256,32 +256,22 @@ impl Names {
         self.locs.find(name).map(LocId::new)
     }
 
-    /// The numbers of the names in a line. One look-up by hash for each, but none for the thread
-    /// where it is `latest`.
-    pub(crate) fn find(
-        &self,
-        latest: Option<ThreadId>,
-        operation: Operation,
-        thread: &[u8],
-        operand: &[u8],
-        location: &[u8],
-    ) -> Found
-        requires { is_on_itself operation thread.now operand.now ≡ false }
-        ensures { result ≡ found_in self.now operation thread.now operand.now location.now }
+    /// The number of the thread with this name. One look-up by hash, but none where it is the guess.
+    pub(crate) fn find_thread_near(&self, name: &[u8], guess: Option<ThreadId>) -> Option<ThreadId>
+        ensures { result ≡ position (bytes_eq name.now) self.now.threads }
     {
-        let operand = if operation.is_on_thread() {
-            self.threads.find(operand)
-        } else {
-            self.locks.find(operand)
-        };
-        Found {
-            thread: self
-                .threads
-                .find_near(thread, latest.map(ThreadId::number))
-                .map(ThreadId::new),
-            operand,
-            loc: self.find_loc(location),
-        }
+        self.threads
+            .find_near(name, guess.map(ThreadId::number))
+            .map(ThreadId::new)
+    }
+
+    /// The number of the lock with this name. One look-up by hash, but none where it is the guess.
+    pub(crate) fn find_lock_near(&self, name: &[u8], guess: Option<LockId>) -> Option<LockId>
+        ensures { result ≡ position (bytes_eq name.now) self.now.locks }
+    {
+        self.locks
+            .find_near(name, guess.map(LockId::number))
+            .map(LockId::new)
     }
 
     /// The number of the operand, or the next one for a new lock or thread.

@@ -65,6 +65,12 @@ impl Standing {
         self.events
     }
 
+    /// The lock whose outermost acquire is the latest one of those that are held.
+    pub(crate) fn innermost(&self) -> Option<LockId> {
+        let entry = self.held.entries().last()?;
+        Some(entry.lock)
+    }
+
     /// Takes the event as the next one, where neither the held locks nor `limit` refuse it. A stray
     /// changes nothing. After a fault the standing is of no use.
     pub(crate) fn take(&mut self, event: Event, limit: Option<StdKind>) -> Verdict
