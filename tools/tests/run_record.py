@@ -844,6 +844,8 @@ def run_one(function):
 
 
 def main():
+    # Where the tests run in the background this signal may be ignored, and programs inherit that.
+    signal.signal(signal.SIGINT, signal.default_int_handler)
     wanted = sys.argv[1:]
     directory = os.path.realpath(tempfile.mkdtemp(prefix="goodlock-record-tests."))
     os.chdir(directory)
