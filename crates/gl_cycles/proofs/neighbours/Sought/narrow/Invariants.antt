@@ -1,4 +1,3 @@
-use Rattle.std.proofs.Common.{◌≡◌}
 use Rattle.gl_segments.specs.Clocks.{is_before}
 use Rattle.gl_cycles.specs.AllCycles.{edges_of_table}
 use Rattle.gl_cycles.specs.bodies.OffCycles.{KeepsCycles}

@@ -2,7 +2,7 @@ use Rattle.std.proofs.Common.{◌≡◌, ℕ}
 use Rattle.gl_segments.specs.Clocks.{is_before}
 use Rattle.gl_cycles.specs.AllCycles.{edges_of_table}
 use Rattle.gl_cycles.specs.bodies.OffCycles.{KeepsCycles}
-use Rattle.gl_cycles.proofs.neighbours.Sought.leave_out_kinds.Given as goal
+use Rattle.gl_cycles.proofs.neighbours.Sought.leave_out_alike.Given as goal
 
 -- so far only edges that are in no cycle are left out
 abbrev pub invariant-loop-i : goal.invariant-loop-i
