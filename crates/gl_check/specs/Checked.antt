@@ -12,12 +12,12 @@ use Rattle.gl_segments.specs.Laws.{DecidesBefore}
 use Rattle.gl_segments.specs.Segments.{IsConsistent, IsLeastInRing}
 use Rattle.gl_edges.specs.Edges.{edges}
 use Rattle.gl_filters.specs.Asked.{Asked, first_out_of_range}
-use Rattle.gl_filters.specs.Picked.{edges_of_table, picked}
+use Rattle.gl_filters.specs.Picked.{edges_of_table}
 use Rattle.gl_cycles.specs.Laws.{IsCycleAt}
 use Rattle.gl_cycles.specs.declared.found.Report.{Report}
-use Rattle.gl_report.specs.Tree.{report_tree}
+use Rattle.gl_report.specs.Exclusive.{ListsExclusive}
+use Rattle.gl_report.specs.TreeV1.{report_tree_v1}
 use Rattle.gl_check.specs.Cycles.{AreCyclesOf, IsFirstFault}
-use Rattle.gl_check.specs.Edges.{is_exclusive}
 use Rattle.gl_check.specs.Shape.{asked_in, cycles_in, is_report}
 use Rattle.gl_check.specs.declared.reports.Checked.{Checked}
 use Rattle.gl_check.specs.declared.faults.CheckFault.{CheckFault}
@@ -36,7 +36,7 @@ pub record IsTrueReport (trace : Trace) (before : Segment → Segment → Bool) 
   pub few : length report.found.cycles ≤ report.query.max
   -- each is a cycle of the mode and of at most the length asked for, and its locks are held and wanted exclusively
   pub cycles : All (IsCycleAt before report.query.mode report.query.len (edges_of_table report.edges)) report.found.cycles
-  pub exclusive : All (λ cycle. All (λ edge. is_exclusive edge ≡ true) (picked (edges_of_table report.edges) cycle)) report.found.cycles
+  pub exclusive : ListsExclusive report
   -- each cycle is above the one before it
   pub ascend : IsStrictlySortedBy (slice_cmp nat_cmp) report.found.cycles
 
@@ -62,7 +62,7 @@ pub record IsChecked (trace : Trace) (json : List ℕ) (checked : Checked) : Typ
   pub decides : DecidesBefore trace.lists before
   -- the report, as it is printed
   pub report : Report
-  pub prints : Reads json (report_tree trace.names report)
+  pub prints : Reads json (report_tree_v1 trace.names report)
   pub is_true : IsTrueReport trace before report
   -- what is answered
   pub counted : checked.cycles ≡ length report.found.cycles

@@ -1,26 +1,16 @@
 -- Edges of a trace beside the JSON of edges.
-use Rattle.std.specs.Prelude.{◌≡◌, ℕ, Bool, true, false, ◌&&◌, List, slice_get, Some}
-use Rattle.std.specs.List.{list_all, AllZip}
+use Rattle.std.specs.Prelude.{◌≡◌, ℕ, true, List, slice_get, Some}
+use Rattle.std.specs.List.{AllZip}
 use Rattle.serde_json.specs.Data.{Data}
-use Rattle.gl_event.specs.declared.events.LockMode.{LockMode}
-use Rattle.gl_event.specs.declared.events.LockMode.TheVariants.{Exclusive, Shared}
 use Rattle.gl_std.specs.Names.{NameLists}
 use Rattle.gl_edges.specs.declared.edge.Edge.{Edge}
 use Rattle.gl_edges.specs.declared.edge.Sample.{Sample}
-use Rattle.gl_report.specs.Tree.{edge_tree}
-
--- the mode is exclusive
-abbrev pub is_exclusive_mode : LockMode → Bool
-is_exclusive_mode Exclusive = true
-is_exclusive_mode Shared = false
-
--- the edge is of exclusive locks alone: format 1 shows no modes, and stands for these
-abbrev pub is_exclusive : Edge → Bool
-is_exclusive e = is_exclusive_mode e.held_mode && (is_exclusive_mode e.wanted_mode && list_all (λ guard. is_exclusive_mode guard.mode) e.guards)
+use Rattle.gl_report.specs.Exclusive.{is_exclusive}
+use Rattle.gl_report.specs.TreeV1.{edge_tree_v1}
 
 -- the JSON is that of this edge with its sample
 abbrev pub IsPrintOf : NameLists → Data → Edge × Sample → Type 0
-IsPrintOf names d pair = (is_exclusive pair.0 ≡ true) × (d ≡ edge_tree names pair)
+IsPrintOf names d pair = (is_exclusive pair.0 ≡ true) × (d ≡ edge_tree_v1 names pair)
 
 -- the JSON is that of the edge at this position of a table
 pub record IsEdgeAt (names : NameLists) (table : List (Edge × Sample)) (d : Data) (position : ℕ) : Type 0 where

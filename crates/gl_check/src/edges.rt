@@ -1,18 +1,17 @@
 //! Which edge of a trace the JSON of an edge is.
 ghost use Rattle.std.specs.Prelude.{◌≡◌, ◌≤◌, true, false, codes, IfOk, MatchOption};
 ghost use Rattle.std.specs.Bool.{Decides};
-ghost use Rattle.std.specs.List.{list_all};
 ghost use Rattle.serde_json.specs.Data.{depth};
 ghost use Rattle.serde_json.specs.Read.{max_depth};
 ghost use Rattle.serde_json.specs.View.{view};
 ghost use Rattle.serde_json.specs.Written.{has_float};
-ghost use Rattle.gl_check.specs.Edges.{is_exclusive, is_exclusive_mode, IsEdgeAt, IsNoEdge, IsPrintOf};
+ghost use Rattle.gl_check.specs.Edges.{IsEdgeAt, IsNoEdge, IsPrintOf};
 ghost use Rattle.gl_check.specs.Shape.{edge_fields, has_fields, number_under};
 
 use crate::claims::number_under;
-use gl_edges::{Edge, Guard, Sample};
-use gl_event::{LockMode, Memory};
-use gl_report::edge_json;
+use gl_edges::{Edge, Sample};
+use gl_event::Memory;
+use gl_report::{edge_json_v1, is_exclusive};
 use gl_std::Names;
 use serde_json::Value;
 use std::alloc::Global;
@@ -30,37 +29,6 @@ fn are_same(alloc: Global, value: &Value, other: &Value) -> Result<bool, Memory>
     Ok(text.as_str() == other_text.as_str())
 }
 
-// Whether the mode is exclusive.
-fn is_exclusive_mode(mode: LockMode) -> bool
-    ensures { result ≡ is_exclusive_mode mode }
-{
-    match mode {
-        LockMode::Exclusive => true,
-        LockMode::Shared => false,
-    }
-}
-
-// Whether all of these guards are held exclusively.
-fn are_exclusive(guards: &[Guard]) -> bool
-    ensures { result ≡ list_all (λ guard. is_exclusive_mode guard.mode) guards.now }
-{
-    for guard in guards {
-        if !is_exclusive_mode(guard.mode) {
-            return false;
-        }
-    }
-    true
-}
-
-// Whether the edge is of exclusive locks alone.
-fn is_exclusive(edge: &Edge) -> bool
-    ensures { result ≡ is_exclusive edge.now }
-{
-    is_exclusive_mode(edge.held_mode)
-        && is_exclusive_mode(edge.wanted_mode)
-        && are_exclusive(edge.guards.as_slice())
-}
-
 // Whether the JSON is that of this edge with its sample.
 fn is_print_of(
     alloc: Global,
@@ -75,7 +43,7 @@ fn is_print_of(
     if !is_exclusive(edge) {
         return Ok(false);
     }
-    let printed = edge_json(alloc, names, edge, sample)?;
+    let printed = edge_json_v1(alloc, names, edge, sample)?;
     are_same(alloc, value, &printed)
 }
 
