@@ -10,7 +10,8 @@ use Rattle.serde_json.specs.Written.{has_float, items_have_float, members_have_f
 use Rattle.gl_std.specs.Names.{NameLists}
 use Rattle.gl_edges.specs.declared.edge.Edge.{Edge}
 use Rattle.gl_edges.specs.declared.edge.Sample.{Sample}
-use Rattle.gl_report.specs.Tree.{edge_tree, name_tree}
+use Rattle.gl_report.specs.Tree.{name_tree}
+use Rattle.gl_report.specs.TreeV1.{edge_tree_v1}
 use Rattle.gl_check.specs.Shape.{is_of, have_fields, has_fields, edge_fields, listed, number_under}
 use Rattle.gl_check.specs.declared.fields.Kind.{Kind}
 use Rattle.gl_check.specs.declared.fields.Kind.TheVariants.{Number, Exactly, Name, Names, Word, Flag, Array}
@@ -111,11 +112,11 @@ low_items f [] each = refl
 low_items f (x ∷ xs) each = ap (λ n. max n (items_depth (items_of (map f xs)))) (each x) ∙ ap (max 0) (low_items f xs each)
 
 -- what is printed of an edge
-pub tree_is_low : (names : NameLists) (pair : Edge × Sample) → depth (edge_tree names pair) ≤ 127
-unfolding edge_tree
+pub tree_is_low : (names : NameLists) (pair : Edge × Sample) → depth (edge_tree_v1 names pair) ≤ 127
+unfolding edge_tree_v1
 tree_is_low names pair = let low = low_items (λ guard. name_tree names.locks guard.lock) pair.0.guards (λ guard. refl) in omega arith
 
 -- the place in what is printed of an edge
-pub place_in : (names : NameLists) (pair : Edge × Sample) → number_under (codes "place") (edge_tree names pair) ≡ pair.1.place
-unfolding edge_tree
+pub place_in : (names : NameLists) (pair : Edge × Sample) → number_under (codes "place") (edge_tree_v1 names pair) ≡ pair.1.place
+unfolding edge_tree_v1
 place_in names pair = refl

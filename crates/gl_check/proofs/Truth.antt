@@ -19,22 +19,23 @@ use Rattle.gl_filters.specs.Asked.{Asked, first_out_of_range}
 use Rattle.gl_cycles.specs.AllCycles.{edges_of_table, picked}
 use Rattle.gl_cycles.specs.Laws.{IsCycleAt}
 use Rattle.gl_cycles.specs.declared.found.Report.{Report}
-use Rattle.gl_report.specs.Tree.{cycle_tree, edge_tree, mode_word, report_tree}
+use Rattle.gl_report.specs.Tree.{mode_word}
+use Rattle.gl_report.specs.TreeV1.{cycle_tree_v1, edge_tree_v1, is_exclusive, report_tree_v1}
 use Rattle.gl_check.specs.Checked.{IsTrueReport}
 use Rattle.gl_check.specs.Cycles.{AreCyclesOf, IsCycleOf}
-use Rattle.gl_check.specs.Edges.{AreEdgesAt, is_exclusive}
+use Rattle.gl_check.specs.Edges.{AreEdgesAt}
 use Rattle.gl_check.specs.Shape.{asked_in, cycles_in, edge_fields, has_fields, is_edges, is_report, items_in, report_fields, under_cycles}
 use Rattle.gl_check.proofs.Places.{edges_within}
 use Rattle.gl_check.proofs.Printed.{array_is, more_under, rebuilt, six}
 
 -- the JSON of edges at positions is what is printed of these edges
-printed_edges : (names : NameLists) (table : List (Edge × Sample)) (ds : List Data) (positions : List ℕ) → AreEdgesAt names table ds positions → ds ≡ map (edge_tree names) (filter_map (slice_get table) positions)
+printed_edges : (names : NameLists) (table : List (Edge × Sample)) (ds : List Data) (positions : List ℕ) → AreEdgesAt names table ds positions → ds ≡ map (edge_tree_v1 names) (filter_map (slice_get table) positions)
 printed_edges names table [] [] at = refl
 printed_edges names table [] (p ∷ positions) at = absurd at
 printed_edges names table (d ∷ ds) [] at = absurd at
 printed_edges names table (d ∷ ds) (p ∷ positions) at =
     let more = printed_edges names table ds positions at.1 in
-    subst (λ o. d ∷ ds ≡ map (edge_tree names) (cons_option o (filter_map (slice_get table) positions))) (sym at.0.there) (λ i. at.0.prints.1 i ∷ more i)
+    subst (λ o. d ∷ ds ≡ map (edge_tree_v1 names) (cons_option o (filter_map (slice_get table) positions))) (sym at.0.there) (λ i. at.0.prints.1 i ∷ more i)
 
 -- what holds of one element and of the others
 all_with : {X : Type 0} (P : X → Type 0) (x : X) (xs : List X) → P x → All P xs → All P (x ∷ xs)
@@ -46,15 +47,15 @@ none_is None is = refl
 none_is (Some x) is = absurd (false≢true is)
 
 module _ (names : NameLists) (table : List (Edge × Sample)) (before : Segment → Segment → Bool) (asked : Asked) where
-  printed_cycles : (cs : List Data) (found : List (List ℕ)) → list_all is_edges cs ≡ true → AllZip (IsCycleOf names table before asked) (map items_in cs) found → cs ≡ map (cycle_tree names table) found
-  unfolding cycle_tree
+  printed_cycles : (cs : List Data) (found : List (List ℕ)) → list_all is_edges cs ≡ true → AllZip (IsCycleOf names table before asked) (map items_in cs) found → cs ≡ map (cycle_tree_v1 names table) found
+  unfolding cycle_tree_v1
   printed_cycles [] [] all are = refl
   printed_cycles [] (ps ∷ found) all are = absurd are
   printed_cycles (c ∷ cs) [] all are = absurd are
   printed_cycles (c ∷ cs) (ps ∷ found) all are =
       let tests = and_parts (is_edges c) (list_all is_edges cs) all in
       let is_array = (and_parts _ (list_all (has_fields edge_fields) (items_in c)) tests.0).0 in
-      let here : c ≡ array (items_of (map (edge_tree names) (filter_map (slice_get table) ps))) = array_is c is_array ∙ ap (λ ds. array (items_of ds)) (printed_edges names table (items_in c) ps are.0.edges) in
+      let here : c ≡ array (items_of (map (edge_tree_v1 names) (filter_map (slice_get table) ps))) = array_is c is_array ∙ ap (λ ds. array (items_of ds)) (printed_edges names table (items_in c) ps are.0.edges) in
       let more = printed_cycles cs found tests.1 are.1 in
       λ i. here i ∷ more i
 
@@ -103,8 +104,8 @@ module _ (trace : Trace) (before : Segment → Segment → Bool) (d : Data) (fou
       let c = and_parts (nat_le (length (under_cycles d)) (asked_in d).max) (list_all is_edges (under_cycles d)) b.1 in
       record { fields = a.0; in_range = b.0; few = c.0; cycles = c.1 }
 
-  pub prints_report : d ≡ report_tree trace.names (report_said trace d found)
-  unfolding report_tree
+  pub prints_report : d ≡ report_tree_v1 trace.names (report_said trace d found)
+  unfolding report_tree_v1
   prints_report =
       let cycles = printed_cycles trace.names (edges trace.lists) before (asked_in d) (under_cycles d) found tests.cycles are.each in
       rebuilt d tests.fields

@@ -66,29 +66,19 @@ fn no_order(fault: OrderFault) -> CheckFault
     }
 }
 
-// The positions of the edges of the cycles that are listed.
-fn found_in(alloc: Global, trace: &Trace, claim: &Claim<'_>) -> Result<Vec<Vec<usize>>, CheckFault>
-    requires few { length trace.now.lists ≤ 1024 }
-    requires lawful { (thread : ℕ) (es : List Event) → slice_get trace.now.lists thread ≡ Some es → IsLawful greatest thread es }
-    requires edges { list_all is_edges (map view claim.now.cycles.now) ≡ true }
-    ensures ok { IfOk result (λ found. AreTraceCycles trace.now claim.now.query (map (λ cycle. items_in (view cycle)) claim.now.cycles.now) (map (λ v. v.items) found.items)) }
-    ensures fault { IfErr result (λ fault. IsOrderFault trace.now.lists fault ⊎ IsTraceFault trace.now claim.now.query (map (λ cycle. items_in (view cycle)) claim.now.cycles.now) fault) }
-{
-    let lists = trace.lists.as_slice();
-    let order = match Order::of(alloc, lists) {
-        Ok(order) => order,
-        Err(fault) => return Err(no_order(fault)),
-    };
-    let edges = edges_of(alloc, lists)?;
-    let known = Known {
-        names: &trace.names,
-        edges: &edges,
-        order: &order,
-        query: claim.query,
-    };
-    known.check_cycles(alloc, claim.cycles)
+impl Known<'_> {
+    // Looks at the table, where the format has one.
+    fn check_edges(&self, alloc: Global, value: &Value) -> Result<(), CheckFault>
+        requires shaped { is_report (view value.now) ≡ true }
+        requires format { self.now.format ≡ format_in (view value.now) }
+        ensures ok { IfOk result (λ _. HasTable trace before (view value.now) self.now.format) }
+    {
+        match self.format {
+            Format::One => Ok(()),
+            Format::Two => check_table(alloc, self.names, self.edges.entries(), items_under(value, "edges")),
+        }
+    }
 }
-
 /// Whether a report can be believed, whoever made it: the bytes are JSON of format 1, and each cycle
 /// that they list is one of the trace.
 ///
