@@ -16,7 +16,7 @@ use Rattle.gl_edges.specs.declared.edge.Edge.{Edge}
 use Rattle.gl_edges.specs.declared.edge.Sample.{Sample}
 use Rattle.gl_filters.proofs.Valid.{cycle_if_valid}
 use Rattle.gl_filters.specs.Asked.{Asked, first_out_of_range}
-use Rattle.gl_cycles.specs.AllCycles.{edges_of_table, picked}
+use Rattle.gl_filters.specs.Picked.{edges_of_table, picked}
 use Rattle.gl_cycles.specs.Laws.{IsCycleAt}
 use Rattle.gl_cycles.specs.declared.found.Report.{Report}
 use Rattle.gl_report.specs.Tree.{mode_word}

@@ -13,7 +13,7 @@ use Rattle.gl_segments.specs.Laws.{DecidesBefore}
 use Rattle.gl_segments.specs.Segments.{IsConsistent, IsLeastInRing}
 use Rattle.gl_edges.specs.Edges.{edges}
 use Rattle.gl_filters.specs.Asked.{Asked, first_out_of_range}
-use Rattle.gl_cycles.specs.AllCycles.{edges_of_table}
+use Rattle.gl_filters.specs.Picked.{edges_of_table}
 use Rattle.gl_cycles.specs.Laws.{IsCycleAt}
 use Rattle.gl_cycles.specs.Trims.{IsRemovalFault, IsWholeRemoval}
 use Rattle.gl_cycles.specs.declared.found.Report.{Report}

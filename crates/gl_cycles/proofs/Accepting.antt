@@ -15,7 +15,7 @@ use Rattle.gl_cycles.specs.Trims.{HasBeside, IsStuck, IsRemovalOrder, IsRemovalF
 use Rattle.gl_cycles.specs.bodies.Trimming.{IsFlagged, IsHint, AreFlagsOf}
 use Rattle.gl_cycles.proofs.Beside.{none_without, push_before, push_at_end}
 use Rattle.gl_cycles.proofs.Fronts.{element_at}
-use Rattle.gl_cycles.proofs.Removing.{agree, flags_more, stuck_to, turned, unflagged}
+use Rattle.gl_cycles.proofs.Removing.{Agree, agree, flags_more, stuck_to, turned}
 
 -- a flag that isn't set
 some_unset : (gone : List Bool) → list_any not gone ≡ true → (i : ℕ) × (slice_get gone i ≡ Some false)
@@ -71,6 +71,7 @@ module _ (before : Segment → Segment → Bool) (mode : Mode) (edges : List Edg
   removal_none = λ n i at. absurd (let within = slice_get_within [] n i at in omega arith)
 
   module _ (gone : List Bool) (removed : List ℕ) (n : ℕ) (flags : AreFlagsOf (length edges) gone (take n removed)) where
+    flagged_agree : Agree before mode edges (IsFlagged gone) (Contains (take n removed))
     flagged_agree = agree before mode edges gone (take n removed) flags
 
     -- the next one goes

@@ -12,7 +12,8 @@ use Rattle.gl_event.specs.declared.events.Segment.{Segment}
 use Rattle.gl_edges.specs.declared.edge.Edge.{Edge}
 use Rattle.gl_filters.specs.declared.query.Mode.{Mode}
 use Rattle.gl_filters.specs.Test.{is_cycle}
-use Rattle.gl_cycles.specs.AllCycles.{picked, lists_below, all_cycles}
+use Rattle.gl_filters.specs.Picked.{picked}
+use Rattle.gl_cycles.specs.AllCycles.{lists_below, all_cycles}
 
 -- what holds of two lists' elements holds of those of the joined list
 all_append : {X : Type 0} (P : X → Type 0) (xs ys : List X) → AllByRecursion P xs → AllByRecursion P ys → AllByRecursion P (xs ++ ys)

@@ -11,7 +11,7 @@ use Rattle.gl_filters.specs.Cycle.{IsCycle}
 use Rattle.gl_filters.specs.declared.query.Mode.{Mode}
 use Rattle.gl_filters.proofs.Round.{pair_goes}
 use Rattle.gl_edges.specs.declared.edge.Sample.{Sample}
-use Rattle.gl_cycles.specs.AllCycles.{edges_of_table}
+use Rattle.gl_filters.specs.Picked.{edges_of_table}
 use Rattle.gl_cycles.specs.bodies.OffCycles.{IsOffCycles, KeepsCycles}
 use Rattle.gl_cycles.specs.bodies.Walks.{ends_in, AreEnds, label_at, ShowsNoWay}
 use Rattle.gl_cycles.specs.declared.numbers.Ends.{Ends}

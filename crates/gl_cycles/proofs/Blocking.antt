@@ -2,7 +2,7 @@
 use Rattle.std.proofs.Common.{◌≡◌, ◌≢◌, ℕ, suc, Bool, true, false, cond, List, [], ◌∷◌, ◌++◌, length, map, filter, Some, None, refl, sym, ap, ◌∙◌, inl, inr}
 use Rattle.std.specs.Prelude.{slice_get}
 use Rattle.std.specs.List.{flat_map, range_with_len, cons_option}
-use Rattle.std.proofs.lemmas.Bool.{and_left, and_right, ne_eqb, eq-eqb, eqb-true, cases_eq, not_from_true}
+use Rattle.std.proofs.lemmas.Bool.{and_left, and_right, eq-eqb, cases_eq, not_from_true}
 use Rattle.std.proofs.lemmas.List.{append-nil}
 use Rattle.gl_event.specs.declared.events.Segment.{Segment}
 use Rattle.gl_edges.specs.declared.edge.Edge.{Edge}
@@ -10,7 +10,8 @@ use Rattle.gl_filters.specs.declared.query.Mode.{Mode}
 use Rattle.gl_filters.proofs.Cycling.{leads_not, leads_same}
 use Rattle.gl_filters.specs.Test.{goes_with, is_path, is_cycle, can_follow, leads_back, last_of}
 use Rattle.gl_filters.proofs.Paths.{is_path_push, is_path-cut}
-use Rattle.gl_cycles.specs.AllCycles.{picked, lists_below, all_cycles}
+use Rattle.gl_filters.specs.Picked.{picked}
+use Rattle.gl_cycles.specs.AllCycles.{lists_below, all_cycles}
 use Rattle.gl_cycles.specs.bodies.Blocks.{block, blocks_below}
 use Rattle.gl_cycles.proofs.Lists.{filter-flat_map, map-flat_map, same_flat_map, map-one_more, map-nothing, filter-none}
 

@@ -18,7 +18,8 @@ use Rattle.gl_edges.specs.declared.edge.Edge.{Edge}
 use Rattle.gl_edges.proofs.Membership.{contains_here, contains_later}
 use Rattle.gl_edges.proofs.Orders.{edge_cmp_total}
 use Rattle.gl_filters.specs.declared.query.Mode.{Mode}
-use Rattle.gl_cycles.specs.AllCycles.{picked, all_cycles}
+use Rattle.gl_filters.specs.Picked.{picked}
+use Rattle.gl_cycles.specs.AllCycles.{all_cycles}
 use Rattle.gl_cycles.proofs.Ascending.{cycles_ascend}
 use Rattle.gl_cycles.proofs.Fronts.{element_at, picked-cons}
 use Rattle.gl_cycles.proofs.Members.{there_is_cycle}

@@ -1,5 +1,5 @@
 -- The edges of a path by its positions.
-use Rattle.std.proofs.Common.{◌≡◌, ◌≢◌, ℕ, zero, suc, ◌+◌, ◌-◌, ◌<◌, Bool, true, false, ◌&&◌, eqb, leb, List, [], ◌∷◌, ◌++◌, length, take, drop, get_or, Some, refl, sym, ap, ◌∙◌, arith}
+use Rattle.std.proofs.Common.{◌≡◌, ◌≢◌, ℕ, zero, suc, ◌+◌, ◌-◌, ◌<◌, Bool, true, false, ◌&&◌, leb, List, [], ◌∷◌, ◌++◌, length, take, drop, get_or, Some, refl, sym, ap, ◌∙◌, arith}
 use Rattle.std.specs.Prelude.{slice_get, All}
 use Rattle.std.specs.List.{list_all, cons_option}
 use Rattle.std.proofs.lemmas.Option.{slice_get-get_or, same_Some}
@@ -13,7 +13,7 @@ use Rattle.gl_filters.specs.declared.query.Mode.{Mode}
 use Rattle.gl_filters.specs.Test.{leads_to, goes_with, can_follow, leads_back, last_of}
 use Rattle.gl_filters.proofs.Cycling.{leads_not}
 use Rattle.gl_filters.proofs.Paths.{list_all_push, last_of_push}
-use Rattle.gl_cycles.specs.AllCycles.{edges_of_table, picked}
+use Rattle.gl_filters.specs.Picked.{edges_of_table, picked}
 use Rattle.gl_cycles.proofs.Blocking.{picked-append, picked-push}
 
 -- what a place of the table holds, without its sample

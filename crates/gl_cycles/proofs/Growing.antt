@@ -2,13 +2,14 @@
 use Rattle.std.proofs.Common.{◌≡◌, ◌≢◌, ℕ, zero, suc, ◌+◌, ◌<◌, ◌≤◌, Bool, true, false, ◌&&◌, cond, List, [], ◌∷◌, ◌++◌, length, take, Option, Some, None, refl, sym, ap, ◌∙◌, arith, inl, inr}
 use Rattle.std.specs.Prelude.{slice_get, IfSome, unwrap_or, nat_le}
 use Rattle.std.specs.List.{cons_option}
-use Rattle.std.proofs.lemmas.Bool.{cases_eq, ne_eqb, and_right, and_from, false≢true}
+use Rattle.std.proofs.lemmas.Bool.{cases_eq, and_right, and_from, false≢true}
 use Rattle.std.proofs.lemmas.List.{append_assoc, append-nil, take_all, length-take, length-append}
 use Rattle.gl_event.specs.declared.events.Segment.{Segment}
 use Rattle.gl_edges.specs.declared.edge.Edge.{Edge}
 use Rattle.gl_filters.specs.declared.query.Mode.{Mode}
 use Rattle.gl_filters.specs.Test.{is_path, is_cycle, can_follow, leads_back}
-use Rattle.gl_cycles.specs.AllCycles.{picked, all_cycles}
+use Rattle.gl_filters.specs.Picked.{picked}
+use Rattle.gl_cycles.specs.AllCycles.{all_cycles}
 use Rattle.gl_cycles.specs.bodies.Blocks.{block, upto, blocks_below}
 use Rattle.gl_cycles.specs.bodies.Followers.{IsNextWith, held_lock, both_locks}
 use Rattle.gl_cycles.specs.bodies.OffCycles.{IsOffCycles}

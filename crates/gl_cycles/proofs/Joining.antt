@@ -8,7 +8,8 @@ use Rattle.std.proofs.lemmas.List.{take-take, length-map, append_assoc, append-n
 use Rattle.std.proofs.lemmas.Grind.{flat_map-append}
 use Rattle.gl_segments.specs.Clocks.{is_before}
 use Rattle.gl_cycles.specs.declared.paths.Searcher.{Searcher}
-use Rattle.gl_cycles.specs.AllCycles.{edges_of_table, all_cycles}
+use Rattle.gl_filters.specs.Picked.{edges_of_table}
+use Rattle.gl_cycles.specs.AllCycles.{all_cycles}
 use Rattle.gl_cycles.specs.bodies.Blocks.{block, blocks_below}
 use Rattle.gl_cycles.specs.bodies.Searching.{first_from}
 use Rattle.rayon.specs.Shown.{run-append}

@@ -2,8 +2,8 @@
 use Rattle.std.proofs.Common.{◌≡◌, ℕ, ◌+◌, ◌<◌, ◌≤◌, Bool, true, false, List, [], ◌∷◌, ◌++◌, length, map, take, get_or, Option, Some, None, refl, sym, ap, subst, ◌∙◌, arith, inl, inr}
 use Rattle.std.specs.Prelude.{slice_get, All, Contains}
 use Rattle.std.specs.List.{cons_option}
-use Rattle.std.proofs.lemmas.Bool.{eqb-true, eq-eqb, and_parts, false≢true}
-use Rattle.std.proofs.lemmas.List.Elements.{All-get_or, All-nil, All-cons, All-head, All-tail, All-weaker, All-contains, All-contains_itself, All-push, Contains-append_left, Contains-push}
+use Rattle.std.proofs.lemmas.Bool.{eq-eqb, and_parts, false≢true}
+use Rattle.std.proofs.lemmas.List.Elements.{All-get_or, All-nil, All-cons, All-head, All-tail, All-weaker, All-contains, All-contains_itself, All-push}
 use Rattle.gl_event.specs.declared.events.Segment.{Segment}
 use Rattle.gl_edges.specs.declared.edge.Edge.{Edge}
 use Rattle.gl_edges.proofs.Membership.{contains_cases, contains_none}
@@ -14,11 +14,9 @@ use Rattle.std.specs.Option.{option_map}
 use Rattle.std.proofs.lemmas.Option.{slice_get_within, get_or_from_slice_get, slice_get-map, same_Some}
 use Rattle.std.proofs.lemmas.List.{get_or-map, length-map, map-append, take_more}
 use Rattle.gl_edges.specs.declared.edge.Sample.{Sample}
-use Rattle.gl_cycles.specs.AllCycles.{edges_of_table, picked, lists_below, all_cycles}
-use Rattle.gl_cycles.specs.bodies.Blocks.{block}
+use Rattle.gl_filters.specs.Picked.{edges_of_table, picked}
+use Rattle.gl_cycles.specs.AllCycles.{all_cycles}
 use Rattle.gl_cycles.specs.Loops.{IsLoop, IsOffLoops, IsNeverFalling, KeepsLoops, is_level}
-use Rattle.gl_cycles.proofs.Blocking.{picked-append, picked-push}
-use Rattle.gl_cycles.proofs.Lists.{filter-none}
 use Rattle.gl_cycles.proofs.Members.{there_is_cycle}
 
 module _ (rank : ℕ → ℕ) where

@@ -7,7 +7,7 @@ use Rattle.std.specs.Option.{option_map}
 use Rattle.std.specs.Prelude.{slice_get}
 use Rattle.gl_edges.specs.declared.edge.Edge.{Edge}
 use Rattle.gl_edges.specs.declared.edge.Sample.{Sample}
-use Rattle.gl_cycles.specs.AllCycles.{edges_of_table}
+use Rattle.gl_filters.specs.Picked.{edges_of_table}
 use Rattle.gl_cycles.specs.bodies.Followers.{IsNextWith, AreListed, AreHolders, AreClosers, IsIndexOf, held_lock, first_of_lock, same_locks}
 use Rattle.gl_cycles.specs.declared.followers.Followers.{Followers}
 use Rattle.gl_cycles.specs.declared.followers.Holders.{Holders}

@@ -8,7 +8,8 @@ use Rattle.gl_edges.specs.declared.edge.Edge.{Edge}
 use Rattle.gl_edges.proofs.Membership.{contains_here, contains_later, contains_cases, contains_none, contains_map, contains_map_from, contains_flat_map, contains_flat_map_from, contains_range, contains_range_from}
 use Rattle.gl_filters.specs.declared.query.Mode.{Mode}
 use Rattle.gl_filters.specs.Test.{is_cycle}
-use Rattle.gl_cycles.specs.AllCycles.{picked, lists_below, all_cycles}
+use Rattle.gl_filters.specs.Picked.{picked}
+use Rattle.gl_cycles.specs.AllCycles.{lists_below, all_cycles}
 use Rattle.gl_cycles.specs.Laws.{IsCycleAt}
 use Rattle.gl_cycles.proofs.Fronts.{length-picked}
 use Rattle.gl_filters.proofs.Cycling.{cycle_from_test, test_from_cycle}

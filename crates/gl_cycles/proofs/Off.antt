@@ -1,19 +1,19 @@
 -- No cycle goes through an edge that is in none.
 use Rattle.std.proofs.Common.{◌≡◌, ℕ, suc, ◌+◌, ◌≤◌, Bool, true, false, List, [], ◌∷◌, ◌++◌, length, map, filter, Option, Some, None, refl, sym, ap, subst, ◌∙◌, arith}
-use Rattle.std.specs.Prelude.{slice_get, All, Contains}
+use Rattle.std.specs.Prelude.{slice_get, Contains}
 use Rattle.std.specs.List.{cons_option}
 use Rattle.std.proofs.lemmas.List.{length-append}
 use Rattle.std.proofs.lemmas.List.Elements.{Contains-append_left, Contains-push}
 use Rattle.gl_event.specs.declared.events.Segment.{Segment}
 use Rattle.gl_edges.specs.declared.edge.Edge.{Edge}
 use Rattle.gl_edges.proofs.Membership.{contains_here, contains_later}
-use Rattle.gl_filters.specs.Cycle.{IsCycle}
 use Rattle.gl_filters.specs.declared.query.Mode.{Mode}
 use Rattle.gl_filters.specs.Test.{is_cycle}
 use Rattle.gl_filters.proofs.Cycling.{cycle_from_test, test_from_cycle}
-use Rattle.gl_cycles.specs.AllCycles.{picked, lists_below}
+use Rattle.gl_filters.specs.Picked.{picked}
+use Rattle.gl_cycles.specs.AllCycles.{lists_below}
 use Rattle.gl_cycles.specs.bodies.Blocks.{block}
-use Rattle.gl_cycles.specs.Loops.{IsLoop, KeepsLoops}
+use Rattle.gl_cycles.specs.Loops.{KeepsLoops}
 use Rattle.gl_cycles.specs.bodies.OffCycles.{IsOffCycles, KeepsCycles}
 use Rattle.gl_cycles.proofs.Blocking.{picked-append, picked-push}
 use Rattle.gl_cycles.proofs.Level.{picked_among, loop_from_cycle}

@@ -10,7 +10,8 @@ use Rattle.gl_edges.proofs.Membership.{contains_here, contains_later, contains_c
 use Rattle.gl_filters.specs.Judging.{following}
 use Rattle.gl_filters.specs.declared.query.Mode.{Mode}
 use Rattle.gl_filters.proofs.Round.{compatible_round}
-use Rattle.gl_cycles.specs.AllCycles.{picked, all_cycles}
+use Rattle.gl_filters.specs.Picked.{picked}
+use Rattle.gl_cycles.specs.AllCycles.{all_cycles}
 use Rattle.gl_cycles.specs.Laws.{IsCycleAt}
 use Rattle.gl_cycles.specs.Trims.{HasBeside, IsRemovalOrder, IsTrimOrder, IsWholeRemoval}
 use Rattle.gl_cycles.specs.declared.trims.Side.{Side}

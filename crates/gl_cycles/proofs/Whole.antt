@@ -9,7 +9,8 @@ use Rattle.gl_event.specs.declared.events.Segment.{Segment}
 use Rattle.gl_edges.specs.declared.edge.Edge.{Edge}
 use Rattle.gl_edges.proofs.Membership.{any_from_contains, contains_from_any, contains_here, contains_later, contains_cases, contains_none, contains_range}
 use Rattle.gl_filters.specs.declared.query.Mode.{Mode}
-use Rattle.gl_cycles.specs.AllCycles.{picked, all_cycles}
+use Rattle.gl_filters.specs.Picked.{picked}
+use Rattle.gl_cycles.specs.AllCycles.{all_cycles}
 use Rattle.gl_cycles.specs.Trims.{is_beside, HasBeside, IsStuck, IsFirstStuck, IsTrimOrder, IsTrimmed, others, is_alone, is_stuck, removals, whole_trim}
 use Rattle.gl_cycles.specs.declared.trims.Side.{Side}
 use Rattle.gl_cycles.specs.bodies.Trimming.{AreFlagsOf}

@@ -1,19 +1,11 @@
 -- All cycles over a list of edges. A cycle is a list of positions in it.
-use Rattle.std.specs.Prelude.{ℕ, zero, suc, Bool, List, [], ◌∷◌, length, map, filter, slice_get}
-use Rattle.std.specs.List.{filter_map, flat_map, range_with_len}
+use Rattle.std.specs.Prelude.{ℕ, zero, suc, Bool, List, [], ◌∷◌, length, map, filter}
+use Rattle.std.specs.List.{flat_map, range_with_len}
 use Rattle.gl_event.specs.declared.events.Segment.{Segment}
 use Rattle.gl_edges.specs.declared.edge.Edge.{Edge}
-use Rattle.gl_edges.specs.declared.edge.Sample.{Sample}
 use Rattle.gl_filters.specs.declared.query.Mode.{Mode}
+use Rattle.gl_filters.specs.Picked.{picked}
 use Rattle.gl_filters.specs.Test.{is_cycle}
-
--- the edges of a table, without their samples
-abbrev pub edges_of_table : List (Edge × Sample) → List Edge
-edges_of_table table = map (λ pair. pair.0) table
-
--- the edges at these positions
-abbrev pub picked : List Edge → List ℕ → List Edge
-picked edges positions = filter_map (slice_get edges) positions
 
 -- the lists of at most n numbers below size, in lexicographic order
 abbrev pub lists_below : ℕ → ℕ → List (List ℕ)

@@ -4,7 +4,7 @@ use Rattle.gl_event.specs.declared.events.Segment.{Segment}
 use Rattle.gl_edges.specs.declared.edge.Edge.{Edge}
 use Rattle.gl_filters.specs.declared.query.Mode.{Mode}
 use Rattle.gl_filters.specs.Cycle.{IsCycle}
-use Rattle.gl_cycles.specs.AllCycles.{picked}
+use Rattle.gl_filters.specs.Picked.{picked}
 
 -- these are the positions of the edges of a cycle of this mode, of at most len edges
 pub record IsCycleAt (before : Segment → Segment → Bool) (mode : Mode) (len : ℕ) (edges : List Edge) (positions : List ℕ) : Type 0 where

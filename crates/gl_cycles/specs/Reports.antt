@@ -8,7 +8,8 @@ use Rattle.gl_edges.specs.Edges.{edges}
 use Rattle.gl_edges.specs.declared.edge.Edge.{Edge}
 use Rattle.gl_edges.specs.declared.edge.Sample.{Sample}
 use Rattle.gl_filters.specs.Asked.{Asked}
-use Rattle.gl_cycles.specs.AllCycles.{edges_of_table, all_cycles}
+use Rattle.gl_filters.specs.Picked.{edges_of_table}
+use Rattle.gl_cycles.specs.AllCycles.{all_cycles}
 use Rattle.gl_cycles.specs.Trims.{whole_trim}
 use Rattle.gl_cycles.specs.declared.found.Report.{Report}
 use Rattle.gl_cycles.specs.declared.found.ReportFault.{ReportFault}

@@ -5,7 +5,7 @@ use Rattle.gl_event.specs.declared.events.Segment.{Segment}
 use Rattle.gl_edges.specs.declared.edge.Edge.{Edge}
 use Rattle.gl_filters.specs.declared.query.Mode.{Mode}
 use Rattle.gl_filters.specs.Test.{is_compatible}
-use Rattle.gl_cycles.specs.AllCycles.{picked}
+use Rattle.gl_filters.specs.Picked.{picked}
 use Rattle.gl_cycles.specs.declared.trims.Side.{Side}
 use Rattle.gl_cycles.specs.declared.trims.Side.TheVariants.{Follower, Leader}
 

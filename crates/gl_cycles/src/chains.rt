@@ -1,6 +1,6 @@
 //! An index of edges by one of their locks.
 ghost use Rattle.std.specs.Prelude.{◌≡◌, ◌+◌, ◌<◌, ℕ, List, [], length, slice_get, vec_len, Some, IfOk, OnOk};
-ghost use Rattle.gl_cycles.specs.AllCycles.{edges_of_table};
+ghost use Rattle.gl_filters.specs.Picked.{edges_of_table};
 ghost use Rattle.gl_cycles.specs.bodies.Followers.{IsNextWith};
 ghost use Rattle.gl_cycles.specs.bodies.Trimming.{AreChained, lock_towards};
 ghost use Rattle.gl_edges.specs.declared.edge.Edge.{Edge};

@@ -1,6 +1,6 @@
 //! An index of the edges that may close a path.
 ghost use Rattle.std.specs.Prelude.{◌≡◌, ◌+◌, ◌<◌, ℕ, Bool, false, List, length, slice_get, vec_len, Some, IfOk, OnOk};
-ghost use Rattle.gl_cycles.specs.AllCycles.{edges_of_table};
+ghost use Rattle.gl_filters.specs.Picked.{edges_of_table};
 ghost use Rattle.gl_cycles.specs.bodies.Followers.{IsNextWith, AreClosers, both_locks};
 ghost use Rattle.gl_edges.specs.declared.edge.Edge.{Edge};
 

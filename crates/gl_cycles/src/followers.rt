@@ -1,6 +1,6 @@
 //! An index of the edges that may follow an edge.
 ghost use Rattle.std.specs.Prelude.{◌≡◌, ◌+◌, ◌<◌, ℕ, Bool, true, false, List, length, map, slice_get, vec_len, Some, IfOk, OnOk};
-ghost use Rattle.gl_cycles.specs.AllCycles.{edges_of_table};
+ghost use Rattle.gl_filters.specs.Picked.{edges_of_table};
 ghost use Rattle.gl_cycles.specs.bodies.Followers.{IsNextWith, AreHolders, IsIndexOf, first_of_lock, held_lock};
 ghost use Rattle.gl_edges.specs.declared.edge.Edge.{Edge};
 

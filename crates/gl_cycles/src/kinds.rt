@@ -12,7 +12,7 @@ ghost use Rattle.std.specs.Prelude.{◌≡◌, ◌+◌, ◌<◌, ◌≤◌, ◌�
 ghost use Rattle.gl_segments.specs.Clocks.{is_before};
 ghost use Rattle.gl_filters.specs.Test.{leads_to, kinds_go_together};
 ghost use Rattle.gl_cycles.specs.declared.paths.TheConstants.{PATH};
-ghost use Rattle.gl_cycles.specs.AllCycles.{edges_of_table, picked};
+ghost use Rattle.gl_filters.specs.Picked.{edges_of_table, picked};
 ghost use Rattle.gl_cycles.specs.bodies.Followers.{IsIndexOf};
 ghost use Rattle.gl_cycles.specs.bodies.Kinds.{AreAlike, HasModel, AreModels, HasModels, LastLeadsTo, KindsGoWith, NoCycleThrough, AreDead};
 ghost use Rattle.gl_cycles.specs.bodies.OffCycles.{KeepsCycles};

@@ -5,7 +5,8 @@ ghost use Rattle.std.specs.Prelude.{◌≡◌, ◌↔◌, ℕ, Bool, List, Some,
 ghost use Rattle.std.specs.Cmp.Lexicographic.{slice_cmp};
 ghost use Rattle.std.specs.List.Sorted.{IsStrictlySortedBy};
 ghost use Rattle.std.specs.Ordering.{nat_cmp};
-ghost use Rattle.gl_cycles.specs.AllCycles.{picked, all_cycles};
+ghost use Rattle.gl_filters.specs.Picked.{picked};
+ghost use Rattle.gl_cycles.specs.AllCycles.{all_cycles};
 ghost use Rattle.gl_cycles.specs.Laws.{IsCycleAt};
 ghost use Rattle.gl_cycles.specs.Loops.{IsNeverFalling};
 ghost use Rattle.gl_cycles.specs.Trims.{IsTrimOrder, IsTrimmed, IsWholeRemoval, removals, whole_trim};

@@ -9,7 +9,7 @@
 ghost use Rattle.std.specs.Prelude.{◌≡◌, ◌+◌, ◌<◌, ◌≤◌, ℕ, List, Some, true, false, length, map, slice_get, IsTrue, OnOk, IfOk};
 ghost use Rattle.gl_segments.specs.Clocks.{is_before};
 ghost use Rattle.gl_filters.specs.Test.{goes_with};
-ghost use Rattle.gl_cycles.specs.AllCycles.{edges_of_table};
+ghost use Rattle.gl_filters.specs.Picked.{edges_of_table};
 ghost use Rattle.gl_cycles.specs.bodies.OffCycles.{KeepsCycles};
 ghost use Rattle.gl_cycles.specs.bodies.Walks.{IsNumbered, label_at, ShowsNoWay};
 

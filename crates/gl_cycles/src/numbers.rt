@@ -1,6 +1,6 @@
 //! Numbers of locks, and distances between them.
 ghost use Rattle.std.specs.Prelude.{◌≡◌, map, IfOk};
-ghost use Rattle.gl_cycles.specs.AllCycles.{edges_of_table};
+ghost use Rattle.gl_filters.specs.Picked.{edges_of_table};
 ghost use Rattle.gl_cycles.specs.bodies.Walks.{number_in, ends_in, AreEnds};
 
 use gl_edges::{Edge, Sample};

@@ -3,7 +3,7 @@ ghost use Rattle.std.specs.Prelude.{◌≡◌, ◌<◌, Some, length, not, slice
 ghost use Rattle.std.specs.Bool.{Decides};
 ghost use Rattle.std.specs.List.{list_any};
 ghost use Rattle.gl_segments.specs.Clocks.{is_before};
-ghost use Rattle.gl_cycles.specs.AllCycles.{edges_of_table};
+ghost use Rattle.gl_filters.specs.Picked.{edges_of_table};
 ghost use Rattle.gl_cycles.specs.Trims.{HasBeside, IsRemovalFault, IsStuck, IsWholeRemoval};
 ghost use Rattle.gl_cycles.specs.bodies.Trimming.{AreChained, IsFlagged, opposite};
 ghost use Rattle.gl_cycles.specs.declared.trims.Side.TheVariants.{Follower, Leader};

@@ -5,7 +5,8 @@ ghost use Rattle.gl_event.specs.Lawful.{IsLawful};
 ghost use Rattle.gl_event.specs.declared.events.Event.{Event};
 ghost use Rattle.gl_segments.specs.Clocks.{is_before};
 ghost use Rattle.gl_segments.specs.Orders.{lists_of, IsFaultOf};
-ghost use Rattle.gl_cycles.specs.AllCycles.{all_cycles, edges_of_table};
+ghost use Rattle.gl_filters.specs.Picked.{edges_of_table};
+ghost use Rattle.gl_cycles.specs.AllCycles.{all_cycles};
 ghost use Rattle.gl_cycles.specs.Reports.{IsReport, IsReportFault, report_by};
 ghost use Rattle.gl_cycles.specs.Trims.{whole_trim};
 

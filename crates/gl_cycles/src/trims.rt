@@ -4,7 +4,7 @@ ghost use Rattle.std.specs.BTreeSet.{contains};
 ghost use Rattle.std.specs.List.{list_any};
 ghost use Rattle.std.specs.Ordering.{nat_cmp};
 ghost use Rattle.gl_segments.specs.Clocks.{is_before};
-ghost use Rattle.gl_cycles.specs.AllCycles.{edges_of_table};
+ghost use Rattle.gl_filters.specs.Picked.{edges_of_table};
 ghost use Rattle.gl_cycles.specs.Trims.{is_beside, IsStuck, IsFirstStuck, IsTrimmed, others};
 ghost use Rattle.gl_cycles.specs.declared.trims.Side.{Side};
 ghost use Rattle.gl_edges.specs.declared.edge.Edge.{Edge};

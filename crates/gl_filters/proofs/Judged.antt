@@ -7,7 +7,7 @@ use Rattle.std.proofs.lemmas.List.{length-map}
 use Rattle.std.proofs.lemmas.Option.{slice_get_cases, slice_get-map}
 use Rattle.gl_edges.specs.declared.edge.Edge.{Edge}
 use Rattle.gl_edges.specs.declared.edge.Sample.{Sample}
-use Rattle.gl_filters.specs.Judging.{picked}
+use Rattle.gl_filters.specs.Picked.{edges_of_table, picked}
 
 picked_at_place : (edges : List Edge) (ps : List ℕ) → All (λ p. p < length edges) ps → (k : ℕ) → k < length ps → slice_get (filter_map (slice_get edges) ps) k ≡ slice_get edges (get_or ps k 0)
 picked_at_place edges [] within k below = absurd (omega arith)
@@ -38,11 +38,11 @@ edges_within : (table : List (Edge × Sample)) (ps : List ℕ) → All (λ p. p 
 edges_within table ps within = λ k d lower. omega (arith, within k d lower, length-map table (λ (pair : Edge × Sample). pair.0))
 
 -- the edge at a place is that of the pair at its position
-pub picked_at : (table : List (Edge × Sample)) (ps : List ℕ) → All (λ p. p < length table) ps → (k : ℕ) → k < length ps → (pair : Edge × Sample) → slice_get table (get_or ps k 0) ≡ Some pair → slice_get (picked table ps) k ≡ Some (pair.0)
+pub picked_at : (table : List (Edge × Sample)) (ps : List ℕ) → All (λ p. p < length table) ps → (k : ℕ) → k < length ps → (pair : Edge × Sample) → slice_get table (get_or ps k 0) ≡ Some pair → slice_get (picked (edges_of_table table) ps) k ≡ Some (pair.0)
 picked_at table ps within k below pair here =
     picked_at_place (map (λ (pair : Edge × Sample). pair.0) table) ps (edges_within table ps within) k below
     ∙ (slice_get-map (λ (pair : Edge × Sample). pair.0) table (get_or ps k 0) ∙ ap (λ o. option_map (λ (pair : Edge × Sample). pair.0) o) here)
 
 -- there are as many edges as positions
-pub picked_length : (table : List (Edge × Sample)) (ps : List ℕ) → All (λ p. p < length table) ps → length (picked table ps) ≡ length ps
+pub picked_length : (table : List (Edge × Sample)) (ps : List ℕ) → All (λ p. p < length table) ps → length (picked (edges_of_table table) ps) ≡ length ps
 picked_length table ps within = picked_length_of (map (λ (pair : Edge × Sample). pair.0) table) ps (edges_within table ps within)

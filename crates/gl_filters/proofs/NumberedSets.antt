@@ -6,7 +6,6 @@ use Rattle.std.proofs.lemmas.Option.{slice_get-get_or, same_Some}
 use Rattle.gl_edges.specs.Numbered.{Numbering, AreNumbered, guards_in}
 use Rattle.gl_edges.specs.declared.edge.Edge.{Edge}
 use Rattle.gl_edges.specs.declared.edge.Sample.{Sample}
-use Rattle.gl_edges.specs.declared.guards.Guard.{Guard}
 
 -- the guard set of the edge at a position has its number
 pub set_at : (pairs : List (Edge × Sample)) (by : Numbering) (i n : ℕ) (d : Edge × Sample) → AreNumbered (guards_in pairs) by → i < length pairs → slice_get by.ids i ≡ Some n → slice_get by.sets n ≡ Some (get_or pairs i d).0.guards

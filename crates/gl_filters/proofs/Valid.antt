@@ -6,9 +6,8 @@ use Rattle.std.proofs.lemmas.Option.{slice_get-get_or, slice_get_within, get_or_
 use Rattle.gl_event.specs.declared.events.Segment.{Segment}
 use Rattle.gl_edges.specs.declared.edge.Edge.{Edge}
 use Rattle.gl_filters.specs.Asked.{Asked}
-use Rattle.gl_filters.specs.Cycle.{IsCycle}
-use Rattle.gl_filters.specs.Judging.{clashes, following, NoPair, IsClosedAt, IsNotLesserAt, IsUnordered}
-use Rattle.gl_filters.specs.declared.verdict.Clash.TheVariants.{SameHeld, SameThreads, Shared, InOrder}
+use Rattle.gl_filters.specs.Cycle.{is_ordered, IsCycle}
+use Rattle.gl_filters.specs.Judging.{hold_one_lock, are_of_one_thread, have_gate_lock, following, NoPair, IsClosedAt, IsNotLesserAt, IsUnordered}
 use Rattle.gl_filters.proofs.Cycling.{apart_tells, apart_from}
 
 pairs_from : (test : Edge → Edge → Bool) (es : List Edge) → NoPair test es → AllPairs (λ e f. test e f ≡ false) es
@@ -25,7 +24,6 @@ last_of_all : (n : ℕ) → 0 < n → following n (n - 1) ≡ 0
 last_of_all n some = ap (λ b. cond b 0 (n - 1 + 1)) (eq-eqb (n - 1 + 1) n (omega arith))
 
 pub cycle_if_valid : (before : Segment → Segment → Bool) (asked : Asked) (es : List Edge) → IsUnordered before asked es → IsCycle before asked.mode asked.len es
-unfolding clashes
 cycle_if_valid before asked es valid =
     let apart = valid.0 in
     let least = apart.0 in
@@ -40,11 +38,11 @@ cycle_if_valid before asked es valid =
           let within = slice_get_within es (i + 1) f next in
           closed.1 i (omega arith) e f here (ap (slice_get es) (next_of (length es) i within) ∙ next);
       leads_back = λ e f last first. closed.1 (length es - 1) (omega arith) e f last (ap (slice_get es) (last_of_all (length es) (omega arith)) ∙ first);
-      locks_differ = λ i j d lower below. apart_by _ _ (pairs_from (clashes before SameHeld) es locks.1 i j d lower below);
-      threads_differ = λ i j d lower below. apart_by _ _ (pairs_from (clashes before SameThreads) es threads.1 i j d lower below);
+      locks_differ = λ i j d lower below. apart_by _ _ (pairs_from hold_one_lock es locks.1 i j d lower below);
+      threads_differ = λ i j d lower below. apart_by _ _ (pairs_from are_of_one_thread es threads.1 i j d lower below);
       least_first = λ e first k d below. least.1 k below e (get_or es k d) first (slice_get-get_or es k d below);
-      apart = λ is i j d lower below. apart_tells _ _ (pairs_from (clashes before Shared) es (apart.1 is) i j d lower below);
-      unordered = λ is. pairs_from (clashes before InOrder) es (valid.1 is);
+      apart = λ is i j d lower below. apart_tells _ _ (pairs_from have_gate_lock es (apart.1 is) i j d lower below);
+      unordered = λ is. pairs_from (is_ordered before) es (valid.1 is);
     }
 
 pairs_to : (test : Edge → Edge → Bool) (es : List Edge) → AllPairs (λ e f. test e f ≡ false) es → NoPair test es
@@ -56,7 +54,6 @@ unequal : (m n : ℕ) → m ≢ n → eqb m n ≡ false
 unequal m n differ = false_from_ne_true _ (λ same. differ (eqb-true m n same))
 
 pub valid_if_cycle : (before : Segment → Segment → Bool) (asked : Asked) (es : List Edge) → IsCycle before asked.mode asked.len es → IsUnordered before asked es
-unfolding clashes
 valid_if_cycle before asked es cycle =
     let closed : (i : ℕ) → i < length es → IsClosedAt es i = λ i within e f here next.
     elim (cases_Bool (eqb (i + 1) (length es))) [
@@ -65,13 +62,13 @@ valid_if_cycle before asked es cycle =
           cycle.leads_back e f (ap (slice_get es) end ∙ here) (ap (slice_get es) (sym (ap (λ b. cond b 0 (i + 1)) last)) ∙ next)
       | inr more ↦ cycle.leads_on i e f here (ap (slice_get es) (sym (ap (λ b. cond b 0 (i + 1)) more)) ∙ next)
     ] in
-    let locks : NoPair (clashes before SameHeld) es = pairs_to (clashes before SameHeld) es (λ i j d lower below. unequal _ _ (cycle.locks_differ i j d lower below)) in
-    let threads : NoPair (clashes before SameThreads) es = pairs_to (clashes before SameThreads) es (λ i j d lower below. unequal _ _ (cycle.threads_differ i j d lower below)) in
+    let locks : NoPair hold_one_lock es = pairs_to hold_one_lock es (λ i j d lower below. unequal _ _ (cycle.locks_differ i j d lower below)) in
+    let threads : NoPair are_of_one_thread es = pairs_to are_of_one_thread es (λ i j d lower below. unequal _ _ (cycle.threads_differ i j d lower below)) in
     let least : (i : ℕ) → i < length es → IsNotLesserAt es i = λ i within e f first here.
     subst (λ (x : Edge). e.thread ≤ x.thread) (get_or_from_slice_get es i f f here) (cycle.least_first e first i f within) in (
       (
         (((((cycle.two_or_more, cycle.not_too_long), closed), locks), threads), least),
-        λ is. pairs_to (clashes before Shared) es (λ i j d lower below. apart_from _ _ (cycle.apart is i j d lower below)),
+        λ is. pairs_to have_gate_lock es (λ i j d lower below. apart_from _ _ (cycle.apart is i j d lower below)),
       ),
-      λ is. pairs_to (clashes before InOrder) es (cycle.unordered is),
+      λ is. pairs_to (is_ordered before) es (cycle.unordered is),
     )

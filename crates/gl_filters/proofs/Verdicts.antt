@@ -5,9 +5,9 @@ use Rattle.std.proofs.lemmas.Bool.{cases_lt, false≢true}
 use Rattle.std.proofs.lemmas.Option.{slice_get_within}
 use Rattle.gl_event.specs.declared.events.Segment.{Segment}
 use Rattle.gl_edges.specs.declared.edge.Edge.{Edge}
+use Rattle.gl_filters.specs.Cycle.{is_ordered}
 use Rattle.gl_filters.specs.Asked.{Asked}
-use Rattle.gl_filters.specs.Judging.{clashes, IsFree, IsFirstAfter, IsFirstPair, IsFirstOpen, IsFirstLesser, IsLeastShared, IsVerdict, HasLength, IsClosed, HasLocks, HasThreads, IsLeast, IsApart, IsUnordered}
-use Rattle.gl_filters.specs.declared.verdict.Clash.TheVariants.{SameHeld, SameThreads, Shared, InOrder}
+use Rattle.gl_filters.specs.Judging.{hold_one_lock, are_of_one_thread, have_gate_lock, IsFree, IsFirstAfter, IsFirstPair, IsFirstOpen, IsFirstLesser, IsLeastShared, IsVerdict, HasLength, IsClosed, HasLocks, HasThreads, IsLeast, IsApart, IsUnordered}
 use Rattle.gl_filters.specs.declared.verdict.Verdict.{Verdict}
 use Rattle.gl_filters.specs.declared.verdict.Verdict.TheVariants.{TooShort, TooLong, NotClosed, SameLock, SameThread, NotLeast, SharedGuard, Ordered, Valid}
 
@@ -193,12 +193,12 @@ module _ (before : Segment → Segment → Bool) (asked : Asked) (es : List Edge
   fails TooShort named h p = omega arith
   fails TooLong named h p = (let short = p.1 in let long = h.1 in omega arith)
   fails (NotClosed i) named h p = h.1.open_here (p.1 i (slice_get_within es i h.1.one h.1.at_one) h.1.one h.1.next h.1.at_one h.1.at_next)
-  fails (SameLock i j) named h p = pair_within (clashes before SameHeld) i j h.1 p.1
-  fails (SameThread i j) named h p = pair_within (clashes before SameThreads) i j h.1 p.1
+  fails (SameLock i j) named h p = pair_within hold_one_lock i j h.1 p.1
+  fails (SameThread i j) named h p = pair_within are_of_one_thread i j h.1 p.1
   fails (NotLeast i) named h p =
       (let reaches = p.1 i (slice_get_within es i h.1.lesser h.1.at_lesser) h.1.first h.1.lesser h.1.at_first h.1.at_lesser in let falls = h.1.below in omega arith)
-  fails (SharedGuard i j lock) named h p = pair_within (clashes before Shared) i j h.2 (p.1 h.1)
-  fails (Ordered i j) named h p = pair_within (clashes before InOrder) i j h.2 (p.1 h.1)
+  fails (SharedGuard i j lock) named h p = pair_within have_gate_lock i j h.2 (p.1 h.1)
+  fails (Ordered i j) named h p = pair_within (is_ordered before) i j h.2 (p.1 h.1)
   fails Valid named h p = omega arith
 
   not_earlier : (a b : Verdict) → IsVerdict before asked es a → IsVerdict before asked es b → ¬ (stage a < stage b)
@@ -211,11 +211,11 @@ module _ (before : Segment → Segment → Bool) (asked : Asked) (es : List Edge
   Named zero i j lock = (i ≡ 0) × (j ≡ 0) × (lock ≡ 0)
   Named (suc zero) i j lock = (i ≡ 0) × (j ≡ 0) × (lock ≡ 0)
   Named (suc (suc zero)) i j lock = IsFirstOpen es i × (j ≡ 0) × (lock ≡ 0)
-  Named (suc (suc (suc zero))) i j lock = IsFirstPair (clashes before SameHeld) es i j × (lock ≡ 0)
-  Named (suc (suc (suc (suc zero)))) i j lock = IsFirstPair (clashes before SameThreads) es i j × (lock ≡ 0)
+  Named (suc (suc (suc zero))) i j lock = IsFirstPair hold_one_lock es i j × (lock ≡ 0)
+  Named (suc (suc (suc (suc zero)))) i j lock = IsFirstPair are_of_one_thread es i j × (lock ≡ 0)
   Named (suc (suc (suc (suc (suc zero))))) i j lock = IsFirstLesser es i × (j ≡ 0) × (lock ≡ 0)
-  Named (suc (suc (suc (suc (suc (suc zero)))))) i j lock = (IsFirstPair (clashes before Shared) es i j) × IsLeastShared es i j lock
-  Named (suc (suc (suc (suc (suc (suc (suc zero))))))) i j lock = IsFirstPair (clashes before InOrder) es i j × (lock ≡ 0)
+  Named (suc (suc (suc (suc (suc (suc zero)))))) i j lock = (IsFirstPair have_gate_lock es i j) × IsLeastShared es i j lock
+  Named (suc (suc (suc (suc (suc (suc (suc zero))))))) i j lock = IsFirstPair (is_ordered before) es i j × (lock ≡ 0)
   Named (suc (suc (suc (suc (suc (suc (suc (suc n)))))))) i j lock = (i ≡ 0) × (j ≡ 0) × (lock ≡ 0)
 
   named : (v : Verdict) → IsVerdict before asked es v → Named (stage v) (first v) (second v) (third v)
@@ -236,14 +236,14 @@ module _ (before : Segment → Segment → Bool) (asked : Asked) (es : List Edge
   named_once zero i j lock k l other a b = (a.0 ∙ sym b.0, a.1 ∙ sym b.1, a.2 ∙ sym b.2)
   named_once (suc zero) i j lock k l other a b = (a.0 ∙ sym b.0, a.1 ∙ sym b.1, a.2 ∙ sym b.2)
   named_once (suc (suc zero)) i j lock k l other a b = (first_open_is_one es i k a.0 b.0, a.1 ∙ sym b.1, a.2 ∙ sym b.2)
-  named_once (suc (suc (suc zero))) i j lock k l other a b = pair_named (clashes before SameHeld) i j lock k l other a.0 a.1 b.0 b.1
-  named_once (suc (suc (suc (suc zero)))) i j lock k l other a b = pair_named (clashes before SameThreads) i j lock k l other a.0 a.1 b.0 b.1
+  named_once (suc (suc (suc zero))) i j lock k l other a b = pair_named hold_one_lock i j lock k l other a.0 a.1 b.0 b.1
+  named_once (suc (suc (suc (suc zero)))) i j lock k l other a b = pair_named are_of_one_thread i j lock k l other a.0 a.1 b.0 b.1
   named_once (suc (suc (suc (suc (suc zero))))) i j lock k l other a b = (first_lesser_is_one es i k a.0 b.0, a.1 ∙ sym b.1, a.2 ∙ sym b.2)
   named_once (suc (suc (suc (suc (suc (suc zero)))))) i j lock k l other a b =
-      let (same, too) = first_pair_is_one (clashes before Shared) es i j k l a.0 b.0 in
+      let (same, too) = first_pair_is_one have_gate_lock es i j k l a.0 b.0 in
       let moved : IsLeastShared es i j other = subst (λ n. IsLeastShared es i n other) (sym too) (subst (λ n. IsLeastShared es n l other) (sym same) b.1) in
       (same, too, least_shared_is_one es i j lock other a.0.0.one a.0.0.other a.0.0.at_one a.0.0.at_other a.1 moved)
-  named_once (suc (suc (suc (suc (suc (suc (suc zero))))))) i j lock k l other a b = pair_named (clashes before InOrder) i j lock k l other a.0 a.1 b.0 b.1
+  named_once (suc (suc (suc (suc (suc (suc (suc zero))))))) i j lock k l other a b = pair_named (is_ordered before) i j lock k l other a.0 a.1 b.0 b.1
   named_once (suc (suc (suc (suc (suc (suc (suc (suc n)))))))) i j lock k l other a b = (a.0 ∙ sym b.0, a.1 ∙ sym b.1, a.2 ∙ sym b.2)
 
   pub one_verdict : (a b : Verdict) → IsVerdict before asked es a → IsVerdict before asked es b → a ≡ b

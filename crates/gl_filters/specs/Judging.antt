@@ -1,27 +1,22 @@
 -- What a list of edges is, as a cycle: the first fault that it has, or that it has none.
-use Rattle.std.specs.Prelude.{◌≡◌, ℕ, ◌+◌, ◌<◌, ◌≤◌, Bool, true, false, ◌==◌, if◌then◌else◌, List, length, map, slice_get, Some}
-use Rattle.std.specs.List.{filter_map}
+use Rattle.std.specs.Prelude.{◌≡◌, ℕ, ◌+◌, ◌<◌, ◌≤◌, Bool, true, false, ◌==◌, if◌then◌else◌, List, length, slice_get, Some}
 use Rattle.gl_event.specs.declared.events.Segment.{Segment}
 use Rattle.gl_edges.specs.declared.edge.Edge.{Edge}
-use Rattle.gl_edges.specs.declared.edge.Sample.{Sample}
 use Rattle.gl_filters.specs.Asked.{Asked}
 use Rattle.gl_filters.specs.Cycle.{asks_guards, asks_order, is_ordered, LeadsOn, HasGate}
 use Rattle.gl_edges.specs.Clashes.{guards_clash}
-use Rattle.gl_filters.specs.declared.verdict.Clash.{Clash}
-use Rattle.gl_filters.specs.declared.verdict.Clash.TheVariants.{SameHeld, SameThreads, Shared, InOrder}
 use Rattle.gl_filters.specs.declared.verdict.Verdict.{Verdict}
 use Rattle.gl_filters.specs.declared.verdict.Verdict.TheVariants.{TooShort, TooLong, NotClosed, SameLock, SameThread, NotLeast, SharedGuard, Ordered, Valid}
 
--- the edges at these positions of a list
-abbrev pub picked : List (Edge × Sample) → List ℕ → List Edge
-picked table positions = filter_map (slice_get (map (λ pair. pair.0) table)) positions
+-- why two edges can't stand in one cycle: they hold one lock, are of one thread, or have a gate lock; or they are ordered
+abbrev pub hold_one_lock : Edge → Edge → Bool
+hold_one_lock e f = e.held == f.held
 
--- two edges clash: they hold one lock, are of one thread, have guards that clash or are ordered
-unfoldable pub clashes : (Segment → Segment → Bool) → Clash → Edge → Edge → Bool
-clashes before SameHeld e f = e.held == f.held
-clashes before SameThreads e f = e.thread == f.thread
-clashes before Shared e f = guards_clash e.guards f.guards
-clashes before InOrder e f = is_ordered before e f
+abbrev pub are_of_one_thread : Edge → Edge → Bool
+are_of_one_thread e f = e.thread == f.thread
+
+abbrev pub have_gate_lock : Edge → Edge → Bool
+have_gate_lock e f = guards_clash e.guards f.guards
 
 -- the edge at place i clashes with none of those at the later places below n
 abbrev pub IsFree : (Edge → Edge → Bool) → List Edge → ℕ → ℕ → Type 0
@@ -89,28 +84,28 @@ module _ (before : Segment → Segment → Bool) (asked : Asked) (es : List Edge
   IsClosed = HasLength × ((i : ℕ) → i < length es → IsClosedAt es i)
 
   abbrev pub HasLocks : Type 0
-  HasLocks = IsClosed × NoPair (clashes before SameHeld) es
+  HasLocks = IsClosed × NoPair hold_one_lock es
 
   abbrev pub HasThreads : Type 0
-  HasThreads = HasLocks × NoPair (clashes before SameThreads) es
+  HasThreads = HasLocks × NoPair are_of_one_thread es
 
   abbrev pub IsLeast : Type 0
   IsLeast = HasThreads × ((i : ℕ) → i < length es → IsNotLesserAt es i)
 
   abbrev pub IsApart : Type 0
-  IsApart = IsLeast × (asks_guards asked.mode ≡ true → NoPair (clashes before Shared) es)
+  IsApart = IsLeast × (asks_guards asked.mode ≡ true → NoPair have_gate_lock es)
 
   abbrev pub IsUnordered : Type 0
-  IsUnordered = IsApart × (asks_order asked.mode ≡ true → NoPair (clashes before InOrder) es)
+  IsUnordered = IsApart × (asks_order asked.mode ≡ true → NoPair (is_ordered before) es)
 
   -- the verdict names the first fault
   abbrev pub IsVerdict : Verdict → Type 0
   IsVerdict TooShort = length es < 2
   IsVerdict TooLong = (2 ≤ length es) × (asked.len < length es)
   IsVerdict (NotClosed i) = HasLength × IsFirstOpen es i
-  IsVerdict (SameLock i j) = IsClosed × IsFirstPair (clashes before SameHeld) es i j
-  IsVerdict (SameThread i j) = HasLocks × IsFirstPair (clashes before SameThreads) es i j
+  IsVerdict (SameLock i j) = IsClosed × IsFirstPair hold_one_lock es i j
+  IsVerdict (SameThread i j) = HasLocks × IsFirstPair are_of_one_thread es i j
   IsVerdict (NotLeast i) = HasThreads × IsFirstLesser es i
-  IsVerdict (SharedGuard i j lock) = IsLeast × (asks_guards asked.mode ≡ true) × IsFirstPair (clashes before Shared) es i j × IsLeastShared es i j lock
-  IsVerdict (Ordered i j) = IsApart × (asks_order asked.mode ≡ true) × IsFirstPair (clashes before InOrder) es i j
+  IsVerdict (SharedGuard i j lock) = IsLeast × (asks_guards asked.mode ≡ true) × IsFirstPair have_gate_lock es i j × IsLeastShared es i j lock
+  IsVerdict (Ordered i j) = IsApart × (asks_order asked.mode ≡ true) × IsFirstPair (is_ordered before) es i j
   IsVerdict Valid = IsUnordered

@@ -1,5 +1,7 @@
 pub mod Asked
 pub mod Cycle
-pub mod Test
-pub mod Judging
 pub mod Faults
+pub mod Judging
+pub mod Picked
+pub mod Test
+pub mod bodies

@@ -2,8 +2,9 @@
 ghost use Rattle.std.specs.Prelude.{◌≡◌, ◌<◌, ◌≤◌, ℕ, Some, length, slice_get, All, MatchOption, true};
 ghost use Rattle.gl_segments.specs.Clocks.{is_before};
 ghost use Rattle.gl_edges.specs.declared.edge.Edge.{Edge};
-ghost use Rattle.gl_filters.specs.Judging.{picked, clashes, IsFree, IsFirstAfter, NoPair, IsFirstPair, following, IsClosedAt, IsFirstOpen, IsNotLesserAt, IsFirstLesser, IsVerdict, IsLeastShared};
-ghost use Rattle.gl_filters.specs.declared.verdict.Clash.TheVariants.{Shared};
+ghost use Rattle.gl_filters.specs.Picked.{edges_of_table, picked};
+ghost use Rattle.gl_filters.specs.Judging.{have_gate_lock, IsFree, IsFirstAfter, NoPair, IsFirstPair, following, IsClosedAt, IsFirstOpen, IsNotLesserAt, IsFirstLesser, IsVerdict, IsLeastShared};
+ghost use Rattle.gl_filters.specs.bodies.Clashing.{clashes};
 ghost use Rattle.gl_filters.specs.Cycle.{HasGate};
 ghost use Rattle.gl_edges.specs.Clashes.{guards_clash};
 ghost use Rattle.std.specs.List.Sorted.{IsStrictlySortedBy};
@@ -40,34 +41,33 @@ pub enum Verdict {
     Valid,
 }
 
-// Why two edges can't stand in one cycle.
+// The tests of two edges that one loop makes.
 #[derive(Clone, Copy)]
 enum Clash {
-    SameHeld,
-    SameThreads,
-    Shared,
-    InOrder,
+    SameLock,
+    SameThread,
+    SharedGuard,
+    Ordered,
 }
 
 // The edge at a place of the list of positions.
 fn edge_at<'a>(table: &'a [(Edge, Sample)], cycle: &[usize], i: usize) -> &'a Edge
     requires within { All (λ p. p < length table.now) cycle.now }
     requires there { i < length cycle.now }
-    ensures { slice_get (picked table.now cycle.now) i ≡ Some result.now }
+    ensures { slice_get (picked (edges_of_table table.now) cycle.now) i ≡ Some result.now }
 {
     &table[cycle[i]].0
 }
 
 // Whether the edges clash in this way.
-#[tactic(auto, unfolding(crate::specs::Judging::clashes))]
 fn do_clash(clash: Clash, order: &Order, e: &Edge, f: &Edge) -> bool
     ensures { result ≡ clashes (is_before order.now) clash e.now f.now }
 {
     match clash {
-        Clash::SameHeld => e.held == f.held,
-        Clash::SameThreads => e.thread == f.thread,
-        Clash::Shared => e.guards.clash_with(&f.guards),
-        Clash::InOrder => are_ordered(order, e, f),
+        Clash::SameLock => e.held == f.held,
+        Clash::SameThread => e.thread == f.thread,
+        Clash::SharedGuard => e.guards.clash_with(&f.guards),
+        Clash::Ordered => are_ordered(order, e, f),
     }
 }
 
@@ -81,8 +81,8 @@ fn first_after(
 ) -> Option<usize>
     requires within { All (λ p. p < length table.now) cycle.now }
     requires there { i < length cycle.now }
-    ensures { MatchOption result (IsFree (clashes (is_before order.now) clash) (picked table.now cycle.now) i (length (picked table.now cycle.now)))
-        (λ j. IsFirstAfter (clashes (is_before order.now) clash) (picked table.now cycle.now) i j) }
+    ensures { MatchOption result (IsFree (clashes (is_before order.now) clash) (picked (edges_of_table table.now) cycle.now) i (length (picked (edges_of_table table.now) cycle.now)))
+        (λ j. IsFirstAfter (clashes (is_before order.now) clash) (picked (edges_of_table table.now) cycle.now) i j) }
 {
     let one = edge_at(table, cycle, i);
     for j in i + 1..cycle.len() {
@@ -102,8 +102,8 @@ fn first_pair(
     cycle: &[usize],
 ) -> Option<(usize, usize)>
     requires within { All (λ p. p < length table.now) cycle.now }
-    ensures { MatchOption result (NoPair (clashes (is_before order.now) clash) (picked table.now cycle.now))
-        (λ places. IsFirstPair (clashes (is_before order.now) clash) (picked table.now cycle.now) places.0 places.1) }
+    ensures { MatchOption result (NoPair (clashes (is_before order.now) clash) (picked (edges_of_table table.now) cycle.now))
+        (λ places. IsFirstPair (clashes (is_before order.now) clash) (picked (edges_of_table table.now) cycle.now) places.0 places.1) }
 {
     for i in 0..cycle.len() {
         if let Some(j) = first_after(clash, order, table, cycle, i) {
@@ -128,8 +128,8 @@ fn next_place(i: usize, count: usize) -> usize
 // The first place whose edge doesn't lead on to the next one, round.
 fn first_open(table: &[(Edge, Sample)], cycle: &[usize]) -> Option<usize>
     requires within { All (λ p. p < length table.now) cycle.now }
-    ensures { MatchOption result ((i : ℕ) → i < length (picked table.now cycle.now) → IsClosedAt (picked table.now cycle.now) i)
-        (λ i. IsFirstOpen (picked table.now cycle.now) i) }
+    ensures { MatchOption result ((i : ℕ) → i < length (picked (edges_of_table table.now) cycle.now) → IsClosedAt (picked (edges_of_table table.now) cycle.now) i)
+        (λ i. IsFirstOpen (picked (edges_of_table table.now) cycle.now) i) }
 {
     for i in 0..cycle.len() {
         let next = next_place(i, cycle.len());
@@ -144,8 +144,8 @@ fn first_open(table: &[(Edge, Sample)], cycle: &[usize]) -> Option<usize>
 fn first_lesser(table: &[(Edge, Sample)], cycle: &[usize]) -> Option<usize>
     requires within { All (λ p. p < length table.now) cycle.now }
     requires some { 0 < length cycle.now }
-    ensures { MatchOption result ((i : ℕ) → i < length (picked table.now cycle.now) → IsNotLesserAt (picked table.now cycle.now) i)
-        (λ i. IsFirstLesser (picked table.now cycle.now) i) }
+    ensures { MatchOption result ((i : ℕ) → i < length (picked (edges_of_table table.now) cycle.now) → IsNotLesserAt (picked (edges_of_table table.now) cycle.now) i)
+        (λ i. IsFirstLesser (picked (edges_of_table table.now) cycle.now) i) }
 {
     let first = edge_at(table, cycle, 0);
     for i in 0..cycle.len() {
@@ -165,8 +165,8 @@ fn first_pair_where(
     cycle: &[usize],
 ) -> Option<(usize, usize)>
     requires within { All (λ p. p < length table.now) cycle.now }
-    ensures { MatchOption result (asked ≡ true → NoPair (clashes (is_before order.now) clash) (picked table.now cycle.now))
-        (λ places. (asked ≡ true) × IsFirstPair (clashes (is_before order.now) clash) (picked table.now cycle.now) places.0 places.1) }
+    ensures { MatchOption result (asked ≡ true → NoPair (clashes (is_before order.now) clash) (picked (edges_of_table table.now) cycle.now))
+        (λ places. (asked ≡ true) × IsFirstPair (clashes (is_before order.now) clash) (picked (edges_of_table table.now) cycle.now) places.0 places.1) }
 {
     if !asked {
         return None;
@@ -190,12 +190,11 @@ fn gate_lock(guards: &[Guard], others: &[Guard]) -> LockId
 }
 
 // The least lock that is a gate of the edges at both places.
-fn guard_at(order: &Order, table: &[(Edge, Sample)], cycle: &[usize], i: usize, j: usize) -> LockId
+fn guard_at(table: &[(Edge, Sample)], cycle: &[usize], i: usize, j: usize) -> LockId
     requires within { All (λ p. p < length table.now) cycle.now }
-    requires clash { IsFirstAfter (clashes (is_before order.now) Shared) (picked table.now cycle.now) i j }
-    ensures { IsLeastShared (picked table.now cycle.now) i j result }
+    requires clash { IsFirstAfter have_gate_lock (picked (edges_of_table table.now) cycle.now) i j }
+    ensures { IsLeastShared (picked (edges_of_table table.now) cycle.now) i j result }
 {
-    let _ = order;
     let one = edge_at(table, cycle, i);
     let other = edge_at(table, cycle, j);
     gate_lock(one.guards.as_slice(), other.guards.as_slice())
@@ -204,7 +203,7 @@ fn guard_at(order: &Order, table: &[(Edge, Sample)], cycle: &[usize], i: usize, 
 // What the edges at these positions are, as a cycle that the query asks for.
 fn verdict_of(query: &Query, order: &Order, table: &[(Edge, Sample)], cycle: &[usize]) -> Verdict
     requires { All (λ p. p < length table.now) cycle.now }
-    ensures { IsVerdict (is_before order.now) query.now (picked table.now cycle.now) result }
+    ensures { IsVerdict (is_before order.now) query.now (picked (edges_of_table table.now) cycle.now) result }
 {
     if cycle.len() < 2 {
         return Verdict::TooShort;
@@ -215,10 +214,10 @@ fn verdict_of(query: &Query, order: &Order, table: &[(Edge, Sample)], cycle: &[u
     if let Some(i) = first_open(table, cycle) {
         return Verdict::NotClosed(i);
     }
-    if let Some((i, j)) = first_pair(Clash::SameHeld, order, table, cycle) {
+    if let Some((i, j)) = first_pair(Clash::SameLock, order, table, cycle) {
         return Verdict::SameLock(i, j);
     }
-    if let Some((i, j)) = first_pair(Clash::SameThreads, order, table, cycle) {
+    if let Some((i, j)) = first_pair(Clash::SameThread, order, table, cycle) {
         return Verdict::SameThread(i, j);
     }
     if let Some(i) = first_lesser(table, cycle) {
@@ -226,11 +225,11 @@ fn verdict_of(query: &Query, order: &Order, table: &[(Edge, Sample)], cycle: &[u
     }
     let mode = query.mode();
     let guards = mode.asks_guards();
-    if let Some((i, j)) = first_pair_where(guards, Clash::Shared, order, table, cycle) {
-        return Verdict::SharedGuard(i, j, guard_at(order, table, cycle, i, j));
+    if let Some((i, j)) = first_pair_where(guards, Clash::SharedGuard, order, table, cycle) {
+        return Verdict::SharedGuard(i, j, guard_at(table, cycle, i, j));
     }
     let ordered = mode.asks_order();
-    if let Some((i, j)) = first_pair_where(ordered, Clash::InOrder, order, table, cycle) {
+    if let Some((i, j)) = first_pair_where(ordered, Clash::Ordered, order, table, cycle) {
         return Verdict::Ordered(i, j);
     }
     Verdict::Valid
@@ -242,7 +241,7 @@ fn verdict_of(query: &Query, order: &Order, table: &[(Edge, Sample)], cycle: &[u
 /// pairs of edges, and no memory.
 pub fn judge(query: &Query, order: &Order, edges: &EdgeList, cycle: &[usize]) -> Verdict
     requires { All (λ p. p < length edges.now) cycle.now }
-    ensures { IsVerdict (is_before order.now) query.now (picked edges.now cycle.now) result }
+    ensures { IsVerdict (is_before order.now) query.now (picked (edges_of_table edges.now) cycle.now) result }
 {
     verdict_of(query, order, edges.entries(), cycle)
 }

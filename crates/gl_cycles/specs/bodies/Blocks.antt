@@ -5,7 +5,8 @@ use Rattle.gl_event.specs.declared.events.Segment.{Segment}
 use Rattle.gl_edges.specs.declared.edge.Edge.{Edge}
 use Rattle.gl_filters.specs.declared.query.Mode.{Mode}
 use Rattle.gl_filters.specs.Test.{is_cycle}
-use Rattle.gl_cycles.specs.AllCycles.{picked, lists_below}
+use Rattle.gl_filters.specs.Picked.{picked}
+use Rattle.gl_cycles.specs.AllCycles.{lists_below}
 
 -- the cycles that begin with this front and have at most n more edges
 unfoldable pub block : (Segment → Segment → Bool) → Mode → List Edge → ℕ → List ℕ → List (List ℕ)

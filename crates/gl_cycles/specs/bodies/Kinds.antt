@@ -6,7 +6,7 @@ use Rattle.gl_filters.specs.declared.query.Mode.{Mode}
 use Rattle.gl_filters.specs.Cycle.{IsCycle}
 use Rattle.gl_filters.specs.Test.{leads_to, kinds_go_together}
 use Rattle.gl_segments.specs.Clocks.{is_before}
-use Rattle.gl_cycles.specs.AllCycles.{edges_of_table}
+use Rattle.gl_filters.specs.Picked.{edges_of_table}
 use Rattle.gl_cycles.specs.bodies.Followers.{IsIndexOf}
 use Rattle.gl_cycles.specs.declared.kinds.Rounds.{Rounds}
 

@@ -1,7 +1,7 @@
 -- What a search of paths relies on.
 use Rattle.std.specs.Prelude.{ℕ, ◌≤◌, ◌-◌, List, [], ◌∷◌, take}
 use Rattle.gl_segments.specs.Clocks.{is_before}
-use Rattle.gl_cycles.specs.AllCycles.{edges_of_table}
+use Rattle.gl_filters.specs.Picked.{edges_of_table}
 use Rattle.gl_cycles.specs.bodies.Blocks.{block}
 use Rattle.gl_cycles.specs.bodies.Followers.{IsIndexOf}
 use Rattle.gl_cycles.specs.bodies.OffCycles.{KeepsCycles}

@@ -1,4 +1,4 @@
-use Rattle.gl_cycles.specs.AllCycles.{edges_of_table}
+use Rattle.gl_filters.specs.Picked.{edges_of_table}
 use Rattle.gl_cycles.specs.bodies.Ranks.{rank_in}
 use Rattle.gl_cycles.proofs.Level.{level_keeps}
 use Rattle.gl_cycles.proofs.loops.edges_on_loops.Goals as goal

@@ -1,4 +1,4 @@
-use Rattle.std.proofs.Common.{◌≡◌, ◌-◌, ◌++◌, map, take, ap, ◌∙◌}
+use Rattle.std.proofs.Common.{◌-◌, ◌++◌, map, take, ap, ◌∙◌}
 use Rattle.std.specs.List.{flat_map, range_with_len}
 use Rattle.std.proofs.lemmas.Result.{on_ok_weaker}
 use Rattle.gl_cycles.specs.bodies.Searching.{first_from}

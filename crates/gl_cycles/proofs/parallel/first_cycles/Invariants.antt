@@ -1,4 +1,4 @@
-use Rattle.std.proofs.Common.{◌≡◌, ◌-◌, ◌≤◌, length, map, take}
+use Rattle.std.proofs.Common.{◌≡◌, ◌-◌, ◌≤◌, map, take}
 use Rattle.std.specs.List.{flat_map, range_with_len}
 use Rattle.gl_cycles.specs.bodies.Searching.{first_from}
 use Rattle.gl_cycles.proofs.parallel.first_cycles.Given as goal

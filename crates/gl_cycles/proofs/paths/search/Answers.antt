@@ -1,7 +1,8 @@
-use Rattle.std.proofs.Common.{◌≡◌, ◌+◌, ap, take, sym, subst, ◌∙◌}
+use Rattle.std.proofs.Common.{◌+◌, ap, take, sym, subst, ◌∙◌}
 use Rattle.std.specs.Prelude.{IsTrue, ◌↔◌, ◌<◌, length}
 use Rattle.gl_segments.specs.Clocks.{is_before}
-use Rattle.gl_cycles.specs.AllCycles.{edges_of_table, all_cycles}
+use Rattle.gl_filters.specs.Picked.{edges_of_table}
+use Rattle.gl_cycles.specs.AllCycles.{all_cycles}
 use Rattle.gl_cycles.proofs.paths.search.Goals as goal
 
 pub returns-clause-cycles : goal.returns-clause-cycles

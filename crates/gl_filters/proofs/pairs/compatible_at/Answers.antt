@@ -1,5 +1,4 @@
-use Rattle.std.proofs.Common.{◌≡◌, length, ap, subst, ◌∙◌}
-use Rattle.gl_edges.specs.Numbered.{AreNumbered, guards_in}
+use Rattle.std.proofs.Common.{◌∙◌}
 use Rattle.gl_segments.specs.Clocks.{is_before}
 use Rattle.gl_filters.specs.Test.{is_compatible}
 use Rattle.gl_filters.proofs.NumberedSets.{set_at, edge_at}

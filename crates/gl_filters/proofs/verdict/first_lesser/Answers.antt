@@ -1,13 +1,14 @@
 use Rattle.std.proofs.Common.{◌≤◌, below_more, arith, rules, sym, subst, ◌∙◌}
 use Rattle.std.proofs.lemmas.Option.{same_Some}
-use Rattle.gl_filters.specs.Judging.{picked, IsNotLesserAt}
+use Rattle.gl_filters.specs.Picked.{edges_of_table, picked}
+use Rattle.gl_filters.specs.Judging.{IsNotLesserAt}
 use Rattle.gl_edges.specs.declared.edge.Edge.{Edge}
 use Rattle.gl_filters.proofs.Judged.{picked_length}
 use Rattle.gl_filters.proofs.verdict.first_lesser.Goals as goal
 
 pub loop-i-preserved : goal.loop-i-preserved
 loop-i-preserved c =
-    below_more (IsNotLesserAt (picked c.args.table.now c.args.cycle.now)) c.loop-i.i c.loop-i.invariant
+    below_more (IsNotLesserAt (picked (edges_of_table c.args.table.now) c.args.cycle.now)) c.loop-i.i c.loop-i.invariant
     (λ e f first this.
     let e_is = same_Some _ e (sym c.edge_at-first.ensures ∙ first) in
     let f_is = same_Some _ f (sym c.edge_at.ensures ∙ this) in

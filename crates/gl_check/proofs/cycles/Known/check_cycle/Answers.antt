@@ -2,7 +2,8 @@ use Rattle.std.proofs.Common.{◌<◌, refl, sym, subst, ◌∙◌, map, length}
 use Rattle.std.specs.Prelude.{All}
 use Rattle.std.proofs.lemmas.Bool.{false≢true}
 use Rattle.serde_json.specs.View.{view}
-use Rattle.gl_filters.specs.Judging.{picked, IsVerdict}
+use Rattle.gl_filters.specs.Picked.{edges_of_table, picked}
+use Rattle.gl_filters.specs.Judging.{IsVerdict}
 use Rattle.gl_segments.specs.Clocks.{is_before}
 use Rattle.gl_check.specs.Cycles.{IsAbove}
 use Rattle.gl_check.specs.Edges.{AreEdgesAt}

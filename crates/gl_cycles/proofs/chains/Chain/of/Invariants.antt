@@ -1,4 +1,4 @@
-use Rattle.gl_cycles.specs.AllCycles.{edges_of_table}
+use Rattle.gl_filters.specs.Picked.{edges_of_table}
 use Rattle.gl_cycles.specs.bodies.Trimming.{AreChained}
 use Rattle.gl_cycles.proofs.chains.Chain.of.Given as goal
 

@@ -1,4 +1,4 @@
-use Rattle.gl_cycles.specs.AllCycles.{edges_of_table}
+use Rattle.gl_filters.specs.Picked.{edges_of_table}
 use Rattle.gl_cycles.specs.bodies.Followers.{AreHolders}
 use Rattle.gl_cycles.proofs.followers.Holders.of.Given as goal
 

@@ -1,11 +1,10 @@
-use Rattle.std.proofs.Common.{◌≡◌, ℕ, ◌+◌, ◌-◌, ◌<◌, ◌≤◌, [], ◌∷◌, ◌++◌, List, length, get_or, Option, Some, None, refl, sym, ap, subst, ◌∙◌, arith, rules}
+use Rattle.std.proofs.Common.{◌≡◌, ℕ, ◌+◌, ◌-◌, ◌<◌, ◌≤◌, List, length, get_or, Option, Some, ap, subst, ◌∙◌, arith, rules}
 use Rattle.std.specs.Prelude.{All, slice_get, unwrap_or}
-use Rattle.std.proofs.lemmas.List.{length-map, length_push}
-use Rattle.std.proofs.lemmas.List.Elements.{All-push}
+use Rattle.std.proofs.lemmas.List.{length-map}
 use Rattle.std.proofs.lemmas.Option.{slice_get-get_or}
 use Rattle.gl_segments.specs.Clocks.{is_before}
 use Rattle.gl_edges.specs.declared.edge.Edge.{Edge}
-use Rattle.gl_cycles.specs.AllCycles.{edges_of_table}
+use Rattle.gl_filters.specs.Picked.{edges_of_table}
 use Rattle.gl_cycles.specs.bodies.Followers.{IsNextWith, held_lock}
 use Rattle.gl_cycles.specs.bodies.Kinds.{AreTried, NoCycleThrough}
 use Rattle.gl_cycles.specs.declared.kinds.Rounds.{Rounds}

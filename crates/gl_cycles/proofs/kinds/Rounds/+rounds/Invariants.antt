@@ -1,9 +1,9 @@
-use Rattle.std.proofs.Common.{◌≡◌, ℕ, ◌+◌, ◌-◌, ◌*◌, Some, length, get_or}
+use Rattle.std.proofs.Common.{◌≡◌, ◌+◌, ◌-◌, ◌*◌, Some, length, get_or}
 use Rattle.std.specs.Prelude.{slice_get, unwrap_or}
 use Rattle.gl_edges.specs.declared.edge.Edge.{Edge}
 use Rattle.gl_segments.specs.Clocks.{is_before}
 use Rattle.gl_cycles.specs.declared.paths.TheConstants.{PATH}
-use Rattle.gl_cycles.specs.AllCycles.{edges_of_table}
+use Rattle.gl_filters.specs.Picked.{edges_of_table}
 use Rattle.gl_cycles.specs.bodies.Kinds.{AreTried}
 use Rattle.gl_cycles.proofs.kinds.Rounds.+rounds.Given as goal
 

@@ -1,7 +1,7 @@
-use Rattle.std.proofs.Common.{◌≡◌, ◌-◌, length, get_or, sym, ap, subst, ◌∙◌}
+use Rattle.std.proofs.Common.{◌-◌, length, get_or, sym, ap, subst, ◌∙◌}
 use Rattle.std.proofs.lemmas.Bool.{false≢true}
 use Rattle.gl_filters.specs.Test.{leads_to}
-use Rattle.gl_cycles.specs.AllCycles.{edges_of_table}
+use Rattle.gl_filters.specs.Picked.{edges_of_table}
 use Rattle.gl_cycles.specs.bodies.Kinds.{KindsGoWith}
 use Rattle.gl_cycles.proofs.ByKinds.{last_tells, edge_is}
 use Rattle.gl_cycles.proofs.kinds.Rounds.can_join.Goals as goal

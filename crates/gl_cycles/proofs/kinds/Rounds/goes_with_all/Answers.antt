@@ -1,4 +1,4 @@
-use Rattle.std.proofs.Common.{◌≡◌, sym, ◌∙◌}
+use Rattle.std.proofs.Common.{sym, ◌∙◌}
 use Rattle.std.proofs.lemmas.Bool.{false≢true}
 use Rattle.gl_cycles.proofs.ByKinds.{kinds_tell}
 use Rattle.gl_cycles.proofs.kinds.Rounds.goes_with_all.Goals as goal

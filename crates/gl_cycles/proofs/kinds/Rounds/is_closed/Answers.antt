@@ -1,4 +1,4 @@
-use Rattle.std.proofs.Common.{◌≡◌, ◌-◌, length, get_or, sym, ap, ◌∙◌}
+use Rattle.std.proofs.Common.{◌-◌, length, get_or, sym, ap, ◌∙◌}
 use Rattle.std.proofs.lemmas.Bool.{false≢true}
 use Rattle.gl_filters.specs.Test.{leads_to}
 use Rattle.gl_cycles.proofs.ByKinds.{last_tells, first_is}

@@ -1,4 +1,4 @@
-use Rattle.std.proofs.Common.{◌≡◌, ◌<◌, true, false, not, Bool, length, refl, arith}
+use Rattle.std.proofs.Common.{arith}
 use Rattle.gl_cycles.proofs.ByKinds.{from_not_true}
 use Rattle.gl_cycles.proofs.kinds.Rounds.is_dead.Goals as goal
 

@@ -1,5 +1,3 @@
-use Rattle.std.proofs.Common.{◌≡◌, length}
-use Rattle.gl_cycles.specs.AllCycles.{edges_of_table}
 use Rattle.gl_cycles.proofs.ByKinds.{model_here}
 use Rattle.gl_cycles.proofs.neighbours.Sought.flag_model.Goals as goal
 

@@ -1,7 +1,7 @@
 use Rattle.std.proofs.Common.{◌≡◌, ℕ, ◌<◌, true, Some, length}
 use Rattle.std.specs.Prelude.{slice_get}
 use Rattle.gl_edges.specs.declared.edge.Edge.{Edge}
-use Rattle.gl_cycles.specs.AllCycles.{edges_of_table}
+use Rattle.gl_filters.specs.Picked.{edges_of_table}
 use Rattle.gl_cycles.specs.bodies.Kinds.{HasModel}
 use Rattle.gl_cycles.proofs.neighbours.Sought.flags_of.Given as goal
 

@@ -3,7 +3,7 @@ use Rattle.std.specs.Prelude.{slice_get}
 use Rattle.gl_edges.specs.declared.edge.Edge.{Edge}
 use Rattle.gl_segments.specs.Clocks.{is_before}
 use Rattle.gl_filters.specs.Test.{goes_with}
-use Rattle.gl_cycles.specs.AllCycles.{edges_of_table}
+use Rattle.gl_filters.specs.Picked.{edges_of_table}
 use Rattle.gl_cycles.specs.bodies.Walks.{label_at}
 use Rattle.gl_cycles.specs.declared.numbers.Ends.{Ends}
 use Rattle.gl_cycles.proofs.neighbours.Sought.is_without_way.Given as goal

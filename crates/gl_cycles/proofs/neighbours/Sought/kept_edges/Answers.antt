@@ -1,5 +1,5 @@
 use Rattle.gl_segments.specs.Clocks.{is_before}
-use Rattle.gl_cycles.specs.AllCycles.{edges_of_table}
+use Rattle.gl_filters.specs.Picked.{edges_of_table}
 use Rattle.gl_cycles.proofs.Off.{loops_keep}
 use Rattle.gl_cycles.proofs.neighbours.Sought.kept_edges.Goals as goal
 

@@ -1,6 +1,6 @@
-use Rattle.std.proofs.Common.{◌≡◌, ◌<◌, length, refl, arith}
+use Rattle.std.proofs.Common.{◌<◌, length, refl, arith}
 use Rattle.gl_segments.specs.Clocks.{is_before}
-use Rattle.gl_cycles.specs.AllCycles.{edges_of_table}
+use Rattle.gl_filters.specs.Picked.{edges_of_table}
 use Rattle.gl_cycles.proofs.Back.{off_without_way, keeps_more}
 use Rattle.std.proofs.lemmas.List.{length-map}
 use Rattle.gl_cycles.proofs.neighbours.Sought.leave_out_at.Goals as goal

@@ -1,9 +1,9 @@
-use Rattle.std.proofs.Common.{◌≡◌, ◌<◌, false, Some, length, ap, ◌∙◌, arith}
+use Rattle.std.proofs.Common.{◌<◌, false, Some, length, ap, ◌∙◌, arith}
 use Rattle.std.proofs.lemmas.Option.{slice_get-get_or}
 use Rattle.gl_cycles.proofs.Fronts.{element_at}
 use Rattle.std.proofs.lemmas.List.{length-map}
 use Rattle.gl_segments.specs.Clocks.{is_before}
-use Rattle.gl_cycles.specs.AllCycles.{edges_of_table}
+use Rattle.gl_filters.specs.Picked.{edges_of_table}
 use Rattle.gl_cycles.proofs.Back.{keeps_more}
 use Rattle.gl_cycles.proofs.ByKinds.{off_by_kind}
 use Rattle.gl_cycles.proofs.neighbours.Sought.leave_out_dead.Goals as goal

@@ -1,6 +1,5 @@
-use Rattle.std.proofs.Common.{◌≡◌}
 use Rattle.gl_segments.specs.Clocks.{is_before}
-use Rattle.gl_cycles.specs.AllCycles.{edges_of_table}
+use Rattle.gl_filters.specs.Picked.{edges_of_table}
 use Rattle.gl_cycles.specs.bodies.OffCycles.{KeepsCycles}
 use Rattle.gl_cycles.proofs.neighbours.Sought.narrow.Given as goal
 

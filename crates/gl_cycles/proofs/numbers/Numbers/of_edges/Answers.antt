@@ -1,4 +1,4 @@
-use Rattle.std.proofs.Common.{sym, ap, ◌∙◌, map, arith, ◌≡◌, length}
+use Rattle.std.proofs.Common.{ap, ◌∙◌, map, arith}
 use Rattle.std.proofs.lemmas.List.{take_all}
 use Rattle.gl_cycles.specs.bodies.Walks.{number_in, ends_in}
 use Rattle.gl_cycles.proofs.Back.{ends_of_pairs}

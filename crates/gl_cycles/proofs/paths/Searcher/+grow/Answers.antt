@@ -8,7 +8,7 @@ use Rattle.std.proofs.lemmas.Result.{on_ok_weaker}
 use Rattle.gl_cycles.specs.declared.paths.Searcher.{Searcher}
 use Rattle.gl_segments.specs.Clocks.{is_before}
 use Rattle.gl_edges.specs.declared.edge.Edge.{Edge}
-use Rattle.gl_cycles.specs.AllCycles.{edges_of_table, picked}
+use Rattle.gl_filters.specs.Picked.{edges_of_table, picked}
 use Rattle.gl_cycles.specs.bodies.Followers.{IsNextWith, held_lock, both_locks}
 use Rattle.gl_cycles.proofs.Fronts.{element_at, within_edges, wanted_after, wanted_last, held_first, wanted_by_table, held_by_table, some_picked}
 use Rattle.gl_cycles.specs.bodies.Searching.{IsReady}

@@ -2,12 +2,12 @@ use Rattle.std.proofs.Common.{◌≡◌, ℕ, ◌-◌, ◌<◌, Bool, true, fals
 use Rattle.std.specs.Prelude.{slice_get}
 use Rattle.std.proofs.Common.{cond, Less, Equal, Greater}
 use Rattle.std.specs.Ordering.{is_lt, nat_cmp}
-use Rattle.std.proofs.lemmas.Bool.{and_left, and_right, not-true, not-false, ltb-true, ltb-false, lt-leb, le-leb}
+use Rattle.std.proofs.lemmas.Bool.{and_left, and_right, ltb-true, ltb-false, lt-leb, le-leb}
 use Rattle.std.proofs.lemmas.Option.{same_Some}
 use Rattle.gl_edges.specs.declared.edge.Edge.{Edge}
 use Rattle.gl_edges.specs.declared.edge.Sample.{Sample}
 use Rattle.gl_segments.specs.Clocks.{is_before}
-use Rattle.gl_cycles.specs.AllCycles.{edges_of_table}
+use Rattle.gl_filters.specs.Picked.{edges_of_table}
 use Rattle.gl_filters.specs.Test.{leads_to}
 use Rattle.gl_cycles.proofs.Fronts.{edge_at, follow_by_table}
 use Rattle.gl_cycles.proofs.paths.Searcher.can_join.Goals as goal

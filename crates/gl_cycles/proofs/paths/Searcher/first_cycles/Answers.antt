@@ -1,7 +1,8 @@
 use Rattle.std.proofs.Common.{◌≡◌, suc, [], ◌-◌, length, take, sym, ap, ◌∙◌, arith}
 use Rattle.std.proofs.lemmas.List.{length-map}
 use Rattle.gl_segments.specs.Clocks.{is_before}
-use Rattle.gl_cycles.specs.AllCycles.{edges_of_table, all_cycles}
+use Rattle.gl_filters.specs.Picked.{edges_of_table}
+use Rattle.gl_cycles.specs.AllCycles.{all_cycles}
 use Rattle.gl_cycles.specs.bodies.Blocks.{blocks_below}
 use Rattle.gl_cycles.proofs.Growing.{roots_more, all_from_roots}
 use Rattle.gl_cycles.proofs.paths.Searcher.first_cycles.Goals as goal

@@ -1,6 +1,6 @@
 use Rattle.std.proofs.Common.{length, take}
 use Rattle.gl_segments.specs.Clocks.{is_before}
-use Rattle.gl_cycles.specs.AllCycles.{edges_of_table}
+use Rattle.gl_filters.specs.Picked.{edges_of_table}
 use Rattle.gl_cycles.specs.Trims.{IsRemovalOrder}
 use Rattle.gl_cycles.specs.bodies.Trimming.{AreFlagsOf}
 use Rattle.gl_cycles.proofs.trims.Trimming.fault_of.Given as goal

@@ -1,7 +1,7 @@
 use Rattle.std.proofs.Common.{◌+◌, get_or, subst, arith}
 use Rattle.std.proofs.lemmas.List.{length-map}
 use Rattle.gl_segments.specs.Clocks.{is_before}
-use Rattle.gl_cycles.specs.AllCycles.{edges_of_table}
+use Rattle.gl_filters.specs.Picked.{edges_of_table}
 use Rattle.gl_cycles.specs.bodies.Followers.{IsNextWith}
 use Rattle.gl_cycles.specs.bodies.Trimming.{opposite, lock_towards}
 use Rattle.gl_cycles.proofs.Fronts.{edge_at}

@@ -1,7 +1,7 @@
 use Rattle.std.proofs.Common.{length, sym, ◌∙◌, arith}
 use Rattle.std.proofs.lemmas.List.{length-map}
 use Rattle.gl_segments.specs.Clocks.{is_before}
-use Rattle.gl_cycles.specs.AllCycles.{edges_of_table}
+use Rattle.gl_filters.specs.Picked.{edges_of_table}
 use Rattle.gl_cycles.proofs.Watching.{least_read, none_below, none_read, member_read}
 use Rattle.gl_cycles.proofs.Beside.{settled_below, first_from}
 use Rattle.gl_cycles.proofs.trims.Trimming.first_stuck.Goals as goal

@@ -1,7 +1,7 @@
 use Rattle.std.proofs.Common.{length}
 use Rattle.std.specs.BTreeSet.{btree_set_len}
 use Rattle.gl_segments.specs.Clocks.{is_before}
-use Rattle.gl_cycles.specs.AllCycles.{edges_of_table}
+use Rattle.gl_filters.specs.Picked.{edges_of_table}
 use Rattle.gl_cycles.specs.bodies.Trimming.{AreBothHints, AreAwake}
 use Rattle.gl_cycles.proofs.trims.Trimming.first_stuck.Given as goal
 

@@ -3,7 +3,7 @@ use Rattle.std.proofs.lemmas.Bool.{false≢true}
 use Rattle.std.proofs.lemmas.List.{length-map}
 use Rattle.std.proofs.lemmas.Option.{slice_get-get_or}
 use Rattle.gl_segments.specs.Clocks.{is_before}
-use Rattle.gl_cycles.specs.AllCycles.{edges_of_table}
+use Rattle.gl_filters.specs.Picked.{edges_of_table}
 use Rattle.gl_cycles.specs.bodies.Trimming.{IsHint, KeepPlaced, HasBesideAt, opposite}
 use Rattle.gl_cycles.proofs.Fronts.{element_at}
 use Rattle.gl_cycles.proofs.Beside.{none_without, start_after_hint, hints_put, told_by_next, kept_put}

@@ -1,7 +1,7 @@
 use Rattle.std.proofs.Common.{◌≡◌, length, sym, subst, arith}
 use Rattle.std.proofs.lemmas.List.{length-map}
 use Rattle.gl_segments.specs.Clocks.{is_before}
-use Rattle.gl_cycles.specs.AllCycles.{edges_of_table}
+use Rattle.gl_filters.specs.Picked.{edges_of_table}
 use Rattle.gl_cycles.specs.bodies.Trimming.{AreHints, AreChained}
 use Rattle.gl_cycles.proofs.Beside.{hints_none}
 use Rattle.gl_cycles.proofs.trims.Trimming.hints.Goals as goal

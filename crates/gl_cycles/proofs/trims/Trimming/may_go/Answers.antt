@@ -2,7 +2,7 @@ use Rattle.std.proofs.Common.{false, Some, ap, ◌∙◌, arith}
 use Rattle.std.proofs.lemmas.List.{length-map}
 use Rattle.std.proofs.lemmas.Option.{slice_get-get_or}
 use Rattle.gl_segments.specs.Clocks.{is_before}
-use Rattle.gl_cycles.specs.AllCycles.{edges_of_table}
+use Rattle.gl_filters.specs.Picked.{edges_of_table}
 use Rattle.gl_cycles.specs.declared.trims.Side.TheVariants.{Follower, Leader}
 use Rattle.gl_cycles.proofs.Accepting.{leader_if_stuck}
 use Rattle.gl_cycles.proofs.Fronts.{element_at}

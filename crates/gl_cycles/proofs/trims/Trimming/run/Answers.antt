@@ -2,7 +2,7 @@ use Rattle.std.proofs.Common.{◌≡◌, true, length, set, sym, subst, arith}
 use Rattle.std.proofs.lemmas.List.{length-map}
 use Rattle.std.proofs.lemmas.Option.{slice_get_within}
 use Rattle.gl_segments.specs.Clocks.{is_before}
-use Rattle.gl_cycles.specs.AllCycles.{edges_of_table}
+use Rattle.gl_filters.specs.Picked.{edges_of_table}
 use Rattle.gl_cycles.specs.Trims.{IsFirstStuck, IsTrimOrder}
 use Rattle.gl_cycles.specs.bodies.Trimming.{IsFlagged, AreFlagsOf, AreBothHints, AreAwake, AreSettled}
 use Rattle.gl_cycles.proofs.Removing.{flags_more, flags_none, awake_all, order_none, fewer, was_left, order_more, both_gone, awake_gone, done_at_end, stays_at_end}

@@ -1,6 +1,6 @@
 use Rattle.std.proofs.Common.{length}
 use Rattle.gl_segments.specs.Clocks.{is_before}
-use Rattle.gl_cycles.specs.AllCycles.{edges_of_table}
+use Rattle.gl_filters.specs.Picked.{edges_of_table}
 use Rattle.gl_cycles.specs.Trims.{IsTrimOrder}
 use Rattle.gl_cycles.specs.bodies.Trimming.{AreFlagsOf, AreBothHints, AreAwake}
 use Rattle.gl_cycles.proofs.Removing.{left}
