@@ -12,6 +12,8 @@ use Rattle.gl_std.specs.declared.trace.Trace.{Trace}
 use Rattle.gl_segments.specs.Laws.{DecidesBefore}
 use Rattle.gl_segments.specs.Segments.{IsConsistent, IsLeastInRing}
 use Rattle.gl_edges.specs.Edges.{edges}
+use Rattle.gl_edges.specs.declared.edge.Edge.{Edge}
+use Rattle.gl_edges.specs.declared.edge.Sample.{Sample}
 use Rattle.gl_filters.specs.Asked.{Asked, first_out_of_range}
 use Rattle.gl_filters.specs.Picked.{edges_of_table}
 use Rattle.gl_cycles.specs.Laws.{IsCycleAt}
@@ -21,12 +23,12 @@ use Rattle.gl_report.specs.Tree.{edge_tree, report_tree}
 use Rattle.gl_report.specs.TreeV1.{ListsExclusive, report_tree_v1}
 use Rattle.gl_check.specs.Cycles.{AreCyclesOf, IsFirstFault}
 use Rattle.gl_check.specs.Edges.{IsFirstDifference}
-use Rattle.gl_check.specs.Shape.{asked_in, cycles_in, format_in, is_report, items_under, mode_under, trim_in}
+use Rattle.gl_check.specs.Shape.{asked_in, cycles_in, format_in, is_report, items_under, trim_in}
 use Rattle.gl_check.specs.declared.fields.Format.{Format}
 use Rattle.gl_check.specs.declared.fields.Format.TheVariants.{One, Two}
 use Rattle.gl_check.specs.declared.reports.Checked.{Checked}
 use Rattle.gl_check.specs.declared.faults.CheckFault.{CheckFault}
-use Rattle.gl_check.specs.declared.faults.CheckFault.TheVariants.{Json, Shape, Inconsistent, Table, Edge, Verdict, Order, Trim, Memory}
+use Rattle.gl_check.specs.declared.faults.CheckFault.TheVariants.{Json, Shape, Inconsistent, Table, Edge as AnEdge, Verdict, Order, Trim, Memory}
 
 -- the bytes are the text of this JSON
 abbrev pub Reads : List ℕ → Data → Type 0
@@ -74,40 +76,40 @@ pub record IsChecked (trace : Trace) (json : List ℕ) (checked : Checked) : Typ
   -- then the trace has no cycle of the mode, of whatever length
   pub none_of_any_length : checked.acyclic ≡ true → (len : ℕ) (positions : List ℕ) → ¬ IsCycleAt before report.query.mode len (edges_of_table (edges trace.lists)) positions
 
-module _ (trace : Trace) (before : Segment → Segment → Bool) (said : Data) where
-  -- the table, which format 2 has, is that of the trace's edges
+module _ (names : NameLists) (table : List (Edge × Sample)) (before : Segment → Segment → Bool) (said : Data) where
+  -- the table that is printed, which format 2 has, is this one
   abbrev pub HasTable : Format → Type 0
   HasTable One = Unit {0}
-  HasTable Two = items_under (codes "edges") said ≡ map (edge_tree trace.names) (edges trace.lists)
+  HasTable Two = items_under (codes "edges") said ≡ map (edge_tree names) table
 
-  -- the listed cycles are at these positions
+  -- the listed cycles are cycles that were asked for, at these positions, and ascend
   abbrev pub AreListedAt : List (List ℕ) → Type 0
-  AreListedAt found = AreCyclesOf (format_in said) trace.names (edges trace.lists) before (asked_in said) (cycles_in said) found
+  AreListedAt found = AreCyclesOf (format_in said) names table before (asked_in said) (cycles_in said) found
 
   -- all that is said holds
   pub record Holds (found : List (List ℕ)) : Type 0 where
-    pub table : HasTable (format_in said)
+    pub printed_table : HasTable (format_in said)
     pub cycles : AreListedAt found
-    pub trim : IfSome (trim_in said) (IsWholeRemoval before (mode_under said) (edges_of_table (edges trace.lists)))
+    pub trim : IfSome (trim_in said) (IsWholeRemoval before (asked_in said).mode (edges_of_table table))
 
   -- the table is right, and this is the fault of the first listed cycle that has one
   pub record IsCyclesFault (fault : CheckFault) : Type 0 where
-    pub table : HasTable (format_in said)
-    pub first : IsFirstFault (format_in said) trace.names (edges trace.lists) before (asked_in said) (cycles_in said) fault
+    pub printed_table : HasTable (format_in said)
+    pub first : IsFirstFault (format_in said) names table before (asked_in said) (cycles_in said) fault
 
   -- table and cycles are right, and this is the first place at which the trim order is wrong
   pub record IsTrimFault (place : ℕ) : Type 0 where
-    pub table : HasTable (format_in said)
+    pub printed_table : HasTable (format_in said)
     pub found : List (List ℕ)
     pub cycles : AreListedAt found
     pub removed : List ℕ
     pub given : trim_in said ≡ Some removed
-    pub wrong : IsRemovalFault before (mode_under said) (edges_of_table (edges trace.lists)) removed place
+    pub wrong : IsRemovalFault before (asked_in said).mode (edges_of_table table) removed place
 
-  -- the fault is the first one of what is said
+  -- this is the first thing said that is false
   abbrev pub IsFirstFalse : CheckFault → Type 0
-  IsFirstFalse (Table k) = (format_in said ≡ Two) × IsFirstDifference (items_under (codes "edges") said) (map (edge_tree trace.names) (edges trace.lists)) k
-  IsFirstFalse (Edge i k) = IsCyclesFault (Edge i k)
+  IsFirstFalse (Table k) = (format_in said ≡ Two) × IsFirstDifference (items_under (codes "edges") said) (map (edge_tree names) table) k
+  IsFirstFalse (AnEdge i k) = IsCyclesFault (AnEdge i k)
   IsFirstFalse (Verdict i verdict) = IsCyclesFault (Verdict i verdict)
   IsFirstFalse (Order i) = IsCyclesFault (Order i)
   IsFirstFalse (Trim i) = IsTrimFault i
@@ -121,14 +123,14 @@ pub record HoldsOf (trace : Trace) (said : Data) (found : List (List ℕ)) : Typ
   pub consistent : IsConsistent trace.lists
   pub before : Segment → Segment → Bool
   pub decides : DecidesBefore trace.lists before
-  pub holds : Holds trace before said found
+  pub holds : Holds trace.names (edges trace.lists) before said found
 
 -- the trace is consistent, and this is the first fault of what is said of it
 pub record IsFalseOf (trace : Trace) (said : Data) (fault : CheckFault) : Type 0 where
   pub consistent : IsConsistent trace.lists
   pub before : Segment → Segment → Bool
   pub decides : DecidesBefore trace.lists before
-  pub first : IsFirstFalse trace before said fault
+  pub first : IsFirstFalse trace.names (edges trace.lists) before said fault
 
 -- the bytes are JSON of the shape of a report, and this is the first fault of what it says
 pub record IsReportFault (trace : Trace) (json : List ℕ) (fault : CheckFault) : Type 0 where
@@ -144,7 +146,7 @@ IsOrderFault lists Memory = Unit {0}
 IsOrderFault lists Json = ⊥
 IsOrderFault lists Shape = ⊥
 IsOrderFault lists (Table k) = ⊥
-IsOrderFault lists (Edge i k) = ⊥
+IsOrderFault lists (AnEdge i k) = ⊥
 IsOrderFault lists (Verdict i verdict) = ⊥
 IsOrderFault lists (Order i) = ⊥
 IsOrderFault lists (Trim i) = ⊥
@@ -155,7 +157,7 @@ IsCheckFault trace json Json = IsUtf8 json → read json ≡ None
 IsCheckFault trace json Shape = (d : Data) × Reads json d × (is_report d ≡ false)
 IsCheckFault trace json (Inconsistent at ring) = (d : Data) × Reads json d × (is_report d ≡ true) × IsLeastInRing trace.lists at ring.items
 IsCheckFault trace json (Table k) = IsReportFault trace json (Table k)
-IsCheckFault trace json (Edge i k) = IsReportFault trace json (Edge i k)
+IsCheckFault trace json (AnEdge i k) = IsReportFault trace json (AnEdge i k)
 IsCheckFault trace json (Verdict i verdict) = IsReportFault trace json (Verdict i verdict)
 IsCheckFault trace json (Order i) = IsReportFault trace json (Order i)
 IsCheckFault trace json (Trim i) = IsReportFault trace json (Trim i)

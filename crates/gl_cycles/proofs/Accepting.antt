@@ -1,5 +1,5 @@
 -- Orders of removal, one more edge at a time.
-use Rattle.std.proofs.Common.{◌≡◌, ℕ, zero, suc, ◌+◌, ◌<◌, ◌≤◌, Bool, true, false, not, List, [], ◌∷◌, ◌++◌, length, take, set, get_or, Option, Some, None, is_none, refl, sym, ap, subst, ◌∙◌, arith, inl, inr}
+use Rattle.std.proofs.Common.{◌≡◌, ℕ, zero, suc, ◌+◌, ◌<◌, ◌≤◌, Bool, true, false, not, List, [], ◌∷◌, ◌++◌, length, take, set, get_or, Option, Some, None, is_some, refl, sym, ap, subst, ◌∙◌, arith, inl, inr}
 use Rattle.std.specs.Bool.{Decides}
 use Rattle.std.specs.List.{list_any}
 use Rattle.std.specs.Prelude.{slice_get, Contains, IfSome}
@@ -17,6 +17,12 @@ use Rattle.gl_cycles.proofs.Beside.{none_without, push_before, push_at_end}
 use Rattle.gl_cycles.proofs.Fronts.{element_at}
 use Rattle.gl_cycles.proofs.Removing.{Agree, agree, flags_more, stuck_to, turned}
 
+pub flip : (a b : Bool) → a ≡ not b → not a ≡ b
+flip true true is = absurd (false≢true (sym is))
+flip true false is = refl
+flip false true is = refl
+flip false false is = absurd (false≢true is)
+
 -- a flag that isn't set
 some_unset : (gone : List Bool) → list_any not gone ≡ true → (i : ℕ) × (slice_get gone i ≡ Some false)
 some_unset [] any = absurd (false≢true any)
@@ -32,7 +38,7 @@ none_unset (true ∷ gone) none (suc i) at = none_unset gone none i at
 module _ (before : Segment → Segment → Bool) (mode : Mode) (edges : List Edge) where
   -- what a look for an edge beside this one tells
   pub lacks_told : (gone : List Bool) (side : Side) (i : ℕ) (e : Edge) (next : Option ℕ) → IsHint before mode edges gone side i next → IfSome next (λ p. slice_get gone p ≡ Some false) → length gone ≡ length edges
-      → slice_get edges i ≡ Some e → Decides (is_none next) (¬ HasBeside before mode edges (IsFlagged gone) side e)
+      → slice_get edges i ≡ Some e → Decides (not (is_some next)) (¬ HasBeside before mode edges (IsFlagged gone) side e)
   lacks_told gone side i e None hint left long at = (λ yes. none_without before mode edges gone side i e hint long at, λ none. refl)
   lacks_told gone side i e (Some p) hint left long at =
       let other = element_at edges p hint.fits.0 in
@@ -102,7 +108,7 @@ module _ (before : Segment → Segment → Bool) (mode : Mode) (edges : List Edg
       wrong = λ j at_j stuck. absurd (let within = slice_get_within removed n j at_j in omega arith);
       ended = λ none.
           let within : left.0 < length edges = (let inside = slice_get_within gone left.0 false left.1 in omega (arith, flags.long)) in
-          (end, left.0, within, λ among. false≢true (same_Some false true (sym left.1 ∙ (flagged_agree left.0 within).1 (subst (λ l. Contains l left.0) (sym (take_all n removed (omega arith))) among))));
+          (end, (left.0, within, λ among. false≢true (same_Some false true (sym left.1 ∙ (flagged_agree left.0 within).1 (subst (λ l. Contains l left.0) (sym (take_all n removed (omega arith))) among)))));
     }
 
     -- it ends, and none is left

@@ -1,4 +1,4 @@
-use Rattle.std.proofs.Common.{not, get_or, sym, subst, ◌∙◌}
+use Rattle.std.proofs.Common.{get_or, sym, subst, ◌∙◌}
 use Rattle.std.specs.Bool.{Decides}
 use Rattle.std.proofs.lemmas.List.{length-map}
 use Rattle.gl_segments.specs.Clocks.{is_before}
@@ -6,7 +6,7 @@ use Rattle.gl_filters.specs.Picked.{edges_of_table}
 use Rattle.gl_cycles.specs.Trims.{HasBeside}
 use Rattle.gl_cycles.specs.bodies.Followers.{IsNextWith}
 use Rattle.gl_cycles.specs.bodies.Trimming.{IsFlagged, opposite, lock_towards}
-use Rattle.gl_cycles.proofs.Accepting.{lacks_told}
+use Rattle.gl_cycles.proofs.Accepting.{flip, lacks_told}
 use Rattle.gl_cycles.proofs.Fronts.{edge_at}
 use Rattle.gl_cycles.proofs.Beside.{start_first}
 use Rattle.gl_cycles.proofs.trims.Trimming.lacks.Goals as goal
@@ -24,5 +24,5 @@ pub returns : goal.returns
 returns c = λ e at.
     let s = c.args.self.now in
     let edges = edges_of_table s.table.now in
-    subst (λ b. Decides (not b) (¬ HasBeside (is_before s.order.now) s.mode edges (IsFlagged c.args.gone.now) c.args.side e)) (sym c.is_none.ensures)
+    subst (λ b. Decides b (¬ HasBeside (is_before s.order.now) s.mode edges (IsFlagged c.args.gone.now) c.args.side e)) (flip _ c.is_none.result c.is_none.ensures)
     (lacks_told (is_before s.order.now) s.mode edges c.args.gone.now c.args.side c.args.i e c.next_beside.result c.next_beside.ensures.hint c.next_beside.ensures.left (c.requires.flags ∙ sym (length-map s.table.now (λ pair. pair.0))) at)
