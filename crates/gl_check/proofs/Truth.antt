@@ -22,7 +22,8 @@ use Rattle.gl_cycles.specs.Laws.{IsCycleAt}
 use Rattle.gl_cycles.specs.Trims.{IsWholeRemoval}
 use Rattle.gl_cycles.specs.declared.found.Report.{Report}
 use Rattle.gl_report.specs.Tree.{edge_tree, mode_word, positions_tree, report_tree, trim_tree}
-use Rattle.gl_report.specs.TreeV1.{cycle_tree_v1, edge_tree_v1, is_exclusive, report_tree_v1}
+use Rattle.gl_report.specs.Exclusive.{is_exclusive}
+use Rattle.gl_report.specs.TreeV1.{cycle_tree_v1, edge_tree_v1, report_tree_v1}
 use Rattle.gl_check.specs.Checked.{HasTable, Holds, HoldsOf, IsChecked, IsTrueReport, Reads, Shows, printed}
 use Rattle.gl_check.specs.Cycles.{AreCyclesOf, IsCycleOf}
 use Rattle.gl_check.specs.Edges.{AreNamed}

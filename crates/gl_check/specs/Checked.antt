@@ -19,8 +19,9 @@ use Rattle.gl_filters.specs.Picked.{edges_of_table}
 use Rattle.gl_cycles.specs.Laws.{IsCycleAt}
 use Rattle.gl_cycles.specs.Trims.{IsRemovalFault, IsWholeRemoval}
 use Rattle.gl_cycles.specs.declared.found.Report.{Report}
+use Rattle.gl_report.specs.Exclusive.{ListsExclusive}
 use Rattle.gl_report.specs.Tree.{edge_tree, report_tree}
-use Rattle.gl_report.specs.TreeV1.{ListsExclusive, report_tree_v1}
+use Rattle.gl_report.specs.TreeV1.{report_tree_v1}
 use Rattle.gl_check.specs.Cycles.{AreCyclesOf, IsFirstFault}
 use Rattle.gl_check.specs.Edges.{IsFirstDifference}
 use Rattle.gl_check.specs.Shape.{asked_in, cycles_in, format_in, is_report, items_under, trim_in}

@@ -5,7 +5,8 @@ use Rattle.serde_json.specs.Data.{Data, number, unsigned}
 use Rattle.gl_std.specs.Names.{NameLists}
 use Rattle.gl_edges.specs.declared.edge.Edge.{Edge}
 use Rattle.gl_edges.specs.declared.edge.Sample.{Sample}
-use Rattle.gl_report.specs.TreeV1.{edge_tree_v1, is_exclusive}
+use Rattle.gl_report.specs.Exclusive.{is_exclusive}
+use Rattle.gl_report.specs.TreeV1.{edge_tree_v1}
 use Rattle.gl_check.specs.declared.fields.Format.{Format}
 use Rattle.gl_check.specs.declared.fields.Format.TheVariants.{One, Two}
 
