@@ -4,7 +4,7 @@ use Rattle.std.specs.List.{list_all}
 use Rattle.gl_event.specs.declared.events.LockMode.{LockMode}
 use Rattle.gl_event.specs.declared.events.LockMode.TheVariants.{Exclusive, Shared}
 use Rattle.gl_edges.specs.declared.edge.Edge.{Edge}
-use Rattle.gl_cycles.specs.AllCycles.{edges_of_table, picked}
+use Rattle.gl_filters.specs.Picked.{edges_of_table, picked}
 use Rattle.gl_cycles.specs.declared.found.Report.{Report}
 
 -- the mode is exclusive
