@@ -10,7 +10,7 @@ use Rattle.serde_json.specs.Find.{as_array, as_bool, as_str, get}
 use Rattle.serde_json.specs.View.{items_of}
 use Rattle.gl_filters.specs.declared.query.Mode.TheVariants.{Basic, Guarded, Full}
 use Rattle.gl_report.specs.Tree.{mode_word, positions_tree, trim_tree}
-use Rattle.gl_check.specs.Shape.{has_fields, have_fields, is_below, is_of, items_in, items_under, listed, mode_said, mode_under, number_of, number_under, report_fields, trim_in}
+use Rattle.gl_check.specs.Shape.{has_fields, have_fields, is_below, is_of, items_in, items_under, listed, mode_said, mode_under, number_of, number_under, order_of, report_fields, trim_in}
 use Rattle.gl_check.specs.declared.fields.Format.TheVariants.{One, Two}
 use Rattle.gl_check.specs.declared.fields.Kind.{Kind}
 use Rattle.gl_check.specs.declared.fields.Kind.TheVariants.{Number, Exactly, Word, Flag, Array, Trim}
@@ -148,11 +148,7 @@ numbers_are bound (d ∷ ds) all =
     let more = numbers_are bound ds tests.1 in
     λ i. here i ∷ more i
 
--- the order in which the edges go, as it stands under its key
-abbrev pub trim_of : Data → Option (List ℕ)
-trim_of d = option_map (λ ds. map number_of (listed ds)) (as_array d)
-
-trim_is : (d : Data) → is_of Trim d ≡ true → d ≡ trim_tree (trim_of d)
+trim_is : (d : Data) → is_of Trim d ≡ true → d ≡ trim_tree (order_of d)
 unfolding positions_tree
 trim_is null is = refl
 trim_is (boolean b) is = absurd (false≢true is)

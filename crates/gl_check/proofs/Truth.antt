@@ -205,15 +205,15 @@ pub is_checked : (trace : Trace) (json : List ℕ) (d : Data) (found : List (Lis
     → checked.acyclic ≡ is_some (trim_in d) → IsChecked trace json checked
 is_checked trace json d found checked reads shaped held counted trimmed =
     let tests = shaped_by d shaped in
-    let as = printed_as trace held.before d found shaped held.holds (format_in d) tests.fields tests.cycles_are held.holds.printed_table held.holds.cycles in
+    let told = printed_as trace held.before d found shaped held.holds (format_in d) tests.fields tests.cycles_are held.holds.printed_table held.holds.cycles in
     record {
       consistent = held.consistent;
       before = held.before;
       decides = held.decides;
       report = report_said trace d found;
       format = format_in d;
-      prints = (reads.0, reads.1 ∙ ap Some as.0);
-      shows = as.1;
+      prints = (reads.0, reads.1 ∙ ap Some told.0);
+      shows = told.1;
       is_true = is_true_report trace held.before d found shaped held.holds;
       counted = counted;
       trimmed = trimmed;

@@ -38,7 +38,7 @@ module _ (format : Format) (names : NameLists) (table : List (Edge × Sample)) (
   -- these name the edges at these positions, and the edges are a cycle that was asked for
   pub record IsCycleOf (ds : List Data) (positions : List ℕ) : Type 0 where
     pub edges : AreNamed format names table ds positions
-    pub valid : IsVerdict before asked (picked table positions) Valid
+    pub valid : IsVerdict before asked (picked (edges_of_table table) positions) Valid
 
   -- so it is with each of these, and they ascend
   pub record AreCyclesOf (cycles : List (List Data)) (found : List (List ℕ)) : Type 0 where
@@ -49,7 +49,7 @@ module _ (format : Format) (names : NameLists) (table : List (Edge × Sample)) (
   abbrev pub IsFaultOf : ℕ → List (List ℕ) → List Data → CheckFault → Type 0
   IsFaultOf number found ds (AnEdge i k) = (format ≡ One) × (i ≡ number) × IsFirstStrange format names table ds k
   IsFaultOf number found ds (Verdict i verdict) =
-      (i ≡ number) × ((positions : List ℕ) × AreNamed format names table ds positions × IsVerdict before asked (picked table positions) verdict × (verdict ≢ Valid))
+      (i ≡ number) × ((positions : List ℕ) × AreNamed format names table ds positions × IsVerdict before asked (picked (edges_of_table table) positions) verdict × (verdict ≢ Valid))
   IsFaultOf number found ds (Order i) = (i ≡ number) × ((positions : List ℕ) × IsCycleOf ds positions × (¬ IsAbove found positions))
   IsFaultOf number found ds Memory = Unit {0}
   IsFaultOf number found ds Json = ⊥

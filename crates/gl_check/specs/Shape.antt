@@ -123,9 +123,13 @@ items_under key d = unwrap_or (option_map items_in (get key d)) []
 abbrev pub cycles_in : Data → List (List Data)
 cycles_in d = map items_in (items_under (codes "cycles") d)
 
+-- the numbers that a value lists, where it is an array
+abbrev pub order_of : Data → Option (List ℕ)
+order_of d = option_map (λ ds. map number_of (listed ds)) (as_array d)
+
 -- the order in which the edges go, where one is given
 abbrev pub trim_in : Data → Option (List ℕ)
-trim_in d = option_map (λ ds. map number_of (listed ds)) (option_and_then as_array (get (codes "trim") d))
+trim_in d = option_and_then order_of (get (codes "trim") d)
 
 -- an edge of format 2, with a mode for each guard
 abbrev pub is_edge : Data → Bool

@@ -2,7 +2,7 @@
 ghost use Rattle.std.specs.Prelude.{◌≡◌, false, true, None, codes, is_none, length, map, option_map, ◌≤◌, IfOk, MatchOption};
 ghost use Rattle.serde_json.specs.View.{view};
 ghost use Rattle.gl_filters.specs.Asked.{first_out_of_range};
-ghost use Rattle.gl_check.specs.Shape.{asked_in, format_in, is_report, items_under, mode_under, number_of, trim_in};
+ghost use Rattle.gl_check.specs.Shape.{asked_in, format_in, is_report, items_under, mode_under, number_of, order_of, trim_in};
 
 use crate::fields::{
     Format, are_edges, are_listings, has_report_fields, items_under, mode_said, number_of,
@@ -80,12 +80,22 @@ fn numbers_of(alloc: Global, values: &[Value]) -> Result<Vec<usize>, Memory>
     Ok(numbers)
 }
 
+// The numbers that the value lists, where it is an array.
+fn order_of(alloc: Global, value: &Value) -> Result<Option<Vec<usize>>, Memory>
+    ensures { IfOk result (λ order. option_map (λ numbers. numbers.items) order ≡ order_of (view value.now)) }
+{
+    match value.as_array() {
+        Some(items) => Ok(Some(numbers_of(alloc, items.as_slice())?)),
+        None => Ok(None),
+    }
+}
+
 /// The trim order that is given, if there is one.
 pub(crate) fn trim_in(alloc: Global, value: &Value) -> Result<Option<Vec<usize>>, Memory>
     ensures { IfOk result (λ order. option_map (λ numbers. numbers.items) order ≡ trim_in (view value.now)) }
 {
-    match value.get("trim").and_then(Value::as_array) {
-        Some(items) => Ok(Some(numbers_of(alloc, items.as_slice())?)),
+    match value.get("trim") {
+        Some(order) => order_of(alloc, order),
         None => Ok(None),
     }
 }

@@ -132,8 +132,8 @@ fn is_entry(
     requires { is_edge (view value.now) ≡ true }
     ensures { IfOk result (λ is. Decides is (view value.now ≡ edge_tree names.now pair.now)) }
 {
-    let printed = edge_json(alloc, names, &pair.0, &pair.1)?;
-    are_same(alloc, value, &printed)
+    let entry = edge_json(alloc, names, &pair.0, &pair.1)?;
+    are_same(alloc, value, &entry)
 }
 
 /// Looks whether these are the JSON of the edges of a table, one after the other. Prints each once.

@@ -1,4 +1,5 @@
-use Rattle.std.proofs.Common.{◌≤◌, ap, sym, subst, ◌∙◌}
+use Rattle.std.proofs.Common.{◌≡◌, ◌≤◌, IfOk, ap, sym, subst, ◌∙◌}
+use Rattle.std.specs.Bool.{Decides}
 use Rattle.serde_json.specs.Data.{depth}
 use Rattle.serde_json.specs.View.{view}
 use Rattle.serde_json.specs.Written.{has_float}
@@ -13,7 +14,10 @@ pub are_same-requires-clause-low : goal.are_same-requires-clause-low
 are_same-requires-clause-low c = (edge_is_flat (view c.args.value.now) c.requires).1
 
 pub are_same-requires-clause-other_plain : goal.are_same-requires-clause-other_plain
-are_same-requires-clause-other_plain c = ap has_float c.in_ok-printed.ensures ∙ edge_without_float c.args.names.now c.args.pair.now
+are_same-requires-clause-other_plain c = ap has_float c.in_ok-entry.ensures ∙ edge_without_float c.args.names.now c.args.pair.now
 
 pub are_same-requires-clause-other_low : goal.are_same-requires-clause-other_low
-are_same-requires-clause-other_low c = subst (λ d. depth d ≤ 127) (sym c.in_ok-printed.ensures) (tree_is_low c.args.names.now c.args.pair.now)
+are_same-requires-clause-other_low c = subst (λ d. depth d ≤ 127) (sym c.in_ok-entry.ensures) (tree_is_low c.args.names.now c.args.pair.now)
+
+pub returns : goal.returns
+returns c = subst (λ d. IfOk c.are_same.result (λ same. Decides same (view c.args.value.now ≡ d))) c.in_ok-entry.ensures c.are_same.ensures

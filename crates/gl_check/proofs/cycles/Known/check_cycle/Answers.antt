@@ -20,20 +20,20 @@ pub returns-in_default : goal.returns-in_default
 returns-in_default c =
     let known = c.args.self.now in
     let edges = subst (λ table. AreNamed known.format known.names.now table (map view c.args.edges.now) c.in_ok-positions.positions.items) c.entries.ensures.pairs c.in_ok-positions.ensures.found in
-    let verdict = subst (λ l. IsVerdict (is_before known.order.now) known.query (picked known.edges.now l) c.judge.result) c.as_slice.ensures.value c.judge.ensures in
+    let verdict = subst (λ l. IsVerdict (is_before known.order.now) known.query (picked (edges_of_table known.edges.now) l) c.judge.result) c.as_slice.ensures.value c.judge.ensures in
     record { cycle = tt; above = tt; fault = (refl, (c.in_ok-positions.positions.items, edges, verdict, c.in_default.not-Valid)) }
 
 pub returns-then-not-is_above-clause-fault : goal.returns-then-not-is_above-clause-fault
 returns-then-not-is_above-clause-fault c =
     let known = c.args.self.now in
     let edges = subst (λ table. AreNamed known.format known.names.now table (map view c.args.edges.now) c.in_ok-positions.positions.items) c.entries.ensures.pairs c.in_ok-positions.ensures.found in
-    let verdict = subst (λ l. IsVerdict (is_before known.order.now) known.query (picked known.edges.now l) c.judge.result) c.as_slice.ensures.value c.judge.ensures in
-    let valid = subst (IsVerdict (is_before known.order.now) known.query (picked known.edges.now c.in_ok-positions.positions.items)) c.in-Valid.is verdict in
+    let verdict = subst (λ l. IsVerdict (is_before known.order.now) known.query (picked (edges_of_table known.edges.now) l) c.judge.result) c.as_slice.ensures.value c.judge.ensures in
+    let valid = subst (IsVerdict (is_before known.order.now) known.query (picked (edges_of_table known.edges.now) c.in_ok-positions.positions.items)) c.in-Valid.is verdict in
     (refl, (c.in_ok-positions.positions.items, record { edges = edges; valid = valid }, λ above. absurd (false≢true (sym c.if-not-is_above.true ∙ c.is_above.ensures.1 (subst (IsAbove (map (λ v. v.items) c.args.found.now)) (sym c.as_slice-2.ensures.value) above)))))
 
 pub returns-clause-cycle : goal.returns-clause-cycle
 returns-clause-cycle c =
     let known = c.args.self.now in
     let edges = subst (λ table. AreNamed known.format known.names.now table (map view c.args.edges.now) c.in_ok-positions.positions.items) c.entries.ensures.pairs c.in_ok-positions.ensures.found in
-    let verdict = subst (λ l. IsVerdict (is_before known.order.now) known.query (picked known.edges.now l) c.judge.result) c.as_slice.ensures.value c.judge.ensures in
-    record { edges = edges; valid = subst (IsVerdict (is_before known.order.now) known.query (picked known.edges.now c.in_ok-positions.positions.items)) c.in-Valid.is verdict }
+    let verdict = subst (λ l. IsVerdict (is_before known.order.now) known.query (picked (edges_of_table known.edges.now) l) c.judge.result) c.as_slice.ensures.value c.judge.ensures in
+    record { edges = edges; valid = subst (IsVerdict (is_before known.order.now) known.query (picked (edges_of_table known.edges.now) c.in_ok-positions.positions.items)) c.in-Valid.is verdict }
