@@ -6,22 +6,18 @@ use Rattle.std.proofs.lemmas.Bool.Decides.{nat_tests}
 use Rattle.gl_event.specs.Bounds.{Bounds}
 use Rattle.gl_event.specs.declared.events.Refusal.{Refusal}
 use Rattle.gl_event.specs.declared.events.Refusal.TheVariants.{PlaceFull, NoSuchThread, OnItself, NotHeld, HeldFull as NoRoom, DepthFull as TooDeep, Upgrade as IsUpgrade}
-use Rattle.gl_std.specs.Laws.{mention, refusal_of_call, IsFaultAfter, FaultsComeFirst}
+use Rattle.gl_std.specs.Laws.{refusal_of_call, IsFaultAfter, FaultsComeFirst}
 use Rattle.gl_std.specs.Laws.IsFaultAfter.{alone, held_full, too_deep, upgrade, many_threads, many_events, many_names}
-use Rattle.gl_std.specs.Line.{Shape, shape_of}
+use Rattle.gl_std.specs.Line.{Operation, Shape, shape_of}
 use Rattle.gl_std.specs.Line.Shape.{Blank, Bad, Other, Call}
 use Rattle.gl_std.specs.Lines.{lines}
-use Rattle.gl_std.specs.Trace.{found_in, if_new, threads_after, locks_after, events_of, limit_fault, verdict_of, after_verdict, after_shape, after_line, and_then, read_from, nothing, trace_of}
+use Rattle.gl_std.specs.Names.{NameLists}
+use Rattle.gl_std.specs.Trace.{names_after, events_of, with_call, limit_reached, after_event, after_shape, after_line, and_then, read_from, nothing, trace_of}
 use Rattle.gl_std.specs.declared.faults.ReadFault.{ReadFault}
 use Rattle.gl_std.specs.declared.faults.ReadFault.TheVariants.{Line}
 use Rattle.gl_std.specs.declared.faults.StdKind.{StdKind}
 use Rattle.gl_std.specs.declared.faults.StdKind.TheVariants.{HeldFull, DepthFull, Upgrade, TooManyThreads, TooManyEvents, TooManyNames}
-use Rattle.gl_std.specs.declared.line.Operation.{Operation}
-use Rattle.gl_std.specs.declared.standing.Verdict.{Verdict}
-use Rattle.gl_std.specs.declared.standing.Verdict.TheVariants.{Kept, Stray, Fault}
 use Rattle.gl_std.specs.declared.trace.Trace.{Trace}
-use Rattle.gl_std.proofs.KeptLemmas.{with_name-mention}
-use Rattle.gl_std.proofs.StepLemmas.{length-with_name}
 
 over : (most n : ℕ) → nat_lt most n ≡ true → most < n
 over most n h = grind (arith, nat_tests, h)
@@ -35,64 +31,47 @@ full most n h = grind (arith, nat_tests, h)
 room : (most n : ℕ) → nat_le most n ≡ false → n < most
 room most n h = grind (arith, nat_tests, h)
 
--- how many locations there are after a line
-mentioned : (names : List (List ℕ)) (name : List ℕ) → length names + if_new (position (bytes_eq name) names) ≡ length (mention names name)
-mentioned names name = sym (length-with_name names (position (bytes_eq name) names) name) ∙ ap length (with_name-mention names name)
-
 module _ (limits : Bounds) (told : Trace) (operation : Operation) (thread operand location : List ℕ) (kind : StdKind) where
-  abbrev threads : ℕ
-  threads = threads_after told.names operation (found_in told.names operation thread operand location)
+  abbrev after : NameLists
+  after = names_after told.names operation thread operand location
 
   abbrev events : ℕ
   events = length (events_of told.lists (position (bytes_eq thread) told.names.threads))
 
-  abbrev locks : ℕ
-  locks = locks_after told.names operation (found_in told.names operation thread operand location)
-
-  abbrev locs : ℕ
-  locs = length told.names.locs + if_new (position (bytes_eq location) told.names.locs)
-
   -- the limits, where the locks allow the event
-  limit_fault-says : refusal_of_call told operation thread operand location ≡ None → limit_fault limits told operation (found_in told.names operation thread operand location) ≡ Some kind → IsFaultAfter limits told (Call operation thread operand location) kind
-  limit_fault-says allowed h = by (nat_lt limits.threads threads) (nat_le limits.events events) (nat_lt limits.names locks) (nat_lt limits.names locs) refl refl refl refl h
+  limit_reached-says : refusal_of_call told operation thread operand location ≡ None → limit_reached limits after events ≡ Some kind → IsFaultAfter limits told (Call operation thread operand location) kind
+  limit_reached-says allowed h = by (nat_lt limits.threads (length after.threads)) (nat_le limits.events events) (nat_lt limits.names (length after.locks)) (nat_lt limits.names (length after.locs)) refl refl refl refl h
     where
-      names : nat_lt limits.threads threads ≡ false → nat_le limits.events events ≡ false → (limits.names < locks) ⊎ (limits.names < length (mention told.names.locs location)) → TooManyNames ≡ kind → IsFaultAfter limits told (Call operation thread operand location) kind
-      names t e many is = subst (IsFaultAfter limits told (Call operation thread operand location)) is (many_names operation thread operand location allowed (within limits.threads threads t) (room limits.events events e) many)
+      names : nat_lt limits.threads (length after.threads) ≡ false → nat_le limits.events events ≡ false → (limits.names < length after.locks) ⊎ (limits.names < length after.locs) → TooManyNames ≡ kind → IsFaultAfter limits told (Call operation thread operand location) kind
+      names t e many is = subst (IsFaultAfter limits told (Call operation thread operand location)) is (many_names operation thread operand location allowed (within limits.threads (length after.threads) t) (room limits.events events e) many)
 
-      by : (t e l o : Bool) → nat_lt limits.threads threads ≡ t → nat_le limits.events events ≡ e → nat_lt limits.names locks ≡ l → nat_lt limits.names locs ≡ o → cond t (Some TooManyThreads) (cond e (Some TooManyEvents) (cond l (Some TooManyNames) (cond o (Some TooManyNames) None))) ≡ Some kind → IsFaultAfter limits told (Call operation thread operand location) kind
-      by true e l o a b c d h = let is : TooManyThreads ≡ kind = cc in subst (IsFaultAfter limits told (Call operation thread operand location)) is (many_threads operation thread operand location allowed (over limits.threads threads a))
-      by false true l o a b c d h = let is : TooManyEvents ≡ kind = cc in subst (IsFaultAfter limits told (Call operation thread operand location)) is (many_events operation thread operand location allowed (within limits.threads threads a) (full limits.events events b))
-      by false false true o a b c d h = let is : TooManyNames ≡ kind = cc in names a b (inl (over limits.names locks c)) is
-      by false false false true a b c d h = let is : TooManyNames ≡ kind = cc in names a b (inr (subst (λ n. limits.names < n) (mentioned told.names.locs location) (over limits.names locs d))) is
+      by : (t e l o : Bool) → nat_lt limits.threads (length after.threads) ≡ t → nat_le limits.events events ≡ e → nat_lt limits.names (length after.locks) ≡ l → nat_lt limits.names (length after.locs) ≡ o → cond t (Some TooManyThreads) (cond e (Some TooManyEvents) (cond l (Some TooManyNames) (cond o (Some TooManyNames) None))) ≡ Some kind → IsFaultAfter limits told (Call operation thread operand location) kind
+      by true e l o a b c d h = let is : TooManyThreads ≡ kind = cc in subst (IsFaultAfter limits told (Call operation thread operand location)) is (many_threads operation thread operand location allowed (over limits.threads (length after.threads) a))
+      by false true l o a b c d h = let is : TooManyEvents ≡ kind = cc in subst (IsFaultAfter limits told (Call operation thread operand location)) is (many_events operation thread operand location allowed (within limits.threads (length after.threads) a) (full limits.events events b))
+      by false false true o a b c d h = let is : TooManyNames ≡ kind = cc in names a b (inl (over limits.names (length after.locks) c)) is
+      by false false false true a b c d h = let is : TooManyNames ≡ kind = cc in names a b (inr (over limits.names (length after.locs) d)) is
       by false false false false a b c d h = absurd cc
 
   -- the locks, and then the limits
-  verdict_of-says : verdict_of (refusal_of_call told operation thread operand location) (limit_fault limits told operation (found_in told.names operation thread operand location)) ≡ Fault kind → IsFaultAfter limits told (Call operation thread operand location) kind
-  verdict_of-says h = by (refusal_of_call told operation thread operand location) refl (limit_fault limits told operation (found_in told.names operation thread operand location)) refl h
+  after_event-says : (n number : ℕ) (kept : Trace) → after_event n told kept (refusal_of_call told operation thread operand location) (limit_reached limits after events) ≡ Err (Line number kind) → (number ≡ n) × IsFaultAfter limits told (Call operation thread operand location) kind
+  after_event-says n number kept h = by (refusal_of_call told operation thread operand location) refl (limit_reached limits after events) refl h
     where
-      by : (r : Option Refusal) → refusal_of_call told operation thread operand location ≡ r → (limit : Option StdKind) → limit_fault limits told operation (found_in told.names operation thread operand location) ≡ limit → verdict_of r limit ≡ Fault kind → IsFaultAfter limits told (Call operation thread operand location) kind
+      by : (r : Option Refusal) → refusal_of_call told operation thread operand location ≡ r → (limit : Option StdKind) → limit_reached limits after events ≡ limit → after_event n told kept r limit ≡ Err (Line number kind) → (number ≡ n) × IsFaultAfter limits told (Call operation thread operand location) kind
       by None a None b h = absurd cc
-      by None a (Some k) b h = let is : k ≡ kind = cc in limit_fault-says a (b ∙ ap (λ k. Some k) is)
-      by (Some NoRoom) a limit b h = let is : HeldFull ≡ kind = cc in subst (IsFaultAfter limits told (Call operation thread operand location)) is (held_full operation thread operand location a)
-      by (Some TooDeep) a limit b h = let is : DepthFull ≡ kind = cc in subst (IsFaultAfter limits told (Call operation thread operand location)) is (too_deep operation thread operand location a)
-      by (Some IsUpgrade) a limit b h = let is : Upgrade ≡ kind = cc in subst (IsFaultAfter limits told (Call operation thread operand location)) is (upgrade operation thread operand location a)
+      by None a (Some k) b h = let is : k ≡ kind = cc in (cc, limit_reached-says a (b ∙ ap (λ k. Some k) is))
+      by (Some NoRoom) a limit b h = let is : HeldFull ≡ kind = cc in (cc, subst (IsFaultAfter limits told (Call operation thread operand location)) is (held_full operation thread operand location a))
+      by (Some TooDeep) a limit b h = let is : DepthFull ≡ kind = cc in (cc, subst (IsFaultAfter limits told (Call operation thread operand location)) is (too_deep operation thread operand location a))
+      by (Some IsUpgrade) a limit b h = let is : Upgrade ≡ kind = cc in (cc, subst (IsFaultAfter limits told (Call operation thread operand location)) is (upgrade operation thread operand location a))
       by (Some NotHeld) a limit b h = absurd cc
       by (Some PlaceFull) a limit b h = absurd cc
       by (Some NoSuchThread) a limit b h = absurd cc
       by (Some OnItself) a limit b h = absurd cc
 
-after_verdict-says : (n : ℕ) (told kept : Trace) (v : Verdict) (number : ℕ) (kind : StdKind) → after_verdict n told kept v ≡ Err (Line number kind) → (number ≡ n) × (v ≡ Fault kind)
-after_verdict-says n told kept Kept number kind h = absurd cc
-after_verdict-says n told kept Stray number kind h = absurd cc
-after_verdict-says n told kept (Fault k) number kind h = (cc, cc)
-
 after_shape-says : (limits : Bounds) (n : ℕ) (told : Trace) (shape : Shape) (number : ℕ) (kind : StdKind) → after_shape limits n told shape ≡ Err (Line number kind) → (number ≡ n) × IsFaultAfter limits told shape kind
 after_shape-says limits n told Blank number kind h = absurd cc
 after_shape-says limits n told (Bad k) number kind h = let is : k ≡ kind = cc in (cc, subst (λ k. IsFaultAfter limits told (Bad k) kind) (sym is) (alone kind))
 after_shape-says limits n told Other number kind h = absurd cc
-after_shape-says limits n told (Call operation thread operand location) number kind h =
-    let said = after_verdict-says n told _ _ number kind h in
-    (said.0, verdict_of-says limits told operation thread operand location kind said.1)
+after_shape-says limits n told (Call operation thread operand location) number kind h = after_event-says limits told operation thread operand location kind n number (with_call told operation thread operand location) h
 
 -- the first of these lines at fault, where the first line has this number
 record IsFirstOf (limits : Bounds) (n : ℕ) (start : Trace) (ls : List (List ℕ)) (number : ℕ) (kind : StdKind) : Type 0 where

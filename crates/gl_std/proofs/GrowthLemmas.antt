@@ -6,17 +6,18 @@ use Rattle.gl_event.specs.declared.events.Event.{Event}
 use Rattle.gl_std.specs.Laws.{IsFront, Grows, TracesGrow}
 use Rattle.std.specs.Str.{bytes_eq}
 use Rattle.gl_std.specs.Names.{NameLists}
-use Rattle.gl_std.specs.Line.{Shape, shape_of, is_on_thread}
+use Rattle.gl_std.specs.Line.{Operation, Shape, shape_of, is_on_thread}
 use Rattle.gl_std.specs.Line.Shape.{Blank, Bad, Other, Call}
 use Rattle.gl_std.specs.Lines.{LF, lines}
-use Rattle.gl_std.specs.Trace.{found_in, with_name, with_event, event_told, after_verdict, after_shape, after_line, and_then, read_from}
+use Rattle.gl_std.specs.Trace.{with_event, after_shape, after_line, and_then, read_from}
+use Rattle.gl_std.specs.bodies.Finding.{found_in, with_name, event_found, after_verdict}
 use Rattle.gl_std.specs.declared.faults.ReadFault.{ReadFault}
 use Rattle.gl_std.specs.declared.faults.ReadFault.TheVariants.{Line}
-use Rattle.gl_std.specs.declared.line.Operation.{Operation}
 use Rattle.gl_std.specs.declared.standing.Verdict.{Verdict}
 use Rattle.gl_std.specs.declared.standing.Verdict.TheVariants.{Kept, Stray, Fault}
 use Rattle.gl_std.specs.declared.trace.Trace.{Trace}
-use Rattle.gl_std.proofs.StepLemmas.{IsTrace, acting, place_of, threads_of, locks_of, lists_of, with_call, same_trace, no_trace, trace_of-append}
+use Rattle.gl_std.proofs.FoundLemmas.{acting, place_of, threads_of, locks_of, with_found, call-found}
+use Rattle.gl_std.proofs.StepLemmas.{IsTrace, lists_of, same_trace, no_trace, trace_of-append}
 
 append_nil : {X : Type 0} (xs : List X) → xs ++ [] ≡ xs
 append_nil [] = refl
@@ -98,7 +99,7 @@ Grows-then a b c one two =
           (more.0 ++ most.0, most.1 ∙ ap (λ l. Some l) (append_assoc es more.0 most.0));
     }
 
-pub call_grows : (told : Trace) (operation : Operation) (thread operand location : List ℕ) → Grows told (with_call told operation thread operand location)
+pub call_grows : (told : Trace) (operation : Operation) (thread operand location : List ℕ) → Grows told (with_found told operation thread operand location)
 call_grows told operation thread operand location =
     let found = found_in told.names operation thread operand location in
     let on = is_on_thread operation in
@@ -106,7 +107,7 @@ call_grows told operation thread operand location =
       threads = threads_of-front on told.names thread operand;
       locks = locks_of-front on told.names thread operand;
       locs = with_name-front told.names.locs found.loc location;
-      lists = λ k es h. lists_of-goes_on on told.lists found.thread found.operand (event_told told.names operation found) k es h;
+      lists = λ k es h. lists_of-goes_on on told.lists found.thread found.operand (event_found told.names operation found) k es h;
     }
 
 after_verdict_grows : (line : ℕ) (told kept more : Trace) (v : Verdict) → Grows told kept → IsTrace (after_verdict line told kept v) more → Grows told more
@@ -119,7 +120,7 @@ after_shape_grows limits line told more Blank is = subst (Grows told) (same_trac
 after_shape_grows limits line told more (Bad kind) is = absurd (no_trace (Line line kind) more is)
 after_shape_grows limits line told more Other is = subst (Grows told) (same_trace (record told { skipped = told.skipped + 1 }) more is) (Grows-itself told (told.skipped + 1) told.stray)
 after_shape_grows limits line told more (Call operation thread operand location) is =
-    after_verdict_grows line told (with_call told operation thread operand location) more _ (call_grows told operation thread operand location) is
+    after_verdict_grows line told (with_found told operation thread operand location) more _ (call_grows told operation thread operand location) (sym (call-found limits line told operation thread operand location) ∙ is)
 
 read_from_grows : (limits : Bounds) (ls : List (List ℕ)) (number : ℕ) (told more : Trace) → IsTrace (read_from limits number told ls) more → Grows told more
 read_from_grows limits [] number told more is = subst (Grows told) (same_trace told more is) (Grows-itself told told.skipped told.stray)

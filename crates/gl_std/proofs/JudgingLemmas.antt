@@ -8,19 +8,20 @@ use Rattle.gl_event.specs.Lawful.{lock_refusal}
 use Rattle.gl_std.specs.Judging.{with_judged, HasJudged, IsSound}
 use Rattle.gl_std.specs.Listed.{listed}
 use Rattle.gl_std.specs.Standings.{State, StandsAfter, AreStanding, count_of}
-use Rattle.gl_std.specs.Line.{is_on_thread}
+use Rattle.gl_std.specs.Line.{Operation, is_on_thread}
 use Rattle.gl_std.specs.Names.{NameLists}
-use Rattle.gl_std.specs.Trace.{found_in, events_of, with_event, with_list, with_lists, event_told, limit_reached, limit_fault, verdict_of, with_names, after_verdict, after_call, IsTraceOver}
+use Rattle.gl_std.specs.Trace.{events_of, with_event, with_list, after_call, IsTraceOver}
+use Rattle.gl_std.specs.bodies.Finding.{found_in, with_lists, event_found, limit_found, limit_fault, verdict_of, with_names, after_verdict}
 use Rattle.gl_std.specs.declared.faults.StdKind.{StdKind}
 use Rattle.gl_std.specs.declared.faults.ReadFault.{ReadFault}
 use Rattle.gl_std.specs.declared.judge.Judge.{Judge}
 use Rattle.gl_std.specs.declared.judge.Judged.{Judged}
 use Rattle.gl_std.specs.declared.judge.Judged.TheVariants.{Event as Told}
-use Rattle.gl_std.specs.declared.line.Operation.{Operation}
 use Rattle.gl_std.specs.declared.names.Found.{Found}
 use Rattle.gl_std.specs.declared.standing.Verdict.{Verdict}
 use Rattle.gl_std.specs.declared.trace.Trace.{Trace}
-use Rattle.gl_std.proofs.StepLemmas.{with_call, length-threads_of, found_within}
+use Rattle.gl_std.proofs.FoundLemmas.{with_found, length-threads_of, call-found}
+use Rattle.gl_std.proofs.StepLemmas.{found_within}
 
 -- ---- the standings of all threads
 
@@ -175,21 +176,21 @@ sound_of j told judged over few_skipped few_stray =
     }
 
 -- a line that tells an event, by what was found out of it
-pub call_judged : (limits : Bounds) (line : ℕ) (names : NameLists) (states : List State) (told : Trace) (operation : Operation) (thread operand location : List ℕ) (found : Found) (event : Event) (limit : Option StdKind) (verdict : Verdict) → names ≡ told.names → AreStanding told.lists states → found ≡ found_in names operation thread operand location → event ≡ event_told names operation found → limit ≡ limit_reached limits names (count_of states found.thread) operation found → verdict ≡ verdict_of (lock_refusal (events_of told.lists found.thread) event) limit → after_call limits line told operation thread operand location ≡ after_verdict line told (with_call told operation thread operand location) verdict
+pub call_judged : (limits : Bounds) (line : ℕ) (names : NameLists) (states : List State) (told : Trace) (operation : Operation) (thread operand location : List ℕ) (found : Found) (event : Event) (limit : Option StdKind) (verdict : Verdict) → names ≡ told.names → AreStanding told.lists states → found ≡ found_in names operation thread operand location → event ≡ event_found names operation found → limit ≡ limit_found limits names (count_of states found.thread) operation found → verdict ≡ verdict_of (lock_refusal (events_of told.lists found.thread) event) limit → after_call limits line told operation thread operand location ≡ after_verdict line told (with_found told operation thread operand location) verdict
 call_judged limits line names states told operation thread operand location found event limit verdict same are is_found is_event is_limit is_verdict =
     let found1 = found_in told.names operation thread operand location in
-    let event1 = event_told told.names operation found1 in
+    let event1 = event_found told.names operation found1 in
     let es1 = events_of told.lists found1.thread in
     let to_found : found ≡ found1 = is_found ∙ ap (λ ns. found_in ns operation thread operand location) same in
-    let to_event : event ≡ event1 = is_event ∙ ap (λ ns. event_told ns operation found) same ∙ ap (event_told told.names operation) to_found in
+    let to_event : event ≡ event1 = is_event ∙ ap (λ ns. event_found ns operation found) same ∙ ap (event_found told.names operation) to_found in
     let to_limit : limit ≡ limit_fault limits told operation found1 =
-    is_limit ∙ ap (λ ns. limit_reached limits ns (count_of states found.thread) operation found) same
-    ∙ ap (λ n. limit_reached limits told.names n operation found) (standing_count told.lists states found.thread are)
+    is_limit ∙ ap (λ ns. limit_found limits ns (count_of states found.thread) operation found) same
+    ∙ ap (λ n. limit_found limits told.names n operation found) (standing_count told.lists states found.thread are)
     ∙ ap (limit_fault limits told operation) to_found in
     let to_verdict : verdict ≡ verdict_of (lock_refusal es1 event1) (limit_fault limits told operation found1) =
     is_verdict ∙ ap (λ f. verdict_of (lock_refusal (events_of told.lists f.thread) event) limit) to_found
     ∙ ap (λ e. verdict_of (lock_refusal es1 e) limit) to_event ∙ ap (verdict_of (lock_refusal es1 event1)) to_limit in
-    ap (after_verdict line told (with_call told operation thread operand location)) (sym to_verdict)
+    call-found limits line told operation thread operand location ∙ ap (after_verdict line told (with_found told operation thread operand location)) (sym to_verdict)
 
 -- the lists after a line that is kept
 pub call_listed : (names names2 : NameLists) (states : List State) (told : Trace) (operation : Operation) (thread operand location : List ℕ) (found : Found) (event : Event) (own : ℕ) → AreStanding told.lists states → length states ≡ length names.threads → found ≡ found_in names operation thread operand location → names2 ≡ with_names names operation found thread operand location → own ≡ unwrap_or found.thread (length names.threads) → with_lists told.lists operation found event ≡ listed (length names2.threads) told.lists own event
@@ -220,14 +221,14 @@ call_known names names2 operation thread operand location found own is_found are
     by (Some i) within is threads = let low = within i refl in omega (arith, is, threads, low)
 
 -- the trace after a line that is kept
-pub call_kept : (names names2 : NameLists) (states : List State) (told : Trace) (operation : Operation) (thread operand location : List ℕ) (found : Found) (event : Event) (own : ℕ) → names ≡ told.names → AreStanding told.lists states → length states ≡ length names.threads → found ≡ found_in names operation thread operand location → event ≡ event_told names operation found → names2 ≡ with_names names operation found thread operand location → own ≡ unwrap_or found.thread (length names.threads) → with_call told operation thread operand location ≡ with_judged (Told own event) names2 told
+pub call_kept : (names names2 : NameLists) (states : List State) (told : Trace) (operation : Operation) (thread operand location : List ℕ) (found : Found) (event : Event) (own : ℕ) → names ≡ told.names → AreStanding told.lists states → length states ≡ length names.threads → found ≡ found_in names operation thread operand location → event ≡ event_found names operation found → names2 ≡ with_names names operation found thread operand location → own ≡ unwrap_or found.thread (length names.threads) → with_found told operation thread operand location ≡ with_judged (Told own event) names2 told
 call_kept names names2 states told operation thread operand location found event own same are each is_found is_event are_names is_own =
     let found1 = found_in told.names operation thread operand location in
     let to_found : found ≡ found1 = is_found ∙ ap (λ ns. found_in ns operation thread operand location) same in
-    let to_event : event ≡ event_told told.names operation found1 = is_event ∙ ap (λ ns. event_told ns operation found) same ∙ ap (event_told told.names operation) to_found in
+    let to_event : event ≡ event_found told.names operation found1 = is_event ∙ ap (λ ns. event_found ns operation found) same ∙ ap (event_found told.names operation) to_found in
     let to_names : with_names told.names operation found1 thread operand location ≡ names2 =
     sym (are_names ∙ ap (λ ns. with_names ns operation found thread operand location) same ∙ ap (λ f. with_names told.names operation f thread operand location) to_found) in
-    let to_lists : with_lists told.lists operation found1 (event_told told.names operation found1) ≡ listed (length names2.threads) told.lists own event =
+    let to_lists : with_lists told.lists operation found1 (event_found told.names operation found1) ≡ listed (length names2.threads) told.lists own event =
     sym (ap (λ f. with_lists told.lists operation f event) to_found ∙ ap (with_lists told.lists operation found1) to_event)
     ∙ call_listed names names2 states told operation thread operand location found event own are each is_found are_names is_own in
     (λ i. record { names = to_names i; lists = to_lists i; skipped = told.skipped; stray = told.stray })

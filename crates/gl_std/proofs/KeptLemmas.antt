@@ -1,8 +1,7 @@
 -- The trace of a text tells the lines that are kept as events.
-use Rattle.std.proofs.Common.{◌≡◌, ℕ, ◌+◌, Bool, true, false, cond, eqb, nat_lt, List, [], ◌∷◌, ◌++◌, length, map, filter, fold, position, count_by, get_or, is_none, unwrap_or, All, Option, Some, None, Result, Ok, Err, refl, sym, ap, subst, ◌∙◌, append_assoc, length-append, arith}
+use Rattle.std.proofs.Common.{◌≡◌, ℕ, ◌+◌, Bool, true, false, cond, eqb, List, [], ◌∷◌, ◌++◌, length, map, filter, fold, position, count_by, get_or, is_none, unwrap_or, All, Option, Some, None, Result, Ok, Err, refl, sym, ap, subst, ◌∙◌, append_assoc, length-append, arith}
 use Rattle.std.specs.Prelude.{slice_get, nat_le}
-use Rattle.std.specs.List.{position_or_len, flat_map}
-use Rattle.std.specs.Option.{option_map_or}
+use Rattle.std.specs.List.{flat_map}
 use Rattle.std.specs.Str.{bytes_eq}
 use Rattle.std.proofs.lemmas.List.{map-append}
 use Rattle.std.proofs.lemmas.List.Sums.{fold-append, sum_by-append}
@@ -20,32 +19,23 @@ use Rattle.gl_event.specs.declared.events.LockMode.{LockMode}
 use Rattle.gl_event.specs.declared.events.Refusal.TheVariants.{NotHeld, HeldFull as NoRoom, DepthFull as TooDeep, Upgrade as IsUpgrade}
 use Rattle.gl_event.specs.declared.held.TheConstants.{MAX_HELD, MAX_DEPTH}
 use Rattle.gl_event.proofs.Depths.{slice_get_before, slice_get_last}
-use Rattle.gl_std.specs.Laws.{IsFront, Grows, KeptLine, IsNumbered, threads_in, locks_in, operands, is_stray, is_other, is_call, kept_in, kept_from, mention, if_told, TracesTellLines}
+use Rattle.gl_std.specs.Laws.{IsFront, Grows, KeptLine, IsNumbered, threads_in, locks_in, is_stray, is_other, is_call, kept_in, kept_from, if_told, TracesTellLines}
 use Rattle.gl_std.specs.Names.{NameLists}
-use Rattle.gl_std.specs.Line.{Shape, shape_of, is_on_thread}
+use Rattle.gl_std.specs.Line.{Operation, Shape, shape_of, is_on_thread}
 use Rattle.gl_std.specs.Line.Shape.{Blank, Bad, Other, Call}
 use Rattle.gl_std.specs.Lines.{lines}
-use Rattle.gl_std.specs.Trace.{found_in, with_name, with_event, events_of, operand_number, event_told, limit_fault, verdict_of, after_verdict, after_shape, after_line, and_then, read_from, nothing, trace_of, IsTraceOver}
+use Rattle.gl_std.specs.Trace.{mention, operands, with_event, events_of, after_shape, after_line, and_then, read_from, nothing, trace_of, IsTraceOver}
+use Rattle.gl_std.specs.bodies.Finding.{found_in, with_name, operand_number, event_found, limit_fault, verdict_of, after_verdict}
 use Rattle.gl_std.specs.declared.faults.StdKind.{StdKind}
 use Rattle.gl_std.specs.declared.faults.ReadFault.{ReadFault}
 use Rattle.gl_std.specs.declared.faults.ReadFault.TheVariants.{Line}
-use Rattle.gl_std.specs.declared.line.Operation.{Operation}
 use Rattle.gl_std.specs.declared.standing.Verdict.{Verdict}
 use Rattle.gl_std.specs.declared.standing.Verdict.TheVariants.{Kept, Stray, Fault}
 use Rattle.gl_std.specs.declared.trace.Trace.{Trace}
-use Rattle.gl_std.proofs.NameLemmas.{any_where_placed}
 use Rattle.gl_std.proofs.GrowthLemmas.{Grows-itself, Grows-then, call_grows}
-use Rattle.gl_std.proofs.StepLemmas.{IsTrace, acting, place_of, threads_of, locks_of, lists_of, length-with_name, length-with_event, with_call, same_trace, no_trace, kept_verdict, after_line_over, nothing_over}
+use Rattle.gl_std.proofs.FoundLemmas.{with_name-mention, length-with_name, acting, place_of, threads_of, locks_of, with_found, event-found, call-found}
+use Rattle.gl_std.proofs.StepLemmas.{IsTrace, lists_of, length-with_event, same_trace, no_trace, kept_verdict, after_line_over, nothing_over}
 use Rattle.gl_std.proofs.PlaceLemmas.{events_named, own, events_named-after, events_named-listed}
-
--- a name that has no number is mentioned for the first time
-pub with_name-mention : (names : List (List ℕ)) (name : List ℕ) → with_name names (position (bytes_eq name) names) name ≡ mention names name
-with_name-mention names name =
-    by (nat_lt (position_or_len (bytes_eq name) names) (length names)) ∙ ap (λ b. cond b names (names ++ name ∷ [])) (sym (any_where_placed (bytes_eq name) names))
-  where
-    by : (b : Bool) → option_map_or (λ _. names) (cond b (Some (position_or_len (bytes_eq name) names)) None) (names ++ name ∷ []) ≡ cond b names (names ++ name ∷ [])
-    by true = refl
-    by false = refl
 
 -- the trace after more lines, which say this, and of which these are kept
 record Tells (old : Trace) (shapes : List Shape) (kept : List KeptLine) (new : Trace) : Type 0 where
@@ -212,13 +202,13 @@ one_line : (P : KeptLine → Type 0) (line : KeptLine) → P line → All P (lin
 one_line P line is = All-push P [] line (λ k d h. absurd (omega arith)) is
 
 -- the trace with the call tells its line
-call_told : (told : Trace) (operation : Operation) (thread operand location : List ℕ) → length told.lists ≡ length told.names.threads → Tells told (Call operation thread operand location ∷ []) (record { operation = operation; thread = thread; operand = operand; loc = location; event = event_told told.names operation (found_in told.names operation thread operand location) } ∷ []) (with_call told operation thread operand location)
+call_told : (told : Trace) (operation : Operation) (thread operand location : List ℕ) → length told.lists ≡ length told.names.threads → Tells told (Call operation thread operand location ∷ []) (record { operation = operation; thread = thread; operand = operand; loc = location; event = event_found told.names operation (found_in told.names operation thread operand location) } ∷ []) (with_found told operation thread operand location)
 call_told told operation thread operand location each =
     let found = found_in told.names operation thread operand location in
-    let event = event_told told.names operation found in
+    let event = event_found told.names operation found in
     let on = is_on_thread operation in
     let line : KeptLine = record { operation = operation; thread = thread; operand = operand; loc = location; event = event } in
-    let new = with_call told operation thread operand location in
+    let new = with_found told operation thread operand location in
     let numbered : IsNumbered new.names line = record {
       operand_number = operand_number told.names operation found;
       loc_number = unwrap_or found.loc (length told.names.locs);
@@ -243,16 +233,19 @@ after_shape-kept limits number told more (Bad kind) each is = absurd (no_trace (
 after_shape-kept limits number told more Other each is = subst (Tells told (Other ∷ []) []) (same_trace (record told { skipped = told.skipped + 1 }) more is) (Tells-none told (Other ∷ []) (told.skipped + 1) told.stray (omega arith) (omega arith))
 after_shape-kept limits number told more (Call operation thread operand location) each is =
     let found = found_in told.names operation thread operand location in
-    let event = event_told told.names operation found in
+    let event = event_found told.names operation found in
     let es = events_of told.lists found.thread in
     let limit = limit_fault limits told operation found in
     let line : KeptLine = record { operation = operation; thread = thread; operand = operand; loc = location; event = event } in
     let shapes = Call operation thread operand location ∷ [] in
-    after_verdict-kept number told (with_call told operation thread operand location) more shapes line (verdict_of (lock_refusal es event) limit) (is_stray es event)
+    let keeps : Event → List KeptLine = λ e. cond (is_stray es e) [] (record { operation = operation; thread = thread; operand = operand; loc = location; event = e } ∷ []) in
+    subst (λ e. Tells told shapes (keeps e) more) (sym (event-found told.names operation thread operand location))
+    (after_verdict-kept number told (with_found told operation thread operand location) more shapes line (verdict_of (lock_refusal es event) limit) (is_stray es event)
     (λ kept. allowed_no_stray es event (kept_verdict (lock_refusal es event) limit kept).0)
     (λ dropped. dropped_stray es event limit dropped)
     (Tells-none told shapes told.skipped (told.stray + 1) (omega arith) (omega arith))
-    (call_told told operation thread operand location each) is
+    (call_told told operation thread operand location each)
+    (sym (call-found limits number told operation thread operand location) ∙ is))
 
 read_from-kept : (limits : Bounds) (ls : List (List ℕ)) (number : ℕ) (told more : Trace) → IsTraceOver limits told → IsTrace (read_from limits number told ls) more → Tells told (map shape_of ls) (kept_from limits number told ls) more
 read_from-kept limits [] number told more over is = subst (Tells told [] []) (same_trace told more is) (Tells-none told [] told.skipped told.stray (omega arith) (omega arith))

@@ -1,6 +1,7 @@
 pub mod CutLemmas
 pub mod FaultLemmas
 pub mod FeedLemmas
+pub mod FoundLemmas
 mod GrowthLemmas
 pub mod HeardLemmas
 pub mod JudgingLemmas

@@ -1,10 +1,9 @@
 -- What the lines of a text are: one by one, and after any front of the text.
-use Rattle.std.proofs.Common.{◌≡◌, ◌≢◌, ℕ, zero, suc, ◌-◌, ◌<◌, Bool, true, false, cond, eqb, ◌||◌, ◌&&◌, List, [], ◌∷◌, ◌++◌, length, take, drop, Some, None, Contains, refl, sym, ap, subst, ◌∙◌, arith, append_assoc, get_or}
+use Rattle.std.proofs.Common.{length-append, ◌≡◌, ◌≢◌, ℕ, zero, suc, ◌-◌, ◌<◌, Bool, true, false, cond, eqb, ◌||◌, ◌&&◌, List, [], ◌∷◌, ◌++◌, length, take, drop, Some, None, Contains, refl, sym, ap, subst, ◌∙◌, arith, append_assoc, get_or}
 use Rattle.std.specs.List.{list_any, onto_first}
 use Rattle.std.proofs.lemmas.Bool.{false≢true, eqb-true, eq-eqb}
 use Rattle.std.proofs.lemmas.List.Folds.{Any-from_list_any, list_any_at}
 use Rattle.std.proofs.lemmas.List.{get_or_default}
-use Rattle.std.proofs.Common.{length-append}
 use Rattle.gl_std.specs.Line.{cut_at}
 use Rattle.gl_std.proofs.CutLemmas.{cut_at-Some, cut_at-None}
 use Rattle.gl_std.specs.Lines.{LF, CR, begins_with, lines, without_cr, EndsWithCR, HasLines}

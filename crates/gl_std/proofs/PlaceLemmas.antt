@@ -12,9 +12,9 @@ use Rattle.std.proofs.lemmas.List.Sums.{position_or_len_is}
 use Rattle.std.proofs.lemmas.List.Quantifiers.{position-Some}
 use Rattle.std.proofs.lemmas.Slice.Eq.{bytes_eq-Decides}
 use Rattle.gl_event.specs.declared.events.Event.{Event}
-use Rattle.gl_std.specs.Line.{is_on_itself, is_on_thread}
-use Rattle.gl_std.specs.Trace.{with_name, events_of, with_event, with_list}
-use Rattle.gl_std.specs.declared.line.Operation.{Operation}
+use Rattle.gl_std.specs.Line.{Operation, is_on_itself, is_on_thread}
+use Rattle.gl_std.specs.Trace.{events_of, with_event, with_list}
+use Rattle.gl_std.specs.bodies.Finding.{with_name}
 use Rattle.gl_std.proofs.NameLemmas.{list_any-absent}
 
 append_nil : {X : Type 0} (xs : List X) → xs ++ [] ≡ xs
@@ -42,7 +42,7 @@ all_fail p xs d none k within = by (p (get_or xs k d)) refl
     by false e = refl
 
 -- the place in a list with one more element
-abbrev place_after : Option ℕ → Bool → ℕ → Option ℕ
+abbrev pub place_after : Option ℕ → Bool → ℕ → Option ℕ
 place_after place passes size = option_map_or (λ i. Some i) place (cond passes (Some size) None)
 
 pub position-push : {X : Type 0} (p : X → Bool) (xs : List X) (y : X) → position p (xs ++ y ∷ []) ≡ place_after (position p xs) (p y) (length xs)
@@ -64,7 +64,7 @@ position-push p xs y = by (position p xs) refl (p y) refl
 same_name : (a b : List ℕ) → bytes_eq a b ≡ true → a ≡ b
 same_name a b h = (bytes_eq-Decides a b).0 h
 
-itself : (a : List ℕ) → bytes_eq a a ≡ true
+pub itself : (a : List ℕ) → bytes_eq a a ≡ true
 itself a = (bytes_eq-Decides a a).1 refl
 
 other_name : (a b : List ℕ) → a ≢ b → bytes_eq a b ≡ false

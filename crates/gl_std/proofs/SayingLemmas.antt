@@ -7,14 +7,14 @@ use Rattle.gl_event.specs.Events.{location}
 use Rattle.gl_event.specs.declared.events.Event.{Event}
 use Rattle.gl_event.specs.declared.events.Event.TheVariants.{Acquire, Release, TryAcquire, Fork, Join}
 use Rattle.gl_event.specs.declared.events.LockMode.TheVariants.{Exclusive, Shared}
-use Rattle.gl_std.specs.Line.{shape_of, operation_of}
+use Rattle.gl_std.specs.Line.{BAR, OPEN, CLOSE, shape_of, operation_of}
 use Rattle.gl_std.specs.Line.Shape.{Call}
 use Rattle.gl_std.specs.Line.Says.{fields}
 use Rattle.gl_std.specs.Line.FieldsSay.{call}
 use Rattle.gl_std.specs.Lines.{LF, CR, is_empty, lines, without_cr}
 use Rattle.gl_std.specs.Names.{NameLists}
 use Rattle.gl_std.specs.Written.{name_at, word_of, operand_name, event_line, written_event, operation_in, said, CanBeTold, WrittenLinesSayEvents}
-use Rattle.gl_std.specs.declared.line.TheConstants.{MAX_LINE, BAR, OPEN, CLOSE}
+use Rattle.gl_std.specs.declared.line.TheConstants.{MAX_LINE}
 use Rattle.gl_std.proofs.CutLemmas.{holds}
 use Rattle.gl_std.proofs.LinesLemmas.{lines-first, no_lf, holds_lf-cr, without_cr-append}
 use Rattle.gl_std.proofs.ShapeLemmas.{holds-none, free_of, says_shape}

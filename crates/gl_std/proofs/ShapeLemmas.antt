@@ -1,20 +1,18 @@
 -- What a line says, in words, is its shape.
 use Rattle.std.proofs.Common.{◌≡◌, ◌≢◌, ℕ, zero, suc, ◌-◌, ◌<◌, ◌≤◌, Bool, true, false, cond, eqb, ◌&&◌, ◌||◌, List, [], ◌∷◌, ◌++◌, length, take, get_or, Option, Some, None, Contains, refl, sym, ap, subst, ◌∙◌, arith}
-use Rattle.std.specs.Prelude.{nat_lt}
+use Rattle.std.specs.Prelude.{IsTrue, nat_lt}
 use Rattle.std.specs.Option.{option_map, option_map_or}
 use Rattle.std.proofs.lemmas.Bool.{false≢true, eqb-true, eq-eqb}
 use Rattle.std.proofs.lemmas.Bool.Decides.{nat_tests}
 use Rattle.std.proofs.lemmas.List.{get_or_default, take-append-le, take_all, length_push, length-take}
 use Rattle.std.proofs.lemmas.List.Folds.{Any-from_list_any, list_any_at}
-use Rattle.gl_std.specs.Line.{Shape, Says, FieldsSay, cut_at, is_on_itself, is_on_thread, operation_of, operation_name, operand_of, before_close, shape_of, shape_of_call, shape_of_fields}
+use Rattle.gl_std.specs.Line.{BAR, OPEN, CLOSE, Operation, Shape, Says, FieldsSay, cut_at, is_on_itself, is_on_thread, operation_of, operation_name, operand_of, before_close, shape_of, shape_of_call, shape_of_fields}
 use Rattle.gl_std.specs.Line.Shape.{Blank, Bad, Call}
 use Rattle.gl_std.specs.Line.Says.{too_long, blank, no_bar, one_bar, fields}
 use Rattle.gl_std.specs.Line.FieldsSay.{no_thread, other_word, no_operand, other_call, call, on_itself, bad_operand}
 use Rattle.gl_std.specs.declared.faults.StdKind.TheVariants.{TooLong, NoBar, NoLocation, NoThread, OnItself}
-use Rattle.gl_std.specs.declared.line.Operation.{Operation}
-use Rattle.gl_std.specs.declared.line.TheConstants.{MAX_LINE, BAR, OPEN, CLOSE}
+use Rattle.gl_std.specs.declared.line.TheConstants.{MAX_LINE}
 use Rattle.gl_std.specs.bodies.Reading.{AreApart}
-use Rattle.std.specs.Prelude.{IsTrue}
 use Rattle.std.specs.Str.{bytes_eq}
 use Rattle.std.proofs.lemmas.Slice.Eq.{bytes_eq-Decides}
 use Rattle.gl_std.proofs.CutLemmas.{holds, cut_at-Some, cut_at-None}

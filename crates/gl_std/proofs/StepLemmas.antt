@@ -1,5 +1,5 @@
 -- A line leaves a trace that obeys the limits as one that does.
-use Rattle.std.proofs.Common.{◌≡◌, ◌≢◌, ℕ, zero, suc, ◌+◌, ◌<◌, ◌≤◌, ◌^◌, ◌⊎◌, Bool, true, false, ◌&&◌, cond, eqb, List, [], ◌∷◌, ◌++◌, length, Option, Some, None, Result, Ok, Err, All, AllPairs, get_or, position, is_none, unwrap_or, refl, sym, ap, subst, ◌∙◌, inl, inr, ⊎_elim, add-zero, arith}
+use Rattle.std.proofs.Common.{◌≡◌, ◌≢◌, ℕ, zero, suc, ◌+◌, ◌<◌, ◌≤◌, ◌⊎◌, Bool, true, false, ◌&&◌, cond, eqb, List, [], ◌∷◌, ◌++◌, length, Option, Some, None, Result, Ok, Err, All, AllPairs, get_or, position, is_none, unwrap_or, refl, sym, ap, subst, ◌∙◌, inl, inr, ⊎_elim, add-zero, arith}
 use Rattle.std.specs.Prelude.{slice_get, slice_set, nat_le, nat_lt}
 use Rattle.std.specs.Str.{bytes_eq}
 use Rattle.std.proofs.lemmas.Bool.{false≢true, ne_eqb}
@@ -9,14 +9,14 @@ use Rattle.std.proofs.lemmas.List.Elements.{All-push, All-weaker}
 use Rattle.std.proofs.lemmas.List.Folds.{list_any_at}
 use Rattle.std.proofs.lemmas.List.Quantifiers.{position-Some, all_pairs_push}
 use Rattle.std.proofs.lemmas.Slice.Eq.{bytes_eq-Decides}
-use Rattle.gl_event.specs.Bounds.{Bounds, AreWithinRange}
+use Rattle.gl_event.specs.Bounds.{Bounds}
 use Rattle.gl_event.specs.Lawful.{lock_refusal, refusal, IsLawful}
 use Rattle.gl_event.proofs.Lawfulness.{IsLawful-nil, IsLawful-push}
 use Rattle.gl_event.specs.declared.events.Event.{Event}
 use Rattle.gl_event.specs.declared.events.Event.TheVariants.{Acquire, Release, TryAcquire, Fork, Join}
 use Rattle.gl_event.specs.declared.events.Refusal.{Refusal}
 use Rattle.gl_event.specs.declared.events.Refusal.TheVariants.{PlaceFull, NoSuchThread, OnItself, NotHeld, HeldFull as NoRoom, DepthFull as TooDeep, Upgrade as IsUpgrade}
-use Rattle.gl_std.specs.Line.{Shape, shape_of, is_on_itself, is_on_thread}
+use Rattle.gl_std.specs.Line.{Operation, Shape, shape_of, is_on_itself, is_on_thread}
 use Rattle.gl_std.specs.bodies.Reading.{AreApart}
 use Rattle.gl_std.proofs.ShapeLemmas.{shape_of_apart}
 use Rattle.gl_std.specs.Line.Shape.{Blank, Bad, Other, Call}
@@ -24,16 +24,17 @@ use Rattle.gl_std.specs.Laws.{ReadingGoesOn}
 use Rattle.gl_std.specs.Lines.{LF, lines}
 use Rattle.gl_std.proofs.LinesLemmas.{lines-after_line}
 use Rattle.gl_std.specs.Names.{NameLists}
-use Rattle.gl_std.specs.Trace.{found_in, with_name, if_new, threads_after, locks_after, events_of, with_event, with_list, with_lists, event_of, event_told, limit_fault, verdict_of, with_names, after_verdict, after_call, after_shape, after_line, and_then, read_from, nothing, trace_of, IsNamed, IsTraceOver}
+use Rattle.gl_std.specs.Trace.{events_of, with_event, with_list, event_of, after_call, after_shape, after_line, and_then, read_from, nothing, trace_of, IsNamed, IsTraceOver}
+use Rattle.gl_std.specs.bodies.Finding.{found_in, with_name, if_new, threads_after, locks_after, event_found, limit_fault, verdict_of, with_names, after_verdict}
 use Rattle.gl_std.specs.declared.faults.StdKind.{StdKind}
 use Rattle.gl_std.specs.declared.faults.ReadFault.{ReadFault}
 use Rattle.gl_std.specs.declared.faults.ReadFault.TheVariants.{Line}
-use Rattle.gl_std.specs.declared.line.Operation.{Operation}
-use Rattle.gl_std.specs.declared.line.Operation.TheVariants.{Acquire as AcquireOf, Release as ReleaseOf, TryAcquire as TryAcquireOf, Fork as ForkOf, Join as JoinOf}
+use Rattle.gl_std.specs.Line.Operation.{Acquire as AcquireOf, Release as ReleaseOf, TryAcquire as TryAcquireOf, Fork as ForkOf, Join as JoinOf}
 use Rattle.gl_std.specs.declared.names.Found.{Found}
 use Rattle.gl_std.specs.declared.standing.Verdict.{Verdict}
 use Rattle.gl_std.specs.declared.standing.Verdict.TheVariants.{Kept, Stray, Fault}
 use Rattle.gl_std.specs.declared.trace.Trace.{Trace}
+use Rattle.gl_std.proofs.FoundLemmas.{length-with_name, acting, place_of, threads_of, locks_of, length-threads_of, length-locks_of, with_found, call-found}
 use Rattle.gl_std.proofs.NameLemmas.{list_any-absent}
 
 -- ---- names
@@ -44,10 +45,6 @@ IsWithin number most = (i : ℕ) → number ≡ Some i → i < most
 
 pub found_within : (names : List (List ℕ)) (name : List ℕ) → IsWithin (position (bytes_eq name) names) (length names)
 found_within names name i is = (position-Some (bytes_eq name) names i [] is).0
-
-pub length-with_name : (names : List (List ℕ)) (number : Option ℕ) (name : List ℕ) → length (with_name names number name) ≡ length names + cond (is_none number) 1 0
-length-with_name names None name = length_push names name
-length-with_name names (Some i) name = omega arith
 
 names_grow : (names : List (List ℕ)) (number : Option ℕ) (name : List ℕ) → length names ≤ length (with_name names number name)
 names_grow names None name = omega (arith, length_push names name)
@@ -156,39 +153,14 @@ on_other operation thread operand apart on = sym (ap (λ a. a && bytes_eq operan
 
 -- ---- the names of a line, where its operand is a thread, and where it is a lock
 
--- the threads, with the acting one
-abbrev pub acting : NameLists → List ℕ → List (List ℕ)
-acting names thread = with_name names.threads (position (bytes_eq thread) names.threads) thread
-
--- the number that the operand has
-abbrev pub place_of : Bool → NameLists → List ℕ → List ℕ → Option ℕ
-place_of on names thread operand = position (bytes_eq operand) (cond on (acting names thread) names.locks)
-
 -- the number that the operand gets
 abbrev number_of : Bool → NameLists → List ℕ → List ℕ → ℕ
 number_of on names thread operand =
     unwrap_or (place_of on names thread operand) (cond on (length names.threads + cond (is_none (position (bytes_eq thread) names.threads)) 1 0) (length names.locks))
 
--- the threads after the line
-abbrev pub threads_of : Bool → NameLists → List ℕ → List ℕ → List (List ℕ)
-threads_of on names thread operand = cond on (with_name (acting names thread) (place_of on names thread operand) operand) (acting names thread)
-
--- the locks after the line
-abbrev pub locks_of : Bool → NameLists → List ℕ → List ℕ → List (List ℕ)
-locks_of on names thread operand = cond on names.locks (with_name names.locks (place_of on names thread operand) operand)
-
 -- the lists after the line
 abbrev pub lists_of : Bool → List (List Event) → Option ℕ → Option ℕ → Event → List (List Event)
 lists_of on lists number place e = cond on (with_list (with_event lists number e) place) (with_event lists number e)
-
-pub length-threads_of : (on : Bool) (names : NameLists) (thread operand : List ℕ) → length (threads_of on names thread operand) ≡ length names.threads + cond (is_none (position (bytes_eq thread) names.threads)) 1 0 + cond on (cond (is_none (place_of on names thread operand)) 1 0) 0
-length-threads_of true names thread operand =
-    omega (arith, length-with_name names.threads (position (bytes_eq thread) names.threads) thread, length-with_name (acting names thread) (place_of true names thread operand) operand)
-length-threads_of false names thread operand = omega (arith, length-with_name names.threads (position (bytes_eq thread) names.threads) thread)
-
-length-locks_of : (on : Bool) (names : NameLists) (thread operand : List ℕ) → length (locks_of on names thread operand) ≡ length names.locks + cond on 0 (cond (is_none (place_of on names thread operand)) 1 0)
-length-locks_of true names thread operand = omega arith
-length-locks_of false names thread operand = length-with_name names.locks (place_of false names thread operand) operand
 
 length-with_list : (lists : List (List Event)) (number : Option ℕ) → length (with_list lists number) ≡ length lists + cond (is_none number) 1 0
 length-with_list lists None = length_push lists []
@@ -268,18 +240,12 @@ record IsAllowed (limits : Bounds) (told : Trace) (operation : Operation) (found
 not_over : (most n : ℕ) → nat_lt most n ≡ false → n ≤ most
 not_over most n h = grind (arith, nat_tests, h)
 
--- the trace with one more event
-abbrev pub with_call : Trace → Operation → List ℕ → List ℕ → List ℕ → Trace
-with_call told operation thread operand location =
-    let found = found_in told.names operation thread operand location in
-    record told { names = with_names told.names operation found thread operand location; lists = with_lists told.lists operation found (event_told told.names operation found) }
-
-kept_over : (limits : Bounds) (told : Trace) (operation : Operation) (thread operand location : List ℕ) → IsTraceOver limits told → is_on_itself operation thread operand ≡ false → IsAllowed limits told operation (found_in told.names operation thread operand location) → lock_refusal (events_of told.lists (found_in told.names operation thread operand location).thread) (event_told told.names operation (found_in told.names operation thread operand location)) ≡ None → IsTraceOver limits (with_call told operation thread operand location)
+kept_over : (limits : Bounds) (told : Trace) (operation : Operation) (thread operand location : List ℕ) → IsTraceOver limits told → is_on_itself operation thread operand ≡ false → IsAllowed limits told operation (found_in told.names operation thread operand location) → lock_refusal (events_of told.lists (found_in told.names operation thread operand location).thread) (event_found told.names operation (found_in told.names operation thread operand location)) ≡ None → IsTraceOver limits (with_found told operation thread operand location)
 kept_over limits told operation thread operand location over apart allowed locks =
     let names = told.names in
     let on = is_on_thread operation in
     let found = found_in names operation thread operand location in
-    let event = event_told names operation found in
+    let event = event_found names operation found in
     let number = number_of on names thread operand in
     let new = with_names names operation found thread operand location in
     let within_locs = found_within names.locs location in
@@ -380,12 +346,13 @@ after_verdict_over limits line told kept more (Fault kind) over new is = absurd 
 after_call_over : (limits : Bounds) (line : ℕ) (told more : Trace) (operation : Operation) (thread operand location : List ℕ) → IsTraceOver limits told → is_on_itself operation thread operand ≡ false → IsTrace (after_call limits line told operation thread operand location) more → IsTraceOver limits more
 after_call_over limits line told more operation thread operand location over apart is =
     let found = found_in told.names operation thread operand location in
-    let event = event_told told.names operation found in
+    let event = event_found told.names operation found in
+    let by_found = sym (call-found limits line told operation thread operand location) ∙ is in
     let refused = lock_refusal (events_of told.lists found.thread) event in
     let limit = limit_fault limits told operation found in
-    after_verdict_over limits line told (with_call told operation thread operand location) more (verdict_of refused limit) over
+    after_verdict_over limits line told (with_found told operation thread operand location) more (verdict_of refused limit) over
     (λ keeps. let none = kept_verdict refused limit keeps in kept_over limits told operation thread operand location over apart (allowed limits told operation found none.1) none.0)
-    is
+    by_found
 
 after_shape_over : (limits : Bounds) (line : ℕ) (told more : Trace) (shape : Shape) → AreApart shape → IsTraceOver limits told → IsTrace (after_shape limits line told shape) more → IsTraceOver limits more
 after_shape_over limits line told more Blank apart over is = subst (IsTraceOver limits) (same_trace told more is) over
@@ -433,28 +400,6 @@ trace_of_over limits text trace is = read_from_over limits (lines text) 1 nothin
 -- ---- reading
 
 -- an event that is kept, by what was found out of it
-pub after_call_kept : (limits : Bounds) (line : ℕ) (told : Trace) (operation : Operation) (thread operand location : List ℕ) (found : Found) (event : Event) (limit : Option StdKind) (names : NameLists) (lists : List (List Event)) → found ≡ found_in told.names operation thread operand location → event ≡ event_told told.names operation found → limit ≡ limit_fault limits told operation found → Kept ≡ verdict_of (lock_refusal (events_of told.lists found.thread) event) limit → names ≡ with_names told.names operation found thread operand location → lists ≡ with_lists told.lists operation found event → after_call limits line told operation thread operand location ≡ Ok (record { names = names; lists = lists; skipped = told.skipped; stray = told.stray })
-after_call_kept limits line told operation thread operand location found event limit names lists is_found is_event is_limit is_kept are_names are_lists =
-    let found1 = found_in told.names operation thread operand location in
-    let event1 = event_told told.names operation found1 in
-    let es1 = events_of told.lists found1.thread in
-    let to_event : event ≡ event1 = is_event ∙ ap (event_told told.names operation) is_found in
-    let to_limit : limit ≡ limit_fault limits told operation found1 = is_limit ∙ ap (limit_fault limits told operation) is_found in
-    let kept : Kept ≡ verdict_of (lock_refusal es1 event1) (limit_fault limits told operation found1) =
-    is_kept ∙ ap (λ f. verdict_of (lock_refusal (events_of told.lists f.thread) event) limit) is_found
-    ∙ ap (λ e. verdict_of (lock_refusal es1 e) limit) to_event ∙ ap (verdict_of (lock_refusal es1 event1)) to_limit in
-    let to_names : names ≡ with_names told.names operation found1 thread operand location = are_names ∙ ap (λ f. with_names told.names operation f thread operand location) is_found in
-    let to_lists : lists ≡ with_lists told.lists operation found1 event1 = are_lists ∙ ap (λ f. with_lists told.lists operation f event) is_found ∙ ap (with_lists told.lists operation found1) to_event in
-    let whole : NameLists → List (List Event) → Trace = λ ns ls. record { names = ns; lists = ls; skipped = told.skipped; stray = told.stray } in
-    ap (after_verdict line told (with_call told operation thread operand location)) (sym kept)
-    ∙ ap (λ ns. Ok (whole ns (with_lists told.lists operation found1 event1))) (sym to_names) ∙ ap (λ ls. Ok (whole names ls)) (sym to_lists)
-
--- a thread's events are no more than a place can count
-pub few_events : (limits : Bounds) (told : Trace) (number : Option ℕ) → AreWithinRange limits → IsTraceOver limits told → length (events_of told.lists number) + 1 < 2 ^ 32
-few_events limits told number range over =
-    events_have (λ es. length es + 1 < 2 ^ 32) told.lists number (omega arith)
-    (λ k es at. let fits = over.events_fit k es at in omega (arith, fits, range.events_fit))
-
 -- the trace of a text is that of its lines
 pub trace_of-lines : (limits : Bounds) (text : List ℕ) → read_from limits 1 nothing (lines text) ≡ trace_of limits text
 unfolding trace_of

@@ -12,20 +12,19 @@ use Rattle.gl_event.specs.Bounds.{Bounds}
 use Rattle.gl_event.specs.Events.{location}
 use Rattle.gl_event.specs.declared.events.Event.{Event}
 use Rattle.gl_event.specs.declared.events.LockMode.TheVariants.{Exclusive, Shared}
-use Rattle.gl_std.specs.Laws.{KeptLine, IsNumbered, operands, kept_in, kept_from, if_told, is_stray}
-use Rattle.gl_std.specs.Line.{Shape, Says, FieldsSay, shape_of, operation_of, is_on_thread}
+use Rattle.gl_std.specs.Laws.{KeptLine, IsNumbered, kept_in, kept_from, if_told, is_stray}
+use Rattle.gl_std.specs.Line.{BAR, OPEN, CLOSE, Operation, Shape, Says, FieldsSay, shape_of, operation_of, is_on_thread}
 use Rattle.gl_std.specs.Line.Shape.{Blank, Bad, Other, Call}
 use Rattle.gl_std.specs.Line.Says.{too_long, blank, no_bar, one_bar, fields}
 use Rattle.gl_std.specs.Line.FieldsSay.{no_thread, other_word, no_operand, other_call, call, on_itself, bad_operand}
 use Rattle.gl_std.specs.Lines.{LF, HasLines, lines}
 use Rattle.gl_std.specs.Lines.HasLines.{no_line, last_line, ended_by_lf, ended_by_cr_lf}
 use Rattle.gl_std.specs.Names.{NameLists}
-use Rattle.gl_std.specs.Trace.{found_in, events_of, event_of, event_told, after_line, nothing}
+use Rattle.gl_std.specs.Trace.{operands, events_of, event_of, event_told, after_line, nothing}
 use Rattle.gl_std.specs.Written.{name_at, word_of, operand_name, event_line, written_event, written_list, operation_in, said, CanBeTold, WrittenTextsSayTraces}
 use Rattle.gl_std.specs.declared.faults.ReadFault.{ReadFault}
-use Rattle.gl_std.specs.declared.line.Operation.{Operation}
-use Rattle.gl_std.specs.declared.line.Operation.TheVariants.{Acquire as AcquireOf, Release as ReleaseOf, TryAcquire as TryAcquireOf, Fork as ForkOf, Join as JoinOf}
-use Rattle.gl_std.specs.declared.line.TheConstants.{MAX_LINE, BAR, OPEN, CLOSE}
+use Rattle.gl_std.specs.Line.Operation.{Acquire as AcquireOf, Release as ReleaseOf, TryAcquire as TryAcquireOf, Fork as ForkOf, Join as JoinOf}
+use Rattle.gl_std.specs.declared.line.TheConstants.{MAX_LINE}
 use Rattle.gl_std.specs.declared.trace.Trace.{Trace}
 use Rattle.gl_std.proofs.CutLemmas.{holds}
 use Rattle.gl_std.proofs.LinesLemmas.{text_has_lines}
@@ -177,10 +176,9 @@ kept_comes told line one Blank known = none_all ComesOfLine
 kept_comes told line one (Bad kind) known = none_all ComesOfLine
 kept_comes told line one Other known = none_all ComesOfLine
 kept_comes told line one (Call operation thread operand location) known =
-    let found = found_in told.names operation thread operand location in
-    let event = event_told told.names operation found in
+    let event = event_told told.names operation thread operand location in
     let kept : KeptLine = record { operation = operation; thread = thread; operand = operand; loc = location; event = event } in
-    by kept (record { line = line; one_line = one; is = known }) (is_stray (events_of told.lists found.thread) event)
+    by kept (record { line = line; one_line = one; is = known }) (is_stray (events_of told.lists (position (bytes_eq thread) told.names.threads)) event)
   where
     by : (kept : KeptLine) → ComesOfLine kept → (b : Bool) → All ComesOfLine (cond b [] (kept ∷ []))
     by kept comes true = none_all ComesOfLine

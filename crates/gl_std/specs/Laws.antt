@@ -1,12 +1,12 @@
 -- What holds of the traces of all texts.
 use Rattle.std.specs.Prelude.{◌≡◌, ◌⊎◌, ℕ, ◌+◌, ◌<◌, ◌≤◌, List, [], ◌∷◌, ◌++◌, Option, Some, None, Result, Ok, Err, Bool, true, false, length, map, filter, fold, position, count_by, slice_get, All, ◌==◌, if◌then◌else◌}
-use Rattle.std.specs.List.{list_any, flat_map}
+use Rattle.std.specs.List.{flat_map}
 use Rattle.std.specs.Str.{bytes_eq}
 use Rattle.gl_event.specs.Events.{depth}
 use Rattle.gl_event.specs.Lawful.{lock_refusal}
 use Rattle.gl_event.specs.declared.events.Refusal.{Refusal}
 use Rattle.gl_event.specs.declared.events.Refusal.TheVariants.{HeldFull as NoRoom, DepthFull as TooDeep, Upgrade as IsUpgrade}
-use Rattle.gl_std.specs.Line.{Shape, shape_of, is_on_thread}
+use Rattle.gl_std.specs.Line.{Operation, Shape, shape_of, is_on_thread}
 use Rattle.gl_std.specs.Line.Shape.{Blank, Bad, Other, Call}
 use Rattle.gl_std.specs.declared.faults.ReadFault.{ReadFault}
 use Rattle.gl_std.specs.declared.faults.ReadFault.TheVariants.{Line}
@@ -17,8 +17,7 @@ use Rattle.gl_event.specs.declared.events.Event.{Event}
 use Rattle.gl_event.specs.declared.events.Event.TheVariants.{Acquire, Release, TryAcquire, Fork, Join}
 use Rattle.gl_std.specs.Lines.{LF, lines}
 use Rattle.gl_std.specs.Names.{NameLists}
-use Rattle.gl_std.specs.Trace.{found_in, threads_after, locks_after, events_of, event_of, event_told, after_line, and_then, read_from, nothing, trace_of, IsTraceOver}
-use Rattle.gl_std.specs.declared.line.Operation.{Operation}
+use Rattle.gl_std.specs.Trace.{mention, names_after, operands, events_of, event_of, event_told, after_line, and_then, read_from, nothing, trace_of, IsTraceOver}
 use Rattle.gl_std.specs.declared.trace.Trace.{Trace}
 
 -- a text's trace obeys the limits: its lists are lawful, and whatever they speak of has one name
@@ -63,10 +62,6 @@ threads_in line = line.thread ∷ (if is_on_thread line.operation then line.oper
 abbrev pub locks_in : KeptLine → List (List ℕ)
 locks_in line = if is_on_thread line.operation then [] else line.operand ∷ []
 
--- the names of threads or of locks, whichever the operation is on
-abbrev pub operands : Operation → NameLists → List (List ℕ)
-operands operation names = if is_on_thread operation then names.threads else names.locks
-
 -- the line's event is its operation, by the numbers at which its names stand
 pub record IsNumbered (names : NameLists) (line : KeptLine) : Type 0 where
   pub operand_number : ℕ
@@ -89,9 +84,8 @@ kept_in told Blank = []
 kept_in told (Bad kind) = []
 kept_in told Other = []
 kept_in told (Call operation thread operand location) =
-    let found = found_in told.names operation thread operand location in
-    let event = event_told told.names operation found in
-    if is_stray (events_of told.lists found.thread) event then []
+    let event = event_told told.names operation thread operand location in
+    if is_stray (events_of told.lists (position (bytes_eq thread) told.names.threads)) event then []
     else record { operation = operation; thread = thread; operand = operand; loc = location; event = event } ∷ []
 
 -- the line tells of an operation that isn't watched
@@ -119,10 +113,6 @@ kept_from limits number told [] = []
 kept_from limits number told (line ∷ rest) =
     kept_in told (shape_of line) ++ if_told (after_line limits number told line) (λ more. kept_from limits (number + 1) more rest)
 
--- the names, with this one at the end if it isn't among them
-abbrev pub mention : List (List ℕ) → List ℕ → List (List ℕ)
-mention seen name = if list_any (bytes_eq name) seen then seen else seen ++ name ∷ []
-
 -- each of these names once, in order of first mention
 abbrev pub first_mentions : List (List ℕ) → List (List ℕ)
 first_mentions names = fold mention [] names
@@ -146,8 +136,7 @@ TracesTellLines = (limits : Bounds) (text : List ℕ) (trace : Trace) → trace_
 -- why the locks that are held after this trace don't allow the event of a call
 abbrev pub refusal_of_call : Trace → Operation → List ℕ → List ℕ → List ℕ → Option Refusal
 refusal_of_call told operation thread operand location =
-    let found = found_in told.names operation thread operand location in
-    lock_refusal (events_of told.lists found.thread) (event_told told.names operation found)
+    lock_refusal (events_of told.lists (position (bytes_eq thread) told.names.threads)) (event_told told.names operation thread operand location)
 
 -- what the line says is at fault after this trace: the first reason that fits is one of the line alone, then one of the locks,
 -- then one of the limits, on threads, on events and on names in turn
@@ -157,14 +146,14 @@ pub data IsFaultAfter (limits : Bounds) (told : Trace) : Shape → StdKind → T
   too_deep : (operation : Operation) (thread operand location : List ℕ) → refusal_of_call told operation thread operand location ≡ Some TooDeep → IsFaultAfter limits told (Call operation thread operand location) DepthFull
   upgrade : (operation : Operation) (thread operand location : List ℕ) → refusal_of_call told operation thread operand location ≡ Some IsUpgrade → IsFaultAfter limits told (Call operation thread operand location) Upgrade
   many_threads : (operation : Operation) (thread operand location : List ℕ) → refusal_of_call told operation thread operand location ≡ None
-      → limits.threads < threads_after told.names operation (found_in told.names operation thread operand location) → IsFaultAfter limits told (Call operation thread operand location) TooManyThreads
+      → limits.threads < length (names_after told.names operation thread operand location).threads → IsFaultAfter limits told (Call operation thread operand location) TooManyThreads
   many_events : (operation : Operation) (thread operand location : List ℕ) → refusal_of_call told operation thread operand location ≡ None
-      → threads_after told.names operation (found_in told.names operation thread operand location) ≤ limits.threads
+      → length (names_after told.names operation thread operand location).threads ≤ limits.threads
       → limits.events ≤ length (events_of told.lists (position (bytes_eq thread) told.names.threads)) → IsFaultAfter limits told (Call operation thread operand location) TooManyEvents
   many_names : (operation : Operation) (thread operand location : List ℕ) → refusal_of_call told operation thread operand location ≡ None
-      → threads_after told.names operation (found_in told.names operation thread operand location) ≤ limits.threads
+      → length (names_after told.names operation thread operand location).threads ≤ limits.threads
       → length (events_of told.lists (position (bytes_eq thread) told.names.threads)) < limits.events
-      → (limits.names < locks_after told.names operation (found_in told.names operation thread operand location)) ⊎ (limits.names < length (mention told.names.locs location))
+      → (limits.names < length (names_after told.names operation thread operand location).locks) ⊎ (limits.names < length (names_after told.names operation thread operand location).locs)
       → IsFaultAfter limits told (Call operation thread operand location) TooManyNames
 
 -- the text's first line at fault is this one: the lines before it have a trace, after which it is at fault

@@ -2,14 +2,32 @@
 use Rattle.std.specs.Prelude.{◌≡◌, ◌≢◌, ℕ, ◌-◌, ◌<◌, ◌≤◌, Bool, true, false, ◌&&◌, List, [], ◌∷◌, ◌++◌, Contains, Option, Some, None, IsTrue, length, take, nat_lt, slice_index, ◌==◌, if◌then◌else◌, codes}
 use Rattle.std.specs.Option.{option_map, option_map_or}
 use Rattle.std.specs.Str.{bytes_eq}
+use Rattle.gl_event.specs.declared.events.LockMode.{LockMode}
 use Rattle.gl_event.specs.declared.events.LockMode.TheVariants.{Exclusive, Shared}
 use Rattle.gl_std.specs.declared.faults.StdKind.{StdKind}
 use Rattle.gl_std.specs.declared.faults.StdKind.TheVariants.{TooLong, NoBar, NoLocation, NoThread, BadOperand, OnItself}
-use Rattle.gl_std.specs.declared.line.Operation.{Operation}
-use Rattle.gl_std.specs.declared.line.Operation.TheVariants.{Acquire, Release, TryAcquire, Fork, Join}
-use Rattle.gl_std.specs.declared.line.Shape.{Shape as Said}
-use Rattle.gl_std.specs.declared.line.Shape.TheVariants.{Blank as SaidBlank, Bad as SaidBad, Other as SaidOther, Call as SaidCall}
-use Rattle.gl_std.specs.declared.line.TheConstants.{MAX_LINE, BAR, OPEN, CLOSE}
+use Rattle.gl_std.specs.declared.line.TheConstants.{MAX_LINE}
+
+-- the byte between fields
+abbrev pub BAR : ℕ
+BAR = 124
+
+-- the byte before an operand
+abbrev pub OPEN : ℕ
+OPEN = 40
+
+-- the byte after an operand
+abbrev pub CLOSE : ℕ
+CLOSE = 41
+
+-- the operations that are events: a thread acquires a lock, releases it, or acquires it by an attempt that can't wait for
+-- ever; it starts another thread, or has waited for its end
+pub data Operation : Type 0 where
+  Acquire : LockMode → Operation
+  Release : LockMode → Operation
+  TryAcquire : LockMode → Operation
+  Fork : Operation
+  Join : Operation
 
 -- what a line says: nothing, a fault, an operation that isn't watched, or an event
 pub data Shape : Type 0 where
@@ -83,13 +101,6 @@ shape_of line =
     (λ first. option_map_or (λ second. shape_of_fields first.0 second.0 second.1) (cut_at BAR first.1) (Bad NoLocation))
     (cut_at BAR line)
     (Bad NoBar))
-
--- the value of the code that stands for a shape
-abbrev pub shown : Said → Shape
-shown SaidBlank = Blank
-shown (SaidBad kind) = Bad kind
-shown SaidOther = Other
-shown (SaidCall operation thread operand location) = Call operation thread.now operand.now location.now
 
 -- the operation's name is what stands before the first parenthesis, or the whole field; an event has an operand,
 -- between that parenthesis and one that is the field's last byte, and no thread forks or joins itself

@@ -1,5 +1,6 @@
 -- What a text says, line by line and as a whole.
-use Rattle.std.specs.Prelude.{◌≡◌, ◌≢◌, ℕ, ◌+◌, ◌<◌, ◌≤◌, List, [], ◌∷◌, ◌++◌, Option, Some, None, Result, Ok, Err, length, position, is_none, unwrap_or, slice_get, slice_set, slice_index_or, nat_le, nat_lt, if◌then◌else◌, All, AllPairs}
+use Rattle.std.specs.Prelude.{◌≡◌, ◌≢◌, ℕ, ◌+◌, ◌<◌, ◌≤◌, List, [], ◌∷◌, ◌++◌, Option, Some, None, Result, Ok, Err, length, position, slice_get, slice_set, slice_index_or, nat_le, nat_lt, if◌then◌else◌, All, AllPairs}
+use Rattle.std.specs.List.{list_any, position_or_len}
 use Rattle.std.specs.Option.{option_map_or}
 use Rattle.std.specs.Str.{bytes_eq}
 use Rattle.gl_event.specs.Bounds.{Bounds}
@@ -8,7 +9,8 @@ use Rattle.gl_event.specs.declared.events.Event.{Event}
 use Rattle.gl_event.specs.declared.events.Event.TheVariants.{Acquire, Release, TryAcquire, Fork, Join}
 use Rattle.gl_event.specs.declared.events.Refusal.{Refusal}
 use Rattle.gl_event.specs.declared.events.Refusal.TheVariants.{HeldFull as NoRoom, DepthFull as TooDeep, Upgrade as IsUpgrade}
-use Rattle.gl_std.specs.Line.{Shape, shape_of, is_on_thread}
+use Rattle.gl_std.specs.Line.{Operation, Shape, shape_of, is_on_thread}
+use Rattle.gl_std.specs.Line.Operation.{Acquire as AcquireOf, Release as ReleaseOf, TryAcquire as TryAcquireOf, Fork as ForkOf, Join as JoinOf}
 use Rattle.gl_std.specs.Line.Shape.{Blank, Bad, Other, Call}
 use Rattle.gl_std.specs.Lines.{lines}
 use Rattle.gl_std.specs.Names.{NameLists}
@@ -16,40 +18,44 @@ use Rattle.gl_std.specs.declared.faults.StdKind.{StdKind}
 use Rattle.gl_std.specs.declared.faults.StdKind.TheVariants.{HeldFull, DepthFull, Upgrade, TooManyThreads, TooManyEvents, TooManyNames}
 use Rattle.gl_std.specs.declared.faults.ReadFault.{ReadFault}
 use Rattle.gl_std.specs.declared.faults.ReadFault.TheVariants.{Line}
-use Rattle.gl_std.specs.declared.line.Operation.{Operation}
-use Rattle.gl_std.specs.declared.line.Operation.TheVariants.{Acquire as AcquireOf, Release as ReleaseOf, TryAcquire as TryAcquireOf, Fork as ForkOf, Join as JoinOf}
-use Rattle.gl_std.specs.declared.names.Found.{Found}
-use Rattle.gl_std.specs.declared.standing.Verdict.{Verdict}
-use Rattle.gl_std.specs.declared.standing.Verdict.TheVariants.{Kept, Stray, Fault}
 use Rattle.gl_std.specs.declared.trace.Trace.{Trace}
 
--- the names, with this one at the end if it has no number
-abbrev pub with_name : List (List ℕ) → Option ℕ → List ℕ → List (List ℕ)
-with_name names number name = option_map_or (λ _. names) number (names ++ name ∷ [])
+-- the names, with this one at the end if it isn't among them
+abbrev pub mention : List (List ℕ) → List ℕ → List (List ℕ)
+mention names name = if list_any (bytes_eq name) names then names else names ++ name ∷ []
 
--- the numbers of the thread, of the operand and of the location that a line names, where they have one: their places;
--- an operand that is a thread comes after the acting thread
-abbrev pub found_in : NameLists → Operation → List ℕ → List ℕ → List ℕ → Found
-found_in names operation thread operand location =
-    let number = position (bytes_eq thread) names.threads in
+-- the number of a name is its place among the names
+abbrev pub number_of : List (List ℕ) → List ℕ → ℕ
+number_of names name = position_or_len (bytes_eq name) names
+
+-- the names after a line has mentioned its own: the acting thread first, then the thread or lock that it is on, then the
+-- location
+abbrev pub names_after : NameLists → Operation → List ℕ → List ℕ → List ℕ → NameLists
+names_after names operation thread operand location =
+    let threads = mention names.threads thread in
     record {
-      thread = number;
-      operand = position (bytes_eq operand) (if is_on_thread operation then with_name names.threads number thread else names.locks);
-      loc = position (bytes_eq location) names.locs;
+      threads = if is_on_thread operation then mention threads operand else threads;
+      locks = if is_on_thread operation then names.locks else mention names.locks operand;
+      locs = mention names.locs location;
     }
 
--- one, if the name has no number
-abbrev pub if_new : Option ℕ → ℕ
-if_new number = if is_none number then 1 else 0
+-- the names of threads or of locks, whichever the operation is on
+abbrev pub operands : Operation → NameLists → List (List ℕ)
+operands operation names = if is_on_thread operation then names.threads else names.locks
 
--- how many threads there are after the line
-abbrev pub threads_after : NameLists → Operation → Found → ℕ
-threads_after names operation found =
-    length names.threads + if_new found.thread + (if is_on_thread operation then if_new found.operand else 0)
+-- the event of an operation on this lock or thread
+abbrev pub event_of : Operation → ℕ → ℕ → Event
+event_of (AcquireOf mode) lock loc = Acquire lock mode loc
+event_of (ReleaseOf mode) lock loc = Release lock mode loc
+event_of (TryAcquireOf mode) lock loc = TryAcquire lock mode loc
+event_of ForkOf other loc = Fork other loc
+event_of JoinOf other loc = Join other loc
 
--- how many locks there are after the line
-abbrev pub locks_after : NameLists → Operation → Found → ℕ
-locks_after names operation found = length names.locks + (if is_on_thread operation then 0 else if_new found.operand)
+-- the event that a line tells, by the numbers that its names have once it has mentioned them
+abbrev pub event_told : NameLists → Operation → List ℕ → List ℕ → List ℕ → Event
+event_told names operation thread operand location =
+    let after = names_after names operation thread operand location in
+    event_of operation (number_of (operands operation after) operand) (number_of after.locs location)
 
 -- the events of the thread, or none of a new one
 abbrev pub events_of : List (List Event) → Option ℕ → List Event
@@ -63,76 +69,48 @@ with_event lists number event = option_map_or (λ i. slice_set lists i (slice_in
 abbrev pub with_list : List (List Event) → Option ℕ → List (List Event)
 with_list lists number = option_map_or (λ _. lists) number (lists ++ [] ∷ [])
 
--- the lists, with the event at the end of the thread's, and with a list for a new thread that it forks or joins
-abbrev pub with_lists : List (List Event) → Operation → Found → Event → List (List Event)
-with_lists lists operation found event =
-    let told = with_event lists found.thread event in
-    if is_on_thread operation then with_list told found.operand else told
+-- the lists after an event of the thread: it is the last one of the thread's, and a new thread that is forked or joined has a
+-- list, too
+abbrev pub lists_after : NameLists → List (List Event) → Operation → List ℕ → List ℕ → Event → List (List Event)
+lists_after names lists operation thread operand event =
+    let told = with_event lists (position (bytes_eq thread) names.threads) event in
+    if is_on_thread operation then with_list told (position (bytes_eq operand) (mention names.threads thread)) else told
 
--- the event of an operation on this lock or thread
-abbrev pub event_of : Operation → ℕ → ℕ → Event
-event_of (AcquireOf mode) lock loc = Acquire lock mode loc
-event_of (ReleaseOf mode) lock loc = Release lock mode loc
-event_of (TryAcquireOf mode) lock loc = TryAcquire lock mode loc
-event_of ForkOf other loc = Fork other loc
-event_of JoinOf other loc = Join other loc
-
--- the operand's number: a new name gets the next one, and a new thread's comes after the acting thread's
-abbrev pub operand_number : NameLists → Operation → Found → ℕ
-operand_number names operation found =
-    unwrap_or found.operand (if is_on_thread operation then length names.threads + if_new found.thread else length names.locks)
-
--- the event that a line tells: a new name gets the next number
-abbrev pub event_told : NameLists → Operation → Found → Event
-event_told names operation found = event_of operation (operand_number names operation found) (unwrap_or found.loc (length names.locs))
-
--- the first limit that doesn't allow an event, where there are these names and the thread has so many events
-abbrev pub limit_reached : Bounds → NameLists → ℕ → Operation → Found → Option StdKind
-limit_reached limits names events operation found =
-    if nat_lt limits.threads (threads_after names operation found) then Some TooManyThreads
-    else (if nat_le limits.events events then Some TooManyEvents
-    else (if nat_lt limits.names (locks_after names operation found) then Some TooManyNames
-    else (if nat_lt limits.names (length names.locs + if_new found.loc) then Some TooManyNames
-    else None)))
-
--- the first limit that doesn't allow the event
-abbrev pub limit_fault : Bounds → Trace → Operation → Found → Option StdKind
-limit_fault limits told operation found = limit_reached limits told.names (length (events_of told.lists found.thread)) operation found
-
--- what becomes of an event: the locks' reasons come before the limits', and the last one is that a lock that is
--- released isn't held
-abbrev pub verdict_of : Option Refusal → Option StdKind → Verdict
-verdict_of None None = Kept
-verdict_of None (Some kind) = Fault kind
-verdict_of (Some NoRoom) limit = Fault HeldFull
-verdict_of (Some TooDeep) limit = Fault DepthFull
-verdict_of (Some IsUpgrade) limit = Fault Upgrade
-verdict_of (Some other) limit = Stray
-
--- the names, with those of the three that are new
-abbrev pub with_names : NameLists → Operation → Found → List ℕ → List ℕ → List ℕ → NameLists
-with_names names operation found thread operand location =
-    let threads = with_name names.threads found.thread thread in
-    record {
-      threads = if is_on_thread operation then with_name threads found.operand operand else threads;
-      locks = if is_on_thread operation then names.locks else with_name names.locks found.operand operand;
-      locs = with_name names.locs found.loc location;
+-- the trace with the event of a line
+abbrev pub with_call : Trace → Operation → List ℕ → List ℕ → List ℕ → Trace
+with_call told operation thread operand location =
+    record told {
+      names = names_after told.names operation thread operand location;
+      lists = lists_after told.names told.lists operation thread operand (event_told told.names operation thread operand location);
     }
 
--- the trace after a line with this verdict
-abbrev pub after_verdict : ℕ → Trace → Trace → Verdict → Result Trace ReadFault
-after_verdict line told kept Kept = Ok kept
-after_verdict line told kept Stray = Ok (record told { stray = told.stray + 1 })
-after_verdict line told kept (Fault kind) = Err (Line line kind)
+-- the first limit that doesn't allow an event, where there are these names with its own, and its thread has so many events
+-- before it
+abbrev pub limit_reached : Bounds → NameLists → ℕ → Option StdKind
+limit_reached limits names events =
+    if nat_lt limits.threads (length names.threads) then Some TooManyThreads
+    else (if nat_le limits.events events then Some TooManyEvents
+    else (if nat_lt limits.names (length names.locks) then Some TooManyNames
+    else (if nat_lt limits.names (length names.locs) then Some TooManyNames
+    else None)))
 
--- the trace after an event
+-- the trace after an event that the locks or a limit may not allow: the locks' reasons come before the limits', and where the
+-- reason is that a lock that is released isn't held, the event is a stray, which is counted and not kept
+abbrev pub after_event : ℕ → Trace → Trace → Option Refusal → Option StdKind → Result Trace ReadFault
+after_event line told kept None None = Ok kept
+after_event line told kept None (Some kind) = Err (Line line kind)
+after_event line told kept (Some NoRoom) limit = Err (Line line HeldFull)
+after_event line told kept (Some TooDeep) limit = Err (Line line DepthFull)
+after_event line told kept (Some IsUpgrade) limit = Err (Line line Upgrade)
+after_event line told kept (Some other) limit = Ok (record told { stray = told.stray + 1 })
+
+-- the trace after a line that tells an event
 abbrev pub after_call : Bounds → ℕ → Trace → Operation → List ℕ → List ℕ → List ℕ → Result Trace ReadFault
 after_call limits line told operation thread operand location =
-    let found = found_in told.names operation thread operand location in
-    let event = event_told told.names operation found in
-    after_verdict line told
-    (record told { names = with_names told.names operation found thread operand location; lists = with_lists told.lists operation found event })
-    (verdict_of (lock_refusal (events_of told.lists found.thread) event) (limit_fault limits told operation found))
+    let before = events_of told.lists (position (bytes_eq thread) told.names.threads) in
+    after_event line told (with_call told operation thread operand location)
+    (lock_refusal before (event_told told.names operation thread operand location))
+    (limit_reached limits (names_after told.names operation thread operand location) (length before))
 
 -- the trace after a line that says this
 abbrev pub after_shape : Bounds → ℕ → Trace → Shape → Result Trace ReadFault

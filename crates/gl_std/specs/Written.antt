@@ -7,14 +7,13 @@ use Rattle.gl_event.specs.Events.{location}
 use Rattle.gl_event.specs.declared.events.Event.{Event}
 use Rattle.gl_event.specs.declared.events.Event.TheVariants.{Acquire, Release, TryAcquire, Fork, Join}
 use Rattle.gl_event.specs.declared.events.LockMode.TheVariants.{Exclusive, Shared}
-use Rattle.gl_std.specs.Line.{Shape, shape_of, is_on_thread}
+use Rattle.gl_std.specs.Line.{Operation, Shape, BAR, shape_of, is_on_thread}
 use Rattle.gl_std.specs.Line.Shape.{Call}
 use Rattle.gl_std.specs.Lines.{LF, CR, lines, without_cr}
 use Rattle.gl_std.specs.Names.{NameLists}
 use Rattle.gl_std.specs.Trace.{trace_of}
-use Rattle.gl_std.specs.declared.line.Operation.{Operation}
-use Rattle.gl_std.specs.declared.line.Operation.TheVariants.{Acquire as AcquireOf, Release as ReleaseOf, TryAcquire as TryAcquireOf, Fork as ForkOf, Join as JoinOf}
-use Rattle.gl_std.specs.declared.line.TheConstants.{MAX_LINE, BAR}
+use Rattle.gl_std.specs.Line.Operation.{Acquire as AcquireOf, Release as ReleaseOf, TryAcquire as TryAcquireOf, Fork as ForkOf, Join as JoinOf}
+use Rattle.gl_std.specs.declared.line.TheConstants.{MAX_LINE}
 use Rattle.gl_std.specs.declared.trace.Trace.{Trace}
 
 -- the name with this number

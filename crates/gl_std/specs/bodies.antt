@@ -1,2 +1,4 @@
 -- The words of loops and private functions. No public contract cites them.
+pub mod Finding
 pub mod Reading
+pub mod Shown

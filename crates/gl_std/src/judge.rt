@@ -4,7 +4,9 @@ ghost use Rattle.gl_event.specs.Lawful.{lock_refusal};
 ghost use Rattle.gl_event.specs.declared.events.Event.{Event};
 ghost use Rattle.gl_std.specs.Standings.{AreStanding};
 ghost use Rattle.gl_std.specs.Line.{is_on_thread};
-ghost use Rattle.gl_std.specs.Trace.{event_of, events_of, verdict_of, with_event, with_list, with_lists};
+ghost use Rattle.gl_std.specs.Trace.{event_of, events_of, with_event, with_list};
+ghost use Rattle.gl_std.specs.bodies.Finding.{verdict_of, with_lists};
+ghost use Rattle.gl_std.specs.bodies.Shown.{shown_operation};
 ghost use Rattle.gl_std.specs.declared.judge.Judged.TheVariants.{Event as Told};
 ghost use Rattle.gl_std.specs.declared.standing.Verdict.TheVariants.{Kept, Stray};
 
@@ -47,11 +49,13 @@ pub(crate) struct Judge {
 impl Judge {
     ghost use Rattle.gl_event.specs.Bounds.{AreWithinRange};
     ghost use Rattle.std.specs.Prelude.{false};
-    ghost use Rattle.gl_std.specs.Line.{is_on_itself, shown};
+    ghost use Rattle.gl_std.specs.Line.{is_on_itself};
     ghost use Rattle.gl_std.specs.Standings.{count_of};
     ghost use Rattle.gl_std.specs.Judging.{with_judged, HasJudged, IsKnown, IsSound};
+    ghost use Rattle.gl_std.specs.bodies.Finding.{found_in, limit_found};
     ghost use Rattle.gl_std.specs.bodies.Reading.{AreApart};
-    ghost use Rattle.gl_std.specs.Trace.{after_line, after_shape, after_call, found_in, limit_reached, nothing};
+    ghost use Rattle.gl_std.specs.bodies.Shown.{shown};
+    ghost use Rattle.gl_std.specs.Trace.{after_line, after_shape, after_call, nothing};
     ghost use Rattle.gl_std.specs.declared.faults.StdKind.{StdKind};
     ghost use Rattle.gl_std.specs.declared.trace.Trace.{Trace};
 
@@ -135,13 +139,13 @@ impl Judge {
         location: &[u8],
     ) -> Result<Judged, ReadFault>
         requires sound { IsSound self.old }
-        requires apart { is_on_itself operation thread.now operand.now ≡ false }
+        requires apart { is_on_itself (shown_operation operation) thread.now operand.now ≡ false }
         requires countable { self.old.line + 1 < 2 ^ 64 }
-        ensures ok { IfOk result (λ judged. (told : Trace) → HasJudged self.old told → after_call self.old.limits self.old.line told operation thread.now operand.now location.now ≡ Ok (with_judged judged self.new.names told)) }
+        ensures ok { IfOk result (λ judged. (told : Trace) → HasJudged self.old told → after_call self.old.limits self.old.line told (shown_operation operation) thread.now operand.now location.now ≡ Ok (with_judged judged self.new.names told)) }
         ensures judged { IfOk result (λ judged. (told : Trace) → HasJudged self.old told → HasJudged self.new (with_judged judged self.new.names told)) }
         ensures known { IfOk result (λ judged. IsKnown judged (length self.new.names.threads)) }
         ensures fault { (number : ℕ) (kind : StdKind) → result ≡ Err (ReadFault.Line number kind) → (told : Trace) → HasJudged self.old told
-            → after_call self.old.limits self.old.line told operation thread.now operand.now location.now ≡ Err (ReadFault.Line number kind) }
+            → after_call self.old.limits self.old.line told (shown_operation operation) thread.now operand.now location.now ≡ Err (ReadFault.Line number kind) }
         ensures limits { self.new.limits ≡ self.old.limits }
         ensures line { self.new.line ≡ self.old.line }
         ensures few_skipped { self.new.skipped ≡ self.old.skipped }
@@ -175,8 +179,8 @@ impl Judge {
     // The numbers of the names in a line. One look-up by hash for each, but none for the thread of the
     // latest event, and none for the lock that a release is likely to be of.
     fn find(&self, operation: Operation, thread: &[u8], operand: &[u8], location: &[u8]) -> Found
-        requires { is_on_itself operation thread.now operand.now ≡ false }
-        ensures { result ≡ found_in self.now.names operation thread.now operand.now location.now }
+        requires { is_on_itself (shown_operation operation) thread.now operand.now ≡ false }
+        ensures { result ≡ found_in self.now.names (shown_operation operation) thread.now operand.now location.now }
     {
         let acting = self.names.find_thread_near(thread, self.latest);
         let likely = self.likely_released(operation, &acting);
@@ -209,7 +213,7 @@ impl Judge {
     // The first limit that doesn't allow an event of these names.
     fn limit_reached(&self, operation: Operation, found: &Found) -> Option<StdKind>
         requires { IfSome found.now.thread (λ i. i < length self.now.standings.items) }
-        ensures fault { result ≡ limit_reached self.now.limits self.now.names (count_of self.now.standings.items found.now.thread) operation found.now }
+        ensures fault { result ≡ limit_found self.now.limits self.now.names (count_of self.now.standings.items found.now.thread) (shown_operation operation) found.now }
         ensures within { AreWithinRange self.now.limits }
     {
         let threads = u64::from(self.names.threads()) + found.new_threads(operation);
@@ -268,7 +272,7 @@ fn kept_event(thread: &ThreadId, event: &Event) -> Judged
 
 // The event of an operation on the lock or thread with this number.
 fn event_of(operation: Operation, operand: u32, loc: LocId) -> Event
-    ensures { result ≡ event_of operation operand loc }
+    ensures { result ≡ event_of (shown_operation operation) operand loc }
 {
     match operation {
         Operation::Acquire(mode) => Event::Acquire {
@@ -309,7 +313,7 @@ fn stand(
     requires known { IfSome found.now.thread (λ i. i < vec_len standings.old) }
     requires fits { All (λ s. s.events + 1 < 2 ^ 32) standings.old.items }
     ensures verdict { IfOk result (λ v. (lists : List (List Event)) → AreStanding lists standings.old.items → v ≡ verdict_of (lock_refusal (events_of lists found.now.thread) event) limit) }
-    ensures kept { result ≡ Ok Kept → (lists : List (List Event)) → AreStanding lists standings.old.items → AreStanding (with_lists lists operation found.now event) standings.new.items }
+    ensures kept { result ≡ Ok Kept → (lists : List (List Event)) → AreStanding lists standings.old.items → AreStanding (with_lists lists (shown_operation operation) found.now event) standings.new.items }
     ensures stray { result ≡ Ok Stray → standings.new.items ≡ standings.old.items }
 {
     match stand_own(standings, found, event, limit)? {
@@ -350,7 +354,7 @@ fn add_partner(
     operation: Operation,
     found: &Found,
 ) -> Result<(), AllocError>
-    ensures { OnOk result ((lists : List (List Event)) → AreStanding lists standings.old.items → AreStanding (if is_on_thread operation then with_list lists found.now.operand else lists) standings.new.items) }
+    ensures { OnOk result ((lists : List (List Event)) → AreStanding lists standings.old.items → AreStanding (if is_on_thread (shown_operation operation) then with_list lists found.now.operand else lists) standings.new.items) }
 {
     if !operation.is_on_thread() {
         return Ok(());

@@ -1,7 +1,8 @@
 //! What a line says, taken alone.
 ghost use Rattle.std.specs.Prelude.{◌≡◌};
 ghost use Rattle.std.specs.Option.{option_map};
-ghost use Rattle.gl_std.specs.Line.{cut_at, before_close, is_on_itself, is_on_thread, operation_of, shape_of, shape_of_call, shape_of_fields, shown};
+ghost use Rattle.gl_std.specs.Line.{cut_at, before_close, is_on_itself, is_on_thread, operation_of, shape_of, shape_of_call, shape_of_fields};
+ghost use Rattle.gl_std.specs.bodies.Shown.{shown, shown_operation};
 
 use crate::faults::StdKind;
 use bstr::ByteSlice;
@@ -34,7 +35,7 @@ pub(crate) enum Operation {
 impl Operation {
     /// Whether the operand is a thread, and not a lock.
     pub(crate) fn is_on_thread(self) -> bool
-        ensures { result ≡ is_on_thread self }
+        ensures { result ≡ is_on_thread (shown_operation self) }
     {
         match self {
             Operation::Acquire(_) | Operation::Release(_) | Operation::TryAcquire(_) => false,
@@ -133,7 +134,7 @@ fn shape_of_call<'a>(
 
 /// Whether the operation is a fork or join of the line's own thread.
 fn is_on_itself(operation: Operation, thread: &[u8], operand: &[u8]) -> bool
-    ensures { result ≡ is_on_itself operation thread.now operand.now }
+    ensures { result ≡ is_on_itself (shown_operation operation) thread.now operand.now }
 {
     if !operation.is_on_thread() {
         return false;
@@ -143,7 +144,7 @@ fn is_on_itself(operation: Operation, thread: &[u8], operand: &[u8]) -> bool
 
 /// The operation with this name.
 fn operation_of(name: &[u8]) -> Option<Operation>
-    ensures { result ≡ operation_of name.now }
+    ensures { option_map shown_operation result ≡ operation_of name.now }
 {
     if name == b"acq".as_slice() {
         return Some(Operation::Acquire(LockMode::Exclusive));

@@ -27,7 +27,7 @@ impl Model for NameList {
 }
 
 impl NameList {
-    ghost use Rattle.gl_std.specs.Trace.{with_name};
+    ghost use Rattle.gl_std.specs.bodies.Finding.{with_name};
 
     /// No names.
     fn new(alloc: Global, seed: Seed) -> NameList
@@ -127,11 +127,12 @@ pub(crate) struct Found {
 impl Found {
     ghost use Rattle.std.specs.Prelude.{if◌then◌else◌};
     ghost use Rattle.gl_std.specs.Line.{is_on_thread};
-    ghost use Rattle.gl_std.specs.Trace.{if_new};
+    ghost use Rattle.gl_std.specs.bodies.Finding.{if_new};
+    ghost use Rattle.gl_std.specs.bodies.Shown.{shown_operation};
 
     /// How many of the threads are new.
     pub(crate) fn new_threads(&self, operation: Operation) -> u64
-        ensures { result ≡ if_new self.now.thread + (if is_on_thread operation then if_new self.now.operand else 0) }
+        ensures { result ≡ if_new self.now.thread + (if is_on_thread (shown_operation operation) then if_new self.now.operand else 0) }
     {
         let partner = if operation.is_on_thread() {
             u64::from(self.operand.is_none())
@@ -143,7 +144,7 @@ impl Found {
 
     /// How many of the locks are new.
     pub(crate) fn new_locks(&self, operation: Operation) -> u64
-        ensures { result ≡ (if is_on_thread operation then 0 else if_new self.now.operand) }
+        ensures { result ≡ (if is_on_thread (shown_operation operation) then 0 else if_new self.now.operand) }
     {
         if operation.is_on_thread() {
             return 0;
@@ -174,7 +175,8 @@ impl Model for Names {
 impl Names {
     ghost use Rattle.std.specs.Prelude.{if◌then◌else◌};
     ghost use Rattle.gl_std.specs.Line.{is_on_thread};
-    ghost use Rattle.gl_std.specs.Trace.{found_in, if_new, locks_after, operand_number, threads_after, with_name, with_names};
+    ghost use Rattle.gl_std.specs.bodies.Finding.{found_in, if_new, locks_after, operand_number, threads_after, with_name, with_names};
+    ghost use Rattle.gl_std.specs.bodies.Shown.{shown_operation};
 
     /// No names.
     pub(crate) fn new(alloc: Global, seed: Seed) -> Names
@@ -276,8 +278,8 @@ impl Names {
 
     /// The number of the operand, or the next one for a new lock or thread.
     pub(crate) fn operand_or_next(&self, operation: Operation, found: &Found) -> u32
-        requires { threads_after self.now operation found.now < 2 ^ 32 }
-        ensures { result ≡ operand_number self.now operation found.now }
+        requires { threads_after self.now (shown_operation operation) found.now < 2 ^ 32 }
+        ensures { result ≡ operand_number self.now (shown_operation operation) found.now }
     {
         match found.operand {
             Some(number) => number,
@@ -321,11 +323,11 @@ impl Names {
         operand: &[u8],
         location: &[u8],
     ) -> Result<(), AllocError>
-        requires found { found.now ≡ found_in self.old operation thread.now operand.now location.now }
-        requires threads { threads_after self.old operation found.now < 2 ^ 32 }
-        requires locks { locks_after self.old operation found.now < 2 ^ 32 }
+        requires found { found.now ≡ found_in self.old (shown_operation operation) thread.now operand.now location.now }
+        requires threads { threads_after self.old (shown_operation operation) found.now < 2 ^ 32 }
+        requires locks { locks_after self.old (shown_operation operation) found.now < 2 ^ 32 }
         requires locs { length self.old.locs + if_new found.now.loc < 2 ^ 32 }
-        ensures { OnOk result (self.new ≡ with_names self.old operation found.now thread.now operand.now location.now) }
+        ensures { OnOk result (self.new ≡ with_names self.old (shown_operation operation) found.now thread.now operand.now location.now) }
     {
         self.threads
             .tell(alloc, found.thread.map(ThreadId::number), thread)?;
@@ -343,10 +345,10 @@ impl Names {
         number: Option<u32>,
         name: &[u8],
     ) -> Result<(), AllocError>
-        requires found { number ≡ position (bytes_eq name.now) (if is_on_thread operation then self.old.threads else self.old.locks) }
-        requires room { number ≡ None → length (if is_on_thread operation then self.old.threads else self.old.locks) + 1 < 2 ^ 32 }
-        ensures threads { OnOk result (self.new.threads ≡ (if is_on_thread operation then with_name self.old.threads number name.now else self.old.threads)) }
-        ensures locks { OnOk result (self.new.locks ≡ (if is_on_thread operation then self.old.locks else with_name self.old.locks number name.now)) }
+        requires found { number ≡ position (bytes_eq name.now) (if is_on_thread (shown_operation operation) then self.old.threads else self.old.locks) }
+        requires room { number ≡ None → length (if is_on_thread (shown_operation operation) then self.old.threads else self.old.locks) + 1 < 2 ^ 32 }
+        ensures threads { OnOk result (self.new.threads ≡ (if is_on_thread (shown_operation operation) then with_name self.old.threads number name.now else self.old.threads)) }
+        ensures locks { OnOk result (self.new.locks ≡ (if is_on_thread (shown_operation operation) then self.old.locks else with_name self.old.locks number name.now)) }
         ensures locs { self.new.locs ≡ self.old.locs }
     {
         if operation.is_on_thread() {

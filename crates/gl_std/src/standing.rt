@@ -43,7 +43,7 @@ impl Standing {
     ghost use Rattle.gl_event.specs.Events.{closes, location};
     ghost use Rattle.gl_event.specs.Standing.{IsAcquireOf};
     ghost use Rattle.gl_std.specs.Standings.{StandsAfter};
-    ghost use Rattle.gl_std.specs.Trace.{verdict_of};
+    ghost use Rattle.gl_std.specs.bodies.Finding.{verdict_of};
     ghost use Rattle.gl_std.specs.declared.standing.Verdict.TheVariants.{Kept, Stray};
     ghost use Rattle.gl_event.specs.declared.events.Event.TheVariants.{Release};
 

@@ -16,7 +16,7 @@ use Rattle.goodlock.specs.Answer.{Answer, IsAnswer, IsLeastBeforeItself, IsPlain
 use Rattle.goodlock.specs.Answer.Answer.{Prints, Refusal}
 use Rattle.goodlock.specs.Answer.IsAnswer.{bad_line, no_order, ordered}
 use Rattle.goodlock.specs.Answer.IsPlainAnswer.{bad_line as plain_fault}
-use Rattle.goodlock.specs.Ending.{EndsAs, EndsLiveWith, EndsWith, HasEnded, HasEndedLive, HasHeardAll}
+use Rattle.goodlock.specs.Ending.{EndsAs, EndsLiveWith, EndsWith, HasEnded, HasEndedLive, HasHeardAll, Use}
 use Rattle.goodlock.specs.Ending.HasEnded.{ended_so}
 use Rattle.goodlock.specs.Ending.HasEndedLive.{confirmed, unconfirmed}
 use Rattle.goodlock.specs.bodies.Stops.{IfRefused, IfStopped, IsFaultIn, IsReportOf, SaysWhyNoReport}
@@ -72,16 +72,16 @@ pub least_of_ring : (lists : List (List Event)) (at : Segment) (ring : List Segm
 least_of_ring lists at ring is = record { loops = before_itself lists ring at is.begins is.rings; least = is.least }
 
 -- an answer to the text that was read whole, written or refused, ends a command
-pub ends : (IsAnswered : List ℕ → Answer → Type 0) (turns : ℕ) (given left : Option (List ℕ)) (read_failed : Bool) (read : Result Trace ReadFault) (answered : Result Printed Stop) (old new : Option (List ℕ)) (failed : Bool) (ended : Ended)
-    → HasHeardAll turns given left read_failed read
+pub ends : (IsAnswered : List ℕ → Answer → Type 0) (turns : ℕ) (input : Use) (read : Result Trace ReadFault) (answered : Result Printed Stop) (output : Use) (ended : Ended)
+    → HasHeardAll turns input read
     → IfOk answered (λ p. (text : List ℕ) → trace_of greatest text ≡ read → IsAnswered text (Prints p.text.items p.outcome))
     → IfErr answered (λ stop. IfRefused stop (λ line. (text : List ℕ) → trace_of greatest text ≡ read → IsAnswered text (Refusal line)))
-    → EndsWith answered old new failed ended → HasEnded IsAnswered turns given left read_failed old new failed ended
-ends A turns given left read_failed read answered old new failed ended heard good bad how = ended_so heard.text ended heard.whole (go answered ended good bad how)
+    → EndsWith answered output.before output.after output.failed ended → HasEnded IsAnswered turns input output ended
+ends A turns input read answered output ended heard good bad how = ended_so heard.text ended heard.whole (go answered ended good bad how)
   where
     go : (answered : Result Printed Stop) (ended : Ended) → IfOk answered (λ p. (text : List ℕ) → trace_of greatest text ≡ read → A text (Prints p.text.items p.outcome))
         → IfErr answered (λ stop. IfRefused stop (λ line. (text : List ℕ) → trace_of greatest text ≡ read → A text (Refusal line)))
-        → EndsWith answered old new failed ended → EndsAs A heard.text old new failed ended
+        → EndsWith answered output.before output.after output.failed ended → EndsAs A heard.text output.before output.after output.failed ended
     go (Ok p) variant.Clean good bad how = (record { printed = p.text.items; answer = subst (λ o. A heard.text (Prints p.text.items o)) how.0 (good heard.text heard.trace); written = how.1 }, how.2)
     go (Ok p) variant.Cycles good bad how = (record { printed = p.text.items; answer = subst (λ o. A heard.text (Prints p.text.items o)) how.0 (good heard.text heard.trace); written = how.1 }, how.2)
     go (Ok p) variant.Done good bad how = (record { printed = p.text.items; answer = subst (λ o. A heard.text (Prints p.text.items o)) how.0 (good heard.text heard.trace); written = how.1 }, how.2)
@@ -91,18 +91,18 @@ ends A turns given left read_failed read answered old new failed ended heard goo
     go (Ok p) variant.Memory good bad how = absurd how
     go (Ok p) variant.ReadFailed good bad how = absurd how
     go (Ok p) variant.Unconfirmed good bad how = absurd how
-    go (Err (Refused line)) end good bad how = subst (EndsAs A heard.text old new failed) (sym how.0) (how.1, bad heard.text heard.trace, how.2)
-    go (Err Memory) end good bad how = subst (EndsAs A heard.text old new failed) (sym how.0) (how.1, how.2)
+    go (Err (Refused line)) end good bad how = subst (EndsAs A heard.text output.before output.after output.failed) (sym how.0) (how.1, bad heard.text heard.trace, how.2)
+    go (Err Memory) end good bad how = subst (EndsAs A heard.text output.before output.after output.failed) (sym how.0) (how.1, how.2)
 
 -- and so does that of a session, unless it isn't confirmed
-pub ends_live : (IsAnswered : List ℕ → Answer → Type 0) (turns : ℕ) (given left : Option (List ℕ)) (read_failed : Bool) (read : Result Trace ReadFault) (answered : Result Printed LiveStop) (old new : Option (List ℕ)) (failed : Bool) (ended : Ended)
-    → HasHeardAll turns given left read_failed read
+pub ends_live : (IsAnswered : List ℕ → Answer → Type 0) (turns : ℕ) (input : Use) (read : Result Trace ReadFault) (answered : Result Printed LiveStop) (output : Use) (ended : Ended)
+    → HasHeardAll turns input read
     → IfOk answered (λ p. (text : List ℕ) → trace_of greatest text ≡ read → IsAnswered text (Prints p.text.items p.outcome))
     → IfErr answered (λ stop. IfStopped stop (λ line. (text : List ℕ) → trace_of greatest text ≡ read → IsAnswered text (Refusal line)))
-    → EndsLiveWith answered old new failed ended → HasEndedLive IsAnswered turns given left read_failed old new failed ended
-ends_live A turns given left read_failed read (Ok p) old new failed ended heard good bad how =
-    confirmed ended (ends A turns given left read_failed read (Ok p) old new failed ended heard good tt how)
-ends_live A turns given left read_failed read (Err (Stopped stop)) old new failed ended heard good bad how =
-    confirmed ended (ends A turns given left read_failed read (Err stop) old new failed ended heard tt bad how)
-ends_live A turns given left read_failed read (Err Unconfirmed) old new failed ended heard good bad how =
-    subst (HasEndedLive A turns given left read_failed old new failed) (sym how.0) (unconfirmed heard.text heard.whole how.1 how.2)
+    → EndsLiveWith answered output.before output.after output.failed ended → HasEndedLive IsAnswered turns input output ended
+ends_live A turns input read (Ok p) output ended heard good bad how =
+    confirmed ended (ends A turns input read (Ok p) output ended heard good tt how)
+ends_live A turns input read (Err (Stopped stop)) output ended heard good bad how =
+    confirmed ended (ends A turns input read (Err stop) output ended heard tt bad how)
+ends_live A turns input read (Err Unconfirmed) output ended heard good bad how =
+    subst (HasEndedLive A turns input output) (sym how.0) (unconfirmed heard.text heard.whole how.1 how.2)
