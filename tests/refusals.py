@@ -272,6 +272,14 @@ class Tests:
             os.close(writing)
 
 
+def built_library(folder):
+    """The preload library, built in this folder."""
+    library = os.path.join(folder, "refuse.so")
+    flags = ["-std=gnu11", "-Wall", "-Wextra", "-O1", "-fPIC", "-shared", "-fvisibility=hidden"]
+    subprocess.run(["gcc", *flags, "-o", library, SOURCE, "-ldl"], check=True)
+    return library
+
+
 def main():
     parser = argparse.ArgumentParser(description=__doc__, formatter_class=argparse.RawDescriptionHelpFormatter)
     parser.add_argument("--commands", default="predict, predict --json")
@@ -281,10 +289,7 @@ def main():
     if not set(commands) <= set(ANSWERS):
         parser.error(f"--commands knows {', '.join(ANSWERS)}")
     with tempfile.TemporaryDirectory() as folder:
-        library = os.path.join(folder, "refuse.so")
-        flags = ["-std=gnu11", "-Wall", "-Wextra", "-O1", "-fPIC", "-shared", "-fvisibility=hidden"]
-        subprocess.run(["gcc", *flags, "-o", library, SOURCE, "-ldl"], check=True)
-        tests = Tests(Runner(os.path.abspath(options.program), library))
+        tests = Tests(Runner(os.path.abspath(options.program), built_library(folder)))
         for words in commands:
             for name in TRACES:
                 text, ample = text_of(words, name), compare.in_format(ANSWERS[words][name])

@@ -1,0 +1,85 @@
+//! The search, on one thread and on several.
+use crate::events::{acquire, release};
+use crate::known::{Known, known_of};
+use crate::say::{Stop, refused, say};
+use gl_cycles::{Found, search, search_parallel};
+use gl_event::{Event, Memory};
+use gl_filters::{Mode, Query};
+use std::alloc::AllocError;
+use std::thread::Threads;
+
+// The first cycles, on one thread; memory may be refused once.
+fn alone(rt: &HostRuntime, known: &Known, query: &Query) -> Result<Found, Memory> {
+    if let Ok(found) = search(rt.alloc(), &known.edges, &known.order, query) {
+        return Ok(found);
+    }
+    refused(rt, "search", &known.edges.entries().len());
+    search(rt.alloc(), &known.edges, &known.order, query)
+}
+
+// The first cycles, on several threads; memory may be refused once.
+fn together(
+    rt: &HostRuntime,
+    threads: &(impl Threads + Sync),
+    known: &Known,
+    query: &Query,
+) -> Result<Found, Memory> {
+    let (edges, order) = (&known.edges, &known.order);
+    if let Ok(found) = search_parallel(threads, rt.alloc(), edges, order, query) {
+        return Ok(found);
+    }
+    refused(rt, "search_parallel", &edges.entries().len());
+    search_parallel(threads, rt.alloc(), edges, order, query)
+}
+
+// The lists of two threads that take a and b in opposite orders, and then c and d.
+fn two_cycles(rt: &HostRuntime) -> Result<Vec<Vec<Event>>, AllocError> {
+    let alloc = rt.alloc();
+    let first = vec![in alloc;
+        acquire(0, 1),
+        acquire(1, 2),
+        release(1, 3),
+        release(0, 4),
+        acquire(2, 5),
+        acquire(3, 6),
+        release(3, 7),
+        release(2, 8),
+    ]?;
+    let second = vec![in alloc;
+        acquire(1, 9),
+        acquire(0, 10),
+        release(0, 11),
+        release(1, 12),
+        acquire(3, 13),
+        acquire(2, 14),
+    ]?;
+    Ok(vec![in alloc; first, second]?)
+}
+
+// The same, for which memory may be refused once.
+fn lists(rt: &HostRuntime) -> Result<Vec<Vec<Event>>, AllocError> {
+    if let Ok(lists) = two_cycles(rt) {
+        return Ok(lists);
+    }
+    refused(rt, "lists", &());
+    two_cycles(rt)
+}
+
+/// Both searches find the same.
+pub(crate) fn parallel_as_search(
+    rt: &HostRuntime,
+    threads: &(impl Threads + Sync),
+) -> Result<(), Stop> {
+    let lists = lists(rt)?;
+    let known = known_of(rt, lists.as_slice())?;
+    for max in [1, 2] {
+        let query = Query::new(Mode::Full, 4, max).ok().ok_or(Stop::Astray)?;
+        say(rt, "search", &alone(rt, &known, &query)?);
+        say(
+            rt,
+            "search_parallel",
+            &together(rt, threads, &known, &query)?,
+        );
+    }
+    Ok(())
+}

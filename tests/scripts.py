@@ -1,0 +1,218 @@
+#!/usr/bin/env python3
+"""Runs the call scripts of crates/gl_scripts while one growth of theirs after the other is refused.
+
+    scripts.py PROGRAM
+
+A script prints each call's answer on a line. Where a call answers that there is no memory, it prints that, then what
+the call left as it was, and then makes the call again: all that follows has to be as with ample memory. The answers,
+and what is left where one is refused, are written by hand below. The preload library of refusals.py does the
+refusing. The last line is `N passed, N failed`.
+"""
+
+import os
+import sys
+import tempfile
+import typing
+
+sys.dont_write_bytecode = True
+import refusals  # noqa: E402
+
+# --- Answers by hand ------------------------------------------------------------------------------------
+
+
+class Call(typing.NamedTuple):
+    name: str
+    answer: str | None  # as it is printed, if it is
+    left: str | None = None  # what is printed where memory is refused; a call without takes none
+    again: int | None = None  # from which call the script goes on then, if not from this one
+
+
+def acquire(lock, loc):
+    return f"Acquire {{ lock: LockId {{ number: {lock} }}, mode: Exclusive, loc: LocId {{ number: {loc} }} }}"
+
+
+def release(lock, loc):
+    return acquire(lock, loc).replace("Acquire", "Release")
+
+
+def edge(held, wanted, place):
+    """An edge whose only guard is the lock that is held."""
+    guard = f"Guard {{ lock: LockId {{ number: {held} }}, mode: Exclusive }}"
+    return Call("edge", f"({held}, {wanted}, [{guard}], {place})")
+
+
+WORDS = Call("words", None, "()")
+
+CROSSED = [edge(0, 1, 1), edge(1, 2, 3)]
+CROSSED_RELEASES = [
+    WORDS, Call("lists", None, "()"), Call("edges_of", None, "1"), Call("order", None, "1"), *CROSSED,
+    Call("push", "1", "0"), Call("push", "2", "1"), *CROSSED,
+    Call("trim", None, "2"), Call("kept", "[]"), Call("removed", "[0, 1]"),
+]  # fmt: skip
+
+LEAST_SAMPLE = [
+    WORDS, Call("edge", None, "()"),
+    Call("insert", "(1, Some(5))", "(0, None)"),
+    Call("insert", "(1, Some(2))", "(1, Some(5))"),
+    Call("insert", "(1, Some(2))", "(1, Some(2))"),
+    Call("copy", "(1, Some(2))", "(1, Some(2))"),
+]  # fmt: skip
+
+
+def taken(place):
+    return f"Taken({place})"
+
+
+def pulls(place):
+    return f"Pulled(Event {{ place: {place} }})"
+
+
+def ended(count):
+    return f"Pulled(Ended {{ count: {count} }})"
+
+
+def misplaced(expected):
+    return f"Refused(Misplaced {{ expected: {expected}, got: 0 }})"
+
+
+def world(steps):
+    """The steps of a world, which is drained after them, and its report."""
+    calls, stream = [Call("world", None, "()")], 0
+    for step in steps:
+        takes_memory = step.split("(")[0] in ("Taken", "Ended", "Pulled", "Shipped", "Worked")
+        calls.append(Call("step", f"Ok({step})", f"({stream}, false)" if takes_memory else None))
+        stream += step.startswith("Pulled")
+    return [*calls, Call("drained", "true"), Call("report", "Some((2, 1, false))", f"({stream}, true)")]
+
+
+AT_ONCE = [
+    *map(taken, (0, 1, 2, 3)), "Ended", *map(taken, (0, 1)), "Ended", *map(pulls, (0, 1, 2, 3)), ended(4),
+    *map(pulls, (0, 1)), ended(2), "Shipped(0)", "Shipped(0)", "Worked", "Worked",
+]  # fmt: skip
+IN_TURN = [
+    taken(0), pulls(0), misplaced(1), taken(0), pulls(0),
+    taken(1), pulls(1), misplaced(2), taken(1), pulls(1),
+    "Nothing", "Nothing", misplaced(2), taken(2), pulls(2),
+    "Nothing", "Nothing", misplaced(2), taken(3), pulls(3),
+    "Nothing", "Nothing", misplaced(2), "Nothing", "Nothing",
+    "Ended", ended(2), "Ended", ended(4), "Shipped(1)", "Worked", "Shipped(0)", "Worked",
+]  # fmt: skip
+TWO_SCHEDULES = [WORDS, *world(AT_ONCE), *world(IN_TURN)]
+
+
+def found(cycles, more):
+    """What both searches find among four edges."""
+    answer = f"Found {{ cycles: Cycles {{ cycles: {cycles} }}, more: {str(more).lower()} }}"
+    return [Call("search", answer, "4"), Call("search_parallel", answer, "4")]
+
+
+PARALLEL_AS_SEARCH = [
+    WORDS, Call("lists", None, "()"), Call("edges_of", None, "2"), Call("order", None, "2"),
+    *found([[0, 2]], True), *found([[0, 2], [1, 3]], False),
+]  # fmt: skip
+
+
+def items(before, answers):
+    """Lines that are read, after so many calls: where memory is refused, they are read once more from the first on."""
+    first = before + 1
+    return [Call("lines", None, "()"), *(Call("next", answer, "Err(Memory)", first) for answer in answers)]
+
+
+def told(thread, event):
+    return f"Ok(Event {{ thread: ThreadId {{ number: {thread} }}, event: {event} }})"
+
+
+BAD_LINE = items(1, ["Err(Line { line: 1, kind: BadOperand })"] * 2)
+SIX_EVENTS = [
+    told(0, acquire(0, 0)), told(0, acquire(1, 1)), told(0, release(1, 2)), told(0, release(0, 3)),
+    told(1, acquire(1, 4)), told(1, acquire(0, 5)),
+]  # fmt: skip
+FAULT_REPEATS = [
+    WORDS, *BAD_LINE, *items(1 + len(BAD_LINE), [*SIX_EVENTS, "Ok(End)", "Ok(End)"]), Call("parts", "((2, 2, 6), 0, 0)"),
+]  # fmt: skip
+
+SCRIPTS = {
+    "crossed_releases": CROSSED_RELEASES,
+    "least_sample": LEAST_SAMPLE,
+    "two_schedules": TWO_SCHEDULES,
+    "parallel_as_search": PARALLEL_AS_SEARCH,
+    "fault_repeats": FAULT_REPEATS,
+}
+# Calls that have to be refused in some run.
+REFUSED = {
+    "crossed_releases": {"words", "lists", "edges_of", "order", "push", "trim"},
+    "least_sample": {"words", "edge", "insert", "copy"},
+    "two_schedules": {"words", "world", "step", "report"},
+    "parallel_as_search": {"words", "lists", "edges_of", "order", "search", "search_parallel"},
+    "fault_repeats": {"words", "lines", "next"},
+}
+
+
+def printed(calls):
+    return [f"{call.name}: {call.answer}" for call in calls if call.answer is not None]
+
+
+def ample(calls):
+    return text_of(printed(calls))
+
+
+def text_of(lines):
+    return "".join(f"{line}\n" for line in lines).encode()
+
+
+def refused_answers(calls):
+    """For each output of a run in which a growth was refused: the calls that may have been the refused one."""
+    answers = {}
+    for at, call in enumerate(calls):
+        if call.left is None:
+            continue
+        again = at if call.again is None else call.again
+        lines = [*printed(calls[:at]), f"{call.name}: memory", f"  {call.left}", *printed(calls[again:])]
+        answers.setdefault(text_of(lines), set()).add(call.name)
+    return answers
+
+
+# --- Refused runs ---------------------------------------------------------------------------------------
+
+
+def check(tests, name, right, run):
+    """One of the right answers; where it isn't, the first of them is shown beside it."""
+    tests.check(name, [run.answer if run.answer in right else right[0]], run)
+
+
+def sweep(tests, runner, name):
+    """Refuses the script's first growth, then the second, until a run makes no more."""
+    calls = SCRIPTS[name]
+    whole = (ample(calls), b"", 0)
+    check(tests, f"{name}", [whole], runner.run(name, b""))
+    answers = refused_answers(calls)
+    right = [whole, *((answer, b"", 0) for answer in answers)]
+    refused, count = set(), 0
+    for number, run in runner.sweep(name, b"", "memory", "once"):
+        check(tests, f"{name}, memory once call {number}", right, run)
+        refused |= answers.get(run.answer[0], set())
+        count += 1
+    missing = REFUSED[name] - refused
+    tests.check_that(f"{name}", not missing, f"never refused: {', '.join(sorted(missing))}")
+    for number, run in runner.sweep(name, b"", "memory", "onwards"):
+        status = run.answer[2]
+        tests.check_that(f"{name}, memory onwards call {number}", status in (0, 3), f"status {status}")
+    print(f"{name}: {count} growths refused")
+
+
+def main():
+    if len(sys.argv) != 2:
+        print(__doc__, file=sys.stderr)
+        return 2
+    program = os.path.abspath(sys.argv[1])
+    with tempfile.TemporaryDirectory() as folder:
+        runner = refusals.Runner(program, refusals.built_library(folder))
+        tests = refusals.Tests(runner)
+        for name in SCRIPTS:
+            sweep(tests, runner, name)
+    print(f"{tests.passed} passed, {tests.failed} failed")
+    return 1 if tests.failed or tests.passed == 0 else 0
+
+
+if __name__ == "__main__":
+    sys.exit(main())
