@@ -17,13 +17,12 @@ use crate::throw::throw_away;
 use gl_edges::{Edge, Sample};
 use gl_event::ThreadId;
 use gl_intake::Intake;
-use gl_shards::{Outlet, shard_of};
+use gl_shards::{Outlet, pause, shard_of};
 use std::alloc::Global;
 use std::sync::Wait;
-use std::thread;
 
-// The most notes that are pulled off a lane before their edges are shipped. A worker that waits for edges
-// is woken once for all of them.
+// The most notes that are pulled off a lane before their edges are shipped, so that a worker that waits
+// finds several at once.
 const BURST: u32 = 64;
 
 // Ships an edge to its shard, or answers the shard whose worker is gone.
@@ -190,7 +189,7 @@ fn round<R: Wait>(
 }
 
 // Ships the edges made before; then pulls and ships, round by round, until every thread's end mark was
-// pulled. It yields the processor after a round in which no note was seen.
+// pulled. It waits a little after a round in which no note was seen.
 fn gather<R: Wait>(
     rt: &R,
     alloc: Global,
@@ -214,12 +213,16 @@ fn gather<R: Wait>(
     ensures blamed { IfErr result (IsBlamed intake.old.limits rows.new.items intake.new.stream) }
 {
     ship(rt, outlets, made)?;
+    let mut looks: u32 = 0;
     for _ in rt.forever() {
         if intake.all_ended() {
             return Ok(());
         }
-        if !round(rt, alloc, threads, rows, intake, outlets)? {
-            thread::yield_now();
+        if round(rt, alloc, threads, rows, intake, outlets)? {
+            looks = 0;
+        } else {
+            pause(rt, looks);
+            looks = looks.saturating_add(1);
         }
     }
     unreachable!()

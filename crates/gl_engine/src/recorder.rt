@@ -10,9 +10,9 @@ use crate::receipt::Receipt;
 use gl_event::{Event, Limits, Note, Refusal, ThreadId};
 use gl_lane::LaneIn;
 use gl_recorder::Taker;
+use gl_shards::pause;
 use std::marker::Model;
 use std::sync::Wait;
-use std::thread;
 
 /// Why an event wasn't recorded.
 #[derive(Clone, Copy, Debug, PartialEq, Eq, Hash)]
@@ -106,7 +106,7 @@ impl Recorder {
     /// Records the thread's next event as soon as there is room for it, and answers its place in the
     /// thread's list. Err where the event may not come next: the recorder is as it was then.
     ///
-    /// While the lane is full it yields the processor and tries again, so that it returns only if the
+    /// While the lane is full it spins or sleeps for a moment and tries again, so that it returns only if the
     /// collector pulls. It takes no memory.
     pub fn record_wait<R: Wait>(&mut self, rt: &R, event: Event) -> Result<u32, Refusal>
         ensures lawful { OnOk result (refusal self.old.limits self.old.thread (recorded self.old) event ≡ None) }
@@ -115,12 +115,14 @@ impl Recorder {
         ensures refused { IfErr result (λ why. refusal self.old.limits self.old.thread (recorded self.old) event ≡ Some why) }
         ensures unchanged { OnErr result (self.new ≡ record self.old { room = self.new.room }) }
     {
+        let mut looks: u32 = 0;
         for _ in rt.forever() {
             match self.try_record(&event) {
                 Ok(place) => return Ok(place),
                 Err(RecordFault::Refused(refusal)) => return Err(refusal),
-                Err(RecordFault::Full(_)) => thread::yield_now(),
+                Err(RecordFault::Full(_)) => pause(rt, looks),
             }
+            looks = looks.saturating_add(1);
         }
         unreachable!()
     }

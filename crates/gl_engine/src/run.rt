@@ -90,17 +90,17 @@ fn first_fault(gathered: Result<(), RunFault>, ended: Result<(), u32>) -> Option
 }
 
 impl Collector {
-    /// Pulls until every thread's end mark came, ships each edge to the outlet of its shard before the next
-    /// pull, first those of the pulls before, and ends the outlets. Through these nothing may have been
-    /// sent yet, and there is one for each shard, 1 to 16 of them.
+    /// Pulls until every thread's end mark came, ships each edge to the outlet of its shard before it looks
+    /// at the next lane, first those of the pulls before, and ends the outlets. Through these nothing may
+    /// have been sent yet, and there is one for each shard, 1 to 16 of them.
     ///
     /// At the first thing that goes wrong, it ships no more, goes on popping and throws away until every end
     /// mark came, and still ends the outlets: no recorder and no worker waits for ever.
     ///
     /// It waits for the recorders and for the workers: it returns only if every recorder closes, and as
-    /// long as a worker's feed is full it waits for that. It looks at the lanes in turn, one note of each, and
-    /// after a round in which no lane had a note it yields the processor. The list for the [`Sent`]s is made
-    /// before the first pull.
+    /// long as a worker's feed is full it waits for that. It looks at the lanes in turn, up to 64 notes of each,
+    /// and after a round in which no lane had a note it spins or sleeps for a moment. The list for the
+    /// [`Sent`]s is made before the first pull.
     pub fn run<R: Wait>(self, rt: &R, outlets: Vec<Outlet>) -> Gathered
         requires some { 1 ≤ length outlets.items }
         requires fit { length outlets.items ≤ MAX_SHARDS }

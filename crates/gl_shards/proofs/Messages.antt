@@ -9,7 +9,7 @@ use Rattle.gl_edges.proofs.Membership.{contains_here, contains_cases, contains_n
 use Rattle.gl_shards.specs.declared.rule.Message.{Message}
 use Rattle.gl_shards.specs.declared.rule.Message.TheVariants.{Pair, Ended}
 use Rattle.gl_shards.specs.declared.rule.Traffic.{Traffic}
-use Rattle.gl_shards.specs.Rule.{pairs_in, traffic, HasEnded, IsReceived}
+use Rattle.gl_shards.specs.Rule.{pairs_in, traffic, and_sent, HasEnded, IsReceived}
 
 -- the edges of messages one after the other
 pub pairs_appended : (xs ys : List Message) → pairs_in (xs ++ ys) ≡ pairs_in xs ++ pairs_in ys
@@ -26,11 +26,11 @@ pub end_more : (messages : List Message) → pairs_in (messages ++ Ended ∷ [])
 end_more messages = pairs_appended messages (Ended ∷ []) ∙ append-nil (pairs_in messages)
 
 -- what the sender has sent after one edge more
-pub sent_more : (old new : Traffic) (pair : Edge × Sample) → new ≡ traffic old.sends old.receives (old.sent ++ Pair pair ∷ []) old.received → pairs_in new.sent ≡ pairs_in old.sent ++ pair ∷ []
+pub sent_more : (old new : Traffic) (pair : Edge × Sample) → new ≡ and_sent old (Pair pair) → pairs_in new.sent ≡ pairs_in old.sent ++ pair ∷ []
 sent_more old new pair is = ap (λ (known : Traffic). pairs_in known.sent) is ∙ pair_more old.sent pair
 
 -- and after the end mark
-pub sent_end : (old new : Traffic) → new ≡ traffic old.sends old.receives (old.sent ++ Ended ∷ []) old.received → pairs_in new.sent ≡ pairs_in old.sent
+pub sent_end : (old new : Traffic) → new ≡ and_sent old Ended → pairs_in new.sent ≡ pairs_in old.sent
 sent_end old new is = ap (λ (known : Traffic). pairs_in known.sent) is ∙ end_more old.sent
 
 -- an edge is no end mark

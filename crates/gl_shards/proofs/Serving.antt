@@ -12,13 +12,9 @@ use Rattle.gl_shards.specs.declared.rule.Message.TheVariants.{Pair, Ended}
 use Rattle.gl_shards.specs.declared.rule.Traffic.{Traffic}
 use Rattle.gl_shards.specs.Ends.{Channel, IsFresh, IsServing, HasServed}
 use Rattle.gl_shards.specs.Feeds.{feed_of, received_by}
-use Rattle.gl_shards.specs.Rule.{traffic, pairs_in, HasEnded}
+use Rattle.gl_shards.specs.Rule.{traffic, and_got, pairs_in, HasEnded}
 use Rattle.gl_shards.proofs.Filling.{once_of_none}
 use Rattle.gl_shards.proofs.Messages.{pair_more, end_more, still_open, now_ended}
-
--- the view of a pass that has received a message more
-abbrev pub and_got : Traffic → Message → Traffic
-and_got known message = traffic known.sends known.receives known.sent (known.received ++ message ∷ [])
 
 module _ {Q M L A B : Type 0} (receiver : Receiving (Channel Q M L A) B) where
   -- two passes of one channel name one feed

@@ -25,6 +25,14 @@ HasEnded messages = Contains messages Ended
 abbrev pub traffic : Bool → Bool → List Message → List Message → Traffic
 traffic sends receives sent received = record { sends = sends; receives = receives; sent = sent; received = received }
 
+-- what a pass knows that has sent a message more
+abbrev pub and_sent : Traffic → Message → Traffic
+and_sent known message = traffic known.sends known.receives (known.sent ++ message ∷ []) known.received
+
+-- what a pass knows that has received a message more
+abbrev pub and_got : Traffic → Message → Traffic
+and_got known message = traffic known.sends known.receives known.sent (known.received ++ message ∷ [])
+
 -- a pass that may send is this sender, and knows what was sent; one that may receive is this receiver, and knows what was received
 pub record Fits (sender receiver : ℕ) (sent received : List Message) (pass : ℕ) (known : Traffic) : Type 0 where
   pub as_sender : known.sends ≡ true → (pass ≡ sender) × (known.sent ≡ sent)

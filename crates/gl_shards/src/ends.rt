@@ -1,9 +1,13 @@
 //! The two ends of a feed, and what its sender leaves behind.
-ghost use Rattle.std.specs.Prelude.{◌≡◌, ◌≤◌, [], ◌∷◌, ◌++◌, OnOk, IfOk, IfErr};
+ghost use Rattle.std.specs.Prelude.{◌≡◌, ◌≤◌, true, [], ◌∷◌, ◌++◌, OnOk, IfOk, IfErr, MatchResult};
+ghost use Rattle.crossbeam_channel.specs.Claims.{view, IsSeatAt};
+ghost use Rattle.crossbeam_channel.specs.Ends.{sends_on};
 ghost use Rattle.gl_event.specs.declared.limits.TheConstants.{MAX_RING};
+ghost use Rattle.gl_shards.specs.Rule.{and_sent, HasEnded};
 
 use crate::rule::{InOrder, Message, Roles, Sends, Traffic};
-use crossbeam_channel::{Pass, RuledReceiver, RuledSender, bounded_with};
+use crate::waiting::{LOOKS, pause};
+use crossbeam_channel::{Pass, RuledReceiver, RuledSender, TrySendError, bounded_with};
 use gl_edges::{Edge, Sample};
 use gl_event::Memory;
 use std::alloc::Global;
@@ -105,6 +109,35 @@ pub fn feed(alloc: Global, capacity: u32) -> Result<(Outlet, Inlet), Memory>
     ))
 }
 
+// Sends the message, or hands it back where the receiver is gone. It looks many times for room before it
+// asks to be woken.
+fn send_message<R: Wait>(
+    rt: &R,
+    sender: &Sender,
+    pass: &mut Pass<Message, Traffic>,
+    message: Message,
+) -> Result<(), Message>
+    requires seat { IsSeatAt (sends_on sender.now) pass.old }
+    requires sends { (view pass.old).sends ≡ true }
+    requires not_ended { ¬ HasEnded (view pass.old).sent }
+    ensures seat { IsSeatAt (sends_on sender.now) pass.new }
+    ensures sent { MatchResult result (λ _. view pass.new ≡ and_sent (view pass.old) message) (λ back. (back ≡ message) × (view pass.new ≡ view pass.old)) }
+{
+    let mut message = message;
+    for looks in 0..LOOKS {
+        match sender.try_send_as::<Sends, R>(rt, pass, message) {
+            Ok(()) => return Ok(()),
+            Err(TrySendError::Full(back)) => message = back,
+            Err(error) => return Err(error.into_inner()),
+        }
+        pause(rt, looks);
+    }
+    match sender.send_as::<Sends, R>(rt, pass, message) {
+        Ok(()) => Ok(()),
+        Err(error) => Err(error.into_inner()),
+    }
+}
+
 impl Outlet {
     /// Sends an edge with its sample, and waits as long as the feed is full. Both are handed back
     /// where the worker's end was dropped. The edge is moved and not copied. It takes no memory.
@@ -119,12 +152,10 @@ impl Outlet {
         ensures gone { IfErr result (λ back. (back ≡ (edge, sample)) × (self.new.sent ≡ self.old.sent)) }
     {
         let message = Message::Pair((edge, sample));
-        match self.sender.send_as::<Sends, R>(rt, &mut self.pass, message) {
+        match send_message(rt, &self.sender, &mut self.pass, message) {
             Ok(()) => Ok(()),
-            Err(error) => match error.into_inner() {
-                Message::Pair(pair) => Err(pair),
-                Message::Ended => unreachable!(),
-            },
+            Err(Message::Pair(pair)) => Err(pair),
+            Err(Message::Ended) => unreachable!(),
         }
     }
 
@@ -135,7 +166,7 @@ impl Outlet {
         ensures sent { IfOk result (λ sent. sent.sent ≡ self.sent) }
     {
         let Outlet { sender, mut pass } = self;
-        match sender.send_as::<Sends, R>(rt, &mut pass, Message::Ended) {
+        match send_message(rt, &sender, &mut pass, Message::Ended) {
             Ok(()) => Ok(Sent { sender, pass }),
             Err(_) => Err(Gone),
         }

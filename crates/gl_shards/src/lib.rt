@@ -39,6 +39,7 @@ mod shard;
 mod table;
 #[cfg(test)]
 mod tests;
+mod waiting;
 mod worker;
 
 pub use ends::{Gone, Inlet, Outlet, Sent, feed};
@@ -47,4 +48,5 @@ pub use laws::{
 };
 pub use shard::{MAX_SHARDS, limits_in_numbers, shard_of};
 pub use table::{Table, merge};
+pub use waiting::pause;
 pub use worker::{Gate, Open, ServeFault, Served, serve};

@@ -60,10 +60,10 @@ impl Join<Traffic> for Roles {
 pub(crate) struct Sends;
 
 impl Outcome<Message, Traffic> for Sends {
-    ghost use Rattle.std.specs.Prelude.{◌≡◌, [], ◌∷◌, ◌++◌};
-    ghost use Rattle.gl_shards.specs.Rule.{traffic};
+    ghost use Rattle.std.specs.Prelude.{◌≡◌};
+    ghost use Rattle.gl_shards.specs.Rule.{and_sent};
 
-    ghost then = { λ old message new. new ≡ traffic old.sends old.receives (old.sent ++ message ∷ []) old.received };
+    ghost then = { λ old message new. new ≡ and_sent old message };
 }
 
 impl Lesson<Message, Traffic> for Sends {
@@ -76,10 +76,10 @@ impl Lesson<Message, Traffic> for Sends {
 pub(crate) struct Receives;
 
 impl Outcome<Message, Traffic> for Receives {
-    ghost use Rattle.std.specs.Prelude.{◌≡◌, [], ◌∷◌, ◌++◌};
-    ghost use Rattle.gl_shards.specs.Rule.{traffic};
+    ghost use Rattle.std.specs.Prelude.{◌≡◌};
+    ghost use Rattle.gl_shards.specs.Rule.{and_got};
 
-    ghost then = { λ old message new. new ≡ traffic old.sends old.receives old.sent (old.received ++ message ∷ []) };
+    ghost then = { λ old message new. new ≡ and_got old message };
 }
 
 impl Lesson<Message, Traffic> for Receives {

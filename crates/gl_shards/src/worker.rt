@@ -1,15 +1,19 @@
 //! The worker of a shard: it puts the edges of its feed into a table.
-ghost use Rattle.std.specs.Prelude.{◌≡◌, ◌↔◌, false, true, Err, List, [], ◌∷◌, ◌++◌, IfOk, IfSome};
+ghost use Rattle.std.specs.Prelude.{◌≡◌, ◌↔◌, false, true, Err, List, [], ◌∷◌, ◌++◌, IfOk, IfSome, MatchResult};
 ghost use mathlib.Core.List.{IsPrefix};
+ghost use Rattle.crossbeam_channel.specs.Claims.{view, IsSeatAt};
+ghost use Rattle.crossbeam_channel.specs.Ends.{receives_on};
 ghost use Rattle.gl_edges.specs.Edges.{once};
 ghost use Rattle.gl_edges.specs.declared.edge.Edge.{Edge};
 ghost use Rattle.gl_edges.specs.declared.edge.Sample.{Sample};
+ghost use Rattle.gl_shards.specs.Rule.{and_got};
 ghost use Rattle.gl_shards.specs.declared.worker.ServeFault.TheVariants.{Cut, Memory};
 
-use crate::ends::{Inlet, Sent};
+use crate::ends::{Inlet, Receiver, Sent};
 use crate::rule::{Message, Receives, Roles, Traffic, Whole};
 use crate::table::Table;
-use crossbeam_channel::Pass;
+use crate::waiting::{LOOKS, pause};
+use crossbeam_channel::{Pass, RecvError, TryRecvError};
 use gl_edges::{Edge, Sample};
 use std::alloc::Global;
 use std::marker::Model;
@@ -76,7 +80,7 @@ pub fn serve<R: Wait, G: Gate>(rt: &R, alloc: Global, inlet: Inlet, shard: u32, 
     let mut table = Some(Table::new(alloc));
     let mut taken: u64 = 0;
     for _ in rt.forever() {
-        match receiver.recv_as::<Receives, R>(rt, &mut pass) {
+        match receive(rt, &receiver, &mut pass) {
             Ok(Message::Pair((edge, sample))) => {
                 gate.pass(shard, taken);
                 taken = taken.saturating_add(1);
@@ -99,6 +103,28 @@ pub fn serve<R: Wait, G: Gate>(rt: &R, alloc: Global, inlet: Inlet, shard: u32, 
         }
     }
     unreachable!()
+}
+
+// The next message, or that the sender is gone and none is left. It looks many times before it asks to be
+// woken: a worker that slept would have the collector call the system for each edge until it runs.
+fn receive<R: Wait>(
+    rt: &R,
+    receiver: &Receiver,
+    pass: &mut Pass<Message, Traffic>,
+) -> Result<Message, RecvError>
+    requires seat { IsSeatAt (receives_on receiver.now) pass.old }
+    requires receives { (view pass.old).receives ≡ true }
+    ensures seat { IsSeatAt (receives_on receiver.now) pass.new }
+    ensures received { MatchResult result (λ message. view pass.new ≡ and_got (view pass.old) message) (λ _. view pass.new ≡ view pass.old) }
+{
+    for looks in 0..LOOKS {
+        match receiver.try_recv_as::<Receives, R>(rt, pass) {
+            Ok(message) => return Ok(message),
+            Err(TryRecvError::Empty) => pause(rt, looks),
+            Err(TryRecvError::Disconnected) => return Err(RecvError),
+        }
+    }
+    receiver.recv_as::<Receives, R>(rt, pass)
 }
 
 // The table with one edge more; none where there is no memory for it, or was none for an earlier

@@ -3,20 +3,16 @@ use Rattle.crossbeam_channel.specs.Claims.{view}
 use Rattle.gl_edges.specs.declared.edge.Edge.{Edge}
 use Rattle.gl_edges.specs.declared.edge.Sample.{Sample}
 use Rattle.gl_shards.specs.Feeds.{sent_by}
-use Rattle.gl_shards.proofs.InOrder.{sends}
 use Rattle.gl_shards.proofs.Messages.{sent_more}
 use Rattle.gl_shards.proofs.ends.Outlet.send.Goals as goal
-use Rattle.gl_shards.proofs.ends.Outlet.send.Goals.{in-Ok, in-Err+in-Pair}
-
-pub send_as-requires-clause-rule : goal.send_as-requires-clause-rule
-send_as-requires-clause-rule g c = (sends _ _ _ _ c.self.invariant.is_sender.sends c.self.invariant.not_ended, λ messages passes kept at. tt)
+use Rattle.gl_shards.proofs.ends.Outlet.send.Goals.{in-Ok, in-Err-Pair}
 
 pub returns-clause-sent : goal.returns-clause-sent
 returns-clause-sent g c =
     let pair : Edge × Sample = (c.args.edge, c.args.sample) in
-    elim c.match-send_as.branch [
+    elim c.match-send_message.branch [
       | in-Ok w ↦
-          subst (λ result. OnOk result (sent_by c.send_as.new.pass ≡ c.args.self.now.sent ++ pair ∷ [])) (sym w.result-is)
-          (sent_more (view c.self.inside.pass) (view c.send_as.new.pass) pair w.in-Ok.ensures.rule ∙ ap (λ outlet. outlet.sent ++ pair ∷ []) c.self.view_is)
-      | in-Err+in-Pair w ↦ subst (λ result. OnOk result (sent_by c.send_as.new.pass ≡ c.args.self.now.sent ++ pair ∷ [])) (sym w.result-is) tt
+          subst (λ result. OnOk result (sent_by c.send_message.new.pass ≡ c.args.self.now.sent ++ pair ∷ [])) (sym w.result-is)
+          (sent_more (view c.self.inside.pass) (view c.send_message.new.pass) pair w.in-Ok.ensures.sent ∙ ap (λ outlet. outlet.sent ++ pair ∷ []) c.self.view_is)
+      | in-Err-Pair w ↦ subst (λ result. OnOk result (sent_by c.send_message.new.pass ≡ c.args.self.now.sent ++ pair ∷ [])) (sym w.result-is) tt
     ]
