@@ -1,5 +1,5 @@
 -- Tests of the edges of cycles.
-use Rattle.std.proofs.Common.{◌≡◌, ℕ, Bool, true, ◌&&◌, List, [], ◌∷◌, map, Option, Some, None, refl, sym, ap, subst, ◌∙◌}
+use Rattle.std.proofs.Common.{◌≡◌, ℕ, Bool, true, ◌&&◌, List, [], ◌∷◌, map, Option, Some, None, refl, sym, ap, subst}
 use Rattle.std.specs.Prelude.{All, Decides, slice_get}
 use Rattle.std.specs.List.{filter_map, list_all, cons_option}
 use Rattle.std.specs.Option.{option_map_or}
