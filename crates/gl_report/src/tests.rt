@@ -20,8 +20,7 @@ use std::test::Fail;
 fn trace_of(alloc: Global, lines: &[u8]) -> Result<Trace, Fail>
     ensures { IfOk result (IsTraceOver greatest) }
 {
-    let limits = Limits::new(1_024, 65_536, 4_000_000_000, 4_000_000_000)?;
-    Ok(read_trace(alloc, lines, &limits)?)
+    Ok(read_trace(alloc, lines, &Limits::greatest())?)
 }
 
 // The names that a text gives.
@@ -142,12 +141,12 @@ fn expect_json_v1(
 ) -> Result<(), Fail> {
     let names = names_of(alloc, lines)?;
     let report = report_of(rt, alloc, rows, cycles, false)?;
-    if !lists_exclusive(&report) {
-        assert!(rt; false);
+    if lists_exclusive(&report) {
+        let printed = json_text_v1(alloc, &names, &report)?;
+        assert_eq!(rt; printed.as_slice(), want);
         return Ok(());
     }
-    let printed = json_text_v1(alloc, &names, &report)?;
-    assert_eq!(rt; printed.as_slice(), want);
+    assert!(rt; false);
     Ok(())
 }
 
