@@ -3,6 +3,7 @@ use Rattle.std.proofs.Common.{◌≡◌, ℕ, Bool, true, ◌&&◌, List, [], �
 use Rattle.std.specs.Prelude.{All, Decides, slice_get}
 use Rattle.std.specs.List.{filter_map, list_all, cons_option}
 use Rattle.std.specs.Option.{option_map_or}
+use Rattle.std.proofs.lemmas.Bool.Decides.{Decides-by_and}
 use Rattle.std.proofs.lemmas.List.Folds.{list_all-map}
 use Rattle.std.proofs.lemmas.List.Sums.{AllPass-from_list_all, list_all-from_AllPass}
 use Rattle.gl_edges.specs.declared.edge.Edge.{Edge}
