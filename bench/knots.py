@@ -38,6 +38,10 @@ SHAPES = {
         "small": ["--threads 100 --segments 200"],
         "large": ["--threads 600", "--threads 1000 --segments 4000", "--threads 1000 --segments 2000 --sections 4"],
     },
+    "few-threads": {
+        "small": ["--segments 10"],
+        "large": ["--segments 30", "--segments 100", "--threads 5 --sections 6 --segments 100"],
+    },
     "colliding-names": {"small": ["--locks 10000"], "large": ["--locks 100000"]},
     "ordinary-names": {"small": ["--locks 10000"], "large": ["--locks 100000"]},
 }

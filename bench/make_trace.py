@@ -51,6 +51,8 @@ KNOTS = {
     # Early threads, joined before late ones are forked, run the first and the last piece; for each piece between them
     # there is one thread that lives as long as all of them and runs it in each of its segments.
     "early-and-late": dict(threads=600, sections=3, segments=1_000),
+    # A few threads that run all pieces again in each segment, but are fewer than the pieces.
+    "few-threads": dict(threads=3, sections=4, segments=100),
 }
 NAMES = {"colliding-names": dict(locks=100_000), "ordinary-names": dict(locks=100_000)}
 GENERAL = dict(
@@ -213,6 +215,15 @@ def early_and_late(options):
     yield from all_run("late", last)
 
 
+def few_threads(options):
+    for segment in range(options.segments):
+        for t in range(options.threads):
+            if segment > 0:
+                yield new_segment(f"T{t}")
+            for k in range(options.sections):
+                yield from piece(f"T{t}", k, options.sections)
+
+
 def locks_in_turn(options, prefix):
     """One thread takes and releases each lock twice; a lock's name is the prefix and eight digits."""
     for _ in range(2):
@@ -237,6 +248,7 @@ MADE_BY = {
     "gated-requests": gated_requests,
     "alternating-gates": alternating_gates,
     "early-and-late": early_and_late,
+    "few-threads": few_threads,
     "colliding-names": colliding_names,
     "ordinary-names": ordinary_names,
 }
