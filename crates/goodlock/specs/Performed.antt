@@ -1,10 +1,11 @@
 -- How what the words of the command line ask for ends.
 use Rattle.std.specs.Prelude.{ℕ, Bool, List, Option}
 use Rattle.goodlock.specs.Answer.{IsAnswer, IsPlainAnswer, counts, prediction, replay}
+use Rattle.goodlock.specs.Checking.{HasChecked}
 use Rattle.goodlock.specs.Ending.{HasEnded, HasEndedLive}
 use Rattle.goodlock.specs.declared.ended.Ended.{Ended}
 use Rattle.goodlock.specs.declared.options.Command.{Command}
-use Rattle.goodlock.specs.declared.options.Command.TheVariants.{Predict, Live, Stats, Replay}
+use Rattle.goodlock.specs.declared.options.Command.TheVariants.{Predict, Live, Stats, Replay, Check}
 
 -- each command ends with its own answer, after at most so many turns: the reader had the bytes `old` left and then `new`, the writer held
 -- `before` and then `after`; each may have failed
@@ -17,3 +18,5 @@ HasPerformed (Stats query) turns old new read_failed before after write_failed e
     HasEnded (IsAnswer (counts query)) turns old new read_failed before after write_failed ended
 HasPerformed Replay turns old new read_failed before after write_failed ended =
     HasEnded (IsPlainAnswer replay) turns old new read_failed before after write_failed ended
+HasPerformed Check turns old new read_failed before after write_failed ended =
+    HasChecked turns old new read_failed before after write_failed ended
