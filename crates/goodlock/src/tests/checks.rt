@@ -50,7 +50,10 @@ fn checked_line(rt: HostRuntime) -> Result<(), Fail> {
     let mut output = FromStd::new(Vec::new(rt.alloc()));
     let ended = check_input(&rt, &mut input, &mut output, TURNS, Seed::fixed());
     assert!(rt; matches!(ended, Ended::Done));
-    assert_eq!(rt; output.into_inner().as_slice(), b"ok, cycles: 1\n".as_slice());
+    assert_eq!(rt;
+        output.into_inner().as_slice(),
+        b"ok, cycles: 1\n".as_slice()
+    );
     Ok(())
 }
 
@@ -74,11 +77,7 @@ fn report_tampered(rt: HostRuntime) {
 #[test]
 fn trace_fault_first(rt: HostRuntime) {
     expect_refusal(&rt, b"{}\nT0|acq(|3\n", b"goodlock: line 1: bad operand\n");
-    expect_refusal(
-        &rt,
-        b"\nT0|acq(a)|3\nT0",
-        b"goodlock: line 2: no bar\n",
-    );
+    expect_refusal(&rt, b"\nT0|acq(a)|3\nT0", b"goodlock: line 2: no bar\n");
 }
 
 #[test]
