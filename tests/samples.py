@@ -4,8 +4,9 @@
     samples.py [PROGRAM [ARGUMENT..]]
 
 Each output is that of `goodlock predict`, unless the text before it names other words, as `goodlock stats` or
-`--len 5`. The program gets these words; further arguments in place of `predict`. The last line is
-`N passed, N failed`, with one for each answer that was compared.
+`--len 5`. The program gets these words; further arguments in place of `predict`. `goodlock check` reads the sample's report
+as JSON before the sample, and tests/check.py answers too. The last line is `N passed, N failed`, with one for each answer
+that was compared.
 """
 
 import pathlib
@@ -14,6 +15,7 @@ import subprocess
 import sys
 
 sys.dont_write_bytecode = True
+import check  # noqa: E402
 import compare  # noqa: E402
 
 SAMPLES = pathlib.Path(__file__).resolve().parent.parent / "samples"
@@ -40,9 +42,14 @@ def main():
             command = [named[1]] if named else sys.argv[2:] or ["predict"]
             options = re.findall(r"(--json\b|--(?:len|mode|max|recorders|shards|ring) \w+)", before)
             words = [*command, *(word for option in options for word in option.split())]
-            answers = [("reference", compare.by_reference(words, text))]
+            read = text
+            if command == ["check"]:
+                read = compare.by_reference(["predict", "--json"], text)[0] + text
+                answers = [("checker", check.answer(read))]
+            else:
+                answers = [("reference", compare.by_reference(words, text))]
             if len(sys.argv) > 1:
-                done = subprocess.run([sys.argv[1], *words], input=text, capture_output=True)
+                done = subprocess.run([sys.argv[1], *words], input=read, capture_output=True)
                 answers.append(("program", (done.stdout, done.stderr, done.returncode)))
             for who, (output, errors, got) in answers:
                 if (output + errors).decode() == shown and got == status:

@@ -16,7 +16,7 @@ use Rattle.goodlock.specs.Answer.{Answer, IsAnswer, IsLeastBeforeItself, IsPlain
 use Rattle.goodlock.specs.Answer.Answer.{Prints, Refusal}
 use Rattle.goodlock.specs.Answer.IsAnswer.{bad_line, no_order, ordered}
 use Rattle.goodlock.specs.Answer.IsPlainAnswer.{bad_line as plain_fault}
-use Rattle.goodlock.specs.Ending.{EndsAs, EndsLiveWith, EndsWith, HasEnded, HasEndedLive, HasHeardAll, Use}
+use Rattle.goodlock.specs.Ending.{EndsAs, EndsLiveWith, EndsWith, HasEnded, HasEndedLive, HasHeardAll}
 use Rattle.goodlock.specs.Ending.HasEnded.{ended_so}
 use Rattle.goodlock.specs.Ending.HasEndedLive.{confirmed, unconfirmed}
 use Rattle.goodlock.specs.bodies.Stops.{IfRefused, IfStopped, IsFaultIn, IsReportOf, SaysWhyNoReport}
@@ -71,38 +71,43 @@ before_itself lists (s ∷ via) at begins rings = subst (λ x. Before lists x x)
 pub least_of_ring : (lists : List (List Event)) (at : Segment) (ring : List Segment) → IsLeastInRing lists at ring → IsLeastBeforeItself lists at
 least_of_ring lists at ring is = record { loops = before_itself lists ring at is.begins is.rings; least = is.least }
 
--- an answer to the text that was read whole, written or refused, ends a command
-pub ends : (IsAnswered : List ℕ → Answer → Type 0) (turns : ℕ) (input : Use) (read : Result Trace ReadFault) (answered : Result Printed Stop) (output : Use) (ended : Ended)
-    → HasHeardAll turns input read
+-- an answer to a text, written or refused, ends a command that read the text whole
+pub ends_as : (IsAnswered : List ℕ → Answer → Type 0) (text : List ℕ) (answered : Result Printed Stop) (old new : Option (List ℕ)) (failed : Bool) (ended : Ended)
+    → IfOk answered (λ p. IsAnswered text (Prints p.text.items p.outcome)) → IfErr answered (λ stop. IfRefused stop (λ line. IsAnswered text (Refusal line)))
+    → EndsWith answered old new failed ended → EndsAs IsAnswered text old new failed ended
+ends_as A text (Ok p) old new failed variant.Clean good bad how = (record { printed = p.text.items; answer = subst (λ o. A text (Prints p.text.items o)) how.0 good; written = how.1 }, how.2)
+ends_as A text (Ok p) old new failed variant.Cycles good bad how = (record { printed = p.text.items; answer = subst (λ o. A text (Prints p.text.items o)) how.0 good; written = how.1 }, how.2)
+ends_as A text (Ok p) old new failed variant.Done good bad how = (record { printed = p.text.items; answer = subst (λ o. A text (Prints p.text.items o)) how.0 good; written = how.1 }, how.2)
+ends_as A text (Ok p) old new failed (variant.WriteFailed count) good bad how =
+    record { printed = p.text.items; outcome = p.outcome; answer = good; written = how.0; part = how.1; broke = how.2 }
+ends_as A text (Ok p) old new failed (variant.Refused line) good bad how = absurd how
+ends_as A text (Ok p) old new failed variant.Memory good bad how = absurd how
+ends_as A text (Ok p) old new failed variant.ReadFailed good bad how = absurd how
+ends_as A text (Ok p) old new failed variant.Unconfirmed good bad how = absurd how
+ends_as A text (Err (Refused line)) old new failed ended good bad how = subst (EndsAs A text old new failed) (sym how.0) (how.1, bad, how.2)
+ends_as A text (Err Memory) old new failed ended good bad how = subst (EndsAs A text old new failed) (sym how.0) (how.1, how.2)
+
+-- and one that is the answer to each text of the trace that was read
+pub ends : (IsAnswered : List ℕ → Answer → Type 0) (turns : ℕ) (given left : Option (List ℕ)) (read_failed : Bool) (read : Result Trace ReadFault) (answered : Result Printed Stop) (old new : Option (List ℕ)) (failed : Bool) (ended : Ended)
+    → HasHeardAll turns given left read_failed read
     → IfOk answered (λ p. (text : List ℕ) → trace_of greatest text ≡ read → IsAnswered text (Prints p.text.items p.outcome))
     → IfErr answered (λ stop. IfRefused stop (λ line. (text : List ℕ) → trace_of greatest text ≡ read → IsAnswered text (Refusal line)))
-    → EndsWith answered output.before output.after output.failed ended → HasEnded IsAnswered turns input output ended
-ends A turns input read answered output ended heard good bad how = ended_so heard.text ended heard.whole (go answered ended good bad how)
-  where
-    go : (answered : Result Printed Stop) (ended : Ended) → IfOk answered (λ p. (text : List ℕ) → trace_of greatest text ≡ read → A text (Prints p.text.items p.outcome))
-        → IfErr answered (λ stop. IfRefused stop (λ line. (text : List ℕ) → trace_of greatest text ≡ read → A text (Refusal line)))
-        → EndsWith answered output.before output.after output.failed ended → EndsAs A heard.text output.before output.after output.failed ended
-    go (Ok p) variant.Clean good bad how = (record { printed = p.text.items; answer = subst (λ o. A heard.text (Prints p.text.items o)) how.0 (good heard.text heard.trace); written = how.1 }, how.2)
-    go (Ok p) variant.Cycles good bad how = (record { printed = p.text.items; answer = subst (λ o. A heard.text (Prints p.text.items o)) how.0 (good heard.text heard.trace); written = how.1 }, how.2)
-    go (Ok p) variant.Done good bad how = (record { printed = p.text.items; answer = subst (λ o. A heard.text (Prints p.text.items o)) how.0 (good heard.text heard.trace); written = how.1 }, how.2)
-    go (Ok p) (variant.WriteFailed count) good bad how =
-        record { printed = p.text.items; outcome = p.outcome; answer = good heard.text heard.trace; written = how.0; part = how.1; broke = how.2 }
-    go (Ok p) (variant.Refused line) good bad how = absurd how
-    go (Ok p) variant.Memory good bad how = absurd how
-    go (Ok p) variant.ReadFailed good bad how = absurd how
-    go (Ok p) variant.Unconfirmed good bad how = absurd how
-    go (Err (Refused line)) end good bad how = subst (EndsAs A heard.text output.before output.after output.failed) (sym how.0) (how.1, bad heard.text heard.trace, how.2)
-    go (Err Memory) end good bad how = subst (EndsAs A heard.text output.before output.after output.failed) (sym how.0) (how.1, how.2)
+    → EndsWith answered old new failed ended → HasEnded IsAnswered turns given left read_failed old new failed ended
+ends A turns given left read_failed read (Ok p) old new failed ended heard good bad how =
+    ended_so heard.text ended heard.whole (ends_as A heard.text (Ok p) old new failed ended (good heard.text heard.trace) tt how)
+ends A turns given left read_failed read (Err stop) old new failed ended heard good bad how =
+    let said = refused_then stop (λ line. (text : List ℕ) → trace_of greatest text ≡ read → A text (Refusal line)) (λ line. A heard.text (Refusal line)) (λ line each. each heard.text heard.trace) bad in
+    ended_so heard.text ended heard.whole (ends_as A heard.text (Err stop) old new failed ended tt said how)
 
 -- and so does that of a session, unless it isn't confirmed
-pub ends_live : (IsAnswered : List ℕ → Answer → Type 0) (turns : ℕ) (input : Use) (read : Result Trace ReadFault) (answered : Result Printed LiveStop) (output : Use) (ended : Ended)
-    → HasHeardAll turns input read
+pub ends_live : (IsAnswered : List ℕ → Answer → Type 0) (turns : ℕ) (given left : Option (List ℕ)) (read_failed : Bool) (read : Result Trace ReadFault) (answered : Result Printed LiveStop) (old new : Option (List ℕ)) (failed : Bool) (ended : Ended)
+    → HasHeardAll turns given left read_failed read
     → IfOk answered (λ p. (text : List ℕ) → trace_of greatest text ≡ read → IsAnswered text (Prints p.text.items p.outcome))
     → IfErr answered (λ stop. IfStopped stop (λ line. (text : List ℕ) → trace_of greatest text ≡ read → IsAnswered text (Refusal line)))
-    → EndsLiveWith answered output.before output.after output.failed ended → HasEndedLive IsAnswered turns input output ended
-ends_live A turns input read (Ok p) output ended heard good bad how =
-    confirmed ended (ends A turns input read (Ok p) output ended heard good tt how)
-ends_live A turns input read (Err (Stopped stop)) output ended heard good bad how =
-    confirmed ended (ends A turns input read (Err stop) output ended heard tt bad how)
-ends_live A turns input read (Err Unconfirmed) output ended heard good bad how =
-    subst (HasEndedLive A turns input output) (sym how.0) (unconfirmed heard.text heard.whole how.1 how.2)
+    → EndsLiveWith answered old new failed ended → HasEndedLive IsAnswered turns given left read_failed old new failed ended
+ends_live A turns given left read_failed read (Ok p) old new failed ended heard good bad how =
+    confirmed ended (ends A turns given left read_failed read (Ok p) old new failed ended heard good tt how)
+ends_live A turns given left read_failed read (Err (Stopped stop)) old new failed ended heard good bad how =
+    confirmed ended (ends A turns given left read_failed read (Err stop) old new failed ended heard tt bad how)
+ends_live A turns given left read_failed read (Err Unconfirmed) old new failed ended heard good bad how =
+    subst (HasEndedLive A turns given left read_failed old new failed) (sym how.0) (unconfirmed heard.text heard.whole how.1 how.2)

@@ -1,3 +1,4 @@
+pub mod Accepting
 pub mod Answering
 pub mod Reading
 pub mod Uniqueness

@@ -1,5 +1,5 @@
 -- Numbers and queries that are read of options.
-use Rattle.std.proofs.Common.{◌≡◌, length, ◌<◌, ◌∙◌, ◌⊎◌, inl, inr, ℕ, true, false, List, [], Option, Some, None, Result, Ok, Err, refl, sym, ap, subst, IfSome, option_map}
+use Rattle.std.proofs.Common.{◌≡◌, length, ◌<◌, ◌∙◌, ◌⊎◌, inl, inr, ℕ, true, false, List, [], ◌∷◌, Option, Some, None, Result, Ok, Err, refl, sym, ap, subst, IfSome, option_map}
 use Rattle.std.specs.Prelude.{◌==◌, unwrap_or}
 use Rattle.std.specs.Str.Parse.{ParsesUnsigned, digits_value, without_leading_plus}
 use Rattle.clap.specs.Matches.{ReadsOne}
@@ -16,7 +16,7 @@ use Rattle.goodlock.specs.Options.{Asks, AsksForSession, AsksIn, IsCommand, IsEn
 use Rattle.goodlock.specs.Sessions.{CanRun}
 use Rattle.goodlock.specs.declared.live_options.LiveOptions.{LiveOptions}
 use Rattle.goodlock.specs.declared.options.Command.{Command}
-use Rattle.goodlock.specs.declared.options.Command.TheVariants.{Predict, Live, Stats, Replay}
+use Rattle.goodlock.specs.declared.options.Command.TheVariants.{Predict, Live, Stats, Replay, Check}
 use Rattle.goodlock.specs.declared.options.Usage.{Usage}
 use Rattle.goodlock.specs.declared.options.Usage.TheVariants.{Shown, Refused, Memory}
 
@@ -87,11 +87,12 @@ entered_name m c name of is = name_of_rows m ∙ ap (option_map (λ p. p.0)) of.
 
 -- no command was entered
 pub unentered : (m : ArgMatches) → (subcommand_name_of m ≡ Some (codes "predict") → ⊥) → (subcommand_name_of m ≡ Some (codes "live") → ⊥)
-    → (subcommand_name_of m ≡ Some (codes "stats") → ⊥) → (subcommand_name_of m ≡ Some (codes "replay") → ⊥) → (c : Command) → IsEntered (subcommand_rows_of m) c → ⊥
-unentered m no_predict no_live no_stats no_replay (Predict q form) of = no_predict (entered_name m (Predict q form) (codes "predict") of of.is_command.0)
-unentered m no_predict no_live no_stats no_replay (Live o) of = no_live (entered_name m (Live o) (codes "live") of of.is_command.0)
-unentered m no_predict no_live no_stats no_replay (Stats q) of = no_stats (entered_name m (Stats q) (codes "stats") of of.is_command.0)
-unentered m no_predict no_live no_stats no_replay Replay of = no_replay (entered_name m Replay (codes "replay") of of.is_command)
+    → (subcommand_name_of m ≡ Some (codes "stats") → ⊥) → (subcommand_name_of m ≡ Some (codes "replay") → ⊥) → (subcommand_name_of m ≡ Some (codes "check") → ⊥) → (c : Command) → IsEntered (subcommand_rows_of m) c → ⊥
+unentered m no_predict no_live no_stats no_replay no_check (Predict q form) of = no_predict (entered_name m (Predict q form) (codes "predict") of of.is_command.0)
+unentered m no_predict no_live no_stats no_replay no_check (Live o) of = no_live (entered_name m (Live o) (codes "live") of of.is_command.0)
+unentered m no_predict no_live no_stats no_replay no_check (Stats q) of = no_stats (entered_name m (Stats q) (codes "stats") of of.is_command.0)
+unentered m no_predict no_live no_stats no_replay no_check Replay of = no_replay (entered_name m Replay (codes "replay") of of.is_command)
+unentered m no_predict no_live no_stats no_replay no_check Check of = no_check (entered_name m Check (codes "check") of of.is_command)
 
 -- options that give no query
 pub no_prediction : (rows : List Row) → ((q : Asked) → AsksIn rows q → ⊥) → (c : Command) → IsCommand (codes "predict") rows c → ⊥
@@ -105,6 +106,13 @@ no_prediction rows none (Stats q) is =
 no_prediction rows none Replay is =
     let bad : true ≡ false = ap (λ (name : Text). length name == 7) is in
     cc
+no_prediction rows none Check is =
+    let bad : true ≡ false = ap (λ (name : Text). length name == 7) is in
+    cc
+
+abbrev first_letter : Text → ℕ
+first_letter [] = 0
+first_letter (letter ∷ rest) = letter
 
 pub no_stats : (rows : List Row) → ((q : Asked) → AsksIn rows q → ⊥) → (c : Command) → IsCommand (codes "stats") rows c → ⊥
 no_stats rows none (Predict q form) is =
@@ -117,6 +125,9 @@ no_stats rows none (Stats q) is = none q is.1
 no_stats rows none Replay is =
     let bad : true ≡ false = ap (λ (name : Text). length name == 5) is in
     cc
+no_stats rows none Check is =
+    let bad : false ≡ true = ap (λ (name : Text). first_letter name == 99) is in
+    cc
 
 pub no_session : (rows : List Row) → ((o : LiveOptions) → AsksIn rows o.query → AsksForSession rows o → ⊥) → (c : Command) → IsCommand (codes "live") rows c → ⊥
 no_session rows none (Predict q form) is =
@@ -127,6 +138,9 @@ no_session rows none (Stats q) is =
     let bad : true ≡ false = ap (λ (name : Text). length name == 4) is.0 in
     cc
 no_session rows none Replay is =
+    let bad : true ≡ false = ap (λ (name : Text). length name == 4) is in
+    cc
+no_session rows none Check is =
     let bad : true ≡ false = ap (λ (name : Text). length name == 4) is in
     cc
 
@@ -150,6 +164,7 @@ can_run words (Live o) asks =
     }
 can_run words (Stats q) asks = tt
 can_run words Replay asks = tt
+can_run words Check asks = tt
 
 -- a value that no option takes
 pub refused_value : (words : List Text) (u : Usage) → IsUsageFor kind.InvalidValue u → ((c : Command) → Asks words c → ⊥)

@@ -1,4 +1,5 @@
 pub mod Answer
+pub mod Checking
 pub mod Ending
 pub mod Lines
 pub mod Options

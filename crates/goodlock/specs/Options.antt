@@ -13,7 +13,7 @@ use Rattle.clap.specs.declared.builder.action.ArgAction.TheVariants.{SetTrue}
 use Rattle.goodlock.specs.declared.ended.Form.{Form}
 use Rattle.goodlock.specs.declared.ended.Form.TheVariants.{Text as Plain, Json}
 use Rattle.goodlock.specs.declared.options.Command.{Command}
-use Rattle.goodlock.specs.declared.options.Command.TheVariants.{Predict, Live, Stats, Replay}
+use Rattle.goodlock.specs.declared.options.Command.TheVariants.{Predict, Live, Stats, Replay, Check}
 use Rattle.goodlock.specs.declared.live_options.LiveOptions.{LiveOptions}
 use Rattle.goodlock.specs.declared.options.Usage.{Usage}
 use Rattle.goodlock.specs.declared.options.Usage.TheVariants.{Shown, Refused, Memory}
@@ -74,6 +74,10 @@ stats = query_app (codes "stats")
 abbrev pub replay : App
 replay = new_app (codes "replay")
 
+-- the command that checks a report: it has no options
+abbrev pub check : App
+check = new_app (codes "check")
+
 -- the program: a subcommand is required
 abbrev pub program : App
 program = record {
@@ -87,7 +91,7 @@ program = record {
 
 -- with its commands
 abbrev pub goodlock : App
-goodlock = with_subcommand (with_subcommand (with_subcommand (with_subcommand program predict.top) live.top) stats.top) replay.top
+goodlock = with_subcommand (with_subcommand (with_subcommand (with_subcommand (with_subcommand program predict.top) live.top) stats.top) replay.top) check.top
 
 -- ---- what words ask for
 
@@ -134,6 +138,7 @@ IsCommand name rows (Predict query form) = (name ≡ codes "predict") × AsksIn 
 IsCommand name rows (Live options) = (name ≡ codes "live") × AsksIn rows options.query × IsFormIn rows options.form × AsksForSession rows options
 IsCommand name rows (Stats query) = (name ≡ codes "stats") × AsksIn rows query
 IsCommand name rows Replay = name ≡ codes "replay"
+IsCommand name rows Check = name ≡ codes "check"
 
 -- the subcommand that was entered is this
 pub record IsEntered (entered : Option (Text × List Row)) (command : Command) : Type 0 where

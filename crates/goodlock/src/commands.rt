@@ -7,17 +7,19 @@ ghost use Rattle.gl_event.specs.Bounds.{greatest};
 ghost use Rattle.gl_std.specs.Lines.{ended_lines};
 ghost use Rattle.gl_std.specs.Trace.{trace_of, IsTraceOver};
 ghost use Rattle.goodlock.specs.Answer.{IsAnswer, IsPlainAnswer, counts, prediction, replay};
-ghost use Rattle.goodlock.specs.Ending.{EndsEarlyAs, EndsLiveWith, EndsWith, HasEnded, HasEndedEarly, HasEndedLive, HasHeardAll, HasWrittenText, used};
+ghost use Rattle.goodlock.specs.Checking.{HasChecked};
+ghost use Rattle.goodlock.specs.Ending.{EndsEarlyAs, EndsLiveWith, EndsWith, HasEnded, HasEndedEarly, HasEndedLive, HasHeardAll, HasWrittenText};
 ghost use Rattle.goodlock.specs.Performed.{HasPerformed};
 ghost use Rattle.goodlock.specs.Sessions.{AreOfSession, CanRun};
 
 use crate::answer::{Printed, Stop, counted, greatest_limits, judge, predicted, replayed};
+use crate::checking::{checked, end_cut};
 use crate::ended::{Ended, Form, Outcome};
 use crate::live_options::LiveOptions;
 use crate::options::Command;
 use crate::recorded::{LiveStop, recorded};
 use gl_filters::Query;
-use gl_io::{Sink, Source, WriteFault, write_out};
+use gl_io::{Sink, Source, WriteFault, read_whole, write_out};
 use gl_shards::{Gate, Open};
 use gl_std::{ReadFault, Seed, Trace, read_source};
 use std::alloc::Global;
@@ -49,9 +51,9 @@ fn hear<I: Source>(
 ) -> Result<Result<Trace, ReadFault>, Ended>
     requires readable { I.failed input.old ≡ false }
     requires few_turns { turns ≤ 2 ^ 40 }
-    ensures heard { IfOk result (HasHeardAll turns (used (I.remaining input.old) (I.remaining input.new) (I.failed input.new))) }
+    ensures heard { IfOk result (HasHeardAll turns (I.remaining input.old) (I.remaining input.new) (I.failed input.new)) }
     ensures over { IfOk result (λ read. IfOk read (IsTraceOver greatest)) }
-    ensures early { IfErr result (HasEndedEarly turns (used (I.remaining input.old) (I.remaining input.new) (I.failed input.new))) }
+    ensures early { IfErr result (HasEndedEarly turns (I.remaining input.old) (I.remaining input.new) (I.failed input.new)) }
 {
     let Ok(heard) = read_source(alloc, input, turns, &greatest_limits(), seed) else {
         return Err(Ended::Memory);
@@ -127,7 +129,7 @@ pub fn predict<R: AllocGlobal + Threads + Sync, I: Source, O: Sink>(
     requires readable { I.failed input.old ≡ false }
     requires writable { O.failed output.old ≡ false }
     requires few_turns { turns ≤ 2 ^ 40 }
-    ensures { HasEnded (IsAnswer (prediction query.now form)) turns (used (I.remaining input.old) (I.remaining input.new) (I.failed input.new)) (used (O.contents output.old) (O.contents output.new) (O.failed output.new)) result }
+    ensures { HasEnded (IsAnswer (prediction query.now form)) turns (I.remaining input.old) (I.remaining input.new) (I.failed input.new) (O.contents output.old) (O.contents output.new) (O.failed output.new) result }
 {
     let alloc = rt.alloc();
     match hear(alloc, input, turns, seed) {
@@ -157,7 +159,7 @@ pub fn live<R: AllocGlobal + Threads + Wait + Sync, I: Source, O: Sink>(
     requires writable { O.failed output.old ≡ false }
     requires few_turns { turns ≤ 2 ^ 40 }
     requires session { AreOfSession options.now }
-    ensures { HasEndedLive (IsAnswer (prediction options.now.query options.now.form)) turns (used (I.remaining input.old) (I.remaining input.new) (I.failed input.new)) (used (O.contents output.old) (O.contents output.new) (O.failed output.new)) result }
+    ensures { HasEndedLive (IsAnswer (prediction options.now.query options.now.form)) turns (I.remaining input.old) (I.remaining input.new) (I.failed input.new) (O.contents output.old) (O.contents output.new) (O.failed output.new) result }
 {
     live_gated(rt, input, output, turns, seed, options, &Open)
 }
@@ -176,7 +178,7 @@ pub fn live_gated<R: AllocGlobal + Threads + Wait + Sync, I: Source, O: Sink, G:
     requires writable { O.failed output.old ≡ false }
     requires few_turns { turns ≤ 2 ^ 40 }
     requires session { AreOfSession options.now }
-    ensures { HasEndedLive (IsAnswer (prediction options.now.query options.now.form)) turns (used (I.remaining input.old) (I.remaining input.new) (I.failed input.new)) (used (O.contents output.old) (O.contents output.new) (O.failed output.new)) result }
+    ensures { HasEndedLive (IsAnswer (prediction options.now.query options.now.form)) turns (I.remaining input.old) (I.remaining input.new) (I.failed input.new) (O.contents output.old) (O.contents output.new) (O.failed output.new) result }
 {
     let alloc = rt.alloc();
     match hear(alloc, input, turns, seed) {
@@ -199,7 +201,7 @@ pub fn stats<R: AllocGlobal + Threads + Sync, I: Source, O: Sink>(
     requires readable { I.failed input.old ≡ false }
     requires writable { O.failed output.old ≡ false }
     requires few_turns { turns ≤ 2 ^ 40 }
-    ensures { HasEnded (IsAnswer (counts query.now)) turns (used (I.remaining input.old) (I.remaining input.new) (I.failed input.new)) (used (O.contents output.old) (O.contents output.new) (O.failed output.new)) result }
+    ensures { HasEnded (IsAnswer (counts query.now)) turns (I.remaining input.old) (I.remaining input.new) (I.failed input.new) (O.contents output.old) (O.contents output.new) (O.failed output.new) result }
 {
     let alloc = rt.alloc();
     match hear(alloc, input, turns, seed) {
@@ -222,13 +224,42 @@ pub fn replay<R: AllocGlobal, I: Source, O: Sink>(
     requires readable { I.failed input.old ≡ false }
     requires writable { O.failed output.old ≡ false }
     requires few_turns { turns ≤ 2 ^ 40 }
-    ensures { HasEnded (IsPlainAnswer replay) turns (used (I.remaining input.old) (I.remaining input.new) (I.failed input.new)) (used (O.contents output.old) (O.contents output.new) (O.failed output.new)) result }
+    ensures { HasEnded (IsPlainAnswer replay) turns (I.remaining input.old) (I.remaining input.new) (I.failed input.new) (O.contents output.old) (O.contents output.new) (O.failed output.new) result }
 {
     let alloc = rt.alloc();
     match hear(alloc, input, turns, seed) {
         Ok(read) => end(output, replayed(alloc, read)),
         Err(ended) => ended,
     }
+}
+
+/// Reads a report, which is one line of JSON, and after it the text of a trace, and writes whether the
+/// report is true of the trace. A report that isn't is refused with the line that says its first fault.
+///
+/// Fails as [`predict`] does, and refuses each trace that has a line at fault, with the number of the line
+/// in the trace, before it looks at the report. Where the input can't be read to its end, it judges the
+/// lines of the trace that were ended. The input is kept in memory.
+pub fn check_input<R: AllocGlobal, I: Source, O: Sink>(
+    rt: &R,
+    input: &mut I,
+    output: &mut O,
+    turns: u64,
+    seed: Seed,
+) -> Ended
+    requires readable { I.failed input.old ≡ false }
+    requires writable { O.failed output.old ≡ false }
+    requires few_turns { turns ≤ 2 ^ 40 }
+    ensures { HasChecked turns (I.remaining input.old) (I.remaining input.new) (I.failed input.new) (O.contents output.old) (O.contents output.new) (O.failed output.new) result }
+{
+    let alloc = rt.alloc();
+    let Ok(gathered) = read_whole(alloc, input, turns) else {
+        return Ended::Memory;
+    };
+    let text = gathered.text.as_slice();
+    if gathered.is_whole {
+        return end(output, checked(alloc, text, seed));
+    }
+    end_cut(alloc, text, seed)
 }
 
 /// Does what the words of the command line ask for, from the input to the output, in at most
@@ -243,12 +274,13 @@ pub fn perform<R: AllocGlobal + Threads + Wait + Sync, I: Source, O: Sink>(
     requires readable { I.failed input.old ≡ false }
     requires writable { O.failed output.old ≡ false }
     requires runs { CanRun command.now }
-    ensures { HasPerformed command.now 1000000000 (used (I.remaining input.old) (I.remaining input.new) (I.failed input.new)) (used (O.contents output.old) (O.contents output.new) (O.failed output.new)) result }
+    ensures { HasPerformed command.now 1000000000 (I.remaining input.old) (I.remaining input.new) (I.failed input.new) (O.contents output.old) (O.contents output.new) (O.failed output.new) result }
 {
     match command {
         Command::Predict { query, form } => predict(rt, input, output, TURNS, seed, query, *form),
         Command::Live(options) => live(rt, input, output, TURNS, seed, options),
         Command::Stats { query } => stats(rt, input, output, TURNS, seed, query),
         Command::Replay => replay(rt, input, output, TURNS, seed),
+        Command::Check => check_input(rt, input, output, TURNS, seed),
     }
 }

@@ -18,6 +18,7 @@ use std::sync::Wait;
 use std::thread::Threads;
 
 mod answer;
+mod checking;
 mod commands;
 mod ended;
 mod laws;

@@ -4,7 +4,7 @@ ghost use Rattle.clap.specs.declared.error.kind.ErrorKind.TheVariants.{InvalidVa
 ghost use Rattle.clap.specs.Words.{app_of, first_of, found_of, kind_of, rows_of, rule_of, subcommand_rows_of, with_subcommand};
 ghost use Rattle.clap.specs.declared.builder.command.Command.TheViews.{out-Command as fields_of};
 ghost use Rattle.gl_filters.specs.Asked.{Asked};
-ghost use Rattle.goodlock.specs.Options.{goodlock, program, predict, live, stats, replay, query_app, mode_rule, len_rule, max_rule, json_rule};
+ghost use Rattle.goodlock.specs.Options.{goodlock, program, predict, live, stats, replay, check, query_app, mode_rule, len_rule, max_rule, json_rule};
 ghost use Rattle.goodlock.specs.Options.{Asks, AsksIn, IsCommand, IsEntered, IsFormIn, IsNumberAt, IsUsageFor, IsUsageOf, mode_named};
 
 use crate::ended::Form;
@@ -30,6 +30,8 @@ pub enum Command {
     Stats { query: Query },
     /// Read a trace and print it as a text.
     Replay,
+    /// Read a report and the trace that it is of, and print whether it is true.
+    Check,
 }
 
 /// Why words ask for nothing that is to be done.
@@ -160,6 +162,20 @@ fn replay_command<'a>(alloc: Global) -> clap::Command<'a>
         )
 }
 
+// The command that checks a report.
+fn check_command<'a>(alloc: Global) -> clap::Command<'a>
+    ensures shape { app_of result ≡ check }
+    ensures local { (fields_of result).has_globals ≡ false }
+{
+    clap::Command::new(alloc, "check")
+        .about(
+            "Reads a JSON report, which is one line, and then its trace from standard input, and says whether the report is true",
+        )
+        .after_help(
+            "Examples:\n  cat report.json trace.std | goodlock check\n  (goodlock predict --json < trace.std; cat trace.std) | goodlock check",
+        )
+}
+
 // The program with the command that predicts.
 fn predicting<'a>(alloc: Global) -> Result<clap::Command<'a>, AllocError>
     ensures { IfOk result (λ c. app_of c ≡ with_subcommand program predict.top) }
@@ -189,11 +205,18 @@ fn counting<'a>(alloc: Global) -> Result<clap::Command<'a>, AllocError>
     recording(alloc)?.subcommand(stats_command(alloc)?)
 }
 
+// And with the one that writes the trace.
+fn replaying<'a>(alloc: Global) -> Result<clap::Command<'a>, AllocError>
+    ensures { IfOk result (λ c. app_of c ≡ with_subcommand (with_subcommand (with_subcommand (with_subcommand program predict.top) live.top) stats.top) replay.top) }
+{
+    counting(alloc)?.subcommand(replay_command(alloc))
+}
+
 // The whole command line.
 fn command_line<'a>(alloc: Global) -> Result<clap::Command<'a>, AllocError>
     ensures { IfOk result (λ c. app_of c ≡ goodlock) }
 {
-    counting(alloc)?.subcommand(replay_command(alloc))
+    replaying(alloc)?.subcommand(check_command(alloc))
 }
 
 // The mode of this name.
@@ -316,8 +339,11 @@ fn command_in(matches: &ArgMatches<'_>) -> Option<Command>
     if let Some(options) = matches.subcommand_matches("stats") {
         return stats_in(options);
     }
-    match matches.subcommand_matches("replay") {
-        Some(_) => Some(Command::Replay),
+    if matches.subcommand_matches("replay").is_some() {
+        return Some(Command::Replay);
+    }
+    match matches.subcommand_matches("check") {
+        Some(_) => Some(Command::Check),
         None => None,
     }
 }
@@ -328,7 +354,7 @@ fn command_in(matches: &ArgMatches<'_>) -> Option<Command>
 /// `basic`, `guarded` or `full` (the default), `--len` with a number from 2 to 16 (4), and `--max` with
 /// one from 1 to 100,000 (1,000), of `predict` and `live` also `--json`, and of `live` `--recorders` and
 /// `--shards` with numbers from 1 to 16 (4 each) and `--ring` with one from 1 to 65,536 (256), each once
-/// at the most; or `goodlock replay`. `--help`, of the program or of a command, and `--version` ask for a
+/// at the most; or `goodlock replay` or `goodlock check`. `--help`, of the program or of a command, and `--version` ask for a
 /// text.
 pub fn parse<'a, S: AsStr>(alloc: Global, words: &'a [S]) -> Result<Command, Usage>
     ensures asks { IfOk result (Asks (map S.text words.entry.now)) }

@@ -11,6 +11,7 @@ use std::process::Abort;
 use std::test::Fail;
 use std::thread::Threads;
 
+mod checks;
 mod counts;
 mod cuts;
 mod faults;

@@ -27,7 +27,7 @@ fn options_and_defaults(rt: HostRuntime) -> Result<(), Fail> {
 }
 
 #[test]
-fn counting_and_replaying(rt: HostRuntime) -> Result<(), Fail> {
+fn counting_replaying_and_checking(rt: HostRuntime) -> Result<(), Fail> {
     let defaults = full()?;
     expect_command(
         &rt,
@@ -40,13 +40,14 @@ fn counting_and_replaying(rt: HostRuntime) -> Result<(), Fail> {
     ];
     expect_command(&rt, &words, &Command::Stats { query });
     expect_command(&rt, &["goodlock", "replay"], &Command::Replay);
+    expect_command(&rt, &["goodlock", "check"], &Command::Check);
     Ok(())
 }
 
 #[test]
 fn usage_faults(rt: HostRuntime) {
     expect_usage(&rt, &["goodlock"], false);
-    expect_usage(&rt, &["goodlock", "check"], false);
+    expect_usage(&rt, &["goodlock", "check", "report.json"], false);
     expect_usage(&rt, &["goodlock", "--json"], false);
     expect_usage(&rt, &["goodlock", "predict", "trace.std"], false);
     expect_usage(&rt, &["goodlock", "predict", "--len", "17"], false);
@@ -59,4 +60,5 @@ fn usage_faults(rt: HostRuntime) {
     expect_usage(&rt, &["goodlock", "predict", "--help"], true);
     expect_usage(&rt, &["goodlock", "stats", "--help"], true);
     expect_usage(&rt, &["goodlock", "replay", "--help"], true);
+    expect_usage(&rt, &["goodlock", "check", "--help"], true);
 }

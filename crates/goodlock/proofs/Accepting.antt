@@ -1,0 +1,59 @@
+-- What is said of a report is what is answered to its input.
+use Rattle.std.proofs.Common.{◌≡◌, ◌++◌, ℕ, Bool, true, false, List, Option, Result, Ok, Err, sym, ap, subst, ◌∙◌}
+use Rattle.std.proofs.KnownBytes.{Keeps-refl}
+use Rattle.std.specs.Prelude.{IfOk, IfErr, codes}
+use Rattle.gl_event.specs.Bounds.{greatest}
+use Rattle.gl_io.specs.Reads.{HasRead}
+use Rattle.gl_std.specs.Trace.{trace_of}
+use Rattle.gl_std.specs.declared.trace.Trace.{Trace}
+use Rattle.gl_check.specs.Checked.{IsChecked, IsCheckFault}
+use Rattle.gl_check.specs.Faults.{checked_text}
+use Rattle.goodlock.specs.Answer.Answer.{Prints, Refusal}
+use Rattle.goodlock.specs.Checking.{HasChecked, IsCheckAnswer, report_in, trace_in}
+use Rattle.goodlock.specs.Checking.HasChecked.{cut_short, ended_so}
+use Rattle.goodlock.specs.Checking.IsCheckAnswer.{bad_line, refused, accepted}
+use Rattle.goodlock.specs.Ending.{EndsEarlyAs, EndsWith}
+use Rattle.goodlock.specs.bodies.Opinions.{SaysAccepted, SaysRefused}
+use Rattle.goodlock.specs.bodies.Stops.{IfRefused, IsFaultIn}
+use Rattle.goodlock.proofs.Answering.{ends_as}
+use Rattle.goodlock.specs.declared.answer.Printed.{Printed}
+use Rattle.goodlock.specs.declared.answer.Stop.{Stop}
+use Rattle.goodlock.specs.declared.answer.Stop.TheVariants.{Refused, Memory}
+use Rattle.goodlock.specs.declared.ended.Ended.{Ended}
+
+-- a line of the trace is at fault
+pub answers_bad : (input text : List ℕ) (stop : Stop) → text ≡ trace_in input → IfRefused stop (IsFaultIn (trace_of greatest text)) → IfRefused stop (λ line. IsCheckAnswer input (Refusal line))
+answers_bad input text (Refused line) is says = subst (λ l. IsCheckAnswer input (Refusal l)) (sym says.said) (bad_line says.number says.kind (ap (trace_of greatest) (sym is) ∙ says.first))
+answers_bad input text Memory is says = tt
+
+-- the report is accepted
+pub answers_accepted : (input : List ℕ) (trace : Trace) (report : List ℕ) (answer : Result Printed Stop) → report ≡ report_in input → trace_of greatest (trace_in input) ≡ Ok trace
+    → IfOk answer (λ p. SaysAccepted trace report p.text.items p.outcome) → IfOk answer (λ p. IsCheckAnswer input (Prints p.text.items p.outcome))
+answers_accepted input trace report (Ok p) is read says =
+    subst (λ t. IsCheckAnswer input (Prints t p.outcome)) (sym says.said)
+    (subst (λ o. IsCheckAnswer input (Prints (checked_text says.checked ++ codes "\n") o)) (sym says.done) (accepted trace says.checked read (subst (λ r. IsChecked trace r says.checked) is says.is)))
+answers_accepted input trace report (Err stop) is read says = tt
+
+-- the report is refused
+pub answers_refused : (input : List ℕ) (trace : Trace) (report : List ℕ) (answer : Result Printed Stop) → report ≡ report_in input → trace_of greatest (trace_in input) ≡ Ok trace
+    → IfErr answer (λ stop. IfRefused stop (SaysRefused trace report)) → IfErr answer (λ stop. IfRefused stop (λ line. IsCheckAnswer input (Refusal line)))
+answers_refused input trace report (Ok p) is read says = tt
+answers_refused input trace report (Err (Refused line)) is read says =
+    subst (λ l. IsCheckAnswer input (Refusal l)) (sym says.said) (refused trace says.fault read (subst (λ r. IsCheckFault trace r says.fault) is says.first) says.found)
+answers_refused input trace report (Err Memory) is read says = tt
+
+-- the input was read whole, and what is answered to it was written or refused
+pub ends_whole : (turns : ℕ) (given left : Option (List ℕ)) (read_failed : Bool) (input text : List ℕ) (whole : Bool) (answered : Result Printed Stop) (old new : Option (List ℕ)) (failed : Bool) (how : Ended)
+    → HasRead turns given left read_failed text whole → whole ≡ true → input ≡ text
+    → IfOk answered (λ p. IsCheckAnswer input (Prints p.text.items p.outcome)) → IfErr answered (λ stop. IfRefused stop (λ line. IsCheckAnswer input (Refusal line)))
+    → EndsWith answered old new failed how → HasChecked turns given left read_failed old new failed how
+ends_whole turns given left read_failed input text whole answered old new failed how read is same good bad ends =
+    ended_so input how (subst (λ t. HasRead turns given left read_failed t true) (sym same) (subst (HasRead turns given left read_failed text) is read))
+    (ends_as IsCheckAnswer input answered old new failed how good bad ends)
+
+-- it wasn't, and nothing was written
+pub ends_short : (turns : ℕ) (given left : Option (List ℕ)) (read_failed : Bool) (input text : List ℕ) (whole : Bool) (held : Option (List ℕ)) (failed : Bool) (how : Ended)
+    → HasRead turns given left read_failed text whole → whole ≡ false → input ≡ text → EndsEarlyAs (trace_in input) how → failed ≡ false
+    → HasChecked turns given left read_failed held held failed how
+ends_short turns given left read_failed input text whole held failed how read is same early sound =
+    cut_short input how (subst (λ t. HasRead turns given left read_failed t false) (sym same) (subst (HasRead turns given left read_failed text) is read)) early (Keeps-refl held) sound
