@@ -311,17 +311,28 @@ fn format_1_of_opposite_order(rt: HostRuntime) -> Result<(), Fail> {
     )
 }
 
-// The ends of the printable range, the bytes beyond them, a backslash and a quote. JSON escapes the
-// backslash once more.
+// The name is escaped like this.
+fn expect_escaped(rt: &impl Abort, alloc: Global, name: &[u8], want: &[u8]) -> Result<(), Fail> {
+    let text = escaped_name(alloc, name)?;
+    assert_eq!(rt; text.as_bytes(), want);
+    Ok(())
+}
+
+// The ends of the printable range, the bytes beyond them, a backslash and a quote; and bytes that are no
+// ASCII.
 #[test]
 fn odd_names_are_escaped(rt: HostRuntime) -> Result<(), Fail> {
     let alloc = rt.alloc();
-    let ends = escaped_name(alloc, b"\x1f ~\x7f\\\"")?;
-    assert!(rt; ends.as_str() == "\\x1f ~\\x7f\\x5c\"");
-    let accent = escaped_name(alloc, b"\xc3\xa9")?;
-    assert!(rt; accent.as_str() == "\\xc3\\xa9");
-    let quoted = Value::from(accent).to_string(alloc)?;
-    assert!(rt; quoted.as_str() == "\"\\\\xc3\\\\xa9\"");
+    expect_escaped(&rt, alloc, b"\x1f ~\x7f\\\"", b"\\x1f ~\\x7f\\x5c\"")?;
+    expect_escaped(&rt, alloc, b"\xc3\xa9", b"\\xc3\\xa9")
+}
+
+// JSON escapes the backslash once more.
+#[test]
+fn escaped_name_in_json(rt: HostRuntime) -> Result<(), Fail> {
+    let alloc = rt.alloc();
+    let quoted = Value::from(escaped_name(alloc, b"\xc3\xa9")?).to_string(alloc)?;
+    assert_eq!(rt; quoted.as_bytes(), b"\"\\\\xc3\\\\xa9\"".as_slice());
     Ok(())
 }
 
