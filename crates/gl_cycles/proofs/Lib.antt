@@ -1,3 +1,4 @@
+pub mod Accepting
 pub mod Listed
 pub mod Lists
 pub mod Blocking

@@ -128,10 +128,10 @@ module _ (before : Segment → Segment → Bool) (mode : Mode) (edges : List Edg
   order_none = λ n i at. absurd (let within = slice_get_within [] n i at in omega arith)
 
   -- two ways to say that an edge is gone
-  abbrev Agree : (ℕ → Type 0) → (ℕ → Type 0) → Type 0
+  abbrev pub Agree : (ℕ → Type 0) → (ℕ → Type 0) → Type 0
   Agree A B = (j : ℕ) → j < length edges → (A j → B j) × (B j → A j)
 
-  turned : (A B : ℕ → Type 0) → Agree A B → Agree B A
+  pub turned : (A B : ℕ → Type 0) → Agree A B → Agree B A
   turned A B agree = λ j below. ((agree j below).1, (agree j below).0)
 
   beside_to : (A B : ℕ → Type 0) → Agree A B → (side : Side) (e : Edge) → HasBeside before mode edges A side e → HasBeside before mode edges B side e
@@ -143,7 +143,7 @@ module _ (before : Segment → Segment → Bool) (mode : Mode) (edges : List Edg
     fits = has.fits;
   }
 
-  stuck_to : (A B : ℕ → Type 0) → Agree A B → (i : ℕ) → IsStuck before mode edges A i → IsStuck before mode edges B i
+  pub stuck_to : (A B : ℕ → Type 0) → Agree A B → (i : ℕ) → IsStuck before mode edges A i → IsStuck before mode edges B i
   stuck_to A B agree i is = record {
     edge = is.edge;
     stands = is.stands;
@@ -168,7 +168,7 @@ module _ (before : Segment → Segment → Bool) (mode : Mode) (edges : List Edg
       ]
 
   module _ (gone : List Bool) (removed : List ℕ) (are : AreFlagsOf (length edges) gone removed) where
-    agree : Agree (IsFlagged gone) (Contains removed)
+    pub agree : Agree (IsFlagged gone) (Contains removed)
     agree j below =
         (λ flagged. contains_from_any removed j (sym (same_Some _ _ (sym flagged ∙ are.flags j below))), λ among. are.flags j below ∙ ap Some (any_from_contains removed j among))
 

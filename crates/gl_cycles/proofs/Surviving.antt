@@ -13,7 +13,7 @@ use Rattle.gl_filters.proofs.Round.{compatible_round}
 use Rattle.gl_filters.specs.Picked.{picked}
 use Rattle.gl_cycles.specs.AllCycles.{all_cycles}
 use Rattle.gl_cycles.specs.Laws.{IsCycleAt}
-use Rattle.gl_cycles.specs.Trims.{HasBeside, IsTrimOrder}
+use Rattle.gl_cycles.specs.Trims.{HasBeside, IsRemovalOrder, IsTrimOrder, IsWholeRemoval}
 use Rattle.gl_cycles.specs.declared.trims.Side.{Side}
 use Rattle.gl_cycles.specs.declared.trims.Side.TheVariants.{Follower, Leader}
 use Rattle.gl_cycles.proofs.Fronts.{element_at, length-picked, picked-cons, AreWithin}
@@ -100,7 +100,7 @@ module _ (before : Segment → Segment → Bool) (mode : Mode) (len : ℕ) (edge
             (ap (slice_get (picked edges positions)) (follows_earlier n k (omega (arith, size))) ∙ picked_at edges positions k i e is.within at at_e);
       }
 
-  module _ (removed : List ℕ) (order : IsTrimOrder before mode edges removed) where
+  module _ (removed : List ℕ) (order : IsRemovalOrder before mode edges removed) where
     -- none of its edges goes
     free : (n : ℕ) (k i : ℕ) → slice_get positions k ≡ Some i → ¬ Contains (take n removed) i
     free zero k i at among = contains_none i among
@@ -111,7 +111,7 @@ module _ (before : Segment → Segment → Bool) (mode : Mode) (len : ℕ) (edge
           elim (contains_push (take n removed) (get_or removed n 0) i (subst (λ l. Contains l i) more among)) [
             | inl before_it ↦ free n k i at before_it
             | inr now ↦
-                let stuck = (order n i (slice_get-get_or removed n 0 within ∙ ap Some now)).0 in
+                let stuck = order n i (slice_get-get_or removed n 0 within ∙ ap Some now) in
                 stuck.alone (beside (Contains (take n removed)) (free n) k i stuck.edge stuck.side at stuck.stands)
           ]
       | inr above ↦
@@ -126,8 +126,14 @@ module _ (before : Segment → Segment → Bool) (mode : Mode) (len : ℕ) (edge
 
 pub cycles_survive : (before : Segment → Segment → Bool) (mode : Mode) (len : ℕ) (edges : List Edge) (removed positions : List ℕ) → IsTrimOrder before mode edges removed
     → Contains (all_cycles before mode len edges) positions → All (λ i. ¬ Contains removed i) positions
-cycles_survive before mode len edges removed positions order at = survives before mode len edges positions (there_is_cycle before mode len edges positions at) removed order
+cycles_survive before mode len edges removed positions order at = survives before mode len edges positions (there_is_cycle before mode len edges positions at) removed (λ n i is. (order n i is).0)
 
 -- a cycle has a first position
 pub cycle_has_some : (before : Segment → Segment → Bool) (mode : Mode) (len : ℕ) (edges : List Edge) (positions : List ℕ) → IsCycleAt before mode len edges positions → 0 < length positions
 cycle_has_some before mode len edges positions is = let two = is.cycle.two_or_more in omega (arith, two, length-picked edges positions is.within)
+
+-- where each edge can go there is no cycle
+pub none_if_all_go : (before : Segment → Segment → Bool) (mode : Mode) (len : ℕ) (edges : List Edge) (removed positions : List ℕ) → IsWholeRemoval before mode edges removed → ¬ IsCycleAt before mode len edges positions
+none_if_all_go before mode len edges removed positions all is =
+    let some = cycle_has_some before mode len edges positions is in
+    survives before mode len edges positions is removed all.in_order 0 0 some (all.whole (get_or positions 0 0) (is.within 0 0 some))

@@ -43,6 +43,23 @@ module _ (before : Segment → Segment → Bool) (mode : Mode) (edges : List Edg
   abbrev pub IsTrimOrder : List ℕ → Type 0
   IsTrimOrder removed = (n i : ℕ) → slice_get removed n ≡ Some i → IsFirstStuck (Contains (take n removed)) i
 
+  -- an order of removal: each of these was stuck as those before it were gone, though others may have been too
+  abbrev pub IsRemovalOrder : List ℕ → Type 0
+  IsRemovalOrder removed = (n i : ℕ) → slice_get removed n ≡ Some i → IsStuck (Contains (take n removed)) i
+
+  -- and in the end each edge is gone
+  pub record IsWholeRemoval (removed : List ℕ) : Type 0 where
+    pub in_order : IsRemovalOrder removed
+    pub whole : (i : ℕ) → i < length edges → Contains removed i
+
+  -- the first place at which a list isn't such an order
+  pub record IsRemovalFault (removed : List ℕ) (place : ℕ) : Type 0 where
+    pub before_it : IsRemovalOrder (take place removed)
+    -- what stands there isn't stuck as those before it are gone: it is no edge, or is gone, or has a follower and a leader left
+    pub wrong : (i : ℕ) → slice_get removed place ≡ Some i → ¬ IsStuck (Contains (take place removed)) i
+    -- or the list ends there, and an edge is left
+    pub ended : slice_get removed place ≡ None → (place ≡ length removed) × ((i : ℕ) × (i < length edges) × (¬ Contains removed i))
+
   -- what trimming leaves, and what it takes away
   pub record IsTrimmed (kept removed : List ℕ) : Type 0 where
     -- it takes away as long as an edge is stuck, always the first one

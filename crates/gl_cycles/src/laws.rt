@@ -9,7 +9,7 @@ ghost use Rattle.gl_filters.specs.Picked.{picked};
 ghost use Rattle.gl_cycles.specs.AllCycles.{all_cycles};
 ghost use Rattle.gl_cycles.specs.Laws.{IsCycleAt};
 ghost use Rattle.gl_cycles.specs.Loops.{IsNeverFalling};
-ghost use Rattle.gl_cycles.specs.Trims.{IsTrimOrder, IsTrimmed, removals, whole_trim};
+ghost use Rattle.gl_cycles.specs.Trims.{IsTrimOrder, IsTrimmed, IsWholeRemoval, removals, whole_trim};
 ghost use Rattle.gl_edges.specs.Order.{edge_cmp};
 ghost use Rattle.gl_edges.specs.declared.edge.Edge.{Edge};
 ghost use Rattle.gl_event.specs.declared.events.Segment.{Segment};
@@ -63,4 +63,11 @@ pub fn trims_are_unique()
     ensures whole { (before : Segment → Segment → Bool) (mode : Mode) (edges : List Edge) (kept removed : List ℕ) → IsTrimmed before mode edges kept removed
         → whole_trim before mode edges ≡ (if length kept == 0 then Some removed else None) }
     ensures cycle { (before : Segment → Segment → Bool) (mode : Mode) (len : ℕ) (edges : List Edge) (positions : List ℕ) → Contains (all_cycles before mode len edges) positions → whole_trim before mode edges ≡ None }
+{}
+
+/// Where all edges go one by one, in whatever order of removal, there is no cycle of the mode, of
+/// whatever length.
+pub fn no_cycle_if_all_go()
+    ensures { (before : Segment → Segment → Bool) (mode : Mode) (len : ℕ) (edges : List Edge) (removed positions : List ℕ) → IsWholeRemoval before mode edges removed
+        → ¬ IsCycleAt before mode len edges positions }
 {}

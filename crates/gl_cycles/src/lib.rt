@@ -15,7 +15,8 @@
 //! what is found is checked.
 //!
 //! [`trim`] takes away edges that nothing may follow in a cycle, or that may follow nothing, one by one
-//! in a fixed order. No edge of a cycle is among them, as [`cycles_survive_trims`] says.
+//! in a fixed order. No edge of a cycle is among them, as [`cycles_survive_trims`] says. So where all
+//! go there is no cycle, in whichever order they go: [`removal_fault`] checks an order that was given.
 #![tactic(auto)]
 
 mod chains;
@@ -32,6 +33,7 @@ mod numbers;
 mod parallel;
 mod paths;
 mod ranks;
+mod removals;
 mod reports;
 #[cfg(test)]
 mod tests;
@@ -42,9 +44,10 @@ mod ways;
 pub use found::{Cycles, Found, Report, ReportFault, TrimOrder};
 pub use laws::{
     cycles_are_all, cycles_are_level, cycles_ascend, cycles_ascend_by_edges, cycles_survive_trims,
-    reports_are_unique, trims_are_unique,
+    no_cycle_if_all_go, reports_are_unique, trims_are_unique,
 };
 pub use parallel::search_parallel;
 pub use paths::search;
+pub use removals::removal_fault;
 pub use reports::{report_by, report_by_parallel, report_over, report_over_parallel};
 pub use trims::{Trimmed, trim};

@@ -94,10 +94,10 @@ pub(crate) struct Sides {
 
 // What is trimmed.
 #[derive(Clone, Copy)]
-struct Trimming<'a> {
-    table: &'a [(Edge, Sample)],
-    order: &'a Order,
-    mode: Mode,
+pub(crate) struct Trimming<'a> {
+    pub(crate) table: &'a [(Edge, Sample)],
+    pub(crate) order: &'a Order,
+    pub(crate) mode: Mode,
 }
 
 impl Trimming<'_> {
@@ -118,7 +118,7 @@ impl Trimming<'_> {
 
     // The first place from this one on of an edge that isn't gone and may come beside the edge at a
     // position.
-    fn next_beside(
+    pub(crate) fn next_beside(
         &self,
         gone: &[bool],
         chain: &Chain,
