@@ -1,25 +1,59 @@
 -- The fault of a report whose shape is right.
-use Rattle.std.proofs.Common.{◌≡◌, ◌⊎◌, true, List, ℕ, inl, inr}
+use Rattle.std.proofs.Common.{◌≡◌, ◌⊎◌, Bool, true, List, ℕ, Some, sym, subst, inl, inr}
 use Rattle.serde_json.specs.Data.{Data}
 use Rattle.gl_std.specs.declared.trace.Trace.{Trace}
-use Rattle.gl_check.specs.Checked.{IsCheckFault, IsOrderFault, IsTraceFault, Reads}
-use Rattle.gl_check.specs.Shape.{asked_in, cycles_in, is_report}
+use Rattle.gl_event.specs.declared.events.Segment.{Segment}
+use Rattle.gl_std.specs.Names.{NameLists}
+use Rattle.gl_edges.specs.declared.edge.Edge.{Edge as AnyEdge}
+use Rattle.gl_edges.specs.declared.edge.Sample.{Sample}
+use Rattle.gl_filters.specs.Picked.{edges_of_table}
+use Rattle.gl_cycles.specs.Trims.{IsRemovalFault}
+use Rattle.gl_check.specs.Checked.{AreListedAt, HasTable, IsCheckFault, IsFalseOf, IsFirstFalse, IsOrderFault, Reads}
+use Rattle.gl_check.specs.Cycles.{IsFirstFault}
+use Rattle.gl_check.specs.Shape.{asked_in, cycles_in, format_in, is_report, trim_in}
 use Rattle.gl_check.specs.declared.faults.CheckFault.{CheckFault}
-use Rattle.gl_check.specs.declared.faults.CheckFault.TheVariants.{Json, Shape, Inconsistent, Edge, Verdict, Order, Memory}
+use Rattle.gl_check.specs.declared.faults.CheckFault.TheVariants.{Json, Shape, Inconsistent, Table, Edge, Verdict, Order, Trim, Memory}
 
--- the trace has no order, or a listed cycle is at fault
-pub check_fault : (trace : Trace) (json : List ℕ) (d : Data) (fault : CheckFault) → Reads json d → is_report d ≡ true → IsOrderFault trace.lists fault ⊎ IsTraceFault trace (asked_in d) (cycles_in d) fault
-    → IsCheckFault trace json fault
+module _ (names : NameLists) (table : List (AnyEdge × Sample)) (before : Segment → Segment → Bool) (d : Data) where
+  -- a listed cycle is at fault, as the table is right
+  cycle_fault : (fault : CheckFault) → HasTable names table before d (format_in d) → IsFirstFault (format_in d) names table before (asked_in d) (cycles_in d) fault → IsFirstFalse names table before d fault
+  cycle_fault Json has first = absurd first.is
+  cycle_fault Shape has first = absurd first.is
+  cycle_fault (Inconsistent at ring) has first = absurd first.is
+  cycle_fault (Table k) has first = absurd first.is
+  cycle_fault (Edge i k) has first = record { printed_table = has; first = first }
+  cycle_fault (Verdict i verdict) has first = record { printed_table = has; first = first }
+  cycle_fault (Order i) has first = record { printed_table = has; first = first }
+  cycle_fault (Trim i) has first = absurd first.is
+  cycle_fault Memory has first = tt
+
+  pub false_cycles : (fault : CheckFault) → HasTable names table before d (format_in d) → (fault ≡ Memory) ⊎ IsFirstFault (format_in d) names table before (asked_in d) (cycles_in d) fault → IsFirstFalse names table before d fault
+  false_cycles fault has (inl refused) = subst (IsFirstFalse names table before d) (sym refused) tt
+  false_cycles fault has (inr first) = cycle_fault fault has first
+
+  -- the trim order is, as the table and the cycles are right
+  pub false_trim : (fault : CheckFault) (found : List (List ℕ)) → HasTable names table before d (format_in d) → AreListedAt names table before d found
+      → (fault ≡ Memory) ⊎ ((i : ℕ) × (fault ≡ Trim i) × ((removed : List ℕ) × (trim_in d ≡ Some removed) × IsRemovalFault before (asked_in d).mode (edges_of_table table) removed i)) → IsFirstFalse names table before d fault
+  false_trim fault found has are (inl refused) = subst (IsFirstFalse names table before d) (sym refused) tt
+  false_trim fault found has are (inr wrong) =
+      subst (IsFirstFalse names table before d) (sym wrong.1) (record { printed_table = has; found = found; cycles = are; removed = wrong.2.0; given = wrong.2.1; wrong = wrong.2.2 })
+
+-- the trace has no order, or something that is said is false
+pub check_fault : (trace : Trace) (json : List ℕ) (d : Data) (fault : CheckFault) → Reads json d → is_report d ≡ true → IsOrderFault trace.lists fault ⊎ IsFalseOf trace d fault → IsCheckFault trace json fault
 check_fault trace json d Json reads shaped (inl none) = absurd none
-check_fault trace json d Json reads shaped (inr at) = absurd at.first.is
+check_fault trace json d Json reads shaped (inr at) = absurd at.first
 check_fault trace json d Shape reads shaped (inl none) = absurd none
-check_fault trace json d Shape reads shaped (inr at) = absurd at.first.is
+check_fault trace json d Shape reads shaped (inr at) = absurd at.first
 check_fault trace json d (Inconsistent at ring) reads shaped (inl loops) = (d, reads, shaped, loops)
-check_fault trace json d (Inconsistent at ring) reads shaped (inr it) = absurd it.first.is
+check_fault trace json d (Inconsistent at ring) reads shaped (inr it) = absurd it.first
+check_fault trace json d (Table k) reads shaped (inl none) = absurd none
+check_fault trace json d (Table k) reads shaped (inr it) = record { said = d; reads = reads; shaped = shaped; is = it }
 check_fault trace json d (Edge i k) reads shaped (inl none) = absurd none
 check_fault trace json d (Edge i k) reads shaped (inr it) = record { said = d; reads = reads; shaped = shaped; is = it }
 check_fault trace json d (Verdict i verdict) reads shaped (inl none) = absurd none
 check_fault trace json d (Verdict i verdict) reads shaped (inr it) = record { said = d; reads = reads; shaped = shaped; is = it }
 check_fault trace json d (Order i) reads shaped (inl none) = absurd none
 check_fault trace json d (Order i) reads shaped (inr it) = record { said = d; reads = reads; shaped = shaped; is = it }
+check_fault trace json d (Trim i) reads shaped (inl none) = absurd none
+check_fault trace json d (Trim i) reads shaped (inr it) = record { said = d; reads = reads; shaped = shaped; is = it }
 check_fault trace json d Memory reads shaped either = tt

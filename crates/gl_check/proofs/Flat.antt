@@ -10,10 +10,11 @@ use Rattle.serde_json.specs.Written.{has_float, items_have_float, members_have_f
 use Rattle.gl_std.specs.Names.{NameLists}
 use Rattle.gl_edges.specs.declared.edge.Edge.{Edge}
 use Rattle.gl_edges.specs.declared.edge.Sample.{Sample}
-use Rattle.gl_report.specs.Tree.{edge_tree, name_tree}
-use Rattle.gl_check.specs.Shape.{is_of, have_fields, has_fields, edge_fields, listed, number_under}
+use Rattle.gl_report.specs.Tree.{edge_tree, lock_mode_tree, name_tree}
+use Rattle.gl_report.specs.TreeV1.{edge_tree_v1}
+use Rattle.gl_check.specs.Shape.{is_edge, is_letter, is_of, have_fields, has_fields, edge_fields, edge_fields_v1, listed, number_under}
 use Rattle.gl_check.specs.declared.fields.Kind.{Kind}
-use Rattle.gl_check.specs.declared.fields.Kind.TheVariants.{Number, Exactly, Name, Names, Word, Flag, Array}
+use Rattle.gl_check.specs.declared.fields.Kind.TheVariants.{Number, Exactly, Name, Names, Letter, Letters, Word, Flag, Array, Trim}
 
 -- what is flat: it has no float and nests once at the most
 pub record IsFlat (d : Data) : Type 0 where
@@ -39,15 +40,28 @@ texts (item (string s) ds) is = let rest = texts ds is in (rest.0, ap (max 0) re
 texts (item (array es) ds) is = absurd (false≢true is)
 texts (item (object ms) ds) is = absurd (false≢true is)
 
+-- letters for modes of locks
+letters : (ds : Items) → list_all is_letter (listed ds) ≡ true → (items_have_float ds ≡ false) × (items_depth ds ≡ 0)
+letters no_items is = (refl, refl)
+letters (item null ds) is = absurd (false≢true is)
+letters (item (boolean b) ds) is = absurd (false≢true is)
+letters (item (number n) ds) is = absurd (false≢true is)
+letters (item (string s) ds) is = let rest = letters ds (both (is_letter (string s)) _ is).1 in (rest.0, ap (max 0) rest.1)
+letters (item (array es) ds) is = absurd (false≢true is)
+letters (item (object ms) ds) is = absurd (false≢true is)
+
 -- the kinds that are flat
 abbrev flat_kind : Kind → Bool
 flat_kind Number = true
 flat_kind (Exactly n) = true
 flat_kind Name = true
 flat_kind Names = true
+flat_kind Letter = true
+flat_kind Letters = true
 flat_kind Word = true
 flat_kind Flag = true
 flat_kind Array = false
+flat_kind Trim = false
 
 flat_value : (kind : Kind) (d : Data) → flat_kind kind ≡ true → is_of kind d ≡ true → IsFlat d
 flat_value kind null flat is = record { plain = refl; low = omega arith }
@@ -59,23 +73,32 @@ flat_value Number (number (float x)) flat is = absurd (false≢true is)
 flat_value (Exactly n) (number (float x)) flat is = absurd (false≢true is)
 flat_value Name (number (float x)) flat is = absurd (false≢true is)
 flat_value Names (number (float x)) flat is = absurd (false≢true is)
+flat_value Letter (number (float x)) flat is = absurd (false≢true is)
+flat_value Letters (number (float x)) flat is = absurd (false≢true is)
 flat_value Word (number (float x)) flat is = absurd (false≢true is)
 flat_value Flag (number (float x)) flat is = absurd (false≢true is)
 flat_value Array (number (float x)) flat is = absurd (false≢true flat)
+flat_value Trim (number (float x)) flat is = absurd (false≢true flat)
 flat_value Number (array ds) flat is = absurd (false≢true is)
 flat_value (Exactly n) (array ds) flat is = absurd (false≢true is)
 flat_value Name (array ds) flat is = absurd (false≢true is)
 flat_value Names (array ds) flat is = let names = texts ds is in record { plain = names.0; low = (let low = names.1 in omega arith) }
+flat_value Letter (array ds) flat is = absurd (false≢true is)
+flat_value Letters (array ds) flat is = let names = letters ds is in record { plain = names.0; low = (let low = names.1 in omega arith) }
 flat_value Word (array ds) flat is = absurd (false≢true is)
 flat_value Flag (array ds) flat is = absurd (false≢true is)
 flat_value Array (array ds) flat is = absurd (false≢true flat)
+flat_value Trim (array ds) flat is = absurd (false≢true flat)
 flat_value Number (object ms) flat is = absurd (false≢true is)
 flat_value (Exactly n) (object ms) flat is = absurd (false≢true is)
 flat_value Name (object ms) flat is = absurd (false≢true is)
 flat_value Names (object ms) flat is = absurd (false≢true is)
+flat_value Letter (object ms) flat is = absurd (false≢true is)
+flat_value Letters (object ms) flat is = absurd (false≢true is)
 flat_value Word (object ms) flat is = absurd (false≢true is)
 flat_value Flag (object ms) flat is = absurd (false≢true is)
 flat_value Array (object ms) flat is = absurd (false≢true flat)
+flat_value Trim (object ms) flat is = absurd (false≢true flat)
 
 both_low : (m n : ℕ) → m ≤ 1 → n ≤ 1 → max m n ≤ 1
 both_low m n one two = omega arith
@@ -91,31 +114,39 @@ flat_members (field ∷ fields) (member key d rest) flat is =
     let later = flat_members fields rest kinds.1 tests.1 in
     record { plain = ap (λ b. b || members_have_float rest) here.plain ∙ later.plain; low = both_low (depth d) (members_depth rest) here.low later.low }
 
+-- an object with keys of flat values
+flat_object : (fields : List (List ℕ × Kind)) (d : Data) → list_all (λ field. flat_kind field.1) fields ≡ true → has_fields fields d ≡ true → (has_float d ≡ false) × (depth d ≤ 127)
+flat_object fields null flat is = absurd (false≢true is)
+flat_object fields (boolean b) flat is = absurd (false≢true is)
+flat_object fields (number n) flat is = absurd (false≢true is)
+flat_object fields (string s) flat is = absurd (false≢true is)
+flat_object fields (array ds) flat is = absurd (false≢true is)
+flat_object fields (object ms) flat is = let are = flat_members fields ms flat is in (are.plain, let low = are.low in omega arith)
+
 -- an object with the keys of an edge
-edge_is_flat : (d : Data) → has_fields edge_fields d ≡ true → (has_float d ≡ false) × (depth d ≤ 127)
-edge_is_flat null is = absurd (false≢true is)
-edge_is_flat (boolean b) is = absurd (false≢true is)
-edge_is_flat (number n) is = absurd (false≢true is)
-edge_is_flat (string s) is = absurd (false≢true is)
-edge_is_flat (array ds) is = absurd (false≢true is)
-edge_is_flat (object ms) is = let flat = flat_members edge_fields ms refl is in (flat.plain, let low = flat.low in omega arith)
+pub edge_v1_is_flat : (d : Data) → has_fields edge_fields_v1 d ≡ true → (has_float d ≡ false) × (depth d ≤ 127)
+edge_v1_is_flat d is = flat_object edge_fields_v1 d refl is
 
-pub edge_has_no_float : (d : Data) → has_fields edge_fields d ≡ true → has_float d ≡ false
-edge_has_no_float d is = (edge_is_flat d is).0
-
-pub edge_is_low : (d : Data) → has_fields edge_fields d ≡ true → depth d ≤ 127
-edge_is_low d is = (edge_is_flat d is).1
+pub edge_is_flat : (d : Data) → is_edge d ≡ true → (has_float d ≡ false) × (depth d ≤ 127)
+edge_is_flat d is = flat_object edge_fields d refl (both (has_fields edge_fields d) _ is).0
 
 low_items : {X : Type 0} (f : X → Data) (xs : List X) → ((x : X) → depth (f x) ≡ 0) → items_depth (items_of (map f xs)) ≡ 0
 low_items f [] each = refl
 low_items f (x ∷ xs) each = ap (λ n. max n (items_depth (items_of (map f xs)))) (each x) ∙ ap (max 0) (low_items f xs each)
 
 -- what is printed of an edge
+pub tree_v1_is_low : (names : NameLists) (pair : Edge × Sample) → depth (edge_tree_v1 names pair) ≤ 127
+unfolding edge_tree_v1
+tree_v1_is_low names pair = let low = low_items (λ guard. name_tree names.locks guard.lock) pair.0.guards (λ guard. refl) in omega arith
+
 pub tree_is_low : (names : NameLists) (pair : Edge × Sample) → depth (edge_tree names pair) ≤ 127
 unfolding edge_tree
-tree_is_low names pair = let low = low_items (λ guard. name_tree names.locks guard.lock) pair.0.guards (λ guard. refl) in omega arith
+tree_is_low names pair =
+    let low = low_items (λ guard. name_tree names.locks guard.lock) pair.0.guards (λ guard. refl) in
+    let modes_low = low_items (λ guard. lock_mode_tree guard.mode) pair.0.guards (λ guard. refl) in
+    omega arith
 
 -- the place in what is printed of an edge
-pub place_in : (names : NameLists) (pair : Edge × Sample) → number_under (codes "place") (edge_tree names pair) ≡ pair.1.place
-unfolding edge_tree
+pub place_in : (names : NameLists) (pair : Edge × Sample) → number_under (codes "place") (edge_tree_v1 names pair) ≡ pair.1.place
+unfolding edge_tree_v1
 place_in names pair = refl

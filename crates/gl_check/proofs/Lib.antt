@@ -5,4 +5,5 @@ pub mod Places
 pub mod Printed
 pub mod Rising
 pub mod Shapes
+pub mod Tables
 pub mod Truth

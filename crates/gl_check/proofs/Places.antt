@@ -7,7 +7,9 @@ use Rattle.serde_json.specs.Data.{Data}
 use Rattle.gl_std.specs.Names.{NameLists}
 use Rattle.gl_edges.specs.declared.edge.Edge.{Edge}
 use Rattle.gl_edges.specs.declared.edge.Sample.{Sample}
-use Rattle.gl_check.specs.Edges.{IsPrintOf, IsEdgeAt, IsNoEdge, AreEdgesAt}
+use Rattle.gl_check.specs.Edges.{IsPrintOf, IsEdgeAt, IsNamed, IsNoEdge, AreNamed}
+use Rattle.gl_check.specs.declared.fields.Format.{Format}
+use Rattle.gl_check.specs.declared.fields.Format.TheVariants.{One, Two}
 
 module _ (names : NameLists) (table : List (Edge × Sample)) (d : Data) where
   -- no edge below a position has this JSON, nor the one there
@@ -25,9 +27,13 @@ module _ (names : NameLists) (table : List (Edge × Sample)) (d : Data) where
   none_at_all n whole before position at = before position (let within = slice_get_within table position at.pair at.there in omega arith) at
 
 -- the positions of edges are those of the table
-pub edges_within : (names : NameLists) (table : List (Edge × Sample)) (ds : List Data) (positions : List ℕ) → AreEdgesAt names table ds positions → All (λ p. p < length table) positions
-edges_within names table [] [] edges k d within = absurd (omega arith)
-edges_within names table [] (p ∷ positions) edges k d within = absurd edges
-edges_within names table (d ∷ ds) [] edges k x within = absurd edges
-edges_within names table (d ∷ ds) (p ∷ positions) edges zero x within = slice_get_within table p edges.0.pair edges.0.there
-edges_within names table (d ∷ ds) (p ∷ positions) edges (suc k) x within = edges_within names table ds positions edges.1 k x (omega arith)
+named_within : (format : Format) (names : NameLists) (table : List (Edge × Sample)) (d : Data) (p : ℕ) → IsNamed format names table d p → p < length table
+named_within One names table d p is = slice_get_within table p is.pair is.there
+named_within Two names table d p is = is.1
+
+pub all_within : (format : Format) (names : NameLists) (table : List (Edge × Sample)) (ds : List Data) (positions : List ℕ) → AreNamed format names table ds positions → All (λ p. p < length table) positions
+all_within format names table [] [] named k d within = absurd (omega arith)
+all_within format names table [] (p ∷ positions) named k d within = absurd named
+all_within format names table (d ∷ ds) [] named k x within = absurd named
+all_within format names table (d ∷ ds) (p ∷ positions) named zero x within = named_within format names table d p named.0
+all_within format names table (d ∷ ds) (p ∷ positions) named (suc k) x within = all_within format names table ds positions named.1 k x (omega arith)

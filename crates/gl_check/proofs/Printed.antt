@@ -1,6 +1,7 @@
 -- JSON of the shape of a report is what is printed of the report that it lists.
-use Rattle.std.proofs.Common.{◌≡◌, ℕ, Bool, true, false, cond, ◌&&◌, List, [], ◌∷◌, Some, None, refl, sym, ap, subst, ◌∙◌}
+use Rattle.std.proofs.Common.{◌≡◌, ℕ, ◌^◌, Bool, true, false, cond, ◌&&◌, List, [], ◌∷◌, map, Option, option_map, Some, None, refl, sym, ap, subst, ◌∙◌}
 use Rattle.std.specs.Prelude.{codes, is_some, option_and_then, unwrap_or}
+use Rattle.std.specs.List.{list_all}
 use Rattle.std.specs.Str.{bytes_eq}
 use Rattle.std.proofs.lemmas.Bool.{and_parts, eqb-true, false≢true}
 use Rattle.std.proofs.lemmas.Slice.Eq.{bytes_eq-Decides}
@@ -8,10 +9,11 @@ use Rattle.serde_json.specs.Data.{unsigned, negative, float, Data, null, boolean
 use Rattle.serde_json.specs.Find.{as_array, as_bool, as_str, get}
 use Rattle.serde_json.specs.View.{items_of}
 use Rattle.gl_filters.specs.declared.query.Mode.TheVariants.{Basic, Guarded, Full}
-use Rattle.gl_report.specs.Tree.{mode_word}
-use Rattle.gl_check.specs.Shape.{has_fields, have_fields, is_of, items_in, listed, mode_said, mode_under, number_under, report_fields, under_cycles, whole}
+use Rattle.gl_report.specs.Tree.{mode_word, positions_tree, trim_tree}
+use Rattle.gl_check.specs.Shape.{has_fields, have_fields, is_below, is_of, items_in, items_under, listed, mode_said, mode_under, number_of, number_under, order_of, report_fields, trim_in}
+use Rattle.gl_check.specs.declared.fields.Format.TheVariants.{One, Two}
 use Rattle.gl_check.specs.declared.fields.Kind.{Kind}
-use Rattle.gl_check.specs.declared.fields.Kind.TheVariants.{Number, Exactly, Word, Flag, Array}
+use Rattle.gl_check.specs.declared.fields.Kind.TheVariants.{Number, Exactly, Word, Flag, Array, Trim}
 
 -- what stands under `more`
 abbrev pub more_under : Data → Bool
@@ -30,15 +32,15 @@ array_is (string s) is = absurd (false≢true is)
 array_is (array ds) is = ap array (sym (items_of_listed ds))
 array_is (object ms) is = absurd (false≢true is)
 
-number_is : (d : Data) → is_of Number d ≡ true → d ≡ number (unsigned (unwrap_or (whole d) 0))
-number_is null is = absurd (false≢true is)
-number_is (boolean b) is = absurd (false≢true is)
-number_is (number (unsigned n)) is = refl
-number_is (number (negative z)) is = absurd (false≢true is)
-number_is (number (float x)) is = absurd (false≢true is)
-number_is (string s) is = absurd (false≢true is)
-number_is (array ds) is = absurd (false≢true is)
-number_is (object ms) is = absurd (false≢true is)
+pub number_is : (bound : ℕ) (d : Data) → is_below bound d ≡ true → d ≡ number (unsigned (number_of d))
+number_is bound null is = absurd (false≢true is)
+number_is bound (boolean b) is = absurd (false≢true is)
+number_is bound (number (unsigned n)) is = refl
+number_is bound (number (negative z)) is = absurd (false≢true is)
+number_is bound (number (float x)) is = absurd (false≢true is)
+number_is bound (string s) is = absurd (false≢true is)
+number_is bound (array ds) is = absurd (false≢true is)
+number_is bound (object ms) is = absurd (false≢true is)
 
 exactly_is : (n : ℕ) (d : Data) → is_of (Exactly n) d ≡ true → d ≡ number (unsigned n)
 exactly_is n null is = absurd (false≢true is)
@@ -103,13 +105,13 @@ abbrev pub six : Data → Data → Data → Data → Data → Data → Data
 six a b c d e f =
     object (member (codes "cycles") a (member (codes "format") b (member (codes "len") c (member (codes "max") d (member (codes "mode") e (member (codes "more") f no_members))))))
 
--- an object with the keys of a report, by what stands under them
+-- an object with the keys of a report of format 1, by what stands under them
 abbrev Rebuilt : Data → Type 0
-Rebuilt d = d ≡ six (array (items_of (under_cycles d))) (number (unsigned 1)) (number (unsigned (number_under (codes "len") d))) (number (unsigned (number_under (codes "max") d))) (string (mode_word (mode_under d))) (boolean (more_under d))
+Rebuilt d = d ≡ six (array (items_of (items_under (codes "cycles") d))) (number (unsigned 1)) (number (unsigned (number_under (codes "len") d))) (number (unsigned (number_under (codes "max") d))) (string (mode_word (mode_under d))) (boolean (more_under d))
 
 rebuilt_six : (a b c d e f : Data) → is_of Array a ≡ true → is_of (Exactly 1) b ≡ true → is_of Number c ≡ true → is_of Number d ≡ true → is_of Word e ≡ true → is_of Flag f ≡ true → Rebuilt (six a b c d e f)
 rebuilt_six a b c d e f one two three four five more =
-    λ i. six (array_is a one i) (exactly_is 1 b two i) (number_is c three i) (number_is d four i) (word_is e five i) (flag_is f more i)
+    λ i. six (array_is a one i) (exactly_is 1 b two i) (number_is (2 ^ 32) c three i) (number_is (2 ^ 32) d four i) (word_is e five i) (flag_is f more i)
 
 of_six : (m1 m2 m3 m4 m5 m6 m7 : Members) (a b c d e f : Data) → m1 ≡ member (codes "cycles") a m2 → m2 ≡ member (codes "format") b m3 → m3 ≡ member (codes "len") c m4 → m4 ≡ member (codes "max") d m5
     → m5 ≡ member (codes "mode") e m6 → m6 ≡ member (codes "more") f m7 → m7 ≡ no_members
@@ -122,17 +124,76 @@ of_six m1 m2 m3 m4 m5 m6 m7 a b c d e f one two three four five six_ done fits_a
     let form : object m1 ≡ six a b c d e f = ap object (one ∙ ap (member (codes "cycles") a) (two ∙ ap (member (codes "format") b) third)) in
     subst Rebuilt (sym form) (rebuilt_six a b c d e f fits_a fits_b fits_c fits_d fits_e fits_f)
 
-pub rebuilt : (d : Data) → has_fields report_fields d ≡ true → Rebuilt d
-rebuilt null is = absurd (false≢true is)
-rebuilt (boolean b) is = absurd (false≢true is)
-rebuilt (number n) is = absurd (false≢true is)
-rebuilt (string s) is = absurd (false≢true is)
-rebuilt (array ds) is = absurd (false≢true is)
-rebuilt (object ms) is =
-    let a = filled report_fields ms is in
+pub rebuilt_v1 : (d : Data) → has_fields (report_fields One) d ≡ true → Rebuilt d
+rebuilt_v1 null is = absurd (false≢true is)
+rebuilt_v1 (boolean b) is = absurd (false≢true is)
+rebuilt_v1 (number n) is = absurd (false≢true is)
+rebuilt_v1 (string s) is = absurd (false≢true is)
+rebuilt_v1 (array ds) is = absurd (false≢true is)
+rebuilt_v1 (object ms) is =
+    let a = filled (report_fields One) ms is in
     let b = a.others in
     let c = b.others in
     let d = c.others in
     let e = d.others in
     let f = e.others in
     of_six ms a.rest b.rest c.rest d.rest e.rest f.rest a.value b.value c.value d.value e.value f.value a.is b.is c.is d.is e.is f.is f.others a.fits b.fits c.fits d.fits e.fits f.fits
+
+-- numbers are what is printed of them
+pub numbers_are : (bound : ℕ) (ds : List Data) → list_all (is_below bound) ds ≡ true → ds ≡ map (λ position. number (unsigned position)) (map number_of ds)
+numbers_are bound [] all = refl
+numbers_are bound (d ∷ ds) all =
+    let tests = and_parts (is_below bound d) (list_all (is_below bound) ds) all in
+    let here = number_is bound d tests.0 in
+    let more = numbers_are bound ds tests.1 in
+    λ i. here i ∷ more i
+
+trim_is : (d : Data) → is_of Trim d ≡ true → d ≡ trim_tree (order_of d)
+unfolding positions_tree
+trim_is null is = refl
+trim_is (boolean b) is = absurd (false≢true is)
+trim_is (number n) is = absurd (false≢true is)
+trim_is (string s) is = absurd (false≢true is)
+trim_is (array ds) is = ap array (sym (items_of_listed ds) ∙ ap items_of (numbers_are (2 ^ 32) (listed ds) is))
+trim_is (object ms) is = absurd (false≢true is)
+
+-- the object with these eight values
+abbrev pub eight : Data → Data → Data → Data → Data → Data → Data → Data → Data
+eight a b c d e f g h =
+    object (member (codes "cycles") a (member (codes "edges") b (member (codes "format") c (member (codes "len") d (member (codes "max") e (member (codes "mode") f (member (codes "more") g (member (codes "trim") h no_members))))))))
+
+-- an object with the keys of a report of format 2, by what stands under them
+abbrev RebuiltTwo : Data → Type 0
+RebuiltTwo d =
+    d ≡ eight (array (items_of (items_under (codes "cycles") d))) (array (items_of (items_under (codes "edges") d))) (number (unsigned 2)) (number (unsigned (number_under (codes "len") d)))
+    (number (unsigned (number_under (codes "max") d))) (string (mode_word (mode_under d))) (boolean (more_under d)) (trim_tree (trim_in d))
+
+rebuilt_eight : (a b c d e f g h : Data) → is_of Array a ≡ true → is_of Array b ≡ true → is_of (Exactly 2) c ≡ true → is_of Number d ≡ true → is_of Number e ≡ true → is_of Word f ≡ true → is_of Flag g ≡ true
+    → is_of Trim h ≡ true → RebuiltTwo (eight a b c d e f g h)
+rebuilt_eight a b c d e f g h one two three four five six_ seven last =
+    λ i. eight (array_is a one i) (array_is b two i) (exactly_is 2 c three i) (number_is (2 ^ 32) d four i) (number_is (2 ^ 32) e five i) (word_is f six_ i) (flag_is g seven i) (trim_is h last i)
+
+pub rebuilt_two : (d : Data) → has_fields (report_fields Two) d ≡ true → RebuiltTwo d
+rebuilt_two null is = absurd (false≢true is)
+rebuilt_two (boolean b) is = absurd (false≢true is)
+rebuilt_two (number n) is = absurd (false≢true is)
+rebuilt_two (string s) is = absurd (false≢true is)
+rebuilt_two (array ds) is = absurd (false≢true is)
+rebuilt_two (object ms) is =
+    let a = filled (report_fields Two) ms is in
+    let b = a.others in
+    let c = b.others in
+    let d = c.others in
+    let e = d.others in
+    let f = e.others in
+    let g = f.others in
+    let h = g.others in
+    let at_h = h.is ∙ ap (member (codes "trim") h.value) h.others in
+    let at_g = g.is ∙ ap (member (codes "more") g.value) at_h in
+    let at_f = f.is ∙ ap (member (codes "mode") f.value) at_g in
+    let at_e = e.is ∙ ap (member (codes "max") e.value) at_f in
+    let at_d = d.is ∙ ap (member (codes "len") d.value) at_e in
+    let at_c = c.is ∙ ap (member (codes "format") c.value) at_d in
+    let at_b = b.is ∙ ap (member (codes "edges") b.value) at_c in
+    let form : object ms ≡ eight a.value b.value c.value d.value e.value f.value g.value h.value = ap object (a.is ∙ ap (member (codes "cycles") a.value) at_b) in
+    subst RebuiltTwo (sym form) (rebuilt_eight a.value b.value c.value d.value e.value f.value g.value h.value a.fits b.fits c.fits d.fits e.fits f.fits g.fits h.fits)

@@ -14,15 +14,17 @@ use Rattle.gl_filters.specs.Asked.{Asked}
 use Rattle.gl_filters.specs.Picked.{edges_of_table, picked}
 use Rattle.gl_filters.specs.Judging.{IsVerdict}
 use Rattle.gl_filters.specs.declared.verdict.Verdict.TheVariants.{Valid}
-use Rattle.gl_check.specs.Edges.{AreEdgesAt, IsNoEdge}
+use Rattle.gl_check.specs.Edges.{AreNamed, IsNoEdge}
+use Rattle.gl_check.specs.declared.fields.Format.{Format}
+use Rattle.gl_check.specs.declared.fields.Format.TheVariants.{One}
 use Rattle.gl_check.specs.declared.faults.CheckFault.{CheckFault}
-use Rattle.gl_check.specs.declared.faults.CheckFault.TheVariants.{Json, Shape, Inconsistent, Edge as AnEdge, Verdict, Order, Memory}
+use Rattle.gl_check.specs.declared.faults.CheckFault.TheVariants.{Json, Shape, Inconsistent, Table, Edge as AnEdge, Verdict, Order, Trim, Memory}
 
 -- the positions are above the last of these, by the first in which they differ
 abbrev pub IsAbove : List (List ℕ) → List ℕ → Type 0
 IsAbove found positions = IfSome (slice_get found (length found - 1)) (λ last. slice_cmp nat_cmp last positions ≡ Less)
 
-module _ (names : NameLists) (table : List (Edge × Sample)) where
+module _ (format : Format) (names : NameLists) (table : List (Edge × Sample)) where
   -- the first of these that is the JSON of no edge is the one at this place
   pub record IsFirstStrange (ds : List Data) (place : ℕ) : Type 0 where
     pub d : Data
@@ -30,13 +32,13 @@ module _ (names : NameLists) (table : List (Edge × Sample)) where
     pub strange : IsNoEdge names table d
     -- those before it are edges
     pub positions : List ℕ
-    pub before : AreEdgesAt names table (take place ds) positions
+    pub before : AreNamed format names table (take place ds) positions
 
-module _ (names : NameLists) (table : List (Edge × Sample)) (before : Segment → Segment → Bool) (asked : Asked) where
-  -- these are the JSON of the edges at these positions, and the edges are a cycle that was asked for
+module _ (format : Format) (names : NameLists) (table : List (Edge × Sample)) (before : Segment → Segment → Bool) (asked : Asked) where
+  -- these name the edges at these positions, and the edges are a cycle that was asked for
   pub record IsCycleOf (ds : List Data) (positions : List ℕ) : Type 0 where
-    pub edges : AreEdgesAt names table ds positions
-    pub valid : IsVerdict before asked (picked table positions) Valid
+    pub edges : AreNamed format names table ds positions
+    pub valid : IsVerdict before asked (picked (edges_of_table table) positions) Valid
 
   -- so it is with each of these, and they ascend
   pub record AreCyclesOf (cycles : List (List Data)) (found : List (List ℕ)) : Type 0 where
@@ -45,14 +47,16 @@ module _ (names : NameLists) (table : List (Edge × Sample)) (before : Segment �
 
   -- the fault is that of the listed cycle with this number, which comes after those found
   abbrev pub IsFaultOf : ℕ → List (List ℕ) → List Data → CheckFault → Type 0
-  IsFaultOf number found ds (AnEdge i k) = (i ≡ number) × IsFirstStrange names table ds k
+  IsFaultOf number found ds (AnEdge i k) = (format ≡ One) × (i ≡ number) × IsFirstStrange format names table ds k
   IsFaultOf number found ds (Verdict i verdict) =
-      (i ≡ number) × ((positions : List ℕ) × AreEdgesAt names table ds positions × IsVerdict before asked (picked table positions) verdict × (verdict ≢ Valid))
+      (i ≡ number) × ((positions : List ℕ) × AreNamed format names table ds positions × IsVerdict before asked (picked (edges_of_table table) positions) verdict × (verdict ≢ Valid))
   IsFaultOf number found ds (Order i) = (i ≡ number) × ((positions : List ℕ) × IsCycleOf ds positions × (¬ IsAbove found positions))
   IsFaultOf number found ds Memory = Unit {0}
   IsFaultOf number found ds Json = ⊥
   IsFaultOf number found ds Shape = ⊥
   IsFaultOf number found ds (Inconsistent at ring) = ⊥
+  IsFaultOf number found ds (Table k) = ⊥
+  IsFaultOf number found ds (Trim k) = ⊥
 
   -- the fault is that of the first listed cycle that has one
   pub record IsFirstFault (cycles : List (List Data)) (fault : CheckFault) : Type 0 where

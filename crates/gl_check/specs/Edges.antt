@@ -1,26 +1,18 @@
 -- Edges of a trace beside the JSON of edges.
-use Rattle.std.specs.Prelude.{◌≡◌, ℕ, Bool, true, false, ◌&&◌, List, slice_get, Some}
-use Rattle.std.specs.List.{list_all, AllZip}
-use Rattle.serde_json.specs.Data.{Data}
-use Rattle.gl_event.specs.declared.events.LockMode.{LockMode}
-use Rattle.gl_event.specs.declared.events.LockMode.TheVariants.{Exclusive, Shared}
+use Rattle.std.specs.Prelude.{◌≡◌, ◌≢◌, ℕ, ◌<◌, true, List, length, take, slice_get, Some}
+use Rattle.std.specs.List.{AllZip}
+use Rattle.serde_json.specs.Data.{Data, number, unsigned}
 use Rattle.gl_std.specs.Names.{NameLists}
 use Rattle.gl_edges.specs.declared.edge.Edge.{Edge}
 use Rattle.gl_edges.specs.declared.edge.Sample.{Sample}
-use Rattle.gl_report.specs.Tree.{edge_tree}
+use Rattle.gl_report.specs.Exclusive.{is_exclusive}
+use Rattle.gl_report.specs.TreeV1.{edge_tree_v1}
+use Rattle.gl_check.specs.declared.fields.Format.{Format}
+use Rattle.gl_check.specs.declared.fields.Format.TheVariants.{One, Two}
 
--- the mode is exclusive
-abbrev pub is_exclusive_mode : LockMode → Bool
-is_exclusive_mode Exclusive = true
-is_exclusive_mode Shared = false
-
--- the edge is of exclusive locks alone: format 1 shows no modes, and stands for these
-abbrev pub is_exclusive : Edge → Bool
-is_exclusive e = is_exclusive_mode e.held_mode && (is_exclusive_mode e.wanted_mode && list_all (λ guard. is_exclusive_mode guard.mode) e.guards)
-
--- the JSON is that of this edge with its sample
+-- the JSON is that of this edge with its sample, in format 1
 abbrev pub IsPrintOf : NameLists → Data → Edge × Sample → Type 0
-IsPrintOf names d pair = (is_exclusive pair.0 ≡ true) × (d ≡ edge_tree names pair)
+IsPrintOf names d pair = (is_exclusive pair.0 ≡ true) × (d ≡ edge_tree_v1 names pair)
 
 -- the JSON is that of the edge at this position of a table
 pub record IsEdgeAt (names : NameLists) (table : List (Edge × Sample)) (d : Data) (position : ℕ) : Type 0 where
@@ -32,6 +24,16 @@ pub record IsEdgeAt (names : NameLists) (table : List (Edge × Sample)) (d : Dat
 abbrev pub IsNoEdge : NameLists → List (Edge × Sample) → Data → Type 0
 IsNoEdge names table d = (position : ℕ) → ¬ IsEdgeAt names table d position
 
--- these are the JSON of the edges at these positions
-abbrev pub AreEdgesAt : NameLists → List (Edge × Sample) → List Data → List ℕ → Type 0
-AreEdgesAt names table ds positions = AllZip (IsEdgeAt names table) ds positions
+-- the JSON names the edge at this position: in format 1 it is that of the edge, in format 2 the position
+abbrev pub IsNamed : Format → NameLists → List (Edge × Sample) → Data → ℕ → Type 0
+IsNamed One names table d position = IsEdgeAt names table d position
+IsNamed Two names table d position = (d ≡ number (unsigned position)) × (position < length table)
+
+-- these name the edges at these positions
+abbrev pub AreNamed : Format → NameLists → List (Edge × Sample) → List Data → List ℕ → Type 0
+AreNamed format names table ds positions = AllZip (IsNamed format names table) ds positions
+
+-- the first position at which two lists differ; one of them may end there
+pub record IsFirstDifference {X : Type 0} (xs ys : List X) (k : ℕ) : Type 0 where
+  pub same_before : take k xs ≡ take k ys
+  pub differs : slice_get xs k ≢ slice_get ys k

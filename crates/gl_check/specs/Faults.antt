@@ -1,20 +1,22 @@
 -- Answers in words.
-use Rattle.std.specs.Prelude.{ℕ, List, ◌++◌, codes}
+use Rattle.std.specs.Prelude.{ℕ, List, [], ◌++◌, if◌then◌else◌, codes}
 use Rattle.std.specs.Fmt.{decimal}
 use Rattle.gl_check.specs.declared.faults.CheckFault.{CheckFault}
-use Rattle.gl_check.specs.declared.faults.CheckFault.TheVariants.{Json, Shape, Inconsistent, Edge, Verdict, Order, Memory}
+use Rattle.gl_check.specs.declared.faults.CheckFault.TheVariants.{Json, Shape, Inconsistent, Table, Edge, Verdict, Order, Trim, Memory}
 use Rattle.gl_check.specs.declared.reports.Checked.{Checked}
 
--- what is printed of why a report isn't accepted; cycles and edges count from 0
+-- what is printed of why a report isn't accepted; cycles, edges and entries count from 0
 abbrev pub text_of : CheckFault → List ℕ
 text_of Json = codes "report is not JSON"
 text_of Shape = codes "report has the wrong shape"
 text_of (Inconsistent at ring) = codes "a segment precedes itself"
+text_of (Table k) = codes "table entry " ++ decimal k ++ codes " is wrong"
 text_of (Edge i k) = codes "cycle " ++ (decimal i ++ (codes " edge " ++ (decimal k ++ codes " is not in the trace")))
 text_of (Verdict i verdict) = codes "cycle " ++ decimal i ++ codes " is not valid"
 text_of (Order i) = codes "cycle " ++ decimal i ++ codes " is out of order"
+text_of (Trim i) = codes "trim entry " ++ decimal i ++ codes " is wrong"
 text_of Memory = codes "out of memory"
 
 -- what is printed of a report that is accepted
 abbrev pub checked_text : Checked → List ℕ
-checked_text checked = codes "ok, cycles: " ++ decimal checked.cycles
+checked_text checked = codes "ok, cycles: " ++ (decimal checked.cycles ++ (if checked.acyclic then codes ", none of any length" else []))

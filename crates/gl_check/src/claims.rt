@@ -1,19 +1,26 @@
 //! What a report says.
-ghost use Rattle.std.specs.Prelude.{◌≡◌, false, true, None, is_none, length, map, ◌≤◌, MatchOption};
-ghost use Rattle.std.specs.List.{list_all};
+ghost use Rattle.std.specs.Prelude.{◌≡◌, false, true, None, codes, is_none, length, map, option_map, ◌≤◌, IfOk, MatchOption};
 ghost use Rattle.serde_json.specs.View.{view};
 ghost use Rattle.gl_filters.specs.Asked.{first_out_of_range};
-ghost use Rattle.gl_check.specs.Shape.{asked_in, is_edges, is_report, mode_under, number_under, under_cycles};
+ghost use Rattle.gl_check.specs.Shape.{asked_in, format_in, is_report, items_under, mode_under, number_of, order_of, trim_in};
 
-use crate::fields::{are_cycles, has_report_fields, items_in, mode_said};
+use crate::fields::{
+    Format, are_edges, are_listings, has_report_fields, items_under, mode_said, number_of,
+    number_under,
+};
+use gl_event::Memory;
 use gl_filters::{Mode, Query};
 use serde_json::Value;
+use std::alloc::Global;
 
-/// The whole number under a key, or 0.
-pub(crate) fn number_under(value: &Value, key: &str) -> u64
-    ensures { result ≡ number_under key.now (view value.now) }
+/// The format that a report says it has, where it is 1 or 2.
+pub(crate) fn format_in(value: &Value) -> Format
+    ensures { result ≡ format_in (view value.now) }
 {
-    value.get(key).and_then(Value::as_u64).unwrap_or(0)
+    if number_under(value, "format") == 1 {
+        return Format::One;
+    }
+    Format::Two
 }
 
 // The mode whose word stands under `mode`.
@@ -25,16 +32,6 @@ fn mode_under(value: &Value) -> Mode
         .and_then(Value::as_str)
         .and_then(mode_said)
         .unwrap_or(Mode::Basic)
-}
-
-// What stands in the array under `cycles`.
-fn under_cycles(value: &Value) -> &[Value]
-    ensures { map view result.now ≡ under_cycles (view value.now) }
-{
-    match value.get("cycles") {
-        Some(cycles) => items_in(cycles),
-        None => &[],
-    }
 }
 
 // What was asked, where it is in its ranges.
@@ -50,27 +47,55 @@ fn query_in(value: &Value) -> Option<Query>
     Query::new(mode_under(value), len as u32, max as u32).ok()
 }
 
-/// What a report of format 1 says: what was asked, and its cycles.
-#[derive(Clone, Copy)]
-pub(crate) struct Claim<'a> {
-    pub(crate) query: Query,
-    pub(crate) cycles: &'a [Value],
-}
-
-/// What the report says, or nothing where its shape isn't that of format 1.
+/// What was asked, or nothing where the value hasn't the shape of a report.
 #[tactic(auto, unfolding(crate::specs::Shape::is_report))]
-pub(crate) fn claim_of(value: &Value) -> Option<Claim<'_>>
+pub(crate) fn asked_of(value: &Value) -> Option<Query>
     ensures { MatchOption result (is_report (view value.now) ≡ false)
-        (λ claim. (is_report (view value.now) ≡ true) × (claim.query ≡ asked_in (view value.now)) × (map view claim.cycles.now ≡ under_cycles (view value.now))
-        × (list_all is_edges (map view claim.cycles.now) ≡ true) × (length claim.cycles.now ≤ 100000)) }
+        (λ query. (is_report (view value.now) ≡ true) × (query ≡ asked_in (view value.now)) × (length (items_under (codes "cycles") (view value.now)) ≤ 100000)) }
 {
-    if !has_report_fields(value) {
+    let format = format_in(value);
+    if !has_report_fields(format, value) {
         return None;
     }
     let query = query_in(value)?;
-    let cycles = under_cycles(value);
-    if cycles.len() > query.max() as usize || !are_cycles(cycles) {
+    let cycles = items_under(value, "cycles");
+    let edges = items_under(value, "edges");
+    if cycles.len() > query.max() as usize || !are_edges(edges) {
         return None;
     }
-    Some(Claim { query, cycles })
+    if !are_listings(format, edges.len(), cycles) {
+        return None;
+    }
+    Some(query)
+}
+
+// The whole numbers that these are.
+fn numbers_of(alloc: Global, values: &[Value]) -> Result<Vec<usize>, Memory>
+    ensures { IfOk result (λ numbers. numbers.items ≡ map number_of (map view values.now)) }
+{
+    let mut numbers = Vec::new(alloc);
+    for value in values {
+        numbers.push(number_of(value) as usize)?;
+    }
+    Ok(numbers)
+}
+
+// The numbers that the value lists, where it is an array.
+fn order_of(alloc: Global, value: &Value) -> Result<Option<Vec<usize>>, Memory>
+    ensures { IfOk result (λ order. option_map (λ numbers. numbers.items) order ≡ order_of (view value.now)) }
+{
+    match value.as_array() {
+        Some(items) => Ok(Some(numbers_of(alloc, items.as_slice())?)),
+        None => Ok(None),
+    }
+}
+
+/// The trim order that is given, if there is one.
+pub(crate) fn trim_in(alloc: Global, value: &Value) -> Result<Option<Vec<usize>>, Memory>
+    ensures { IfOk result (λ order. option_map (λ numbers. numbers.items) order ≡ trim_in (view value.now)) }
+{
+    match value.get("trim") {
+        Some(order) => order_of(alloc, order),
+        None => Ok(None),
+    }
 }

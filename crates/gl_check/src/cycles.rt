@@ -8,13 +8,14 @@ ghost use Rattle.std.specs.Ordering.{nat_cmp};
 ghost use Rattle.serde_json.specs.View.{view};
 ghost use Rattle.gl_segments.specs.Clocks.{is_before};
 ghost use Rattle.gl_check.specs.Cycles.{AreCyclesOf, IsAbove, IsCycleOf, IsFaultOf, IsFirstFault, IsFirstStrange};
-ghost use Rattle.gl_check.specs.Edges.{AreEdgesAt};
-ghost use Rattle.gl_check.specs.Shape.{edge_fields, has_fields, is_edges, items_in};
+ghost use Rattle.gl_check.specs.Edges.{AreNamed};
+ghost use Rattle.gl_check.specs.Shape.{is_listing, is_member, items_in};
 ghost use Rattle.gl_check.specs.declared.faults.CheckFault.TheVariants.{Memory};
+ghost use Rattle.gl_check.specs.declared.fields.Format.TheVariants.{One};
 
-use crate::edges::first_position;
+use crate::edges::position_of;
 use crate::faults::CheckFault;
-use crate::fields::items_in;
+use crate::fields::{Format, items_in};
 use gl_edges::{Edge, EdgeList, Sample};
 use gl_filters::{Query, Verdict, judge};
 use gl_segments::Order;
@@ -26,18 +27,19 @@ use std::cmp::Ordering;
 // The positions of the edges of a cycle, which has this number.
 fn positions_of(
     alloc: Global,
+    format: Format,
     names: &Names,
     table: &[(Edge, Sample)],
     number: usize,
     edges: &[Value],
 ) -> Result<Vec<usize>, CheckFault>
-    requires { list_all (has_fields edge_fields) (map view edges.now) ≡ true }
-    ensures found { IfOk result (λ positions. AreEdgesAt names.now table.now (map view edges.now) positions.items) }
-    ensures fault { IfErr result (λ fault. (fault ≡ Memory) ⊎ ((k : ℕ) × (fault ≡ CheckFault.Edge number k) × IsFirstStrange names.now table.now (map view edges.now) k)) }
+    requires { list_all (is_member format (length table.now)) (map view edges.now) ≡ true }
+    ensures found { IfOk result (λ positions. AreNamed format names.now table.now (map view edges.now) positions.items) }
+    ensures fault { IfErr result (λ fault. (fault ≡ Memory) ⊎ ((k : ℕ) × (fault ≡ CheckFault.Edge number k) × (format ≡ One) × IsFirstStrange format names.now table.now (map view edges.now) k)) }
 {
     let mut positions = Vec::new(alloc);
     for k in 0..edges.len() {
-        match first_position(alloc, names, table, &edges[k])? {
+        match position_of(alloc, format, names, table, &edges[k])? {
             Some(position) => positions.push(position)?,
             None => return Err(CheckFault::Edge(number, k)),
         }
@@ -55,10 +57,11 @@ fn is_above(found: &[Vec<usize>], positions: &[usize]) -> bool
     }
 }
 
-/// What listed cycles are held against: the names and the edges of a trace, the order of its
-/// segments, and what was asked.
+/// What a report is held against: the names and the edges of a trace, the order of its segments, the
+/// format, and what was asked.
 #[derive(Clone, Copy)]
 pub(crate) struct Known<'a> {
+    pub(crate) format: Format,
     pub(crate) names: &'a Names,
     pub(crate) edges: &'a EdgeList,
     pub(crate) order: &'a Order,
@@ -73,13 +76,20 @@ impl Known<'_> {
         found: &[Vec<usize>],
         edges: &[Value],
     ) -> Result<Vec<usize>, CheckFault>
-        requires { list_all (has_fields edge_fields) (map view edges.now) ≡ true }
-        ensures cycle { IfOk result (λ positions. IsCycleOf self.now.names.now self.now.edges.now (is_before self.now.order.now) self.now.query (map view edges.now) positions.items) }
+        requires { list_all (is_member self.now.format (length self.now.edges.now)) (map view edges.now) ≡ true }
+        ensures cycle { IfOk result (λ positions. IsCycleOf self.now.format self.now.names.now self.now.edges.now (is_before self.now.order.now) self.now.query (map view edges.now) positions.items) }
         ensures above { IfOk result (λ positions. IsAbove (map (λ v. v.items) found.now) positions.items) }
-        ensures fault { IfErr result (λ fault. IsFaultOf self.now.names.now self.now.edges.now (is_before self.now.order.now) self.now.query (length found.now) (map (λ v. v.items) found.now) (map view edges.now) fault) }
+        ensures fault { IfErr result (λ fault. IsFaultOf self.now.format self.now.names.now self.now.edges.now (is_before self.now.order.now) self.now.query (length found.now) (map (λ v. v.items) found.now) (map view edges.now) fault) }
     {
         let number = found.len();
-        let positions = positions_of(alloc, self.names, self.edges.entries(), number, edges)?;
+        let positions = positions_of(
+            alloc,
+            self.format,
+            self.names,
+            self.edges.entries(),
+            number,
+            edges,
+        )?;
         match judge(&self.query, self.order, self.edges, positions.as_slice()) {
             Verdict::Valid => {}
             verdict => return Err(CheckFault::Verdict(number, verdict)),
@@ -96,9 +106,9 @@ impl Known<'_> {
         alloc: Global,
         cycles: &[Value],
     ) -> Result<Vec<Vec<usize>>, CheckFault>
-        requires { list_all is_edges (map view cycles.now) ≡ true }
-        ensures cycles { IfOk result (λ found. AreCyclesOf self.now.names.now self.now.edges.now (is_before self.now.order.now) self.now.query (map (λ cycle. items_in (view cycle)) cycles.now) (map (λ v. v.items) found.items)) }
-        ensures fault { IfErr result (λ fault. (fault ≡ Memory) ⊎ IsFirstFault self.now.names.now self.now.edges.now (is_before self.now.order.now) self.now.query (map (λ cycle. items_in (view cycle)) cycles.now) fault) }
+        requires { list_all (is_listing self.now.format (length self.now.edges.now)) (map view cycles.now) ≡ true }
+        ensures cycles { IfOk result (λ found. AreCyclesOf self.now.format self.now.names.now self.now.edges.now (is_before self.now.order.now) self.now.query (map (λ cycle. items_in (view cycle)) cycles.now) (map (λ v. v.items) found.items)) }
+        ensures fault { IfErr result (λ fault. (fault ≡ Memory) ⊎ IsFirstFault self.now.format self.now.names.now self.now.edges.now (is_before self.now.order.now) self.now.query (map (λ cycle. items_in (view cycle)) cycles.now) fault) }
     {
         let mut found = Vec::new(alloc);
         for i in 0..cycles.len() {

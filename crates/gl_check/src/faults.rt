@@ -7,23 +7,32 @@ use std::alloc::{AllocError, AllocFailed};
 use std::error::Error;
 use std::fmt;
 
-/// Why a report isn't accepted. Cycles and their edges count from 0.
+/// Why a report isn't accepted. Cycles, their edges, and the entries of the table and of the trim order
+/// count from 0.
 #[derive(Drop, Debug)]
 pub enum CheckFault {
     /// It is no JSON.
     Json,
-    /// It hasn't exactly the keys of a report, a value is of another kind or out of its range, or it
-    /// lists more cycles than were asked for.
+    /// It hasn't exactly the keys of its format, a value is of another kind or out of its range, an
+    /// edge hasn't a mode for each guard, a cycle names a position beyond the table, or more cycles
+    /// are listed than were asked for.
     Shape,
     /// A segment of the trace is before itself: this is the least one, by thread and index, and a ring
     /// of segments that begins with it, each one step from the one before and the first from the last.
     Inconsistent { at: Segment, ring: Vec<Segment> },
-    /// This edge of this cycle is none of the trace, or has another sample.
+    /// This is the first position at which the table, which format 2 has, isn't that of the trace's
+    /// edges: another edge stands there, or another sample, or a further one, or none.
+    Table(usize),
+    /// This edge of this cycle, in format 1, is none of the trace, or has another sample.
     Edge(usize, usize),
     /// This cycle is none that was asked for, and why.
     Verdict(usize, Verdict),
     /// This cycle isn't above the one before it.
     Order(usize),
+    /// This is the first place at which the trim order is wrong: there stands a position beyond the
+    /// table, one that stood there before, or one of an edge that has both a follower and a leader
+    /// among those left; or the order ends there, and an edge is left.
+    Trim(usize),
     /// Memory was refused.
     Memory,
 }
@@ -39,11 +48,13 @@ impl fmt::Display for CheckFault {
             CheckFault::Json => f.write_str("report is not JSON"),
             CheckFault::Shape => f.write_str("report has the wrong shape"),
             CheckFault::Inconsistent { .. } => f.write_str("a segment precedes itself"),
+            CheckFault::Table(entry) => write!(f, "table entry {entry} is wrong"),
             CheckFault::Edge(cycle, edge) => {
                 write!(f, "cycle {cycle} edge {edge} is not in the trace")
             }
             CheckFault::Verdict(cycle, _) => write!(f, "cycle {cycle} is not valid"),
             CheckFault::Order(cycle) => write!(f, "cycle {cycle} is out of order"),
+            CheckFault::Trim(entry) => write!(f, "trim entry {entry} is wrong"),
             CheckFault::Memory => f.write_str("out of memory"),
         }
     }

@@ -1,14 +1,23 @@
 //! Objects with exactly the keys that a format has.
-ghost use Rattle.std.specs.Prelude.{◌≡◌, ◌&&◌, ℕ, List, ◌∷◌, map, is_some};
+ghost use Rattle.std.specs.Prelude.{◌≡◌, ◌&&◌, ℕ, ◌<◌, ◌^◌, List, ◌∷◌, codes, map, is_some};
 ghost use Rattle.std.specs.List.{list_all};
 ghost use Rattle.serde_json.specs.Find.{as_str};
 ghost use Rattle.serde_json.specs.View.{view, members_view};
 ghost use Rattle.gl_check.specs.declared.fields.Kind.{Kind};
-ghost use Rattle.gl_check.specs.Shape.{edge_fields, has_fields, have_fields, is_edges, is_of, items_in, mode_said, report_fields};
+ghost use Rattle.gl_check.specs.Shape.{edge_fields, edge_fields_v1, has_fields, have_fields, is_below, is_edge, is_letter, is_listing, is_member, is_of, items_in, items_under, mode_said, number_of, number_under, report_fields};
 
 use gl_filters::Mode;
 use serde_json::{Map, Value};
 use std::collections::btree_map::Iter;
+
+/// The format of a report.
+#[derive(Clone, Copy)]
+pub(crate) enum Format {
+    /// Cycles as arrays of edges, without modes.
+    One,
+    /// A table of all edges, with modes; cycles as arrays of positions in it, and a trim order.
+    Two,
+}
 
 /// What stands under a key.
 #[derive(Clone, Copy)]
@@ -21,12 +30,18 @@ pub(crate) enum Kind {
     Name,
     /// An array of texts.
     Names,
+    /// The letter for the mode of a lock.
+    Letter,
+    /// An array of such letters.
+    Letters,
     /// The word for a mode.
     Word,
     /// True or false.
     Flag,
     /// An array.
     Array,
+    /// Null, or an array of whole numbers below 2 to the power 32.
+    Trim,
 }
 
 /// The items of an array, and none where it is no array.
@@ -37,6 +52,46 @@ pub(crate) fn items_in(value: &Value) -> &[Value]
         Some(items) => items.as_slice(),
         None => &[],
     }
+}
+
+/// The items of the array under a key, and none where there is no array.
+pub(crate) fn items_under<'a>(value: &'a Value, key: &str) -> &'a [Value]
+    ensures { map view result.now ≡ items_under key.now (view value.now) }
+{
+    match value.get(key) {
+        Some(items) => items_in(items),
+        None => &[],
+    }
+}
+
+/// The whole number under a key, or 0.
+pub(crate) fn number_under(value: &Value, key: &str) -> u64
+    ensures { result ≡ number_under key.now (view value.now) }
+{
+    value.get(key).and_then(Value::as_u64).unwrap_or(0)
+}
+
+/// The whole number that the value is, or 0.
+pub(crate) fn number_of(value: &Value) -> u64
+    ensures { result ≡ number_of (view value.now) }
+{
+    value.as_u64().unwrap_or(0)
+}
+
+// Whether the value is a whole number below this one.
+fn is_below(bound: u64, value: &Value) -> bool
+    ensures { result ≡ is_below bound (view value.now) }
+{
+    value.as_u64().is_some_and(|number| number < bound)
+}
+
+// Whether the value is the letter for the mode of a lock.
+fn is_letter(value: &Value) -> bool
+    ensures { result ≡ is_letter (view value.now) }
+{
+    value
+        .as_str()
+        .is_some_and(|word| word == "x" || word == "s")
 }
 
 /// The mode that a word stands for.
@@ -67,18 +122,45 @@ fn are_names(values: &[Value]) -> bool
     true
 }
 
+// Whether these are letters for modes of locks.
+fn are_letters(values: &[Value]) -> bool
+    ensures { result ≡ list_all is_letter (map view values.now) }
+{
+    for value in values {
+        if !is_letter(value) {
+            return false;
+        }
+    }
+    true
+}
+
+// Whether these are whole numbers below 2 to the power 32.
+fn are_numbers(values: &[Value]) -> bool
+    ensures { result ≡ list_all (is_below (2 ^ 32)) (map view values.now) }
+{
+    for value in values {
+        if !is_below(1 << 32, value) {
+            return false;
+        }
+    }
+    true
+}
+
 // Whether the value is of the kind.
 fn is_of(kind: Kind, value: &Value) -> bool
     ensures { result ≡ is_of kind (view value.now) }
 {
     match kind {
-        Kind::Number => value.as_u64().is_some_and(|number| number < 1 << 32),
+        Kind::Number => is_below(1 << 32, value),
         Kind::Exactly(wanted) => value.as_u64() == Some(u64::from(wanted)),
         Kind::Name => value.is_string(),
         Kind::Names => value.is_array() && are_names(items_in(value)),
+        Kind::Letter => is_letter(value),
+        Kind::Letters => value.is_array() && are_letters(items_in(value)),
         Kind::Word => value.as_str().and_then(mode_said).is_some(),
         Kind::Flag => value.is_boolean(),
         Kind::Array => value.is_array(),
+        Kind::Trim => value.is_null() || (value.is_array() && are_numbers(items_in(value))),
     }
 }
 
@@ -114,7 +196,7 @@ fn has_fields(value: &Value, fields: &[(&str, Kind)]) -> bool
     }
 }
 
-const EDGE_FIELDS: [(&str, Kind); 9] = [
+const EDGE_FIELDS_V1: [(&str, Kind); 9] = [
     ("first", Kind::Number),
     ("guards", Kind::Names),
     ("held", Kind::Name),
@@ -126,7 +208,22 @@ const EDGE_FIELDS: [(&str, Kind); 9] = [
     ("wanted_at", Kind::Name),
 ];
 
-const REPORT_FIELDS: [(&str, Kind); 6] = [
+const EDGE_FIELDS: [(&str, Kind); 12] = [
+    ("first", Kind::Number),
+    ("guard_modes", Kind::Letters),
+    ("guards", Kind::Names),
+    ("held", Kind::Name),
+    ("held_at", Kind::Name),
+    ("held_mode", Kind::Letter),
+    ("place", Kind::Number),
+    ("second", Kind::Number),
+    ("thread", Kind::Name),
+    ("wanted", Kind::Name),
+    ("wanted_at", Kind::Name),
+    ("wanted_mode", Kind::Letter),
+];
+
+const REPORT_FIELDS_V1: [(&str, Kind); 6] = [
     ("cycles", Kind::Array),
     ("format", Kind::Exactly(1)),
     ("len", Kind::Number),
@@ -135,23 +232,38 @@ const REPORT_FIELDS: [(&str, Kind); 6] = [
     ("more", Kind::Flag),
 ];
 
-// Whether the value is an edge of format 1.
+const REPORT_FIELDS: [(&str, Kind); 8] = [
+    ("cycles", Kind::Array),
+    ("edges", Kind::Array),
+    ("format", Kind::Exactly(2)),
+    ("len", Kind::Number),
+    ("max", Kind::Number),
+    ("mode", Kind::Word),
+    ("more", Kind::Flag),
+    ("trim", Kind::Trim),
+];
+
+/// Whether the value has the keys of a report of the format.
+pub(crate) fn has_report_fields(format: Format, value: &Value) -> bool
+    ensures { result ≡ has_fields (report_fields format) (view value.now) }
+{
+    match format {
+        Format::One => has_fields(value, &REPORT_FIELDS_V1),
+        Format::Two => has_fields(value, &REPORT_FIELDS),
+    }
+}
+
+// Whether the value is an edge of format 2.
 fn is_edge(value: &Value) -> bool
-    ensures { result ≡ has_fields edge_fields (view value.now) }
+    ensures { result ≡ is_edge (view value.now) }
 {
     has_fields(value, &EDGE_FIELDS)
+        && items_under(value, "guard_modes").len() == items_under(value, "guards").len()
 }
 
-/// Whether the value has the keys of a report of format 1.
-pub(crate) fn has_report_fields(value: &Value) -> bool
-    ensures { result ≡ has_fields report_fields (view value.now) }
-{
-    has_fields(value, &REPORT_FIELDS)
-}
-
-// Whether these are edges.
-fn are_edges(values: &[Value]) -> bool
-    ensures { result ≡ list_all (has_fields edge_fields) (map view values.now) }
+/// Whether these are edges of format 2.
+pub(crate) fn are_edges(values: &[Value]) -> bool
+    ensures { result ≡ list_all is_edge (map view values.now) }
 {
     for value in values {
         if !is_edge(value) {
@@ -161,19 +273,42 @@ fn are_edges(values: &[Value]) -> bool
     true
 }
 
-// Whether the value is an array of edges.
-fn is_cycle(value: &Value) -> bool
-    ensures { result ≡ is_edges (view value.now) }
+// Whether the value names an edge in a cycle: in format 1 it is the edge, in format 2 its position
+// among so many.
+fn is_member(format: Format, size: usize, value: &Value) -> bool
+    ensures { result ≡ is_member format size (view value.now) }
 {
-    value.is_array() && are_edges(items_in(value))
+    match format {
+        Format::One => has_fields(value, &EDGE_FIELDS_V1),
+        Format::Two => is_below(size as u64, value),
+    }
 }
 
-/// Whether these are arrays of edges.
-pub(crate) fn are_cycles(values: &[Value]) -> bool
-    ensures { result ≡ list_all is_edges (map view values.now) }
+// Whether these name edges.
+fn are_members(format: Format, size: usize, values: &[Value]) -> bool
+    ensures { result ≡ list_all (is_member format size) (map view values.now) }
 {
     for value in values {
-        if !is_cycle(value) {
+        if !is_member(format, size, value) {
+            return false;
+        }
+    }
+    true
+}
+
+// Whether the value is an array of what names edges.
+fn is_listing(format: Format, size: usize, value: &Value) -> bool
+    ensures { result ≡ is_listing format size (view value.now) }
+{
+    value.is_array() && are_members(format, size, items_in(value))
+}
+
+/// Whether these are arrays of what names edges.
+pub(crate) fn are_listings(format: Format, size: usize, values: &[Value]) -> bool
+    ensures { result ≡ list_all (is_listing format size) (map view values.now) }
+{
+    for value in values {
+        if !is_listing(format, size, value) {
             return false;
         }
     }

@@ -1,15 +1,19 @@
 //! A checker of reports: whoever made a report, it can be believed.
 //!
-//! A report of format 1 is a line of JSON. [`check`] reads it, with the trace that it was made of. Where
-//! two threads acquire two locks in opposite order, a report that lists the cycle of both edges is
-//! accepted, with `cycles: 1`. Where an edge of it has another place than in the trace, it is refused
-//! with [`CheckFault::Edge`], which names the cycle and the edge.
+//! A report is a line of JSON. [`check`] reads it, with the trace that it was made of. Where two
+//! threads acquire two locks in opposite order, a report that lists the cycle of both edges is accepted,
+//! with `cycles: 1`. Where an edge of it has another place than in the trace, it is refused: in format 2,
+//! which has a table of the trace's edges, with [`CheckFault::Table`], and in format 1, which prints the
+//! edges of each cycle, with [`CheckFault::Edge`].
 //!
 //! The checker shares definitions with the maker of reports, and not its search: it looks at the keys of
-//! the JSON, finds each listed edge among the trace's own edges, judges each listed cycle, and compares
-//! it with the one before. `specs/Checked.antt` says what an accepted report is: what is printed of a
-//! report over the trace's own edges, whose cycles are cycles and ascend. That no cycle is missing in
-//! it is not checked.
+//! the JSON, holds the table or each listed edge against the trace's own edges, judges each listed cycle,
+//! and compares it with the one before. Where the report gives an order in which all edges go, it looks
+//! whether each one may go next; then the trace has no cycle, of whatever length.
+//!
+//! `specs/Checked.antt` says what an accepted report is: what is printed of a report over the trace's own
+//! edges, whose cycles are cycles and ascend, and whose trim order, if it has one, takes away each edge.
+//! That no cycle is missing in a list is not checked.
 #![tactic(auto)]
 
 mod claims;
@@ -19,6 +23,7 @@ mod faults;
 mod fields;
 mod input;
 mod reports;
+mod sayings;
 #[cfg(test)]
 mod tests;
 

@@ -1,21 +1,21 @@
 //! Checks of reports.
-ghost use Rattle.std.specs.Prelude.{◌≡◌, ◌≤◌, ◌⊎◌, ℕ, true, List, None, Some, length, map, slice_get, IfOk, IfErr, IsUtf8};
-ghost use Rattle.std.specs.List.{list_all};
+ghost use Rattle.std.specs.Prelude.{◌≡◌, ◌≤◌, ◌⊎◌, ℕ, true, List, None, Some, codes, is_some, length, slice_get, IfOk, IfErr, IsUtf8};
 ghost use Rattle.serde_json.specs.Read.{read};
 ghost use Rattle.serde_json.specs.View.{view};
 ghost use Rattle.gl_event.specs.Bounds.{greatest};
 ghost use Rattle.gl_event.specs.Lawful.{IsLawful};
 ghost use Rattle.gl_event.specs.declared.events.Event.{Event};
 ghost use Rattle.gl_segments.specs.Orders.{IsFaultOf};
-ghost use Rattle.gl_check.specs.Checked.{AreTraceCycles, IsChecked, IsCheckFault, IsOrderFault, IsTraceFault, Reads};
-ghost use Rattle.gl_check.specs.Shape.{is_edges, items_in};
+ghost use Rattle.gl_check.specs.Checked.{HoldsOf, IsChecked, IsCheckFault, IsFalseOf, IsOrderFault, Reads};
+ghost use Rattle.gl_check.specs.Shape.{asked_in, is_report, items_under, trim_in};
 ghost use Rattle.gl_check.specs.declared.faults.CheckFault.TheVariants.{Json, Memory};
 
-use crate::claims::{Claim, claim_of};
+use crate::claims::{asked_of, format_in};
 use crate::cycles::Known;
 use crate::faults::CheckFault;
 use gl_edges::edges_of;
 use gl_event::Event;
+use gl_filters::Query;
 use gl_segments::{Order, OrderFault};
 use gl_std::Trace;
 use serde_json::Value;
@@ -27,6 +27,8 @@ use std::fmt;
 pub struct Checked {
     /// How many cycles it lists.
     pub cycles: u32,
+    /// Whether it has a trim order. Then the trace has no cycle of the mode, of whatever length.
+    pub acyclic: bool,
 }
 
 impl fmt::Display for Checked {
@@ -36,6 +38,9 @@ impl fmt::Display for Checked {
     ghost output = { λ checked. Some (checked_text checked) };
 
     fn fmt<W: fmt::Write>(&self, f: &mut fmt::Formatter<W>) -> fmt::Result {
+        if self.acyclic {
+            return write!(f, "ok, cycles: {}, none of any length", self.cycles);
+        }
         write!(f, "ok, cycles: {}", self.cycles)
     }
 }
@@ -66,13 +71,20 @@ fn no_order(fault: OrderFault) -> CheckFault
     }
 }
 
-// The positions of the edges of the cycles that are listed.
-fn found_in(alloc: Global, trace: &Trace, claim: &Claim<'_>) -> Result<Vec<Vec<usize>>, CheckFault>
+// What is found of a value that has the shape of a report.
+fn checked_of(
+    alloc: Global,
+    trace: &Trace,
+    value: &Value,
+    query: Query,
+) -> Result<Checked, CheckFault>
     requires few { length trace.now.lists ≤ 1024 }
     requires lawful { (thread : ℕ) (es : List Event) → slice_get trace.now.lists thread ≡ Some es → IsLawful greatest thread es }
-    requires edges { list_all is_edges (map view claim.now.cycles.now) ≡ true }
-    ensures ok { IfOk result (λ found. AreTraceCycles trace.now claim.now.query (map (λ cycle. items_in (view cycle)) claim.now.cycles.now) (map (λ v. v.items) found.items)) }
-    ensures fault { IfErr result (λ fault. IsOrderFault trace.now.lists fault ⊎ IsTraceFault trace.now claim.now.query (map (λ cycle. items_in (view cycle)) claim.now.cycles.now) fault) }
+    requires shaped { is_report (view value.now) ≡ true }
+    requires query { query ≡ asked_in (view value.now) }
+    requires cycles { length (items_under (codes "cycles") (view value.now)) ≤ 100000 }
+    ensures ok { IfOk result (λ checked. (found : List (List ℕ)) × HoldsOf trace.now (view value.now) found × (checked.cycles ≡ length found) × (checked.acyclic ≡ is_some (trim_in (view value.now)))) }
+    ensures fault { IfErr result (λ fault. IsOrderFault trace.now.lists fault ⊎ IsFalseOf trace.now (view value.now) fault) }
 {
     let lists = trace.lists.as_slice();
     let order = match Order::of(alloc, lists) {
@@ -81,28 +93,31 @@ fn found_in(alloc: Global, trace: &Trace, claim: &Claim<'_>) -> Result<Vec<Vec<u
     };
     let edges = edges_of(alloc, lists)?;
     let known = Known {
+        format: format_in(value),
         names: &trace.names,
         edges: &edges,
         order: &order,
-        query: claim.query,
+        query,
     };
-    known.check_cycles(alloc, claim.cycles)
+    known.check(alloc, value)
 }
 
-/// Whether a report can be believed, whoever made it: the bytes are JSON of format 1, and each cycle
-/// that they list is one of the trace.
+/// Whether a report can be believed, whoever made it: the bytes are JSON of format 1 or 2, and what
+/// they say holds of the trace.
 ///
 /// A report that is accepted is, but for spaces and the order of keys, what is printed of a report over
 /// the trace's own edges, each with its own sample: each listed cycle is a cycle of the mode and length
-/// that the report names, and the list ascends. What is not checked is whether there are more cycles.
-/// Format 1 shows no lock modes; an edge in it stands for one whose locks are all held and wanted
-/// exclusively.
+/// that the report names, and the list ascends. Where it has a trim order, that takes away each edge,
+/// one by one, and then the trace has no cycle of the mode, of whatever length. What is not checked is
+/// whether there are more cycles than those of a list. Format 1 shows no lock modes; an edge in it
+/// stands for one whose locks are all held and wanted exclusively.
 ///
 /// Err with the first fault, in the order of [`CheckFault`]: all of one kind are looked for before
 /// those of the next, but edge, verdict and order for each cycle in turn.
 ///
-/// Beside the order and the edges of the trace it takes a look at each edge for each listed one, and
-/// prints those of its place once more.
+/// Beside the order and the edges of the trace, format 2 takes the print of each edge, once, and for
+/// each edge of the trim order a look at the edges that hold the lock which it wants and at those that
+/// want the lock which it holds. Format 1 takes a look at each edge of the trace for each listed one.
 pub fn check(alloc: Global, trace: &Trace, json: &[u8]) -> Result<Checked, CheckFault>
     requires few { length trace.now.lists ≤ 1024 }
     requires lawful { (thread : ℕ) (es : List Event) → slice_get trace.now.lists thread ≡ Some es → IsLawful greatest thread es }
@@ -110,11 +125,8 @@ pub fn check(alloc: Global, trace: &Trace, json: &[u8]) -> Result<Checked, Check
     ensures fault { IfErr result (IsCheckFault trace.now json.now) }
 {
     let value = value_of(alloc, json)?;
-    let Some(claim) = claim_of(&value) else {
+    let Some(query) = asked_of(&value) else {
         return Err(CheckFault::Shape);
     };
-    let found = found_in(alloc, trace, &claim)?;
-    Ok(Checked {
-        cycles: found.len() as u32,
-    })
+    checked_of(alloc, trace, &value, query)
 }

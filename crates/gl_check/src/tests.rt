@@ -1,4 +1,4 @@
-//! Worked reports, accepted and refused, with the JSON that is printed of them.
+//! Worked reports of format 1, accepted and refused, with the JSON that is printed of them.
 ghost use Rattle.std.specs.Prelude.{IfOk};
 ghost use Rattle.gl_event.specs.Bounds.{greatest};
 ghost use Rattle.gl_std.specs.Trace.{IsTraceOver};
@@ -9,6 +9,8 @@ use gl_filters::Verdict;
 use gl_std::{Trace, read_trace};
 use std::alloc::Global;
 use std::test::Fail;
+
+mod tables;
 
 // Two threads that acquire two locks in opposite order.
 const LINES: &[u8] =
@@ -34,7 +36,7 @@ fn checked_line(rt: HostRuntime) -> Result<(), Fail> {
         rt.alloc(),
         b"{\"cycles\":[[{\"first\":0,\"guards\":[\"a\"],\"held\":\"a\",\"held_at\":\"1\",\"place\":1,\"second\":0,\"thread\":\"T0\",\"wanted\":\"b\",\"wanted_at\":\"2\"},{\"first\":0,\"guards\":[\"b\"],\"held\":\"b\",\"held_at\":\"5\",\"place\":1,\"second\":0,\"thread\":\"T1\",\"wanted\":\"a\",\"wanted_at\":\"6\"}]],\"format\":1,\"len\":4,\"max\":1000,\"mode\":\"full\",\"more\":false}\n",
     )?;
-    assert!(rt; matches!(accepted, Ok(Checked { cycles: 1 })));
+    assert!(rt; matches!(accepted, Ok(Checked { cycles: 1, acyclic: false })));
     Ok(())
 }
 
@@ -103,7 +105,7 @@ fn empty_report(rt: HostRuntime) -> Result<(), Fail> {
         rt.alloc(),
         b"{ \"more\": false, \"mode\": \"full\", \"max\": 1000, \"len\": 4, \"format\": 1, \"cycles\": [] }",
     )?;
-    assert!(rt; matches!(accepted, Ok(Checked { cycles: 0 })));
+    assert!(rt; matches!(accepted, Ok(Checked { cycles: 0, acyclic: false })));
     Ok(())
 }
 

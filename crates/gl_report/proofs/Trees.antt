@@ -3,14 +3,15 @@ use Rattle.std.proofs.Common.{◌≡◌, ℕ, ◌+◌, ◌<◌, false, ◌||◌,
 use Rattle.std.specs.List.{filter_map, cons_option}
 use Rattle.std.specs.Option.{option_map_or}
 use Rattle.std.proofs.lemmas.List.{take_more, map_more, map-append}
-use Rattle.serde_json.specs.Data.{Data}
+use Rattle.serde_json.specs.Data.{Data, number, unsigned}
 use Rattle.serde_json.specs.View.{items_of}
 use Rattle.serde_json.specs.Written.{has_float, items_have_float}
 use Rattle.gl_std.specs.Names.{NameLists}
 use Rattle.gl_edges.specs.declared.edge.Edge.{Edge}
 use Rattle.gl_edges.specs.declared.edge.Sample.{Sample}
 use Rattle.gl_cycles.specs.declared.found.Report.{Report}
-use Rattle.gl_report.specs.Tree.{name_tree, edge_tree, cycle_tree, report_tree}
+use Rattle.gl_report.specs.Tree.{name_tree, lock_mode_tree, edge_tree, positions_tree, trim_tree, report_tree}
+use Rattle.gl_report.specs.TreeV1.{edge_tree_v1, cycle_tree_v1, report_tree_v1}
 
 -- one item more, seen through a function
 pub pushed_view : {X Y : Type 0} (f : X → Y) (was now : List X) (x : X) (y : Y) → now ≡ was ++ x ∷ [] → f x ≡ y → map f now ≡ map f was ++ y ∷ []
@@ -49,15 +50,44 @@ pub items_without_float : {X : Type 0} (f : X → Data) (xs : List X) → ((x : 
 items_without_float f [] each = refl
 items_without_float f (x ∷ xs) each = ap (λ b. b || items_have_float (items_of (map f xs))) (each x) ∙ items_without_float f xs each
 
+names_without_float : (names : NameLists) (pair : Edge × Sample) → items_have_float (items_of (map (λ guard. name_tree names.locks guard.lock) pair.0.guards)) ≡ false
+names_without_float names pair = items_without_float (λ guard. name_tree names.locks guard.lock) pair.0.guards (λ guard. refl)
+
+modes_without_float : (pair : Edge × Sample) → items_have_float (items_of (map (λ guard. lock_mode_tree guard.mode) pair.0.guards)) ≡ false
+modes_without_float pair = items_without_float (λ guard. lock_mode_tree guard.mode) pair.0.guards (λ guard. refl)
+
 pub edge_without_float : (names : NameLists) (pair : Edge × Sample) → has_float (edge_tree names pair) ≡ false
 unfolding edge_tree
-edge_without_float names pair = ap (λ b. b || false) (items_without_float (λ guard. name_tree names.locks guard.lock) pair.0.guards (λ guard. refl))
+edge_without_float names pair =
+    ap (λ b. b || (items_have_float (items_of (map (λ guard. name_tree names.locks guard.lock) pair.0.guards)) || false)) (modes_without_float pair)
+    ∙ ap (λ b. b || false) (names_without_float names pair)
 
-pub cycle_without_float : (names : NameLists) (table : List (Edge × Sample)) (cycle : List ℕ) → has_float (cycle_tree names table cycle) ≡ false
-unfolding cycle_tree
-cycle_without_float names table cycle = items_without_float (edge_tree names) _ (edge_without_float names)
+pub positions_without_float : (positions : List ℕ) → has_float (positions_tree positions) ≡ false
+unfolding positions_tree
+positions_without_float positions = items_without_float (λ position. number (unsigned position)) positions (λ position. refl)
+
+pub trim_without_float : (trim : Option (List ℕ)) → has_float (trim_tree trim) ≡ false
+trim_without_float None = refl
+trim_without_float (Some removed) = positions_without_float removed
 
 -- a report has no float
 pub report_without_float : (names : NameLists) (report : Report) → has_float (report_tree names report) ≡ false
 unfolding report_tree
-report_without_float names report = ap (λ b. b || false) (items_without_float (cycle_tree names report.edges) report.found.cycles (cycle_without_float names report.edges))
+report_without_float names report =
+    ap (λ b. b || (items_have_float (items_of (map (edge_tree names) report.edges)) || (has_float (trim_tree report.trim) || false)))
+    (items_without_float positions_tree report.found.cycles positions_without_float)
+    ∙ ap (λ b. b || (has_float (trim_tree report.trim) || false)) (items_without_float (edge_tree names) report.edges (edge_without_float names))
+    ∙ ap (λ b. b || false) (trim_without_float report.trim)
+
+pub edge_v1_without_float : (names : NameLists) (pair : Edge × Sample) → has_float (edge_tree_v1 names pair) ≡ false
+unfolding edge_tree_v1
+edge_v1_without_float names pair = ap (λ b. b || false) (names_without_float names pair)
+
+pub cycle_v1_without_float : (names : NameLists) (table : List (Edge × Sample)) (cycle : List ℕ) → has_float (cycle_tree_v1 names table cycle) ≡ false
+unfolding cycle_tree_v1
+cycle_v1_without_float names table cycle = items_without_float (edge_tree_v1 names) _ (edge_v1_without_float names)
+
+-- a report of format 1 has no float
+pub report_v1_without_float : (names : NameLists) (report : Report) → has_float (report_tree_v1 names report) ≡ false
+unfolding report_tree_v1
+report_v1_without_float names report = ap (λ b. b || false) (items_without_float (cycle_tree_v1 names report.edges) report.found.cycles (cycle_v1_without_float names report.edges))

@@ -1,8 +1,9 @@
--- The report as JSON: which values stand under which keys.
-use Rattle.std.specs.Prelude.{ℕ, List, map, slice_get, codes}
-use Rattle.std.specs.List.{filter_map}
-use Rattle.serde_json.specs.Data.{Data, unsigned, boolean, number, string, array, object, member, no_members}
+-- The report as JSON of format 2: which values stand under which keys.
+use Rattle.std.specs.Prelude.{ℕ, List, map, Option, None, Some, codes}
+use Rattle.serde_json.specs.Data.{Data, null, unsigned, boolean, number, string, array, object, member, no_members}
 use Rattle.serde_json.specs.View.{items_of}
+use Rattle.gl_event.specs.declared.events.LockMode.{LockMode}
+use Rattle.gl_event.specs.declared.events.LockMode.TheVariants.{Exclusive, Shared}
 use Rattle.gl_std.specs.Names.{NameLists}
 use Rattle.gl_edges.specs.declared.edge.Edge.{Edge}
 use Rattle.gl_edges.specs.declared.edge.Sample.{Sample}
@@ -21,22 +22,43 @@ name_tree names which = string (escaped (name_of names which))
 abbrev pub guards_tree : NameLists → List Guard → Data
 guards_tree names guards = array (items_of (map (λ guard. name_tree names.locks guard.lock) guards))
 
+-- the letter for the mode of a lock
+abbrev pub lock_mode_letter : LockMode → List ℕ
+lock_mode_letter Exclusive = codes "x"
+lock_mode_letter Shared = codes "s"
+
+-- the mode of a lock
+abbrev pub lock_mode_tree : LockMode → Data
+lock_mode_tree mode = string (lock_mode_letter mode)
+
+-- the modes in which guard locks are held
+abbrev pub guard_modes_tree : List Guard → Data
+guard_modes_tree guards = array (items_of (map (λ guard. lock_mode_tree guard.mode) guards))
+
 -- an edge, with where it was seen
 unfoldable pub edge_tree : NameLists → Edge × Sample → Data
 edge_tree names pair =
     object (member (codes "first") (number (unsigned pair.0.first))
+    (member (codes "guard_modes") (guard_modes_tree pair.0.guards)
     (member (codes "guards") (guards_tree names pair.0.guards)
     (member (codes "held") (name_tree names.locks pair.0.held)
     (member (codes "held_at") (name_tree names.locs pair.1.held_loc)
+    (member (codes "held_mode") (lock_mode_tree pair.0.held_mode)
     (member (codes "place") (number (unsigned pair.1.place))
     (member (codes "second") (number (unsigned pair.0.second))
     (member (codes "thread") (name_tree names.threads pair.0.thread)
     (member (codes "wanted") (name_tree names.locks pair.0.wanted)
-    (member (codes "wanted_at") (name_tree names.locs pair.1.wanted_loc) no_members)))))))))
+    (member (codes "wanted_at") (name_tree names.locs pair.1.wanted_loc)
+    (member (codes "wanted_mode") (lock_mode_tree pair.0.wanted_mode) no_members))))))))))))
 
--- a cycle: its edges in order
-unfoldable pub cycle_tree : NameLists → List (Edge × Sample) → List ℕ → Data
-cycle_tree names table cycle = array (items_of (map (edge_tree names) (filter_map (slice_get table) cycle)))
+-- positions of edges, in order: a cycle, or a trim order
+unfoldable pub positions_tree : List ℕ → Data
+positions_tree positions = array (items_of (map (λ position. number (unsigned position)) positions))
+
+-- the order in which trimming takes away all edges, or null where it doesn't
+abbrev pub trim_tree : Option (List ℕ) → Data
+trim_tree None = null
+trim_tree (Some removed) = positions_tree removed
 
 -- the word for a mode
 abbrev pub mode_word : Mode → List ℕ
@@ -44,12 +66,14 @@ mode_word Basic = codes "basic"
 mode_word Guarded = codes "guarded"
 mode_word Full = codes "full"
 
--- the whole report
+-- the whole report: each edge once, and cycles as the positions of their edges
 unfoldable pub report_tree : NameLists → Report → Data
 report_tree names report =
-    object (member (codes "cycles") (array (items_of (map (cycle_tree names report.edges) report.found.cycles)))
-    (member (codes "format") (number (unsigned 1))
+    object (member (codes "cycles") (array (items_of (map positions_tree report.found.cycles)))
+    (member (codes "edges") (array (items_of (map (edge_tree names) report.edges)))
+    (member (codes "format") (number (unsigned 2))
     (member (codes "len") (number (unsigned report.query.len))
     (member (codes "max") (number (unsigned report.query.max))
     (member (codes "mode") (string (mode_word report.query.mode))
-    (member (codes "more") (boolean report.found.more) no_members))))))
+    (member (codes "more") (boolean report.found.more)
+    (member (codes "trim") (trim_tree report.trim) no_members))))))))

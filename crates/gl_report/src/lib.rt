@@ -2,14 +2,20 @@
 #![tactic(auto)]
 
 mod escapes;
+mod exclusive;
+mod members;
 mod printing;
 mod stats;
 mod tree;
+mod tree_v1;
+mod values;
 
 pub use escapes::escaped_name;
+pub use exclusive::is_exclusive;
 pub use printing::text;
 pub use stats::{Stats, stats_text};
 pub use tree::{edge_json, json, json_text};
+pub use tree_v1::{edge_json_v1, json_text_v1, json_v1};
 
 #[cfg(test)]
 mod tests;

@@ -4,8 +4,8 @@ ghost use Rattle.gl_edges.specs.Order.{IsAboveLast};
 ghost use Rattle.gl_event.specs.Bounds.{greatest};
 ghost use Rattle.gl_std.specs.Trace.{IsTraceOver};
 
-use crate::{Stats, escaped_name, json_text, stats_text, text};
-use gl_cycles::{Cycles, Found, Report};
+use crate::{Stats, escaped_name, json_text, json_text_v1, lists_exclusive, stats_text, text};
+use gl_cycles::{Cycles, Found, Report, TrimOrder};
 use gl_edges::{Edge, EdgeList, Guard, Guards, Sample};
 use gl_event::{Limits, LocId, LockId, LockMode, Memory, ThreadId};
 use gl_filters::{Mode, Query};
@@ -29,23 +29,28 @@ fn names_of(alloc: Global, lines: &[u8]) -> Result<Names, Fail> {
     Ok(trace_of(alloc, lines)?.names)
 }
 
-// An edge with its locations: thread, held lock, wanted lock, and where each was acquired.
+// An edge with its locations: thread, held lock and how it is held, wanted lock, where each was
+// acquired, and the place of the second acquire.
 #[derive(Clone, Copy)]
 struct EdgeRow {
     thread: u32,
     held: u32,
+    held_mode: LockMode,
     wanted: u32,
     held_loc: u32,
     wanted_loc: u32,
+    place: u32,
 }
 
 fn row(thread: u32, held: u32, wanted: u32, held_loc: u32, wanted_loc: u32) -> EdgeRow {
     EdgeRow {
         thread,
         held,
+        held_mode: LockMode::Exclusive,
         wanted,
         held_loc,
         wanted_loc,
+        place: 1,
     }
 }
 
@@ -61,14 +66,14 @@ fn is_above(pairs: &[(Edge, Sample)], edge: &Edge) -> bool
 
 // Appends the edge where it is above the last one.
 fn add(alloc: Global, list: &mut EdgeList, row: &EdgeRow) -> Result<bool, Memory> {
-    let mode = LockMode::Exclusive;
+    let mode = row.held_mode;
     let lock = LockId::new(row.held);
     let edge = Edge {
         thread: ThreadId::new(row.thread),
         held: lock,
         held_mode: mode,
         wanted: LockId::new(row.wanted),
-        wanted_mode: mode,
+        wanted_mode: LockMode::Exclusive,
         first: 0,
         second: 0,
         guards: Guards::new(vec![in alloc; Guard { lock, mode }]?),
@@ -77,7 +82,7 @@ fn add(alloc: Global, list: &mut EdgeList, row: &EdgeRow) -> Result<bool, Memory
         return Ok(false);
     }
     let sample = Sample {
-        place: 1,
+        place: row.place,
         held_loc: LocId::new(row.held_loc),
         wanted_loc: LocId::new(row.wanted_loc),
     };
@@ -108,8 +113,26 @@ fn report_of(
     })
 }
 
-// The report of these edges and these cycles has this JSON.
+// The report of these edges and these cycles, with this trim order, has this JSON.
 fn expect_json(
+    rt: &impl Abort,
+    alloc: Global,
+    lines: &[u8],
+    rows: &[EdgeRow],
+    cycles: Vec<Vec<usize>>,
+    trim: Option<TrimOrder>,
+    want: &[u8],
+) -> Result<(), Fail> {
+    let names = names_of(alloc, lines)?;
+    let mut report = report_of(rt, alloc, rows, cycles, false)?;
+    report.trim = trim;
+    let printed = json_text(alloc, &names, &report)?;
+    assert_eq!(rt; printed.as_slice(), want);
+    Ok(())
+}
+
+// The report of these edges and these cycles has this JSON of format 1.
+fn expect_json_v1(
     rt: &impl Abort,
     alloc: Global,
     lines: &[u8],
@@ -119,7 +142,11 @@ fn expect_json(
 ) -> Result<(), Fail> {
     let names = names_of(alloc, lines)?;
     let report = report_of(rt, alloc, rows, cycles, false)?;
-    let printed = json_text(alloc, &names, &report)?;
+    if !lists_exclusive(&report) {
+        assert!(rt; false);
+        return Ok(());
+    }
+    let printed = json_text_v1(alloc, &names, &report)?;
     assert_eq!(rt; printed.as_slice(), want);
     Ok(())
 }
@@ -208,10 +235,61 @@ fn first_of_two_cycles(rt: HostRuntime) -> Result<(), Fail> {
     )
 }
 
+const OPPOSITE_ORDER: &[u8] =
+    b"T0|acq(a)|1\nT0|acq(b)|2\nT0|rel(b)|3\nT0|rel(a)|4\nT1|acq(b)|5\nT1|acq(a)|6\n";
+
 #[test]
-fn json_of_empty_input(rt: HostRuntime) -> Result<(), Fail> {
+fn empty_report(rt: HostRuntime) -> Result<(), Fail> {
     let alloc = rt.alloc();
     expect_json(
+        &rt,
+        alloc,
+        b"",
+        &[],
+        Vec::new(alloc),
+        Some(TrimOrder::from_vec(Vec::new(alloc))),
+        b"{\"cycles\":[],\"edges\":[],\"format\":2,\"len\":4,\"max\":1000,\"mode\":\"full\",\"more\":false,\"trim\":[]}\n",
+    )
+}
+
+// T1 holds its lock as a reader.
+#[test]
+fn json_of_opposite_order(rt: HostRuntime) -> Result<(), Fail> {
+    let alloc = rt.alloc();
+    let mut shared = row(1, 1, 0, 4, 5);
+    shared.held_mode = LockMode::Shared;
+    expect_json(
+        &rt,
+        alloc,
+        OPPOSITE_ORDER,
+        &[row(0, 0, 1, 0, 1), shared],
+        vec![in alloc; vec![in alloc; 0, 1]?]?,
+        None,
+        b"{\"cycles\":[[0,1]],\"edges\":[{\"first\":0,\"guard_modes\":[\"x\"],\"guards\":[\"a\"],\"held\":\"a\",\"held_at\":\"1\",\"held_mode\":\"x\",\"place\":1,\"second\":0,\"thread\":\"T0\",\"wanted\":\"b\",\"wanted_at\":\"2\",\"wanted_mode\":\"x\"},{\"first\":0,\"guard_modes\":[\"s\"],\"guards\":[\"b\"],\"held\":\"b\",\"held_at\":\"5\",\"held_mode\":\"s\",\"place\":1,\"second\":0,\"thread\":\"T1\",\"wanted\":\"a\",\"wanted_at\":\"6\",\"wanted_mode\":\"x\"}],\"format\":2,\"len\":4,\"max\":1000,\"mode\":\"full\",\"more\":false,\"trim\":null}\n",
+    )
+}
+
+// No cycle: T0 acquires a and b, releases a, and acquires c. Trimming takes away both edges.
+#[test]
+fn self_contained_line(rt: HostRuntime) -> Result<(), Fail> {
+    let alloc = rt.alloc();
+    let mut second = row(0, 1, 2, 1, 3);
+    second.place = 3;
+    expect_json(
+        &rt,
+        alloc,
+        b"T0|acq(a)|1\nT0|acq(b)|2\nT0|rel(a)|3\nT0|acq(c)|4\n",
+        &[row(0, 0, 1, 0, 1), second],
+        Vec::new(alloc),
+        Some(TrimOrder::from_vec(vec![in alloc; 0, 1]?)),
+        b"{\"cycles\":[],\"edges\":[{\"first\":0,\"guard_modes\":[\"x\"],\"guards\":[\"a\"],\"held\":\"a\",\"held_at\":\"1\",\"held_mode\":\"x\",\"place\":1,\"second\":0,\"thread\":\"T0\",\"wanted\":\"b\",\"wanted_at\":\"2\",\"wanted_mode\":\"x\"},{\"first\":0,\"guard_modes\":[\"x\"],\"guards\":[\"b\"],\"held\":\"b\",\"held_at\":\"2\",\"held_mode\":\"x\",\"place\":3,\"second\":0,\"thread\":\"T0\",\"wanted\":\"c\",\"wanted_at\":\"4\",\"wanted_mode\":\"x\"}],\"format\":2,\"len\":4,\"max\":1000,\"mode\":\"full\",\"more\":false,\"trim\":[0,1]}\n",
+    )
+}
+
+#[test]
+fn format_1_of_empty_input(rt: HostRuntime) -> Result<(), Fail> {
+    let alloc = rt.alloc();
+    expect_json_v1(
         &rt,
         alloc,
         b"",
@@ -222,12 +300,12 @@ fn json_of_empty_input(rt: HostRuntime) -> Result<(), Fail> {
 }
 
 #[test]
-fn json_of_opposite_order(rt: HostRuntime) -> Result<(), Fail> {
+fn format_1_of_opposite_order(rt: HostRuntime) -> Result<(), Fail> {
     let alloc = rt.alloc();
-    expect_json(
+    expect_json_v1(
         &rt,
         alloc,
-        b"T0|acq(a)|1\nT0|acq(b)|2\nT0|rel(b)|3\nT0|rel(a)|4\nT1|acq(b)|5\nT1|acq(a)|6\n",
+        OPPOSITE_ORDER,
         &[row(0, 0, 1, 0, 1), row(1, 1, 0, 4, 5)],
         vec![in alloc; vec![in alloc; 0, 1]?]?,
         b"{\"cycles\":[[{\"first\":0,\"guards\":[\"a\"],\"held\":\"a\",\"held_at\":\"1\",\"place\":1,\"second\":0,\"thread\":\"T0\",\"wanted\":\"b\",\"wanted_at\":\"2\"},{\"first\":0,\"guards\":[\"b\"],\"held\":\"b\",\"held_at\":\"5\",\"place\":1,\"second\":0,\"thread\":\"T1\",\"wanted\":\"a\",\"wanted_at\":\"6\"}]],\"format\":1,\"len\":4,\"max\":1000,\"mode\":\"full\",\"more\":false}\n",

@@ -1,8 +1,8 @@
-use Rattle.std.specs.Prelude.{slice_get}
 use Rattle.gl_report.specs.Tree.{edge_tree}
-use Rattle.gl_report.proofs.Trees.{found_more}
+use Rattle.gl_report.proofs.Trees.{mapped_more}
 use Rattle.gl_report.proofs.tree.edge_values.Goals as goal
 
-pub loop-position-preserved : goal.loop-position-preserved
-loop-position-preserved c =
-    found_more (edge_tree c.args.names.now) (slice_get c.args.table.now) _ _ c.args.cycle.now c.loop-position.position-index 0 c.loop-position-test.true c.loop-position.invariant c.in_ok-push_edge.ensures
+pub loop-pair-preserved : goal.loop-pair-preserved
+loop-pair-preserved c =
+    mapped_more (edge_tree c.args.names.now) _ _ c.args.table.now c.loop-pair.pair-index c.pair-item.result _ c.loop-pair-test.true c.pair-item.is c.loop-pair.invariant
+    c.in_ok-push_edge.ensures

@@ -8,4 +8,4 @@ use Rattle.gl_check.proofs.cycles.Known.check_cycles.Given as goal
 -- the cycles so far
 abbrev pub invariant-loop-i : goal.invariant-loop-i
 invariant-loop-i l =
-    AreCyclesOf l.self.names.now l.self.edges.now (is_before l.self.order.now) l.self.query (map (λ cycle. items_in (view cycle)) (take l.i l.cycles)) (map (λ v. v.items) l.found.items)
+    AreCyclesOf l.self.format l.self.names.now l.self.edges.now (is_before l.self.order.now) l.self.query (map (λ cycle. items_in (view cycle)) (take l.i l.cycles)) (map (λ v. v.items) l.found.items)

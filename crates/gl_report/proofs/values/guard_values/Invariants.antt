@@ -1,7 +1,7 @@
 use Rattle.std.proofs.Common.{◌≡◌, map, take}
 use Rattle.serde_json.specs.View.{view}
 use Rattle.gl_report.specs.Tree.{name_tree}
-use Rattle.gl_report.proofs.tree.guard_values.Given as goal
+use Rattle.gl_report.proofs.values.guard_values.Given as goal
 
 -- the guards so far
 abbrev pub invariant-loop-guard : goal.invariant-loop-guard

@@ -1,7 +1,7 @@
 use Rattle.std.proofs.Common.{◌≡◌, true, take}
 use Rattle.std.specs.List.{list_all}
-use Rattle.gl_check.specs.Edges.{is_exclusive_mode}
-use Rattle.gl_check.proofs.edges.are_exclusive.Given as goal
+use Rattle.gl_report.specs.Exclusive.{is_exclusive_mode}
+use Rattle.gl_report.proofs.exclusive.are_exclusive.Given as goal
 
 -- those so far are
 abbrev pub invariant-loop-guard : goal.invariant-loop-guard

@@ -1,6 +1,6 @@
 use Rattle.gl_report.specs.Tree.{name_tree}
 use Rattle.gl_report.proofs.Trees.{mapped_more}
-use Rattle.gl_report.proofs.tree.guard_values.Goals as goal
+use Rattle.gl_report.proofs.values.guard_values.Goals as goal
 
 pub loop-guard-preserved : goal.loop-guard-preserved
 loop-guard-preserved c =
