@@ -356,19 +356,13 @@ NONE_JSON = as_json([], [], "[]")
 OPPOSITE_JSON = as_json([edge("T0", "a", 1, "b", 2, 1), edge("T1", "b", 5, "a", 6, 1)], [[0, 1]])
 
 
-def in_format(by_hand, form):
+# The format of JSON that the program prints.
+FORMAT = 2
+
+
+def in_format(by_hand, form=FORMAT):
     """The answer by hand; where there is one for each format of JSON, that of this format."""
     return by_hand[form] if isinstance(by_hand, dict) else by_hand
-
-
-def format_of(command):
-    """The format of the program's JSON, as its report of nothing says."""
-    output, errors, status = run([*command[:1], "predict", "--json"], b"")
-    for form in (1, 2):
-        if (output, errors, status) == NONE_JSON[form]:
-            return form
-    print(f"predict --json says no known format of an empty trace: {show((output, errors, status))}")
-    return 1
 
 
 def counts(events, skipped, stray, threads, locks, segments, edges, cycles):
@@ -624,7 +618,7 @@ FLAGS = ["--json", "--stream"]
 STREAM_THREADS = 64  # unless --threads is given
 
 
-def by_reference(words, text, form=1):
+def by_reference(words, text, form=FORMAT):
     """The reference's answer to these words and this text, with JSON of this format."""
     word, *options = words
     values = {name: value for name, value in zip(options, [*options[1:], ""]) if name not in FLAGS}
@@ -730,7 +724,6 @@ def main():
     known = {plain(words) for _, words, _, _ in worked_of_commands()} | {"predict"}
     if not known.issuperset(commands):
         parser.error(f"--commands knows {', '.join(sorted(known))}")
-    form = format_of(command) if commands else 1
     has_stream = any("--stream" in words for words in commands)  # then --threads is known, of every live
     tried = wrong = 0
     seen = {}
@@ -761,11 +754,10 @@ def main():
                     answers.append(("program", run(command, text)))
                 compare(f"{name}, mode {mode}", answers)
         for name, words, text, by_hand in worked_of_commands():
-            other = 3 - form  # the reference is tried in both formats
-            if "--json" in words:
-                answers = [("by hand", in_format(by_hand, other)), ("reference", by_reference(words.split(), text, other))]
-                compare(f"{name}, {words}, format {other}", answers)
-            answers = [("by hand", in_format(by_hand, form)), ("reference", by_reference(words.split(), text, form))]
+            if "--json" in words:  # the reference is tried in both formats
+                answers = [("by hand", in_format(by_hand, 1)), ("reference", by_reference(words.split(), text, 1))]
+                compare(f"{name}, {words}, format 1", answers)
+            answers = [("by hand", in_format(by_hand)), ("reference", by_reference(words.split(), text))]
             if plain(words) in commands and (has_stream or "--threads" not in words):
                 answers.append(("program", run(command[:1] + words.split(), text)))
             compare(f"{name}, {words}", answers)
@@ -801,7 +793,7 @@ def main():
             random_ = random.Random(f"{options.seed}/{number}/command")
             drawn = random_.choice(commands)
             words = asked(random_, drawn, has_stream)
-            compare_case(number, text, command[:1] + words, lambda t: by_reference(words, t, form))
+            compare_case(number, text, command[:1] + words, lambda t: by_reference(words, t))
             by_command[drawn] = by_command.get(drawn, 0) + 1
         if wrong >= 10:
             print("stopped at 10 differences")

@@ -7,7 +7,7 @@ cached or searched cleverly, so it is for small traces only.
     reference.py [predict|live|stats|replay] [--stage first|full] [--mode M] [--len L] [--max N] [--json]
         [--format 1|2] [--skip-forks] < trace.std
 
-The command is predict unless it is given; `--json` is for predict and live, and `--format` says which form of JSON (1).
+The command is predict unless it is given; `--json` is for predict and live, and `--format` says which form of JSON (2).
 Stage `first` is mode basic, length 2, and forks and joins are skipped like any other operation; stage `full` (the
 default) is mode full, length 4. Both list at most 1,000 cycles.
 """
@@ -383,7 +383,7 @@ def escaped(name):
 LETTERS = {EXCLUSIVE: "x", SHARED: "s"}
 
 
-def as_json(trace, report, query, form=1):
+def as_json(trace, report, query, form):
     """Form 1 spells out the edges of each cycle; form 2 has all edges, with modes, and the cycles by their positions."""
 
     def edge_object(edge):
@@ -484,7 +484,7 @@ def main():
     parser.add_argument("--len", type=int, dest="length")
     parser.add_argument("--max", type=int, dest="most")
     parser.add_argument("--json", action="store_true")
-    parser.add_argument("--format", type=int, choices=[1, 2], default=1)
+    parser.add_argument("--format", type=int, choices=[1, 2], default=2)
     parser.add_argument("--skip-forks", action="store_true")
     options = parser.parse_args()
     stage = STAGES[options.stage]

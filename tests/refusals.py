@@ -57,10 +57,10 @@ COUNTS = {
     "join_loop": LOOP,
     "bad line": BAD_LINE,
 }
-# For `check` a line with a report, of the format that the program prints, stands before the trace.
+# For `check` a line with a report, as the program prints it, stands before the trace.
 CHECKS = {
     "opposite_order": (b"ok, cycles: 1\n", b"", 0),
-    "joined_before": {1: (b"ok, cycles: 0\n", b"", 0), 2: (b"ok, cycles: 0, none of any length\n", b"", 0)},
+    "joined_before": (b"ok, cycles: 0, none of any length\n", b"", 0),
     "first_of_two_cycles": (b"ok, cycles: 2\n", b"", 0),
     "join_loop": LOOP,
     "bad line": BAD_LINE,
@@ -90,11 +90,11 @@ USAGE = {
 }
 
 
-def text_of(words, name, form):
+def text_of(words, name):
     """What the command reads for the trace of this name."""
     if words != "check":
         return TRACES[name]
-    report = compare.in_format(OBJECTS[name], form)[0] or compare.NONE_JSON[form][0]
+    report = compare.in_format(OBJECTS[name])[0] or compare.in_format(compare.NONE_JSON)[0]
     return report + TRACES[name]
 
 
@@ -285,10 +285,9 @@ def main():
         flags = ["-std=gnu11", "-Wall", "-Wextra", "-O1", "-fPIC", "-shared", "-fvisibility=hidden"]
         subprocess.run(["gcc", *flags, "-o", library, SOURCE, "-ldl"], check=True)
         tests = Tests(Runner(os.path.abspath(options.program), library))
-        form = compare.format_of([os.path.abspath(options.program)])
         for words in commands:
             for name in TRACES:
-                text, ample = text_of(words, name, form), compare.in_format(ANSWERS[words][name], form)
+                text, ample = text_of(words, name), compare.in_format(ANSWERS[words][name])
                 before = tests.passed + tests.failed
                 tests.check(f"{words}, {name}", [ample], tests.runner.run(words, text))
                 tests.memory(words, name, text, ample)
@@ -296,9 +295,7 @@ def main():
                 tests.reads(words, name, text, ample)
                 tests.writes(words, name, text, ample)
                 print(f"{words}, {name}: {tests.passed + tests.failed - before} answers")
-            tests.ends(
-                words, text_of(words, "opposite_order", form), compare.in_format(ANSWERS[words]["opposite_order"], form)
-            )
+            tests.ends(words, text_of(words, "opposite_order"), compare.in_format(ANSWERS[words]["opposite_order"]))
             for usage, status in USAGE.get(words, {}).items():
                 tests.usage(usage, status)
     print(f"{tests.passed} passed, {tests.failed} failed")

@@ -24,7 +24,6 @@ def main():
     parts = dict(re.findall(r"^## (\S+\.std)\n(.*?)(?=^## |\Z)", page, re.M | re.S))
     files = {path.name for path in SAMPLES.glob("*.std")}
     passed, failed = 0, len(files ^ set(parts))
-    form = compare.format_of(sys.argv[1:]) if len(sys.argv) > 1 else 1
     for name in sorted(files ^ set(parts)):
         print(f"{name}: a file without a part of the page, or a part without a file")
     for name in sorted(files & set(parts)):
@@ -41,7 +40,7 @@ def main():
             command = [named[1]] if named else sys.argv[2:] or ["predict"]
             options = re.findall(r"(--json\b|--(?:len|mode|max|recorders|shards|ring) \w+)", before)
             words = [*command, *(word for option in options for word in option.split())]
-            answers = [("reference", compare.by_reference(words, text, form))]
+            answers = [("reference", compare.by_reference(words, text))]
             if len(sys.argv) > 1:
                 done = subprocess.run([sys.argv[1], *words], input=text, capture_output=True)
                 answers.append(("program", (done.stdout, done.stderr, done.returncode)))

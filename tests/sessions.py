@@ -61,7 +61,7 @@ def run(program, words, text, is_alone):
     return done.stdout, done.stderr, done.returncode
 
 
-def session(program, seed, number, has_stream, form):
+def session(program, seed, number, has_stream):
     """Whether all answers are equal; the words, the trace and the answers."""
     random_ = random.Random(f"{seed}/{number}/session")
     query, options = words_of(random_, has_stream)
@@ -69,7 +69,7 @@ def session(program, seed, number, has_stream, form):
     answers = [("predict", run(program, ["predict", *query], text, False))]
     answers.append(("live", run(program, ["live", *query, *options], text, number % 8 == 0)))
     if is_short:
-        answers.append(("reference", compare.by_reference(["predict", *query], text, form)))
+        answers.append(("reference", compare.by_reference(["predict", *query], text)))
     return all(answer == answers[0][1] for _, answer in answers), [*query, *options], text, answers
 
 
@@ -89,13 +89,12 @@ def main():
     has_stream = b"--stream" in told.stdout
     if not has_stream:
         print("live has no --stream: such sessions are SKIPPED")
-    form = compare.format_of([program])
     numbers = range(options.cases) if options.only is None else [options.only]
     passed = failed = 0
     statuses = {}  # of short and of long traces
     with concurrent.futures.ThreadPoolExecutor(options.jobs) as pool:
         for number, (is_equal, words, text, answers) in zip(
-            numbers, pool.map(lambda number: session(program, options.seed, number, has_stream, form), numbers)
+            numbers, pool.map(lambda number: session(program, options.seed, number, has_stream), numbers)
         ):
             passed, failed = passed + is_equal, failed + (not is_equal)
             status = answers[0][1][2]

@@ -159,21 +159,19 @@ module _ (trace : Trace) (before : Segment → Segment → Bool) (d : Data) (fou
       → HasTable trace.names (edges trace.lists) before d format → AreCyclesOf format trace.names (edges trace.lists) before (asked_in d) (cycles_in d) found → IsPrintedIn format
   unfolding report_tree report_tree_v1
   printed_as One fields listings has are =
-      let cycles = cycles_v1 trace.names (edges trace.lists) before (asked_in d) (length (items_under (codes "edges") d)) (items_under (codes "cycles") d) found listings are.each in
-      (
+      let cycles = cycles_v1 trace.names (edges trace.lists) before (asked_in d) (length (items_under (codes "edges") d)) (items_under (codes "cycles") d) found listings are.each in (
         rebuilt_v1 d fields
-        ∙ ap (λ cs. six (array (items_of cs)) (number (unsigned 1)) (number (unsigned (asked_in d).len)) (number (unsigned (asked_in d).max)) (string (mode_word (asked_in d).mode)) (boolean (more_under d))) cycles,
+            ∙ ap (λ cs. six (array (items_of cs)) (number (unsigned 1)) (number (unsigned (asked_in d).len)) (number (unsigned (asked_in d).max)) (string (mode_word (asked_in d).mode)) (boolean (more_under d))) cycles,
         (
           each_right trace.names (edges trace.lists) before (asked_in d) One (λ cycle. All (λ edge. is_exclusive edge ≡ true) (picked (edges_of_table (edges trace.lists)) cycle))
-          (λ ds ps is. exclusive trace.names (edges trace.lists) ds ps is.edges) (cycles_in d) found are.each,
+              (λ ds ps is. exclusive trace.names (edges trace.lists) ds ps is.edges) (cycles_in d) found are.each,
           ap trim_in (rebuilt_v1 d fields),
         ),
       )
   printed_as Two fields listings has are =
-      let cycles = cycles_two trace.names (edges trace.lists) before (asked_in d) (length (items_under (codes "edges") d)) (items_under (codes "cycles") d) found listings are.each in
-      (
+      let cycles = cycles_two trace.names (edges trace.lists) before (asked_in d) (length (items_under (codes "edges") d)) (items_under (codes "cycles") d) found listings are.each in (
         rebuilt_two d fields
-        ∙ (λ i. eight (array (items_of (cycles i))) (array (items_of (has i))) (number (unsigned 2)) (number (unsigned (asked_in d).len)) (number (unsigned (asked_in d).max)) (string (mode_word (asked_in d).mode)) (boolean (more_under d)) (trim_tree (trim_in d))),
+            ∙ (λ i. eight (array (items_of (cycles i))) (array (items_of (has i))) (number (unsigned 2)) (number (unsigned (asked_in d).len)) (number (unsigned (asked_in d).max)) (string (mode_word (asked_in d).mode)) (boolean (more_under d)) (trim_tree (trim_in d))),
         tt,
       )
 

@@ -36,7 +36,15 @@ fn checked_line(rt: HostRuntime) -> Result<(), Fail> {
         rt.alloc(),
         b"{\"cycles\":[[{\"first\":0,\"guards\":[\"a\"],\"held\":\"a\",\"held_at\":\"1\",\"place\":1,\"second\":0,\"thread\":\"T0\",\"wanted\":\"b\",\"wanted_at\":\"2\"},{\"first\":0,\"guards\":[\"b\"],\"held\":\"b\",\"held_at\":\"5\",\"place\":1,\"second\":0,\"thread\":\"T1\",\"wanted\":\"a\",\"wanted_at\":\"6\"}]],\"format\":1,\"len\":4,\"max\":1000,\"mode\":\"full\",\"more\":false}\n",
     )?;
-    assert!(rt; matches!(accepted, Ok(Checked { cycles: 1, acyclic: false })));
+    assert!(rt;
+        matches!(
+            accepted,
+            Ok(Checked {
+                cycles: 1,
+                acyclic: false
+            })
+        )
+    );
     Ok(())
 }
 
@@ -105,7 +113,15 @@ fn empty_report(rt: HostRuntime) -> Result<(), Fail> {
         rt.alloc(),
         b"{ \"more\": false, \"mode\": \"full\", \"max\": 1000, \"len\": 4, \"format\": 1, \"cycles\": [] }",
     )?;
-    assert!(rt; matches!(accepted, Ok(Checked { cycles: 0, acyclic: false })));
+    assert!(rt;
+        matches!(
+            accepted,
+            Ok(Checked {
+                cycles: 0,
+                acyclic: false
+            })
+        )
+    );
     Ok(())
 }
 

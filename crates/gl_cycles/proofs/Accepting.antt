@@ -41,8 +41,7 @@ module _ (before : Segment → Segment → Bool) (mode : Mode) (edges : List Edg
       → slice_get edges i ≡ Some e → Decides (not (is_some next)) (¬ HasBeside before mode edges (IsFlagged gone) side e)
   lacks_told gone side i e None hint left long at = (λ yes. none_without before mode edges gone side i e hint long at, λ none. refl)
   lacks_told gone side i e (Some p) hint left long at =
-      let other = element_at edges p hint.fits.0 in
-      (
+      let other = element_at edges p hint.fits.0 in (
         λ yes. absurd (false≢true yes),
         λ none. absurd (none (record { place = p; other = other.0; stands = other.1; is_left = λ flagged. false≢true (same_Some false true (sym left ∙ flagged)); fits = hint.fits.1 e other.0 at other.1 })),
       )

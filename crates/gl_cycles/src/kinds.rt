@@ -5,35 +5,53 @@
 //! to each other, and no two of them have a gate lock. So an edge of whose kind no such round goes on
 //! is in no cycle, however many edges there are of each kind.
 //!
+//! The same is then done again with kinds that are told apart by their threads, no two of which are
+//! the same on a round, and at last with single edges.
+//!
 //! One edge of each kind is its model, and rounds are looked for among models. Which edges are models
 //! of which is not proved; that an edge and its model are alike is checked, and an edge that isn't is
 //! its own model.
 ghost use Rattle.std.specs.Prelude.{◌≡◌, ◌+◌, ◌<◌, ◌≤◌, ◌∷◌, ◌++◌, [], ℕ, List, Some, true, false, length, slice_get, IsTrue, OnOk, IfOk, All};
 ghost use Rattle.gl_segments.specs.Clocks.{is_before};
-ghost use Rattle.gl_filters.specs.Test.{leads_to, kinds_go_together};
+ghost use Rattle.gl_filters.specs.Test.{leads_to};
 ghost use Rattle.gl_cycles.specs.declared.paths.TheConstants.{PATH};
 ghost use Rattle.gl_filters.specs.Picked.{edges_of_table, picked};
 ghost use Rattle.gl_cycles.specs.bodies.Followers.{IsIndexOf};
-ghost use Rattle.gl_cycles.specs.bodies.Kinds.{AreAlike, HasModel, AreModels, HasModels, LastLeadsTo, KindsGoWith, NoCycleThrough, AreDead};
+ghost use Rattle.gl_cycles.specs.bodies.Kinds.{AreAlike, AreMadeAlike, may_meet, HasModel, AreModels, HasModels, LastLeadsTo, MayMeetAll, NoCycleThrough, AreDead};
 ghost use Rattle.gl_cycles.specs.bodies.OffCycles.{KeepsCycles};
 ghost use Rattle.gl_edges.specs.declared.edge.Edge.{Edge};
 
 use crate::followers::Followers;
+use crate::grains::Grain;
 use crate::models::models;
 use crate::neighbours::Sought;
 use crate::paths::{PATH, longer_path};
 use gl_edges::Edge;
 use gl_event::Memory;
-use gl_filters::{kinds_go_together, leads_on};
+use gl_filters::{goes_with, kinds_go_together, leads_on};
 use std::alloc::Global;
 
 // How many models are tried as the next one of a round, in all.
 const TRIES: usize = 5_000_000;
 
-// Whether two edges are of one kind.
-fn are_alike(e: &Edge, f: &Edge) -> bool
-    ensures { IsTrue result → AreAlike e.now f.now }
+// Whether two edges have the same threads and segments, as far as the grain tells them apart.
+fn are_made_alike(grain: Grain, e: &Edge, f: &Edge) -> bool
+    ensures { IsTrue result → AreMadeAlike grain e.now f.now }
 {
+    match grain {
+        Grain::ByKind => true,
+        Grain::ByThread => e.thread == f.thread,
+        Grain::BySegment => e.thread == f.thread && e.first == f.first && e.second == f.second,
+    }
+}
+
+// Whether two edges are alike.
+fn are_alike(grain: Grain, e: &Edge, f: &Edge) -> bool
+    ensures { IsTrue result → AreAlike grain e.now f.now }
+{
+    if !are_made_alike(grain, e, f) {
+        return false;
+    }
     if e.held != f.held {
         return false;
     }
@@ -51,98 +69,140 @@ fn are_alike(e: &Edge, f: &Edge) -> bool
 
 impl Sought<'_> {
     // Flags of the models of the edges that are kept.
-    fn flags_of(&self, alloc: Global, kept: &[bool], models: &[usize]) -> Result<Vec<bool>, Memory>
+    fn flags_of(
+        &self,
+        alloc: Global,
+        grain: Grain,
+        kept: &[bool],
+        models: &[usize],
+    ) -> Result<Vec<bool>, Memory>
         requires kept { length kept.now ≡ length self.now.table.now }
         ensures long { IfOk result (λ flags. length flags.items ≡ length self.now.table.now) }
-        ensures models { IfOk result (λ flags. AreModels (edges_of_table self.now.table.now) kept.now flags.items) }
+        ensures models { IfOk result (λ flags. AreModels grain (edges_of_table self.now.table.now) kept.now flags.items) }
     {
         let mut flags = vec![in alloc; false; self.table.len()]?;
         for i in 0..self.table.len() {
-            self.flag_model(kept[i], models, i, &mut flags);
+            self.flag_model(grain, kept[i], models, i, &mut flags);
         }
         Ok(flags)
     }
 
     // Sets the flag of the model of the edge at a position, if that edge is kept.
-    fn flag_model(&self, is_kept: bool, models: &[usize], i: usize, flags: &mut Vec<bool>)
+    fn flag_model(
+        &self,
+        grain: Grain,
+        is_kept: bool,
+        models: &[usize],
+        i: usize,
+        flags: &mut Vec<bool>,
+    )
         requires there { i < length self.now.table.now }
         requires long { length flags.old.items ≡ length self.now.table.now }
         ensures long { length flags.new.items ≡ length self.now.table.now }
         ensures stay { (j : ℕ) → slice_get flags.old.items j ≡ Some true → slice_get flags.new.items j ≡ Some true }
-        ensures model { (e : Edge) → is_kept ≡ true → slice_get (edges_of_table self.now.table.now) i ≡ Some e → HasModel (edges_of_table self.now.table.now) flags.new.items e }
+        ensures model { (e : Edge) → is_kept ≡ true → slice_get (edges_of_table self.now.table.now) i ≡ Some e → HasModel grain (edges_of_table self.now.table.now) flags.new.items e }
     {
         if !is_kept {
             return;
         }
-        let model = self.model_of(models, i);
+        let model = self.model_of(grain, models, i);
         flags[model] = true;
     }
 
     // The position of the model of the edge at a position.
-    fn model_of(&self, models: &[usize], i: usize) -> usize
+    fn model_of(&self, grain: Grain, models: &[usize], i: usize) -> usize
         requires there { i < length self.now.table.now }
         ensures within { result < length self.now.table.now }
-        ensures alike { (d e : Edge) → slice_get (edges_of_table self.now.table.now) result ≡ Some d → slice_get (edges_of_table self.now.table.now) i ≡ Some e → AreAlike d e }
+        ensures alike { (d e : Edge) → slice_get (edges_of_table self.now.table.now) result ≡ Some d → slice_get (edges_of_table self.now.table.now) i ≡ Some e → AreAlike grain d e }
     {
         let model = models.get(i).copied().unwrap_or(i);
-        if model < self.table.len() && are_alike(&self.table[model].0, &self.table[i].0) {
+        if model < self.table.len() && are_alike(grain, &self.table[model].0, &self.table[i].0) {
             return model;
         }
         i
     }
 
-    /// Leaves out each edge through whose kind no cycle goes.
-    pub(crate) fn leave_out_kinds(&self, alloc: Global, kept: &mut Vec<bool>) -> Result<(), Memory>
+    /// Leaves out each edge to which none of a cycle is alike.
+    pub(crate) fn leave_out_alike(
+        &self,
+        alloc: Global,
+        grain: Grain,
+        kept: &mut Vec<bool>,
+    ) -> Result<(), Memory>
         requires { KeepsCycles (is_before self.now.order.now) self.now.mode self.now.len (edges_of_table self.now.table.now) kept.old.items }
         ensures { OnOk result (KeepsCycles (is_before self.now.order.now) self.now.mode self.now.len (edges_of_table self.now.table.now) kept.new.items) }
     {
-        let models = models(alloc, self.table)?;
-        let dead = self.dead_kinds(alloc, &models, kept)?;
+        if !has_any(kept) {
+            return Ok(());
+        }
+        let models = models(alloc, self.table, kept, grain)?;
+        let dead = self.dead_alike(alloc, grain, &models, kept)?;
         for i in 0..self.table.len() {
-            self.leave_out_dead(&models, &dead, kept, i);
+            self.leave_out_dead(grain, &models, &dead, kept, i);
         }
         Ok(())
     }
 
-    // For each position whether an edge is a model there through whose kind no cycle goes.
-    fn dead_kinds(
+    // For each position whether an edge is a model there to which none of a cycle is alike.
+    fn dead_alike(
         &self,
         alloc: Global,
+        grain: Grain,
         models: &[usize],
         kept: &[bool],
     ) -> Result<Vec<bool>, Memory>
         requires { KeepsCycles (is_before self.now.order.now) self.now.mode self.now.len (edges_of_table self.now.table.now) kept.now }
-        ensures { IfOk result (λ dead. AreDead (is_before self.now.order.now) self.now.mode self.now.len (edges_of_table self.now.table.now) dead.items) }
+        ensures { IfOk result (λ dead. AreDead (is_before self.now.order.now) self.now.mode grain self.now.len (edges_of_table self.now.table.now) dead.items) }
     {
-        let flags = self.flags_of(alloc, kept, models)?;
+        let flags = self.flags_of(alloc, grain, kept, models)?;
         let index = Followers::of(alloc, self.table, &flags)?;
         let rounds = Rounds {
             sought: *self,
+            grain,
             flags,
             index,
         };
         rounds.dead_models(alloc)
     }
 
-    // Leaves out the edge at a position, if no cycle goes through its model's kind.
-    fn leave_out_dead(&self, models: &[usize], dead: &[bool], kept: &mut Vec<bool>, i: usize)
+    // Leaves out the edge at a position, if no edge of a cycle is alike to its model.
+    fn leave_out_dead(
+        &self,
+        grain: Grain,
+        models: &[usize],
+        dead: &[bool],
+        kept: &mut Vec<bool>,
+        i: usize,
+    )
         requires there { i < length self.now.table.now }
         requires kept { KeepsCycles (is_before self.now.order.now) self.now.mode self.now.len (edges_of_table self.now.table.now) kept.old.items }
-        requires dead { AreDead (is_before self.now.order.now) self.now.mode self.now.len (edges_of_table self.now.table.now) dead.now }
+        requires dead { AreDead (is_before self.now.order.now) self.now.mode grain self.now.len (edges_of_table self.now.table.now) dead.now }
         ensures { KeepsCycles (is_before self.now.order.now) self.now.mode self.now.len (edges_of_table self.now.table.now) kept.new.items }
     {
-        let model = self.model_of(models, i);
+        let model = self.model_of(grain, models, i);
         if dead[model] {
             kept[i] = false;
         }
     }
 }
 
+// Whether a flag is set.
+fn has_any(flags: &[bool]) -> bool {
+    for &flag in flags {
+        if flag {
+            return true;
+        }
+    }
+    false
+}
+
 /// A search for rounds of models: each one leads on to the next, and the last one to the first, and
-/// their kinds go together.
+/// no two of them are kept apart by what the grain tells of them.
 #[derive(Drop)]
 pub(crate) struct Rounds<'a> {
     sought: Sought<'a>,
+    // what tells edges apart
+    grain: Grain,
     // which edges are models
     flags: Vec<bool>,
     // leads through the models
@@ -164,14 +224,25 @@ impl Rounds<'_> {
         leads_on(&self.sought.table[last].0, &self.sought.table[first].0)
     }
 
-    // Whether the kinds of the edges of the path go with that of this edge.
+    // Whether edges that are alike to these two may stand in one cycle.
+    fn may_meet(&self, e: &Edge, f: &Edge) -> bool
+        ensures { result ≡ may_meet (is_before self.now.sought.order.now) self.now.sought.mode self.now.grain e.now f.now }
+    {
+        match self.grain {
+            Grain::ByKind => kinds_go_together(self.sought.mode, e, f),
+            Grain::ByThread => { e.thread != f.thread && kinds_go_together(self.sought.mode, e, f) }
+            Grain::BySegment => goes_with(self.sought.mode, self.sought.order, e, f),
+        }
+    }
+
+    // Whether edges alike to those of the path may stand in one cycle with some alike to this one.
     fn goes_with_all(&self, path: &[usize], edge: &Edge) -> bool
         requires within { All (λ i. i < length self.now.sought.table.now) path.now }
-        ensures { result ≡ false → ¬ KindsGoWith self.now.sought.mode (edges_of_table self.now.sought.table.now) path.now edge.now }
+        ensures { result ≡ false → ¬ MayMeetAll (is_before self.now.sought.order.now) self.now.sought.mode self.now.grain (edges_of_table self.now.sought.table.now) path.now edge.now }
     {
         for place in 0..path.len() {
             let i = path[place];
-            if !kinds_go_together(self.sought.mode, &self.sought.table[i].0, edge) {
+            if !self.may_meet(&self.sought.table[i].0, edge) {
                 return false;
             }
         }
@@ -184,7 +255,7 @@ impl Rounds<'_> {
         requires within { All (λ i. i < length self.now.sought.table.now) path.now }
         requires there { next < length self.now.sought.table.now }
         ensures { result ≡ false → (f : Edge) → slice_get (edges_of_table self.now.sought.table.now) next ≡ Some f
-            → LastLeadsTo (edges_of_table self.now.sought.table.now) path.now f → ¬ KindsGoWith self.now.sought.mode (edges_of_table self.now.sought.table.now) path.now f }
+            → LastLeadsTo (edges_of_table self.now.sought.table.now) path.now f → ¬ MayMeetAll (is_before self.now.sought.order.now) self.now.sought.mode self.now.grain (edges_of_table self.now.sought.table.now) path.now f }
     {
         let edge = &self.sought.table[next].0;
         let last = path[path.len() - 1];
@@ -194,14 +265,13 @@ impl Rounds<'_> {
         self.goes_with_all(path, edge)
     }
 
-    // Whether a cycle may go through edges of the kinds of those on the path. Yes where that isn't
-    // known.
+    // Whether a cycle may go through edges alike to those on the path. Yes where that isn't known.
     #[cycle(rounds)]
     fn may_close(&self, path: &[usize], tries: &mut usize) -> bool
         requires some { 0 < length path.now }
         requires within { All (λ i. i < length self.now.sought.table.now) path.now }
         requires models { HasModels self.now }
-        ensures { result ≡ false → NoCycleThrough (is_before self.now.sought.order.now) self.now.sought.mode self.now.sought.len (edges_of_table self.now.sought.table.now) path.now }
+        ensures { result ≡ false → NoCycleThrough (is_before self.now.sought.order.now) self.now.sought.mode self.now.grain self.now.sought.len (edges_of_table self.now.sought.table.now) path.now }
     {
         if self.is_closed(path) {
             return true;
@@ -223,7 +293,7 @@ impl Rounds<'_> {
         false
     }
 
-    // Whether a cycle may go through edges of the kinds of those on the path and then of this model.
+    // Whether a cycle may go through edges alike to those on the path and then to this model.
     #[cycle(rounds)]
     fn may_close_by(&self, path: &[usize], next: usize, tries: &mut usize) -> bool
         requires some { 0 < length path.now }
@@ -231,7 +301,7 @@ impl Rounds<'_> {
         requires within { All (λ i. i < length self.now.sought.table.now) path.now }
         requires there { next < length self.now.sought.table.now }
         requires models { HasModels self.now }
-        ensures { result ≡ false → NoCycleThrough (is_before self.now.sought.order.now) self.now.sought.mode self.now.sought.len (edges_of_table self.now.sought.table.now) (path.now ++ next ∷ []) }
+        ensures { result ≡ false → NoCycleThrough (is_before self.now.sought.order.now) self.now.sought.mode self.now.grain self.now.sought.len (edges_of_table self.now.sought.table.now) (path.now ++ next ∷ []) }
     {
         if *tries == 0 {
             return true;
@@ -244,10 +314,10 @@ impl Rounds<'_> {
         self.may_close(longer.as_slice(), tries)
     }
 
-    // For each position whether an edge is a model there through whose kind no cycle goes.
+    // For each position whether an edge is a model there to which none of a cycle is alike.
     fn dead_models(&self, alloc: Global) -> Result<Vec<bool>, Memory>
         requires models { HasModels self.now }
-        ensures { IfOk result (λ dead. AreDead (is_before self.now.sought.order.now) self.now.sought.mode self.now.sought.len (edges_of_table self.now.sought.table.now) dead.items) }
+        ensures { IfOk result (λ dead. AreDead (is_before self.now.sought.order.now) self.now.sought.mode self.now.grain self.now.sought.len (edges_of_table self.now.sought.table.now) dead.items) }
     {
         let mut tries = TRIES;
         let mut dead = Vec::with_capacity(alloc, self.flags.len())?;
@@ -257,11 +327,11 @@ impl Rounds<'_> {
         Ok(dead)
     }
 
-    // Whether an edge is a model at a position through whose kind no cycle goes.
+    // Whether an edge is a model at a position and none of a cycle is alike to it.
     fn is_dead(&self, i: usize, tries: &mut usize) -> bool
         requires there { i < length self.now.sought.table.now }
         requires models { HasModels self.now }
-        ensures { result ≡ true → NoCycleThrough (is_before self.now.sought.order.now) self.now.sought.mode self.now.sought.len (edges_of_table self.now.sought.table.now) (i ∷ []) }
+        ensures { result ≡ true → NoCycleThrough (is_before self.now.sought.order.now) self.now.sought.mode self.now.grain self.now.sought.len (edges_of_table self.now.sought.table.now) (i ∷ []) }
     {
         if !self.flags[i] {
             return false;

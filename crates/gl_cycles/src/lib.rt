@@ -24,6 +24,7 @@ mod closers;
 mod components;
 mod followers;
 mod found;
+mod grains;
 mod kinds;
 mod laws;
 mod loops;

@@ -1,7 +1,8 @@
-//! Models of edges: the first edge of each kind.
+//! Models of edges: of those that are alike the first.
 //!
 //! Nothing of this is proved, and nothing relies on it but for speed: that an edge and its model are
 //! alike is checked. So guards may be compared by a fingerprint.
+use crate::grains::Grain;
 use gl_edges::{Edge, Guards, Sample};
 use gl_event::{LockId, LockMode, Memory};
 use std::alloc::Global;
@@ -17,18 +18,24 @@ struct Kind {
     wanted: LockId,
     wanted_mode: LockMode,
     guards: u64,
+    thread: u32,
     position: usize,
 }
 
 impl Kind {
-    // The kind of the edge at a position.
-    fn of(edge: &Edge, position: usize) -> Kind {
+    // The kind of the edge at a position, and its thread where that tells edges apart.
+    fn of(edge: &Edge, position: usize, grain: Grain) -> Kind {
+        let thread = match grain {
+            Grain::ByKind => 0,
+            _ => edge.thread.number(),
+        };
         Kind {
             held: edge.held,
             held_mode: edge.held_mode,
             wanted: edge.wanted,
             wanted_mode: edge.wanted_mode,
             guards: fingerprint(&edge.guards),
+            thread,
             position,
         }
     }
@@ -40,6 +47,7 @@ impl Kind {
             && self.wanted == other.wanted
             && self.wanted_mode == other.wanted_mode
             && self.guards == other.guards
+            && self.thread == other.thread
     }
 }
 
@@ -54,11 +62,22 @@ fn fingerprint(guards: &Guards) -> u64 {
     print
 }
 
-/// For each edge the position of the first edge of its kind. Sorts them.
-pub(crate) fn models(alloc: Global, table: &[(Edge, Sample)]) -> Result<Vec<usize>, Memory> {
-    let mut kinds = Vec::with_capacity(alloc, table.len())?;
-    for (position, (edge, _)) in table.iter().enumerate() {
-        kinds.push(Kind::of(edge, position))?;
+/// For each edge that is kept the position of the first one that is alike. Sorts them. Where no two
+/// are alike the answer is empty.
+pub(crate) fn models(
+    alloc: Global,
+    table: &[(Edge, Sample)],
+    kept: &[bool],
+    grain: Grain,
+) -> Result<Vec<usize>, Memory> {
+    if let Grain::BySegment = grain {
+        return Ok(Vec::new(alloc));
+    }
+    let mut kinds = Vec::new(alloc);
+    for (position, ((edge, _), &is_kept)) in table.iter().zip(kept).enumerate() {
+        if is_kept {
+            kinds.push(Kind::of(edge, position, grain))?;
+        }
     }
     kinds.sort_unstable();
     let mut models = vec![in alloc; 0; table.len()]?;

@@ -13,6 +13,7 @@ ghost use Rattle.gl_filters.specs.Picked.{edges_of_table};
 ghost use Rattle.gl_cycles.specs.bodies.OffCycles.{KeepsCycles};
 ghost use Rattle.gl_cycles.specs.bodies.Walks.{IsNumbered, label_at, ShowsNoWay};
 
+use crate::grains::Grain;
 use crate::loops::edges_on_loops;
 use crate::numbers::{Ends, Numbers};
 use crate::ways::Ways;
@@ -140,14 +141,17 @@ impl Sought<'_> {
         Ok(has_changed)
     }
 
-    /// Which edges may be in a cycle: for each a flag. Those that lie on no loop are left out, and
-    /// then those that have no way back.
+    /// Which edges may be in a cycle: for each a flag. Those that lie on no loop are left out, then
+    /// those that have no way back, and before and after that those to which none of a cycle is
+    /// alike: by kind first, since there may be many edges of each kind.
     pub(crate) fn kept_edges(&self, alloc: Global) -> Result<Vec<bool>, Memory>
         ensures { IfOk result (λ kept. KeepsCycles (is_before self.now.order.now) self.now.mode self.now.len (edges_of_table self.now.table.now) kept.items) }
     {
         let mut kept = edges_on_loops(alloc, self.table)?;
-        self.leave_out_kinds(alloc, &mut kept)?;
+        self.leave_out_alike(alloc, Grain::ByKind, &mut kept)?;
         self.narrow(alloc, &mut kept)?;
+        self.leave_out_alike(alloc, Grain::ByThread, &mut kept)?;
+        self.leave_out_alike(alloc, Grain::BySegment, &mut kept)?;
         Ok(kept)
     }
 

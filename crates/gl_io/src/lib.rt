@@ -2,7 +2,7 @@
 //!
 //! A [`Source`] gives bytes and a [`Sink`] takes them, each call some; both tell contracts which
 //! bytes are meant and whether they have failed. [`FromStd`] makes either from a reader or writer
-//! of std, and [`write_out`] writes a whole text.
+//! of std, [`read_whole`] reads a source to its end, and [`write_out`] writes a whole text.
 //!
 //! ```text
 //! let mut input = FromStd::new(rt.stdin());
@@ -19,10 +19,12 @@
 mod from_std;
 mod sink;
 mod source;
+mod whole;
 
 pub use from_std::FromStd;
 pub use sink::{Sink, WriteFault, write_out};
 pub use source::{CHUNK, Failed, Source};
+pub use whole::{Gathered, read_whole};
 
 #[cfg(test)]
 mod tests;

@@ -1,8 +1,9 @@
 //! Fake readers and writers, and what reading and writing them gives.
-ghost use Rattle.std.specs.Prelude.{◌<◌, ◌≤◌, IfOk, None};
+ghost use Rattle.std.specs.Prelude.{◌<◌, ◌≤◌, ◌^◌, IfOk, None};
 
-use crate::{Failed, FromStd, Sink, Source, WriteFault, write_out};
+use crate::{Failed, FromStd, Sink, Source, WriteFault, read_whole, write_out};
 use std::io::{self, Cursor, ErrorKind};
+use std::process::Abort;
 use std::test::Fail;
 
 // A reader and writer of std of one byte a call, which counts its calls and fails at one of them.
@@ -145,5 +146,43 @@ fn std_reader_and_writer(rt: HostRuntime) -> Result<(), Fail> {
         Err(WriteFault { written: 5 })
     );
     assert_eq!(rt; narrow.into_inner().into_inner(), *b"cycle");
+    Ok(())
+}
+
+// The turns gather this text of the report, which is whole or isn't.
+fn expect_gathered(rt: &(impl Abort + AllocGlobal), turns: u64, want: &[u8], is_whole: bool)
+    requires { turns ≤ 2 ^ 40 }
+{
+    let mut input = FromStd::new(REPORT);
+    match read_whole(rt.alloc(), &mut input, turns) {
+        Ok(gathered) => {
+            assert_eq!(rt; gathered.text.as_slice(), want, "in {turns} turns");
+            assert_eq!(rt; gathered.is_whole, is_whole, "in {turns} turns");
+        }
+        Err(error) => assert!(rt; false, "{error}"),
+    }
+}
+
+// the second read meets the end
+#[test]
+fn gathers_within_turns(rt: HostRuntime) {
+    expect_gathered(&rt, 0, b"", false);
+    expect_gathered(&rt, 1, REPORT, false);
+    expect_gathered(&rt, 2, REPORT, true);
+    expect_gathered(&rt, 100, REPORT, true);
+}
+
+// two reads give a byte each, and the third one fails
+#[test]
+fn gathers_before_a_failure(rt: HostRuntime) -> Result<(), Fail> {
+    let mut input = FromStd::new(FailsOnce {
+        calls: 0,
+        fails_at: 3,
+        kind: ErrorKind::Other,
+    });
+    let gathered = read_whole(rt.alloc(), &mut input, 100)?;
+    assert_eq!(rt; gathered.text.as_slice(), [0, 0].as_slice());
+    assert!(rt; !gathered.is_whole);
+    assert_eq!(rt; input.into_inner().calls, 3);
     Ok(())
 }

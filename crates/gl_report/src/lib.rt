@@ -11,7 +11,7 @@ mod tree_v1;
 mod values;
 
 pub use escapes::escaped_name;
-pub use exclusive::is_exclusive;
+pub use exclusive::{is_exclusive, lists_exclusive};
 pub use printing::text;
 pub use stats::{Stats, stats_text};
 pub use tree::{edge_json, json, json_text};

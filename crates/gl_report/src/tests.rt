@@ -4,7 +4,7 @@ ghost use Rattle.gl_edges.specs.Order.{IsAboveLast};
 ghost use Rattle.gl_event.specs.Bounds.{greatest};
 ghost use Rattle.gl_std.specs.Trace.{IsTraceOver};
 
-use crate::{Stats, escaped_name, json_text, json_text_v1, lists_exclusive, stats_text, text};
+use crate::{Stats, escaped_name, json_text, stats_text, text};
 use gl_cycles::{Cycles, Found, Report, TrimOrder};
 use gl_edges::{Edge, EdgeList, Guard, Guards, Sample};
 use gl_event::{Limits, LocId, LockId, LockMode, Memory, ThreadId};
@@ -20,8 +20,7 @@ use std::test::Fail;
 fn trace_of(alloc: Global, lines: &[u8]) -> Result<Trace, Fail>
     ensures { IfOk result (IsTraceOver greatest) }
 {
-    let limits = Limits::new(1_024, 65_536, 4_000_000_000, 4_000_000_000)?;
-    Ok(read_trace(alloc, lines, &limits)?)
+    Ok(read_trace(alloc, lines, &Limits::greatest())?)
 }
 
 // The names that a text gives.
@@ -127,26 +126,6 @@ fn expect_json(
     let mut report = report_of(rt, alloc, rows, cycles, false)?;
     report.trim = trim;
     let printed = json_text(alloc, &names, &report)?;
-    assert_eq!(rt; printed.as_slice(), want);
-    Ok(())
-}
-
-// The report of these edges and these cycles has this JSON of format 1.
-fn expect_json_v1(
-    rt: &impl Abort,
-    alloc: Global,
-    lines: &[u8],
-    rows: &[EdgeRow],
-    cycles: Vec<Vec<usize>>,
-    want: &[u8],
-) -> Result<(), Fail> {
-    let names = names_of(alloc, lines)?;
-    let report = report_of(rt, alloc, rows, cycles, false)?;
-    if !lists_exclusive(&report) {
-        assert!(rt; false);
-        return Ok(());
-    }
-    let printed = json_text_v1(alloc, &names, &report)?;
     assert_eq!(rt; printed.as_slice(), want);
     Ok(())
 }
@@ -283,32 +262,6 @@ fn self_contained_line(rt: HostRuntime) -> Result<(), Fail> {
         Vec::new(alloc),
         Some(TrimOrder::from_vec(vec![in alloc; 0, 1]?)),
         b"{\"cycles\":[],\"edges\":[{\"first\":0,\"guard_modes\":[\"x\"],\"guards\":[\"a\"],\"held\":\"a\",\"held_at\":\"1\",\"held_mode\":\"x\",\"place\":1,\"second\":0,\"thread\":\"T0\",\"wanted\":\"b\",\"wanted_at\":\"2\",\"wanted_mode\":\"x\"},{\"first\":0,\"guard_modes\":[\"x\"],\"guards\":[\"b\"],\"held\":\"b\",\"held_at\":\"2\",\"held_mode\":\"x\",\"place\":3,\"second\":0,\"thread\":\"T0\",\"wanted\":\"c\",\"wanted_at\":\"4\",\"wanted_mode\":\"x\"}],\"format\":2,\"len\":4,\"max\":1000,\"mode\":\"full\",\"more\":false,\"trim\":[0,1]}\n",
-    )
-}
-
-#[test]
-fn format_1_of_empty_input(rt: HostRuntime) -> Result<(), Fail> {
-    let alloc = rt.alloc();
-    expect_json_v1(
-        &rt,
-        alloc,
-        b"",
-        &[],
-        Vec::new(alloc),
-        b"{\"cycles\":[],\"format\":1,\"len\":4,\"max\":1000,\"mode\":\"full\",\"more\":false}\n",
-    )
-}
-
-#[test]
-fn format_1_of_opposite_order(rt: HostRuntime) -> Result<(), Fail> {
-    let alloc = rt.alloc();
-    expect_json_v1(
-        &rt,
-        alloc,
-        OPPOSITE_ORDER,
-        &[row(0, 0, 1, 0, 1), row(1, 1, 0, 4, 5)],
-        vec![in alloc; vec![in alloc; 0, 1]?]?,
-        b"{\"cycles\":[[{\"first\":0,\"guards\":[\"a\"],\"held\":\"a\",\"held_at\":\"1\",\"place\":1,\"second\":0,\"thread\":\"T0\",\"wanted\":\"b\",\"wanted_at\":\"2\"},{\"first\":0,\"guards\":[\"b\"],\"held\":\"b\",\"held_at\":\"5\",\"place\":1,\"second\":0,\"thread\":\"T1\",\"wanted\":\"a\",\"wanted_at\":\"6\"}]],\"format\":1,\"len\":4,\"max\":1000,\"mode\":\"full\",\"more\":false}\n",
     )
 }
 

@@ -47,11 +47,7 @@ fn push_edge(
 }
 
 // The edges.
-fn edge_values(
-    alloc: Global,
-    names: &Names,
-    table: &[(Edge, Sample)],
-) -> Result<Vec<Value>, Memory>
+fn edge_values(alloc: Global, names: &Names, table: &[(Edge, Sample)]) -> Result<Vec<Value>, Memory>
     ensures { IfOk result (λ vs. map view vs.items ≡ map (edge_tree names.now) table.now) }
 {
     let mut values = Vec::new(alloc);

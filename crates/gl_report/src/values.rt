@@ -14,11 +14,7 @@ use serde_json::Value;
 use std::alloc::Global;
 
 /// The name of a thread.
-pub(crate) fn thread_value(
-    alloc: Global,
-    names: &Names,
-    thread: ThreadId,
-) -> Result<Value, Memory>
+pub(crate) fn thread_value(alloc: Global, names: &Names, thread: ThreadId) -> Result<Value, Memory>
     ensures { IfOk result (λ v. view v ≡ name_tree names.now.threads thread) }
 {
     let name = escaped_name(alloc, thread_name(names, thread))?;

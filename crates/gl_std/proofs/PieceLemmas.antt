@@ -1,6 +1,7 @@
 -- A text that comes in pieces.
-use Rattle.std.proofs.Common.{◌≡◌, ◌≢◌, ℕ, ◌+◌, Bool, true, false, ◌||◌, cond, eqb, List, [], ◌∷◌, ◌++◌, length, Contains, Some, None, Result, Ok, Err, refl, sym, ap, subst, ◌∙◌, append_assoc, arith}
+use Rattle.std.proofs.Common.{◌≡◌, ◌≢◌, ℕ, zero, suc, ◌+◌, ◌<◌, take, Bool, true, false, ◌||◌, cond, eqb, List, [], ◌∷◌, ◌++◌, length, Contains, Some, None, Result, Ok, Err, refl, sym, ap, subst, ◌∙◌, append_assoc, arith, add-one}
 use Rattle.std.proofs.lemmas.List.Folds.{list_any-append}
+use Rattle.bstr.specs.Find.{Nowhere, Passes, is_byte}
 use Rattle.gl_event.specs.Bounds.{Bounds}
 use Rattle.gl_std.specs.Line.{cut_at}
 use Rattle.gl_std.specs.Lines.{LF, lines, ended_lines, without_cr}
@@ -10,7 +11,7 @@ use Rattle.gl_std.specs.declared.faults.StdKind.{StdKind}
 use Rattle.gl_std.specs.declared.faults.ReadFault.{ReadFault}
 use Rattle.gl_std.specs.declared.faults.ReadFault.TheVariants.{Line}
 use Rattle.gl_std.specs.declared.trace.Trace.{Trace}
-use Rattle.gl_std.proofs.CutLemmas.{cut_at-Some, cut_at-None}
+use Rattle.gl_std.proofs.CutLemmas.{cut_at-Some, cut_at-None, cut_at-none}
 use Rattle.gl_std.proofs.LinesLemmas.{holds_lf, lines-first, lines-last_line, no_lf, lf_free}
 use Rattle.gl_std.proofs.StepLemmas.{trace_of-lines}
 
@@ -66,6 +67,33 @@ ended-part (b ∷ text) = by (holds_lf (b ∷ text)) (ended-part text)
     by : (v : Bool) → (rest : List ℕ) × (text ≡ ended_lines text ++ rest) → (rest : List ℕ) × (b ∷ text ≡ cond v (b ∷ ended_lines text) [] ++ rest)
     by true rest = (rest.0, ap (λ xs. b ∷ xs) rest.1)
     by false rest = (b ∷ text, refl)
+
+-- a text without LF
+lf_nowhere : (text : List ℕ) → Nowhere (Passes (is_byte LF) text) 0 (length text) → holds_lf text ≡ false
+lf_nowhere text h = cut_at-None LF text (cut_at-none LF text h)
+
+-- a text with an LF
+lf_there : (text : List ℕ) (k : ℕ) → k < length text → Passes (is_byte LF) text k → holds_lf text ≡ true
+lf_there [] k within here = absurd (omega arith)
+lf_there (b ∷ text) zero within here = ap (λ v. v || holds_lf text) here
+lf_there (b ∷ text) (suc k) within here = or_true (eqb b LF) (holds_lf text) (lf_there text k (omega arith) here)
+
+-- where nothing ended, there is no LF
+pub ended-nowhere : (text : List ℕ) → Nowhere (Passes (is_byte LF) text) 0 (length text) → ended_lines text ≡ []
+ended-nowhere text h = ended-none text (lf_nowhere text h)
+
+-- the last LF ends what was ended
+ended-place : (text : List ℕ) (k : ℕ) → k < length text → Nowhere (Passes (is_byte LF) text) (k + 1) (length text) → Passes (is_byte LF) text k → ended_lines text ≡ take (suc k) text
+ended-place [] k within after here = absurd (omega arith)
+ended-place (b ∷ text) zero within after here =
+    let none : ended_lines text ≡ [] = ended-nowhere text (λ j low high there. after (suc j) (omega arith) (omega arith) there) in
+    (λ i. cond (lf_there (b ∷ text) zero within here i) (b ∷ none i) [])
+ended-place (b ∷ text) (suc k) within after here =
+    let later : ended_lines text ≡ take (suc k) text = ended-place text k (omega arith) (λ j low high there. after (suc j) (omega arith) (omega arith) there) here in
+    (λ i. cond (lf_there (b ∷ text) (suc k) within here i) (b ∷ later i) [])
+
+pub ended-last : (text : List ℕ) (k : ℕ) → k < length text → Nowhere (Passes (is_byte LF) text) (k + 1) (length text) → Passes (is_byte LF) text k → take (k + 1) text ≡ ended_lines text
+ended-last text k within after here = ap (λ n. take n text) (add-one k) ∙ sym (ended-place text k within after here)
 
 -- ---- the trace so far
 

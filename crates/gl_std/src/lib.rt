@@ -66,9 +66,10 @@ pub use laws::{
     written_texts_say_traces,
 };
 pub use line::{MAX_LINE, limits_in_numbers};
+pub use lines::ended_lines;
 pub use lists::Lists;
 pub use names::Names;
-pub use read::read_trace;
+pub use read::{read_seeded, read_trace};
 pub use seed::Seed;
 pub use stream::{Item, Lines};
 pub use text::{Heard, read_source};

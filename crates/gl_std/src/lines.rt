@@ -1,8 +1,9 @@
 //! The lines of a text.
 ghost use Rattle.std.specs.Prelude.{◌≡◌, ◌<◌, [], ◌∷◌, length, MatchOption};
-ghost use Rattle.gl_std.specs.Lines.{lines, without_cr};
+ghost use Rattle.gl_std.specs.Lines.{ended_lines, lines, without_cr};
 
 use crate::line::cut;
+use bstr::ByteSlice;
 
 /// The byte that ends a line.
 pub(crate) const LF: u8 = b'\n';
@@ -35,4 +36,14 @@ pub(crate) fn without_cr(line: &[u8]) -> &[u8]
         return line;
     }
     &line[..line.len() - 1]
+}
+
+/// The lines of a text that LF has ended: the text up to and with its last LF. Scans what follows them.
+pub fn ended_lines(text: &[u8]) -> &[u8]
+    ensures { result.now ≡ ended_lines text.now }
+{
+    match text.rfind_byte(LF) {
+        Some(last) => &text[..last + 1],
+        None => &[],
+    }
 }

@@ -22,7 +22,22 @@ pub fn read_trace(alloc: Global, bytes: &[u8], limits: &Limits) -> Result<Trace,
     ensures fault { (line : ℕ) (kind : StdKind) → result ≡ Err (Line line kind) → trace_of limits.now bytes.now ≡ Err (Line line kind) }
     ensures over { IfOk result (IsTraceOver limits.now) }
 {
-    let mut reader = Reader::new(alloc, *limits, Seed::fixed());
+    read_seeded(alloc, bytes, limits, Seed::fixed())
+}
+
+/// As [`read_trace`], with this seed for the hash of names. For texts of others it is one that was
+/// drawn at random.
+pub fn read_seeded(
+    alloc: Global,
+    bytes: &[u8],
+    limits: &Limits,
+    seed: Seed,
+) -> Result<Trace, ReadFault>
+    ensures trace { IfOk result (λ t. trace_of limits.now bytes.now ≡ Ok t) }
+    ensures fault { (line : ℕ) (kind : StdKind) → result ≡ Err (Line line kind) → trace_of limits.now bytes.now ≡ Err (Line line kind) }
+    ensures over { IfOk result (IsTraceOver limits.now) }
+{
+    let mut reader = Reader::new(alloc, *limits, seed);
     let mut rest = bytes;
     while let Some((line, after)) = next_line(rest) {
         reader.take(line)?;

@@ -8,11 +8,20 @@ use std::test::Fail;
 // One thread that holds two locks in turn as it acquires the next one.
 const CHAIN: &[u8] = b"T0|acq(a)|1\nT0|acq(b)|2\nT0|rel(a)|3\nT0|acq(c)|4\n";
 
-const FIRST: &[u8] = b"{\"first\":0,\"guard_modes\":[\"x\"],\"guards\":[\"a\"],\"held\":\"a\",\"held_at\":\"1\",\"held_mode\":\"x\",\"place\":1,\"second\":0,\"thread\":\"T0\",\"wanted\":\"b\",\"wanted_at\":\"2\",\"wanted_mode\":\"x\"}";
-const SECOND: &[u8] = b"{\"first\":0,\"guard_modes\":[\"x\"],\"guards\":[\"b\"],\"held\":\"b\",\"held_at\":\"5\",\"held_mode\":\"x\",\"place\":1,\"second\":0,\"thread\":\"T1\",\"wanted\":\"a\",\"wanted_at\":\"6\",\"wanted_mode\":\"x\"}";
-const NEXT: &[u8] = b"{\"first\":0,\"guard_modes\":[\"x\"],\"guards\":[\"b\"],\"held\":\"b\",\"held_at\":\"2\",\"held_mode\":\"x\",\"place\":3,\"second\":0,\"thread\":\"T0\",\"wanted\":\"c\",\"wanted_at\":\"4\",\"wanted_mode\":\"x\"}";
-const LATER: &[u8] = b"{\"first\":0,\"guard_modes\":[\"x\"],\"guards\":[\"b\"],\"held\":\"b\",\"held_at\":\"2\",\"held_mode\":\"x\",\"place\":2,\"second\":0,\"thread\":\"T0\",\"wanted\":\"c\",\"wanted_at\":\"4\",\"wanted_mode\":\"x\"}";
-const UNMODED: &[u8] = b"{\"first\":0,\"guard_modes\":[],\"guards\":[\"b\"],\"held\":\"b\",\"held_at\":\"5\",\"held_mode\":\"x\",\"place\":1,\"second\":0,\"thread\":\"T1\",\"wanted\":\"a\",\"wanted_at\":\"6\",\"wanted_mode\":\"x\"}";
+const FIRST: &[u8] =
+    b"{\"first\":0,\"guard_modes\":[\"x\"],\"guards\":[\"a\"],\"held\":\"a\",\"held_at\":\"1\",\"held_mode\":\"x\",\"place\":1,\"second\":0,\"thread\":\"T0\",\"wanted\":\"b\",\"wanted_at\":\"2\",\"wanted_mode\":\"x\"}";
+
+const SECOND: &[u8] =
+    b"{\"first\":0,\"guard_modes\":[\"x\"],\"guards\":[\"b\"],\"held\":\"b\",\"held_at\":\"5\",\"held_mode\":\"x\",\"place\":1,\"second\":0,\"thread\":\"T1\",\"wanted\":\"a\",\"wanted_at\":\"6\",\"wanted_mode\":\"x\"}";
+
+const NEXT: &[u8] =
+    b"{\"first\":0,\"guard_modes\":[\"x\"],\"guards\":[\"b\"],\"held\":\"b\",\"held_at\":\"2\",\"held_mode\":\"x\",\"place\":3,\"second\":0,\"thread\":\"T0\",\"wanted\":\"c\",\"wanted_at\":\"4\",\"wanted_mode\":\"x\"}";
+
+const LATER: &[u8] =
+    b"{\"first\":0,\"guard_modes\":[\"x\"],\"guards\":[\"b\"],\"held\":\"b\",\"held_at\":\"2\",\"held_mode\":\"x\",\"place\":2,\"second\":0,\"thread\":\"T0\",\"wanted\":\"c\",\"wanted_at\":\"4\",\"wanted_mode\":\"x\"}";
+
+const UNMODED: &[u8] =
+    b"{\"first\":0,\"guard_modes\":[],\"guards\":[\"b\"],\"held\":\"b\",\"held_at\":\"5\",\"held_mode\":\"x\",\"place\":1,\"second\":0,\"thread\":\"T1\",\"wanted\":\"a\",\"wanted_at\":\"6\",\"wanted_mode\":\"x\"}";
 
 // A report with these cycles, edges, greatest length and trim order, each as JSON.
 fn line(
@@ -73,7 +82,15 @@ fn of_chain(
 #[test]
 fn self_contained_line(rt: HostRuntime) -> Result<(), Fail> {
     let accepted = of_two(rt.alloc(), b"[[0,1]]", b"4", b"null")?;
-    assert!(rt; matches!(accepted, Ok(Checked { cycles: 1, acyclic: false })));
+    assert!(rt;
+        matches!(
+            accepted,
+            Ok(Checked {
+                cycles: 1,
+                acyclic: false
+            })
+        )
+    );
     Ok(())
 }
 
@@ -123,11 +140,35 @@ fn table_tampered(rt: HostRuntime) -> Result<(), Fail> {
 fn trim_order(rt: HostRuntime) -> Result<(), Fail> {
     let alloc = rt.alloc();
     let least_first = of_chain(alloc, NEXT, b"[0,1]")?;
-    assert!(rt; matches!(least_first, Ok(Checked { cycles: 0, acyclic: true })));
+    assert!(rt;
+        matches!(
+            least_first,
+            Ok(Checked {
+                cycles: 0,
+                acyclic: true
+            })
+        )
+    );
     let other_order = of_chain(alloc, NEXT, b"[1,0]")?;
-    assert!(rt; matches!(other_order, Ok(Checked { cycles: 0, acyclic: true })));
+    assert!(rt;
+        matches!(
+            other_order,
+            Ok(Checked {
+                cycles: 0,
+                acyclic: true
+            })
+        )
+    );
     let none = of_chain(alloc, NEXT, b"null")?;
-    assert!(rt; matches!(none, Ok(Checked { cycles: 0, acyclic: false })));
+    assert!(rt;
+        matches!(
+            none,
+            Ok(Checked {
+                cycles: 0,
+                acyclic: false
+            })
+        )
+    );
     let moved = of_chain(alloc, LATER, b"[0,1]")?;
     assert!(rt; matches!(moved, Err(CheckFault::Table(1))));
     Ok(())
@@ -155,6 +196,14 @@ fn no_edges(rt: HostRuntime) -> Result<(), Fail> {
     let trace = trace_of(alloc, b"")?;
     let json = line(alloc, b"[]", &[], b"4", b"[]")?;
     let accepted = check(alloc, &trace, json.as_slice());
-    assert!(rt; matches!(accepted, Ok(Checked { cycles: 0, acyclic: true })));
+    assert!(rt;
+        matches!(
+            accepted,
+            Ok(Checked {
+                cycles: 0,
+                acyclic: true
+            })
+        )
+    );
     Ok(())
 }

@@ -8,6 +8,7 @@ use gl_event::{Event, Memory};
 use gl_filters::{Mode, Query};
 use gl_segments::Order;
 use std::alloc::Global;
+use std::process::Abort;
 use std::test::Fail;
 
 // A thread takes three locks one inside the other, and releases them.
@@ -62,6 +63,50 @@ fn kinds_of_no_round(rt: HostRuntime) -> Result<(), Fail> {
     assert!(rt; count_set(sought.kept_edges(alloc)?.as_slice()) == 8);
     sought.mode = Mode::Guarded;
     assert!(rt; count_set(sought.kept_edges(alloc)?.as_slice()) == 0);
+    Ok(())
+}
+
+// So many threads, each of which runs all pieces of a ring of four locks.
+fn rings_of_all(alloc: Global, threads: u32) -> Result<Vec<Vec<Event>>, Memory> {
+    let mut lists = Vec::new(alloc);
+    for _ in 0..threads {
+        let mut list = Vec::new(alloc);
+        for lock in 0..4u32 {
+            add_piece(&mut list, 4 + lock, lock, (lock + 1) % 4, 1)?;
+        }
+        lists.push(list)?;
+    }
+    Ok(lists)
+}
+
+// How many edges of these lists may be in a cycle of at most four.
+fn count_kept(
+    rt: &impl Abort,
+    alloc: Global,
+    lists: &[Vec<Event>],
+    mode: Mode,
+) -> Result<usize, Fail> {
+    assert!(rt; are_lawful(lists));
+    let edges = edges_of(alloc, lists)?;
+    let order = Order::of(alloc, lists)?;
+    let sought = Sought {
+        table: edges.entries(),
+        order: &order,
+        mode,
+        len: 4,
+    };
+    Ok(count_set(sought.kept_edges(alloc)?.as_slice()))
+}
+
+// Round the ring go four edges, of four threads. Each edge goes with edges of two others that lead
+// back from it, but three threads make no cycle; four do.
+#[test]
+fn more_pieces_than_threads(rt: HostRuntime) -> Result<(), Fail> {
+    let alloc = rt.alloc();
+    let three = rings_of_all(alloc, 3)?;
+    assert!(rt; count_kept(&rt, alloc, &three, Mode::Basic)? == 0);
+    let four = rings_of_all(alloc, 4)?;
+    assert!(rt; count_kept(&rt, alloc, &four, Mode::Basic)? == 16);
     Ok(())
 }
 

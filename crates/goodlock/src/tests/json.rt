@@ -23,7 +23,7 @@ fn empty_input_as_json(rt: HostRuntime) -> Result<(), Fail> {
     );
     assert!(rt; matches!(ended, Ended::Clean));
     let said =
-        b"{\"cycles\":[],\"format\":1,\"len\":4,\"max\":1000,\"mode\":\"full\",\"more\":false}\n";
+        b"{\"cycles\":[],\"edges\":[],\"format\":2,\"len\":4,\"max\":1000,\"mode\":\"full\",\"more\":false,\"trim\":[]}\n";
     assert_eq!(rt; output.into_inner().as_slice(), said.as_slice());
     Ok(())
 }

@@ -24,7 +24,7 @@ returns-then-not-branch-clause-fault c =
       c.loop-k.k,
       refl,
       differ_here view (edge_tree c.args.names.now) c.args.values.now c.args.table.now c.loop-k.k c.loop-k.invariant.same c.index-values-k.result c.index-table-k.result c.if-k-values.false c.index-values-k.is
-      c.loop-k-test.true c.index-table-k.is (λ same. false≢true (sym c.if-not-branch.true ∙ c.in_ok-is_entry.ensures.1 same)),
+          c.loop-k-test.true c.index-table-k.is (λ same. false≢true (sym c.if-not-branch.true ∙ c.in_ok-is_entry.ensures.1 same)),
     )
 
 -- the values go on
@@ -35,5 +35,5 @@ returns-then-values-table-clause-fault c =
       length c.args.table.now,
       refl,
       subst (IsFirstDifference (map view c.args.values.now) (map (edge_tree c.args.names.now) c.args.table.now)) end
-      (ends_late view (edge_tree c.args.names.now) c.args.values.now c.args.table.now c.loop-k.k c.loop-k.invariant.same null (omega (arith, end)) (omega (arith, end, c.if-values-table.true))),
+          (ends_late view (edge_tree c.args.names.now) c.args.values.now c.args.table.now c.loop-k.k c.loop-k.invariant.same null (omega (arith, end)) (omega (arith, end, c.if-values-table.true))),
     )

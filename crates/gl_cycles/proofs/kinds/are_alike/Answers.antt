@@ -11,4 +11,5 @@ returns c = λ same. record {
   wanted = eqb-true _ _ (from_not _ (sym c.ne-3.ensures ∙ c.if-ne-3.false));
   wanted_mode = modes_same _ _ (from_not _ (sym c.ne-4.ensures ∙ c.if-ne-4.false));
   guards = guards_same _ _ (sym c.eq.ensures ∙ same);
+  made = c.are_made_alike.ensures c.if-not-are_made_alike.false;
 }

@@ -73,8 +73,7 @@ returns-clause-ok c =
     let are : AreListedAt known.names.now known.edges.now before d found =
     retold (λ format asked cycles. AreCyclesOf format known.names.now known.edges.now before asked cycles found) known.format (format_in d) known.query (asked_in d) _ (cycles_in d)
     c.requires.format c.requires.query listed c.in_ok-found.ensures.cycles in
-    let long = c.in_ok-found.found.ok.0 in
-    (
+    let long = c.in_ok-found.found.ok.0 in (
       found,
       record { printed_table = c.in_ok-check_edges.ensures.ok; cycles = are; trim = c.in_ok-acyclic.ensures.whole },
       omega (arith, long, c.len.ensures, length-map c.in_ok-found.found.items (λ v. v.items)),

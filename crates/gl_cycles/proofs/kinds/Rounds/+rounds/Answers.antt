@@ -16,12 +16,12 @@ use Rattle.gl_cycles.proofs.kinds.Rounds.+rounds.Goals as goal
 pub may_close-returns-then-path-self : goal.may_close-returns-then-path-self
 may_close-returns-then-path-self t c = λ no.
     let s = c.args.self.now.sought in
-    none_longer (is_before s.order.now) s.mode s.len (edges_of_table s.table.now) c.args.self.now.flags.items c.args.path.now (within_edges s.table.now c.args.path.now c.requires.within) c.requires.some c.if-path-self.true (c.is_closed.ensures c.if-is_closed.false)
+    none_longer (is_before s.order.now) s.mode c.args.self.now.grain s.len (edges_of_table s.table.now) c.args.self.now.flags.items c.args.path.now (within_edges s.table.now c.args.path.now c.requires.within) c.requires.some c.if-path-self.true (c.is_closed.ensures c.if-is_closed.false)
 
 pub may_close-loop-next-init : goal.may_close-loop-next-init
 may_close-loop-next-init t c = λ e at.
     let s = c.args.self.now.sought in
-    tried_begin (is_before s.order.now) s.mode s.len (edges_of_table s.table.now) c.args.self.now.flags.items c.args.path.now e.wanted c.begin-next.result
+    tried_begin (is_before s.order.now) s.mode c.args.self.now.grain s.len (edges_of_table s.table.now) c.args.self.now.flags.items c.args.path.now e.wanted c.begin-next.result
     (c.begin-next.ensures (edges_of_table s.table.now) c.args.self.now.flags.items e c.requires.models.indexed at)
 
 -- the last edge of a path
@@ -30,7 +30,7 @@ last_edge r path within some = element_at (edges_of_table r.sought.table.now) (g
 
 -- what is known at a next model
 abbrev Tried : (r : Rounds) → List ℕ → ℕ → Option ℕ → Type 0
-Tried r path lock next = AreTried (is_before r.sought.order.now) r.sought.mode r.sought.len (edges_of_table r.sought.table.now) r.flags.items path lock next
+Tried r path lock next = AreTried (is_before r.sought.order.now) r.sought.mode r.grain r.sought.len (edges_of_table r.sought.table.now) r.flags.items path lock next
 
 -- the model at the next position is there
 pub may_close-may_close_by-requires : goal.may_close-may_close_by-requires
@@ -87,25 +87,25 @@ may_close-loop-next-preserved t c = λ e at.
     let edges = edges_of_table s.table.now in
     let had : Tried r c.args.path.now e.wanted (Some c.in-Some.i) = subst (Tried r c.args.path.now e.wanted) c.in-Some.is (c.loop-next.invariant e at) in
     let here = element_at edges c.in-Some.i had.holds.0 in
-    tried_more (is_before s.order.now) s.mode s.len edges r.flags.items c.args.path.now e.wanted c.in-Some.i c.after-next.result had (c.may_close_by.ensures c.if-may_close_by.false)
+    tried_more (is_before s.order.now) s.mode c.args.self.now.grain s.len edges r.flags.items c.args.path.now e.wanted c.in-Some.i c.after-next.result had (c.may_close_by.ensures c.if-may_close_by.false)
     (subst (λ lock. IsNextWith held_lock edges r.flags.items lock (c.in-Some.i + 1) c.after-next.result) (had.holds.1 here.0 here.1) (c.after-next.ensures edges r.flags.items here.0 c.requires.models.indexed here.1))
 
 pub may_close-returns : goal.may_close-returns
 may_close-returns t c = λ no.
     let s = c.args.self.now.sought in
     let last = element_at (edges_of_table s.table.now) (get_or c.args.path.now (length c.args.path.now - 1) 0) (within_edges s.table.now c.args.path.now c.requires.within (length c.args.path.now - 1) 0 (omega (arith, c.requires.some))) in
-    none_after (is_before s.order.now) s.mode s.len (edges_of_table s.table.now) c.args.self.now.flags.items c.args.path.now (get_or c.args.path.now (length c.args.path.now - 1) 0) last.0 c.requires.some
+    none_after (is_before s.order.now) s.mode c.args.self.now.grain s.len (edges_of_table s.table.now) c.args.self.now.flags.items c.args.path.now (get_or c.args.path.now (length c.args.path.now - 1) 0) last.0 c.requires.some
     (within_edges s.table.now c.args.path.now c.requires.within) (slice_get-get_or c.args.path.now (length c.args.path.now - 1) 0 (omega (arith, c.requires.some))) last.1 c.requires.models.models
     (c.is_closed.ensures c.if-is_closed.false)
-    (subst (AreTried (is_before s.order.now) s.mode s.len (edges_of_table s.table.now) c.args.self.now.flags.items c.args.path.now last.0.wanted) c.in_default.is (c.loop-next.invariant last.0 last.1))
+    (subst (AreTried (is_before s.order.now) s.mode c.args.self.now.grain s.len (edges_of_table s.table.now) c.args.self.now.flags.items c.args.path.now last.0.wanted) c.in_default.is (c.loop-next.invariant last.0 last.1))
 
 pub may_close_by-returns-then-not-can_join : goal.may_close_by-returns-then-not-can_join
 may_close_by-returns-then-not-can_join t c = λ no.
     let s = c.args.self.now.sought in
     let here = element_at (edges_of_table s.table.now) c.args.next (omega (arith, c.requires.there, length-map s.table.now (λ pair. pair.0))) in
-    none_joins (is_before s.order.now) s.mode s.len (edges_of_table s.table.now) c.args.self.now.flags.items c.args.path.now c.args.next here.0 c.requires.some here.1 (c.can_join.ensures c.if-not-can_join.true here.0 here.1)
+    none_joins (is_before s.order.now) s.mode c.args.self.now.grain s.len (edges_of_table s.table.now) c.args.self.now.flags.items c.args.path.now c.args.next here.0 c.requires.some here.1 (c.can_join.ensures c.if-not-can_join.true here.0 here.1)
 
 pub may_close_by-returns : goal.may_close_by-returns
 may_close_by-returns t c = λ no.
     let s = c.args.self.now.sought in
-    subst (NoCycleThrough (is_before s.order.now) s.mode s.len (edges_of_table s.table.now)) (c.as_slice.ensures.value ∙ c.longer_path-longer.ensures) (c.may_close.ensures no)
+    subst (NoCycleThrough (is_before s.order.now) s.mode c.args.self.now.grain s.len (edges_of_table s.table.now)) (c.as_slice.ensures.value ∙ c.longer_path-longer.ensures) (c.may_close.ensures no)

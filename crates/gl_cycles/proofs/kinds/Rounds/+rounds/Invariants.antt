@@ -18,7 +18,7 @@ decreases-may_close_by l = 2 * (PATH - length l.path.now)
 abbrev pub invariant-may_close-loop-next : goal.invariant-may_close-loop-next
 invariant-may_close-loop-next l =
     (e : Edge) → slice_get (edges_of_table l.self.sought.table.now) (get_or l.path (length l.path - 1) 0) ≡ Some e
-    → AreTried (is_before l.self.sought.order.now) l.self.sought.mode l.self.sought.len (edges_of_table l.self.sought.table.now) l.self.flags.items l.path e.wanted l.next
+    → AreTried (is_before l.self.sought.order.now) l.self.sought.mode l.self.grain l.self.sought.len (edges_of_table l.self.sought.table.now) l.self.flags.items l.path e.wanted l.next
 
 -- how many positions are left
 abbrev pub decreases-may_close-loop-next : goal.decreases-may_close-loop-next

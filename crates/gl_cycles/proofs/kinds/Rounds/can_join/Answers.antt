@@ -1,8 +1,9 @@
 use Rattle.std.proofs.Common.{◌-◌, length, get_or, sym, ap, subst, ◌∙◌}
 use Rattle.std.proofs.lemmas.Bool.{false≢true}
 use Rattle.gl_filters.specs.Test.{leads_to}
+use Rattle.gl_segments.specs.Clocks.{is_before}
 use Rattle.gl_filters.specs.Picked.{edges_of_table}
-use Rattle.gl_cycles.specs.bodies.Kinds.{KindsGoWith}
+use Rattle.gl_cycles.specs.bodies.Kinds.{MayMeetAll}
 use Rattle.gl_cycles.proofs.ByKinds.{last_tells, edge_is}
 use Rattle.gl_cycles.proofs.kinds.Rounds.can_join.Goals as goal
 
@@ -16,4 +17,4 @@ pub returns : goal.returns
 returns c = λ no f at leads goes.
     let table = c.args.self.now.sought.table.now in
     let is_f = edge_is table c.index-self-next.result c.args.next f c.requires.there at in
-    c.goes_with_all.ensures no (subst (KindsGoWith c.args.self.now.sought.mode (edges_of_table table) c.args.path.now) is_f goes)
+    c.goes_with_all.ensures no (subst (MayMeetAll (is_before c.args.self.now.sought.order.now) c.args.self.now.sought.mode c.args.self.now.grain (edges_of_table table) c.args.path.now) is_f goes)

@@ -10,5 +10,5 @@ loop-i-preserved c =
     let s = c.args.self.now.sought in
     let is = c.in_ok-push.ensures.items in (
       ap length is ∙ length_push c.loop-i.dead.items c.is_dead.result ∙ ap (λ n. n + 1) c.loop-i.invariant.0,
-      rw is (dead_more (is_before s.order.now) s.mode s.len (edges_of_table s.table.now) c.loop-i.dead.items c.loop-i.i c.is_dead.result c.loop-i.invariant.0 c.loop-i.invariant.1 c.is_dead.ensures),
+      rw is (dead_more (is_before s.order.now) s.mode c.args.self.now.grain s.len (edges_of_table s.table.now) c.loop-i.dead.items c.loop-i.i c.is_dead.result c.loop-i.invariant.0 c.loop-i.invariant.1 c.is_dead.ensures),
     )

@@ -8,4 +8,4 @@ use Rattle.gl_cycles.proofs.kinds.Rounds.dead_models.Given as goal
 -- so far the flags are set only where no cycle goes through
 abbrev pub invariant-loop-i : goal.invariant-loop-i
 invariant-loop-i l = (length l.dead.items ≡ l.i)
-    × ((j : ℕ) → slice_get l.dead.items j ≡ Some true → NoCycleThrough (is_before l.self.sought.order.now) l.self.sought.mode l.self.sought.len (edges_of_table l.self.sought.table.now) (j ∷ []))
+    × ((j : ℕ) → slice_get l.dead.items j ≡ Some true → NoCycleThrough (is_before l.self.sought.order.now) l.self.sought.mode l.self.grain l.self.sought.len (edges_of_table l.self.sought.table.now) (j ∷ []))

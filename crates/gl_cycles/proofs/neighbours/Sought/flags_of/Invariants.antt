@@ -8,4 +8,4 @@ use Rattle.gl_cycles.proofs.neighbours.Sought.flags_of.Given as goal
 -- so far each edge that is kept has a model
 abbrev pub invariant-loop-i : goal.invariant-loop-i
 invariant-loop-i l = (length l.flags.items ≡ length l.self.table.now)
-    × ((i : ℕ) (e : Edge) → i < l.i → slice_get (edges_of_table l.self.table.now) i ≡ Some e → slice_get l.kept i ≡ Some true → HasModel (edges_of_table l.self.table.now) l.flags.items e)
+    × ((i : ℕ) (e : Edge) → i < l.i → slice_get (edges_of_table l.self.table.now) i ≡ Some e → slice_get l.kept i ≡ Some true → HasModel l.grain (edges_of_table l.self.table.now) l.flags.items e)

@@ -22,8 +22,7 @@ pub returns-else-lacks : goal.returns-else-lacks
 returns-else-lacks c =
     let s = c.args.self.now in
     let here = element_at (edges_of_table s.table.now) c.args.i (let within = c.if-i-self.false in omega (arith, within, length-map s.table.now (λ pair. pair.0))) in
-    let left = slice_get-get_or c.args.gone.now c.args.i false (let within = c.if-i-self.false in omega (arith, within, c.requires.flags)) ∙ ap Some c.if-gone-i.false in
-    (
+    let left = slice_get-get_or c.args.gone.now c.args.i false (let within = c.if-i-self.false in omega (arith, within, c.requires.flags)) ∙ ap Some c.if-gone-i.false in (
       λ yes. stuck_from (is_before s.order.now) s.mode (edges_of_table s.table.now) c.args.gone.now c.args.i Leader here.0 here.1 left ((c.lacks-else-lacks.ensures here.0 here.1).0 yes),
       leader_if_stuck (is_before s.order.now) s.mode (edges_of_table s.table.now) c.args.gone.now c.args.i here.0 c.lacks.result c.lacks-else-lacks.result here.1 (c.lacks.ensures here.0 here.1) (c.lacks-else-lacks.ensures here.0 here.1) c.if-lacks.false,
     )

@@ -1,7 +1,7 @@
 use Rattle.gl_segments.specs.Clocks.{is_before}
 use Rattle.gl_filters.specs.Picked.{edges_of_table}
 use Rattle.gl_cycles.specs.bodies.OffCycles.{KeepsCycles}
-use Rattle.gl_cycles.proofs.neighbours.Sought.leave_out_kinds.Given as goal
+use Rattle.gl_cycles.proofs.neighbours.Sought.leave_out_alike.Given as goal
 
 -- so far only edges that are in no cycle are left out
 abbrev pub invariant-loop-i : goal.invariant-loop-i
