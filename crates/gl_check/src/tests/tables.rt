@@ -110,17 +110,6 @@ fn report_tampered(rt: HostRuntime) -> Result<(), Fail> {
     Ok(())
 }
 
-// Without its first byte it is no JSON.
-#[test]
-fn line_cut(rt: HostRuntime) -> Result<(), Fail> {
-    let alloc = rt.alloc();
-    let trace = trace_of(alloc, LINES)?;
-    let json = line(alloc, b"[[0,1]]", &[FIRST, SECOND], b"4", b"null")?;
-    let cut = check(alloc, &trace, &json.as_slice()[1..]);
-    assert!(rt; matches!(cut, Err(CheckFault::Json)));
-    Ok(())
-}
-
 // An edge is left out, comes twice, or comes too early; a guard has no mode.
 #[test]
 fn table_tampered(rt: HostRuntime) -> Result<(), Fail> {
