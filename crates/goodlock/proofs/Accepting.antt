@@ -1,6 +1,6 @@
 -- What is said of a report is what is answered to its input.
 use Rattle.std.proofs.Common.{◌≡◌, ◌++◌, ℕ, Bool, true, false, List, Option, Result, Ok, Err, sym, ap, subst, ◌∙◌}
-use Rattle.std.proofs.KnownBytes.{Keeps-refl}
+use Rattle.std.specs.Io.KnownBytes.{Keeps}
 use Rattle.std.specs.Prelude.{IfOk, IfErr, codes}
 use Rattle.gl_event.specs.Bounds.{greatest}
 use Rattle.gl_io.specs.Reads.{HasRead}
@@ -12,7 +12,7 @@ use Rattle.goodlock.specs.Answer.Answer.{Prints, Refusal}
 use Rattle.goodlock.specs.Checking.{HasChecked, IsCheckAnswer, report_in, trace_in}
 use Rattle.goodlock.specs.Checking.HasChecked.{cut_short, ended_so}
 use Rattle.goodlock.specs.Checking.IsCheckAnswer.{bad_line, refused, accepted}
-use Rattle.goodlock.specs.Ending.{EndsEarlyAs, EndsWith}
+use Rattle.goodlock.specs.Ending.{EndsEarlyAs, EndsWith, Use}
 use Rattle.goodlock.specs.bodies.Opinions.{SaysAccepted, SaysRefused}
 use Rattle.goodlock.specs.bodies.Stops.{IfRefused, IsFaultIn}
 use Rattle.goodlock.proofs.Answering.{ends_as}
@@ -43,17 +43,17 @@ answers_refused input trace report (Err (Refused line)) is read says =
 answers_refused input trace report (Err Memory) is read says = tt
 
 -- the input was read whole, and what is answered to it was written or refused
-pub ends_whole : (turns : ℕ) (given left : Option (List ℕ)) (read_failed : Bool) (input text : List ℕ) (whole : Bool) (answered : Result Printed Stop) (old new : Option (List ℕ)) (failed : Bool) (how : Ended)
-    → HasRead turns given left read_failed text whole → whole ≡ true → input ≡ text
-    → IfOk answered (λ p. IsCheckAnswer input (Prints p.text.items p.outcome)) → IfErr answered (λ stop. IfRefused stop (λ line. IsCheckAnswer input (Refusal line)))
-    → EndsWith answered old new failed how → HasChecked turns given left read_failed old new failed how
-ends_whole turns given left read_failed input text whole answered old new failed how read is same good bad ends =
-    ended_so input how (subst (λ t. HasRead turns given left read_failed t true) (sym same) (subst (HasRead turns given left read_failed text) is read))
-    (ends_as IsCheckAnswer input answered old new failed how good bad ends)
+pub ends_whole : (turns : ℕ) (input output : Use) (bytes text : List ℕ) (whole : Bool) (answered : Result Printed Stop) (how : Ended)
+    → HasRead turns input.before input.after input.failed text whole → whole ≡ true → bytes ≡ text
+    → IfOk answered (λ p. IsCheckAnswer bytes (Prints p.text.items p.outcome)) → IfErr answered (λ stop. IfRefused stop (λ line. IsCheckAnswer bytes (Refusal line)))
+    → EndsWith answered output.before output.after output.failed how → HasChecked turns input output how
+ends_whole turns input output bytes text whole answered how read is same good bad ends =
+    ended_so bytes how (subst (λ t. HasRead turns input.before input.after input.failed t true) (sym same) (subst (HasRead turns input.before input.after input.failed text) is read))
+    (ends_as IsCheckAnswer bytes answered output.before output.after output.failed how good bad ends)
 
 -- it wasn't, and nothing was written
-pub ends_short : (turns : ℕ) (given left : Option (List ℕ)) (read_failed : Bool) (input text : List ℕ) (whole : Bool) (held : Option (List ℕ)) (failed : Bool) (how : Ended)
-    → HasRead turns given left read_failed text whole → whole ≡ false → input ≡ text → EndsEarlyAs (trace_in input) how → failed ≡ false
-    → HasChecked turns given left read_failed held held failed how
-ends_short turns given left read_failed input text whole held failed how read is same early sound =
-    cut_short input how (subst (λ t. HasRead turns given left read_failed t false) (sym same) (subst (HasRead turns given left read_failed text) is read)) early (Keeps-refl held) sound
+pub ends_short : (turns : ℕ) (input output : Use) (bytes text : List ℕ) (whole : Bool) (how : Ended)
+    → HasRead turns input.before input.after input.failed text whole → whole ≡ false → bytes ≡ text → EndsEarlyAs (trace_in bytes) how
+    → Keeps output.before output.after → output.failed ≡ false → HasChecked turns input output how
+ends_short turns input output bytes text whole how read is same early kept sound =
+    cut_short bytes how (subst (λ t. HasRead turns input.before input.after input.failed t false) (sym same) (subst (HasRead turns input.before input.after input.failed text) is read)) early kept sound

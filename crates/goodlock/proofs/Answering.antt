@@ -16,7 +16,7 @@ use Rattle.goodlock.specs.Answer.{Answer, IsAnswer, IsLeastBeforeItself, IsPlain
 use Rattle.goodlock.specs.Answer.Answer.{Prints, Refusal}
 use Rattle.goodlock.specs.Answer.IsAnswer.{bad_line, no_order, ordered}
 use Rattle.goodlock.specs.Answer.IsPlainAnswer.{bad_line as plain_fault}
-use Rattle.goodlock.specs.Ending.{EndsAs, EndsLiveWith, EndsWith, HasEnded, HasEndedLive, HasHeardAll}
+use Rattle.goodlock.specs.Ending.{EndsAs, EndsLiveWith, EndsWith, HasEnded, HasEndedLive, HasHeardAll, Use}
 use Rattle.goodlock.specs.Ending.HasEnded.{ended_so}
 use Rattle.goodlock.specs.Ending.HasEndedLive.{confirmed, unconfirmed}
 use Rattle.goodlock.specs.bodies.Stops.{IfRefused, IfStopped, IsFaultIn, IsReportOf, SaysWhyNoReport}
@@ -88,26 +88,26 @@ ends_as A text (Err (Refused line)) old new failed ended good bad how = subst (E
 ends_as A text (Err Memory) old new failed ended good bad how = subst (EndsAs A text old new failed) (sym how.0) (how.1, how.2)
 
 -- and one that is the answer to each text of the trace that was read
-pub ends : (IsAnswered : List ℕ → Answer → Type 0) (turns : ℕ) (given left : Option (List ℕ)) (read_failed : Bool) (read : Result Trace ReadFault) (answered : Result Printed Stop) (old new : Option (List ℕ)) (failed : Bool) (ended : Ended)
-    → HasHeardAll turns given left read_failed read
+pub ends : (IsAnswered : List ℕ → Answer → Type 0) (turns : ℕ) (input : Use) (read : Result Trace ReadFault) (answered : Result Printed Stop) (output : Use) (ended : Ended)
+    → HasHeardAll turns input read
     → IfOk answered (λ p. (text : List ℕ) → trace_of greatest text ≡ read → IsAnswered text (Prints p.text.items p.outcome))
     → IfErr answered (λ stop. IfRefused stop (λ line. (text : List ℕ) → trace_of greatest text ≡ read → IsAnswered text (Refusal line)))
-    → EndsWith answered old new failed ended → HasEnded IsAnswered turns given left read_failed old new failed ended
-ends A turns given left read_failed read (Ok p) old new failed ended heard good bad how =
-    ended_so heard.text ended heard.whole (ends_as A heard.text (Ok p) old new failed ended (good heard.text heard.trace) tt how)
-ends A turns given left read_failed read (Err stop) old new failed ended heard good bad how =
+    → EndsWith answered output.before output.after output.failed ended → HasEnded IsAnswered turns input output ended
+ends A turns input read (Ok p) output ended heard good bad how =
+    ended_so heard.text ended heard.whole (ends_as A heard.text (Ok p) output.before output.after output.failed ended (good heard.text heard.trace) tt how)
+ends A turns input read (Err stop) output ended heard good bad how =
     let said = refused_then stop (λ line. (text : List ℕ) → trace_of greatest text ≡ read → A text (Refusal line)) (λ line. A heard.text (Refusal line)) (λ line each. each heard.text heard.trace) bad in
-    ended_so heard.text ended heard.whole (ends_as A heard.text (Err stop) old new failed ended tt said how)
+    ended_so heard.text ended heard.whole (ends_as A heard.text (Err stop) output.before output.after output.failed ended tt said how)
 
 -- and so does that of a session, unless it isn't confirmed
-pub ends_live : (IsAnswered : List ℕ → Answer → Type 0) (turns : ℕ) (given left : Option (List ℕ)) (read_failed : Bool) (read : Result Trace ReadFault) (answered : Result Printed LiveStop) (old new : Option (List ℕ)) (failed : Bool) (ended : Ended)
-    → HasHeardAll turns given left read_failed read
+pub ends_live : (IsAnswered : List ℕ → Answer → Type 0) (turns : ℕ) (input : Use) (read : Result Trace ReadFault) (answered : Result Printed LiveStop) (output : Use) (ended : Ended)
+    → HasHeardAll turns input read
     → IfOk answered (λ p. (text : List ℕ) → trace_of greatest text ≡ read → IsAnswered text (Prints p.text.items p.outcome))
     → IfErr answered (λ stop. IfStopped stop (λ line. (text : List ℕ) → trace_of greatest text ≡ read → IsAnswered text (Refusal line)))
-    → EndsLiveWith answered old new failed ended → HasEndedLive IsAnswered turns given left read_failed old new failed ended
-ends_live A turns given left read_failed read (Ok p) old new failed ended heard good bad how =
-    confirmed ended (ends A turns given left read_failed read (Ok p) old new failed ended heard good tt how)
-ends_live A turns given left read_failed read (Err (Stopped stop)) old new failed ended heard good bad how =
-    confirmed ended (ends A turns given left read_failed read (Err stop) old new failed ended heard tt bad how)
-ends_live A turns given left read_failed read (Err Unconfirmed) old new failed ended heard good bad how =
-    subst (HasEndedLive A turns given left read_failed old new failed) (sym how.0) (unconfirmed heard.text heard.whole how.1 how.2)
+    → EndsLiveWith answered output.before output.after output.failed ended → HasEndedLive IsAnswered turns input output ended
+ends_live A turns input read (Ok p) output ended heard good bad how =
+    confirmed ended (ends A turns input read (Ok p) output ended heard good tt how)
+ends_live A turns input read (Err (Stopped stop)) output ended heard good bad how =
+    confirmed ended (ends A turns input read (Err stop) output ended heard tt bad how)
+ends_live A turns input read (Err Unconfirmed) output ended heard good bad how =
+    subst (HasEndedLive A turns input output) (sym how.0) (unconfirmed heard.text heard.whole how.1 how.2)

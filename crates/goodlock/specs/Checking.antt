@@ -16,7 +16,7 @@ use Rattle.gl_check.specs.declared.faults.CheckFault.TheVariants.{Inconsistent, 
 use Rattle.gl_check.specs.declared.reports.Checked.{Checked}
 use Rattle.goodlock.specs.Answer.{Answer}
 use Rattle.goodlock.specs.Answer.Answer.{Prints, Refusal}
-use Rattle.goodlock.specs.Ending.{EndsAs, EndsEarlyAs}
+use Rattle.goodlock.specs.Ending.{EndsAs, EndsEarlyAs, Use}
 use Rattle.goodlock.specs.Lines.{fault_line, inconsistent_line}
 use Rattle.goodlock.specs.declared.ended.Ended.{Ended}
 use Rattle.goodlock.specs.declared.ended.Ended.TheVariants as ended
@@ -54,12 +54,12 @@ pub data IsCheckAnswer (input : List ℕ) : Answer → Type 0 where
 
 -- the end of `check`, after at most so many turns: the reader had the bytes `old` left and then `new`, the writer held `before` and then
 -- `after`; each may have failed
-pub data HasChecked (turns : ℕ) (old new : Option (List ℕ)) (read_failed : Bool) (before after : Option (List ℕ)) (write_failed : Bool) : Ended → Type 0 where
+pub data HasChecked (turns : ℕ) (input output : Use) : Ended → Type 0 where
   -- memory for the input was refused while it was read, and nothing was written
-  out_of_memory : Keeps before after → write_failed ≡ false → HasChecked turns old new read_failed before after write_failed ended.Memory
+  out_of_memory : Keeps output.before output.after → output.failed ≡ false → HasChecked turns input output ended.Memory
   -- only this much was read: the lines of its trace that LF had ended are judged, and nothing was written
-  cut_short : (input : List ℕ) (how : Ended) → HasRead turns old new read_failed input false → EndsEarlyAs (trace_in input) how
-      → Keeps before after → write_failed ≡ false → HasChecked turns old new read_failed before after write_failed how
+  cut_short : (bytes : List ℕ) (how : Ended) → HasRead turns input.before input.after input.failed bytes false → EndsEarlyAs (trace_in bytes) how
+      → Keeps output.before output.after → output.failed ≡ false → HasChecked turns input output how
   -- the input was read whole
-  ended_so : (input : List ℕ) (how : Ended) → HasRead turns old new read_failed input true → EndsAs IsCheckAnswer input before after write_failed how
-      → HasChecked turns old new read_failed before after write_failed how
+  ended_so : (bytes : List ℕ) (how : Ended) → HasRead turns input.before input.after input.failed bytes true → EndsAs IsCheckAnswer bytes output.before output.after output.failed how
+      → HasChecked turns input output how

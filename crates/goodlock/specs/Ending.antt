@@ -22,6 +22,16 @@ use Rattle.goodlock.specs.declared.ended.Ended.TheVariants.{Clean, Cycles, Done,
 use Rattle.goodlock.specs.declared.ended.Outcome.{Outcome}
 use Rattle.goodlock.specs.declared.ended.Outcome.TheVariants as outcome
 
+-- a reader, or a writer, over a call: the bytes that a reader has left, or that a writer was given, before it and after, where they are
+-- told; and whether it has failed since
+pub record Use : Type 0 where
+  pub before : Option (List ℕ)
+  pub after : Option (List ℕ)
+  pub failed : Bool
+
+abbrev pub used : Option (List ℕ) → Option (List ℕ) → Bool → Use
+used before after failed = record { before = before; after = after; failed = failed }
+
 -- ---- the input was read whole
 
 -- what is answered was written whole, and nothing else
@@ -72,39 +82,36 @@ EndsEarlyAs text Memory = Unit {0}
 EndsEarlyAs text other = ⊥
 
 -- the reads ended before the text was read whole, or before there was memory for it
-pub data HasEndedEarly (turns : ℕ) (old new : Option (List ℕ)) (read_failed : Bool) : Ended → Type 0 where
+pub data HasEndedEarly (turns : ℕ) (input : Use) : Ended → Type 0 where
   -- memory for the text was refused while it was read
-  out_of_memory : HasEndedEarly turns old new read_failed Memory
+  out_of_memory : HasEndedEarly turns input Memory
   -- only this text was read
-  cut_short : (text : List ℕ) (ended : Ended) → HasRead turns old new read_failed text false → EndsEarlyAs text ended → HasEndedEarly turns old new read_failed ended
+  cut_short : (text : List ℕ) (ended : Ended) → HasRead turns input.before input.after input.failed text false → EndsEarlyAs text ended → HasEndedEarly turns input ended
 
 -- ---- either
 
--- the end of a command that answers so to a text, after at most so many turns: the reader had the bytes `old` left and then `new`, the writer
--- held `before` and then `after`; each may have failed
-pub data HasEnded (IsAnswered : List ℕ → Answer → Type 0) (turns : ℕ) (old new : Option (List ℕ)) (read_failed : Bool) (before after : Option (List ℕ)) (write_failed : Bool) : Ended → Type 0 where
+-- the end of a command that answers so to a text, after at most so many turns over this reader and this writer
+pub data HasEnded (IsAnswered : List ℕ → Answer → Type 0) (turns : ℕ) (input output : Use) : Ended → Type 0 where
   -- nothing was written
-  early : (ended : Ended) → HasEndedEarly turns old new read_failed ended → Keeps before after → write_failed ≡ false
-      → HasEnded IsAnswered turns old new read_failed before after write_failed ended
+  early : (ended : Ended) → HasEndedEarly turns input ended → Keeps output.before output.after → output.failed ≡ false → HasEnded IsAnswered turns input output ended
   -- a text was read whole
-  ended_so : (text : List ℕ) (ended : Ended) → HasRead turns old new read_failed text true → EndsAs IsAnswered text before after write_failed ended
-      → HasEnded IsAnswered turns old new read_failed before after write_failed ended
+  ended_so : (text : List ℕ) (ended : Ended) → HasRead turns input.before input.after input.failed text true → EndsAs IsAnswered text output.before output.after output.failed ended
+      → HasEnded IsAnswered turns input output ended
 
 -- the end of a command that runs a session to answer so: as any other, or nothing is written because the session isn't confirmed
-pub data HasEndedLive (IsAnswered : List ℕ → Answer → Type 0) (turns : ℕ) (old new : Option (List ℕ)) (read_failed : Bool) (before after : Option (List ℕ)) (write_failed : Bool) : Ended → Type 0 where
+pub data HasEndedLive (IsAnswered : List ℕ → Answer → Type 0) (turns : ℕ) (input output : Use) : Ended → Type 0 where
   -- as any other command that answers so
-  confirmed : (ended : Ended) → HasEnded IsAnswered turns old new read_failed before after write_failed ended
-      → HasEndedLive IsAnswered turns old new read_failed before after write_failed ended
+  confirmed : (ended : Ended) → HasEnded IsAnswered turns input output ended → HasEndedLive IsAnswered turns input output ended
   -- a text was read whole, and nothing was written
-  unconfirmed : (text : List ℕ) → HasRead turns old new read_failed text true → Keeps before after → write_failed ≡ false
-      → HasEndedLive IsAnswered turns old new read_failed before after write_failed Unconfirmed
+  unconfirmed : (text : List ℕ) → HasRead turns input.before input.after input.failed text true → Keeps output.before output.after → output.failed ≡ false
+      → HasEndedLive IsAnswered turns input output Unconfirmed
 
 -- ---- the two halves
 
 -- a text was read whole, and this is its trace or its first fault
-pub record HasHeardAll (turns : ℕ) (old new : Option (List ℕ)) (read_failed : Bool) (read : Result Trace ReadFault) : Type 0 where
+pub record HasHeardAll (turns : ℕ) (input : Use) (read : Result Trace ReadFault) : Type 0 where
   pub text : List ℕ
-  pub whole : HasRead turns old new read_failed text true
+  pub whole : HasRead turns input.before input.after input.failed text true
   pub trace : trace_of greatest text ≡ read
 
 -- what became of a text to be printed

@@ -8,7 +8,7 @@ ghost use Rattle.gl_std.specs.Lines.{ended_lines};
 ghost use Rattle.gl_std.specs.Trace.{trace_of, IsTraceOver};
 ghost use Rattle.goodlock.specs.Answer.{IsAnswer, IsPlainAnswer, counts, prediction, replay};
 ghost use Rattle.goodlock.specs.Checking.{HasChecked};
-ghost use Rattle.goodlock.specs.Ending.{EndsEarlyAs, EndsLiveWith, EndsWith, HasEnded, HasEndedEarly, HasEndedLive, HasHeardAll, HasWrittenText};
+ghost use Rattle.goodlock.specs.Ending.{EndsEarlyAs, EndsLiveWith, EndsWith, HasEnded, HasEndedEarly, HasEndedLive, HasHeardAll, HasWrittenText, used};
 ghost use Rattle.goodlock.specs.Performed.{HasPerformed};
 ghost use Rattle.goodlock.specs.Sessions.{AreOfSession, CanRun};
 
@@ -51,9 +51,9 @@ fn hear<I: Source>(
 ) -> Result<Result<Trace, ReadFault>, Ended>
     requires readable { I.failed input.old ≡ false }
     requires few_turns { turns ≤ 2 ^ 40 }
-    ensures heard { IfOk result (HasHeardAll turns (I.remaining input.old) (I.remaining input.new) (I.failed input.new)) }
+    ensures heard { IfOk result (HasHeardAll turns (used (I.remaining input.old) (I.remaining input.new) (I.failed input.new))) }
     ensures over { IfOk result (λ read. IfOk read (IsTraceOver greatest)) }
-    ensures early { IfErr result (HasEndedEarly turns (I.remaining input.old) (I.remaining input.new) (I.failed input.new)) }
+    ensures early { IfErr result (HasEndedEarly turns (used (I.remaining input.old) (I.remaining input.new) (I.failed input.new))) }
 {
     let Ok(heard) = read_source(alloc, input, turns, &greatest_limits(), seed) else {
         return Err(Ended::Memory);
@@ -129,7 +129,7 @@ pub fn predict<R: AllocGlobal + Threads + Sync, I: Source, O: Sink>(
     requires readable { I.failed input.old ≡ false }
     requires writable { O.failed output.old ≡ false }
     requires few_turns { turns ≤ 2 ^ 40 }
-    ensures { HasEnded (IsAnswer (prediction query.now form)) turns (I.remaining input.old) (I.remaining input.new) (I.failed input.new) (O.contents output.old) (O.contents output.new) (O.failed output.new) result }
+    ensures { HasEnded (IsAnswer (prediction query.now form)) turns (used (I.remaining input.old) (I.remaining input.new) (I.failed input.new)) (used (O.contents output.old) (O.contents output.new) (O.failed output.new)) result }
 {
     let alloc = rt.alloc();
     match hear(alloc, input, turns, seed) {
@@ -159,7 +159,7 @@ pub fn live<R: AllocGlobal + Threads + Wait + Sync, I: Source, O: Sink>(
     requires writable { O.failed output.old ≡ false }
     requires few_turns { turns ≤ 2 ^ 40 }
     requires session { AreOfSession options.now }
-    ensures { HasEndedLive (IsAnswer (prediction options.now.query options.now.form)) turns (I.remaining input.old) (I.remaining input.new) (I.failed input.new) (O.contents output.old) (O.contents output.new) (O.failed output.new) result }
+    ensures { HasEndedLive (IsAnswer (prediction options.now.query options.now.form)) turns (used (I.remaining input.old) (I.remaining input.new) (I.failed input.new)) (used (O.contents output.old) (O.contents output.new) (O.failed output.new)) result }
 {
     live_gated(rt, input, output, turns, seed, options, &Open)
 }
@@ -178,7 +178,7 @@ pub fn live_gated<R: AllocGlobal + Threads + Wait + Sync, I: Source, O: Sink, G:
     requires writable { O.failed output.old ≡ false }
     requires few_turns { turns ≤ 2 ^ 40 }
     requires session { AreOfSession options.now }
-    ensures { HasEndedLive (IsAnswer (prediction options.now.query options.now.form)) turns (I.remaining input.old) (I.remaining input.new) (I.failed input.new) (O.contents output.old) (O.contents output.new) (O.failed output.new) result }
+    ensures { HasEndedLive (IsAnswer (prediction options.now.query options.now.form)) turns (used (I.remaining input.old) (I.remaining input.new) (I.failed input.new)) (used (O.contents output.old) (O.contents output.new) (O.failed output.new)) result }
 {
     let alloc = rt.alloc();
     match hear(alloc, input, turns, seed) {
@@ -201,7 +201,7 @@ pub fn stats<R: AllocGlobal + Threads + Sync, I: Source, O: Sink>(
     requires readable { I.failed input.old ≡ false }
     requires writable { O.failed output.old ≡ false }
     requires few_turns { turns ≤ 2 ^ 40 }
-    ensures { HasEnded (IsAnswer (counts query.now)) turns (I.remaining input.old) (I.remaining input.new) (I.failed input.new) (O.contents output.old) (O.contents output.new) (O.failed output.new) result }
+    ensures { HasEnded (IsAnswer (counts query.now)) turns (used (I.remaining input.old) (I.remaining input.new) (I.failed input.new)) (used (O.contents output.old) (O.contents output.new) (O.failed output.new)) result }
 {
     let alloc = rt.alloc();
     match hear(alloc, input, turns, seed) {
@@ -224,7 +224,7 @@ pub fn replay<R: AllocGlobal, I: Source, O: Sink>(
     requires readable { I.failed input.old ≡ false }
     requires writable { O.failed output.old ≡ false }
     requires few_turns { turns ≤ 2 ^ 40 }
-    ensures { HasEnded (IsPlainAnswer replay) turns (I.remaining input.old) (I.remaining input.new) (I.failed input.new) (O.contents output.old) (O.contents output.new) (O.failed output.new) result }
+    ensures { HasEnded (IsPlainAnswer replay) turns (used (I.remaining input.old) (I.remaining input.new) (I.failed input.new)) (used (O.contents output.old) (O.contents output.new) (O.failed output.new)) result }
 {
     let alloc = rt.alloc();
     match hear(alloc, input, turns, seed) {
@@ -249,7 +249,7 @@ pub fn check_input<R: AllocGlobal, I: Source, O: Sink>(
     requires readable { I.failed input.old ≡ false }
     requires writable { O.failed output.old ≡ false }
     requires few_turns { turns ≤ 2 ^ 40 }
-    ensures { HasChecked turns (I.remaining input.old) (I.remaining input.new) (I.failed input.new) (O.contents output.old) (O.contents output.new) (O.failed output.new) result }
+    ensures { HasChecked turns (used (I.remaining input.old) (I.remaining input.new) (I.failed input.new)) (used (O.contents output.old) (O.contents output.new) (O.failed output.new)) result }
 {
     let alloc = rt.alloc();
     let Ok(gathered) = read_whole(alloc, input, turns) else {
@@ -274,7 +274,7 @@ pub fn perform<R: AllocGlobal + Threads + Wait + Sync, I: Source, O: Sink>(
     requires readable { I.failed input.old ≡ false }
     requires writable { O.failed output.old ≡ false }
     requires runs { CanRun command.now }
-    ensures { HasPerformed command.now 1000000000 (I.remaining input.old) (I.remaining input.new) (I.failed input.new) (O.contents output.old) (O.contents output.new) (O.failed output.new) result }
+    ensures { HasPerformed command.now 1000000000 (used (I.remaining input.old) (I.remaining input.new) (I.failed input.new)) (used (O.contents output.old) (O.contents output.new) (O.failed output.new)) result }
 {
     match command {
         Command::Predict { query, form } => predict(rt, input, output, TURNS, seed, query, *form),

@@ -8,9 +8,9 @@ returns-in_default g c = out_of_memory (Keeps-refl _) c.requires.writable
 
 pub returns-then-gathered : goal.returns-then-gathered
 returns-then-gathered g c =
-    ends_whole _ _ _ _ c.as_slice-text.result.now c.in-Ok.gathered.text.items c.in-Ok.gathered.is_whole c.checked.result _ _ _ c.end.result c.in-Ok.ensures.read c.if-gathered.true c.as_slice-text.ensures.value
+    ends_whole _ _ _ c.as_slice-text.result.now c.in-Ok.gathered.text.items c.in-Ok.gathered.is_whole c.checked.result c.end.result c.in-Ok.ensures.read c.if-gathered.true c.as_slice-text.ensures.value
     c.checked.ensures.printed c.checked.ensures.refused c.end.ensures
 
 pub returns : goal.returns
 returns g c =
-    ends_short _ _ _ _ c.as_slice-text.result.now c.in-Ok.gathered.text.items c.in-Ok.gathered.is_whole _ _ c.end_cut.result c.in-Ok.ensures.read c.if-gathered.false c.as_slice-text.ensures.value c.end_cut.ensures c.requires.writable
+    ends_short _ _ _ c.as_slice-text.result.now c.in-Ok.gathered.text.items c.in-Ok.gathered.is_whole c.end_cut.result c.in-Ok.ensures.read c.if-gathered.false c.as_slice-text.ensures.value c.end_cut.ensures (Keeps-refl _) c.requires.writable

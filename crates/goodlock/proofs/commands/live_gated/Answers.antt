@@ -7,7 +7,7 @@ use Rattle.goodlock.proofs.commands.live_gated.Goals as goal
 
 pub returns-in-Ok : goal.returns-in-Ok
 returns-in-Ok g c =
-    ends_live (IsAnswer (prediction c.args.options.now.query c.args.options.now.form)) _ _ _ _ c.in-Ok.read c.recorded.result _ _ _ c.end_live.result c.in-Ok.ensures.heard c.recorded.ensures.printed c.recorded.ensures.refused c.end_live.ensures
+    ends_live (IsAnswer (prediction c.args.options.now.query c.args.options.now.form)) _ _ c.in-Ok.read c.recorded.result _ c.end_live.result c.in-Ok.ensures.heard c.recorded.ensures.printed c.recorded.ensures.refused c.end_live.ensures
 
 -- nothing was written
 pub returns-in-Err : goal.returns-in-Err
