@@ -3,12 +3,13 @@ ghost use Rattle.std.specs.Prelude.{◌≡◌, ℕ, ◌≤◌, List, length, sli
 ghost use Rattle.gl_event.specs.Bounds.{greatest};
 ghost use Rattle.gl_event.specs.Lawful.{IsLawful};
 ghost use Rattle.gl_event.specs.declared.events.Event.{Event};
+ghost use Rattle.gl_edges.specs.Numbered.{guards_in, AreNumbered};
 ghost use Rattle.gl_segments.specs.Orders.{lists_of};
 
-use crate::pairs::{compatible, goes_with};
+use crate::pairs::{compatible, compatible_at, goes_with};
 use crate::query::{BadQuery, MAX_CYCLES, MAX_LEN, Mode, Query};
 use crate::verdict::{Verdict, judge};
-use gl_edges::{Edge, EdgeList, edges_of};
+use gl_edges::{Edge, EdgeList, GuardSets, edges_of};
 use gl_event::{Event, Limits, LocId, LockId, LockMode, Memory, ThreadId};
 use gl_segments::Order;
 use std::alloc::Global;
@@ -225,6 +226,47 @@ fn gate_lock(rt: HostRuntime) -> Result<(), Fail> {
     let gate = Verdict::SharedGuard(0, 1, LockId::new(0));
     expect(&rt, &known, Mode::Guarded, 4, &[2, 5], gate)?;
     expect(&rt, &known, Mode::Basic, 4, &[2, 5], Verdict::Valid)
+}
+
+// Whether the edge at the second position may follow the one at the first.
+fn may_follow(known: &Known, sets: &GuardSets, mode: Mode, i: usize, j: usize) -> Option<bool>
+    requires { AreNumbered (guards_in known.now.edges) sets.now }
+{
+    let count = known.edges.entries().len();
+    if i >= count || j >= count {
+        return None;
+    }
+    Some(compatible_at(mode, &known.order, &known.edges, sets, i, j))
+}
+
+// The edges are 0 to 1, 0 to 2 and 1 to 2 of the first thread, of which the last two have one guard
+// set, and 2 to 0 of the second.
+#[test]
+fn compatible_by_position(rt: HostRuntime) -> Result<(), Fail> {
+    let alloc = rt.alloc();
+    let first = [acq(0, 1), acq(0, 2), acq(1, 3), acq(2, 4)];
+    let second = [acq(2, 5), acq(0, 6)];
+    let known = Known::of(&rt, alloc, &[&first, &second])?;
+    let sets = GuardSets::of(alloc, &known.edges)?;
+    assert!(rt; may_follow(&known, &sets, Mode::Full, 1, 3) == Some(true));
+    assert!(rt; may_follow(&known, &sets, Mode::Full, 2, 3) == Some(true));
+    assert!(rt; may_follow(&known, &sets, Mode::Full, 3, 0) == Some(true));
+    assert!(rt; may_follow(&known, &sets, Mode::Full, 3, 2) == Some(false));
+    assert!(rt; may_follow(&known, &sets, Mode::Basic, 0, 2) == Some(false));
+    Ok(())
+}
+
+// By position too a gate lock keeps two edges apart from Guarded on.
+#[test]
+fn gate_lock_by_position(rt: HostRuntime) -> Result<(), Fail> {
+    let alloc = rt.alloc();
+    let first = [acq(0, 1), acq(1, 2), acq(2, 3)];
+    let second = [acq(0, 7), acq(2, 8), acq(1, 9)];
+    let known = Known::of(&rt, alloc, &[&first, &second])?;
+    let sets = GuardSets::of(alloc, &known.edges)?;
+    assert!(rt; may_follow(&known, &sets, Mode::Basic, 2, 5) == Some(true));
+    assert!(rt; may_follow(&known, &sets, Mode::Guarded, 2, 5) == Some(false));
+    Ok(())
 }
 
 // The edges are 0 to 1, 0 to 2 and 1 to 2 of the first thread, and 2 to 0 of the second.
