@@ -40,6 +40,7 @@
 
 mod faults;
 mod feed;
+mod guess;
 mod judge;
 mod laws;
 mod line;
