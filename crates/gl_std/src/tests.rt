@@ -1,6 +1,7 @@
 ghost use Rattle.std.specs.Prelude.{◌≡◌, ◌≤◌, false, None, IfOk};
 ghost use Rattle.gl_std.specs.Streaming.{source_of, CanBeAsked};
 
+use crate::guess::{Guesses, Print};
 use crate::{
     Failed, Heard, Item, Lines, LinesFault, Lists, Names, ReadFault, Seed, Source, StdKind, Trace,
     read_source, read_trace, write_trace,
@@ -210,6 +211,27 @@ fn bad_lines(rt: HostRuntime) -> Result<(), Fail> {
 }
 
 // The faults are different.
+#[test]
+fn guesses_are_kept(rt: HostRuntime) -> Result<(), Fail> {
+    let mut guesses = Guesses::new(rt.alloc());
+    let (thread, lock) = (Print::new(b"T1"), Print::new(b"lock17"));
+    let loc = Print::new(b"Main.java:100");
+    guesses.put(thread, Some(7));
+    expect(&rt, &guesses.get(thread), &None);
+    guesses.make_room(rt.alloc())?;
+    guesses.put(thread, Some(7));
+    guesses.put(lock, Some(8));
+    guesses.put(lock, Some(9));
+    guesses.put(loc, Some(2));
+    guesses.put(loc, None);
+    guesses.make_room(rt.alloc())?;
+    expect(&rt, &guesses.get(thread), &Some(7));
+    expect(&rt, &guesses.get(lock), &Some(9));
+    expect(&rt, &guesses.get(loc), &Some(2));
+    expect(&rt, &guesses.get(Print::new(b"Main.java:200")), &None);
+    Ok(())
+}
+
 fn expect_other(rt: &impl Abort, one: ReadFault, other: ReadFault) {
     assert_ne!(rt; one, other);
 }
