@@ -35,6 +35,14 @@ def release(lock, loc):
     return acquire(lock, loc).replace("Acquire", "Release")
 
 
+def fork(thread, loc):
+    return f"Fork {{ thread: ThreadId {{ number: {thread} }}, loc: LocId {{ number: {loc} }} }}"
+
+
+def join(thread, loc):
+    return fork(thread, loc).replace("Fork", "Join")
+
+
 def edge(held, wanted, place):
     """An edge whose only guard is the lock that is held."""
     guard = f"Guard {{ lock: LockId {{ number: {held} }}, mode: Exclusive }}"
@@ -131,12 +139,72 @@ FAULT_REPEATS = [
     WORDS, *BAD_LINE, *items(1 + len(BAD_LINE), [*SIX_EVENTS, "Ok(End)", "Ok(End)"]), Call("parts", "((2, 2, 6), 0, 0)"),
 ]  # fmt: skip
 
+
+def told_of(events):
+    return f"[{', '.join(events)}]"
+
+
+def pull(answer, log, stream):
+    """A pull of a thread that has this log, where so many notes stand in the stream."""
+    return Call("pull", f"Ok({answer})", f"({told_of(log)}, {stream})")
+
+
+def pull_events(events, log, stream):
+    """Pulls of these events of a thread."""
+    calls = []
+    for _ in events:
+        calls.append(pull(f"Event {{ place: {len(log)} }}", log, stream))
+        log, stream = [*log, events[len(calls) - 1]], stream + 1
+    return calls
+
+
+def records(events):
+    return [Call("record", f"Ok({place})") for place in range(len(events))]
+
+
+OPEN = Call("open", None, "()")
+FIRST, SECOND = acquire(0, 1), acquire(1, 2)
+RING_OF_ONE = [
+    WORDS, OPEN, Call("record", "Ok(0)"), Call("record", f"Err(Full({SECOND}))"), Call("full", "1"),
+    pull("Event { place: 0 }", [], 0), Call("record", "Ok(1)"), pull("Event { place: 1 }", [FIRST], 1),
+    Call("close", "(7, 0, 2)"), pull("Ended { count: 2 }", [FIRST, SECOND], 2), Call("pull", "Ok(Empty)"),
+    Call("log", told_of([FIRST, SECOND])),
+]  # fmt: skip
+
+OTHER_ORDER = [acquire(1, 3), acquire(0, 4)]
+FORKS = [fork(1, 5), join(1, 6), fork(2, 7)]
+REPORT_SO_FAR_DROPS = [
+    WORDS, OPEN, *records([FIRST, SECOND]), *records(OTHER_ORDER),
+    *pull_events([FIRST, SECOND], [], 0), *pull_events(OTHER_ORDER, [], 2), Call("report", "Some((2, 1, false))", "4"),
+    *records(FORKS), *pull_events(FORKS, [], 4), Call("report", "Some((2, 0, false))", "7"),
+]  # fmt: skip
+
+
+def settled(events, edges):
+    """Sessions of one thread with these events. Without memory for the collector or the worker both begin once more."""
+    lists = f"[{told_of(events)}]"
+    return [
+        WORDS, OPEN, *records(events), Call("close", f"(7, 0, {len(events)})"), OPEN, Call("close", "(8, 0, 0)"),
+        Call("feed", None, "()"), Call("outlets", None, "()"), Call("missing", "0"), Call("strange", "0"),
+        Call("settle", lists, "false", 1), Call("worker", f"(false, {edges})", "false" if edges else None, 1),
+        Call("report", f"Some(({edges}, 0, false))", lists),
+    ]  # fmt: skip
+
+
+SETTLE_RECEIPTS = settled([], 0)
+# The second lock is wanted beside one, the third one beside two.
+SETTLE_EDGES = settled([FIRST, SECOND, acquire(2, 3)], 3)
+
 SCRIPTS = {
     "crossed_releases": CROSSED_RELEASES,
     "least_sample": LEAST_SAMPLE,
     "two_schedules": TWO_SCHEDULES,
     "parallel_as_search": PARALLEL_AS_SEARCH,
     "fault_repeats": FAULT_REPEATS,
+    "ring_of_one": RING_OF_ONE,
+    "report_so_far_drops": REPORT_SO_FAR_DROPS,
+    "settle_receipts": SETTLE_RECEIPTS,
+    "settle_edges": SETTLE_EDGES,
 }
 # Calls that have to be refused in some run.
 REFUSED = {
@@ -145,6 +213,10 @@ REFUSED = {
     "two_schedules": {"words", "world", "step", "report"},
     "parallel_as_search": {"words", "lists", "edges_of", "order", "search", "search_parallel"},
     "fault_repeats": {"words", "lines", "next"},
+    "ring_of_one": {"words", "open", "pull"},
+    "report_so_far_drops": {"words", "open", "pull", "report"},
+    "settle_receipts": {"words", "open", "feed", "outlets", "settle", "report"},
+    "settle_edges": {"words", "open", "feed", "outlets", "settle", "worker", "report"},
 }
 
 

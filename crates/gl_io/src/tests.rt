@@ -1,6 +1,8 @@
 //! Fake readers and writers, and what reading and writing them gives.
 ghost use Rattle.std.specs.Prelude.{◌<◌, ◌≤◌, ◌^◌, IfOk, None};
 
+mod tables;
+
 use crate::{Failed, FromStd, Sink, Source, WriteFault, read_whole, write_out};
 use std::io::{self, Cursor, ErrorKind};
 use std::process::Abort;

@@ -12,6 +12,8 @@ mod known;
 mod reports;
 mod say;
 mod searches;
+mod sessions;
+mod settling;
 mod tables;
 mod texts;
 mod worlds;
@@ -32,6 +34,10 @@ fn script<T: Threads + Wait + Sync>(rt: &HostRuntime, threads: &T, name: &str) -
         "two_schedules" => worlds::two_schedules(rt),
         "parallel_as_search" => searches::parallel_as_search(rt, threads),
         "fault_repeats" => texts::fault_repeats(rt),
+        "ring_of_one" => sessions::ring_of_one(rt),
+        "report_so_far_drops" => sessions::report_so_far_drops(rt),
+        "settle_receipts" => settling::settle_receipts(rt, threads),
+        "settle_edges" => settling::settle_edges(rt, threads),
         _ => Err(Stop::Unknown),
     }
 }

@@ -1,6 +1,8 @@
 ghost use Rattle.std.specs.Prelude.{◌≡◌, ◌≤◌, false, None, IfOk};
 ghost use Rattle.gl_std.specs.Streaming.{source_of, CanBeAsked};
 
+mod tables;
+
 use crate::guess::{Guesses, Print};
 use crate::{
     Failed, Heard, Item, Lines, LinesFault, Lists, Names, ReadFault, Seed, Source, StdKind, Trace,
