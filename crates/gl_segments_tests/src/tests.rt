@@ -5,9 +5,8 @@ ghost use Rattle.gl_event.specs.Lawful.{IsLawful};
 ghost use Rattle.gl_event.specs.declared.events.Event.{Event};
 ghost use Rattle.gl_segments.specs.Orders.{lists_of};
 
-use crate::faults::OrderFault;
-use crate::order::Order;
 use gl_event::{Event, Limits, LocId, LockId, LockMode, Segment, ThreadId};
+use gl_segments::{Order, OrderFault};
 use std::alloc::{AllocError, Global};
 use std::test::Fail;
 
