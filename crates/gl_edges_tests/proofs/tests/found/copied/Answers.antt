@@ -1,5 +1,5 @@
 use Rattle.gl_edges.proofs.Steps.{above_front}
-use Rattle.gl_edges.proofs.tests.copied.Goals as goal
+use Rattle.gl_edges_tests.proofs.tests.found.copied.Goals as goal
 
 pub push-requires : goal.push-requires
 push-requires c =

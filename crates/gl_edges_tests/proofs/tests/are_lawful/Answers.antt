@@ -1,6 +1,6 @@
 use Rattle.std.proofs.Common.{arith}
 use Rattle.std.proofs.lemmas.List.{length-map}
-use Rattle.gl_edges.proofs.tests.are_lawful.Goals as goal
+use Rattle.gl_edges_tests.proofs.tests.are_lawful.Goals as goal
 
 pub returns-clause-few : goal.returns-clause-few
 returns-clause-few c = λ ok.

@@ -2,10 +2,8 @@
 ghost use Rattle.std.specs.Prelude.{◌<◌, length};
 ghost use Rattle.gl_edges.specs.Numbered.{guards_in, AreNumbered};
 
-use super::{acq, are_lawful, rel};
-use crate::gather::edges_of;
-use crate::guard_sets::GuardSets;
-use crate::list::EdgeList;
+use super::{acq, found_in, rel};
+use gl_edges::{EdgeList, GuardSets};
 use std::test::Fail;
 
 // The number of the guard set at a position.
@@ -34,17 +32,17 @@ fn clash_at(edges: &EdgeList, sets: &GuardSets, i: usize, j: usize) -> Option<bo
 #[test]
 fn interned_guards(rt: HostRuntime) -> Result<(), Fail> {
     let alloc = rt.alloc();
-    let lists = vec![in alloc;
-        vec![in alloc; acq(0, 1), acq(0, 2), acq(1, 3), rel(0, 4), acq(2, 5)]?,
-        vec![in alloc; acq(2, 6), acq(0, 7)]?,
-    ]?;
-    assert!(rt; are_lawful(&lists));
-    let edges = edges_of(alloc, &lists)?;
+    let first = [acq(0, 1), acq(0, 2), acq(1, 3), rel(0, 4), acq(2, 5)];
+    let second = [acq(2, 6), acq(0, 7)];
+    let edges = found_in(&rt, alloc, &[&first, &second])?;
     let sets = GuardSets::of(alloc, &edges)?;
-    assert!(rt; id_at(&edges, &sets, 0) == Some(0));
-    assert!(rt; id_at(&edges, &sets, 1) == Some(1));
-    assert!(rt; id_at(&edges, &sets, 2) == Some(1));
-    assert!(rt; id_at(&edges, &sets, 3) == Some(2));
+    let ids = [
+        id_at(&edges, &sets, 0),
+        id_at(&edges, &sets, 1),
+        id_at(&edges, &sets, 2),
+        id_at(&edges, &sets, 3),
+    ];
+    assert!(rt; ids == [Some(0), Some(1), Some(1), Some(2)]);
     assert!(rt; clash_at(&edges, &sets, 0, 1) == Some(true));
     assert!(rt; clash_at(&edges, &sets, 1, 3) == Some(false));
     Ok(())
