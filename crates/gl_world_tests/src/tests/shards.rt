@@ -2,8 +2,8 @@
 ghost use Rattle.std.specs.Prelude.{◌≤◌, length};
 
 use super::{acquire, does, end, goes, one_list, pull, pulled, release, take};
-use crate::{Did, Step, World};
 use gl_event::Limits;
+use gl_world::{Did, Step, World};
 use std::test::Fail;
 
 // Each edge goes to the shard of its held lock, and a full feed waits for its worker.

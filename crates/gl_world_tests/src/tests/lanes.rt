@@ -3,9 +3,9 @@ use super::{
     acquire, acquire_shared, again, does, end, misplaced, one_list, opposite_order, pull, pulled,
     release, take,
 };
-use crate::{Did, World};
 use gl_event::{Limits, Refusal, ThreadId};
 use gl_intake::{Accepted, Refused};
+use gl_world::{Did, World};
 use std::test::Fail;
 
 #[test]

@@ -5,12 +5,12 @@ use super::{
     acquire, again, does, end, ended, goes, happened, join, misplaced, opposite_order, pull,
     pulled, release, take, two_lists,
 };
-use crate::{Did, Step, World};
 use gl_cycles::{Report, ReportFault};
 use gl_edges::{Edge, Sample};
 use gl_event::{Event, Limits, Note, Segment};
 use gl_filters::{Mode, Query};
 use gl_intake::Accepted;
+use gl_world::{Did, Step, World};
 use std::alloc::{AllocError, Global};
 use std::test::Fail;
 

@@ -1,8 +1,8 @@
 //! Steps that aren't enabled.
 use super::{acquire, again, does, end, one_list, pull, pulled, take};
-use crate::{Did, Step, World};
 use gl_event::Limits;
 use gl_intake::Accepted;
+use gl_world::{Did, Step, World};
 use std::test::Fail;
 
 // Threads, places and shards that aren't there, an empty lane, the front of a lane, and no edges.

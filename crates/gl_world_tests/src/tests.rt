@@ -1,9 +1,9 @@
 //! What worlds answer, step by step.
 ghost use Rattle.std.specs.Prelude.{◌≡◌, length, IfOk};
 
-use crate::{Did, Step, World};
 use gl_event::{Body, Event, LocId, LockId, LockMode, Note, ThreadId};
 use gl_intake::{Accepted, Refused};
+use gl_world::{Did, Step, World};
 use std::alloc::{AllocError, Global};
 
 mod lanes;
