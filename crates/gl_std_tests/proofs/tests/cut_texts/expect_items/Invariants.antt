@@ -1,5 +1,5 @@
 use Rattle.gl_std.specs.Streaming.{source_of, CanBeAsked}
-use Rattle.gl_std.proofs.tests.expect_items.Given as goal
+use Rattle.gl_std_tests.proofs.tests.cut_texts.expect_items.Given as goal
 
 -- the next item can be asked for
 abbrev pub invariant-loop-item : goal.invariant-loop-item
