@@ -1,2 +1,3 @@
 pub mod Stream
 pub mod Rows
+pub mod bodies

@@ -104,6 +104,8 @@ fn fresh_rows(alloc: Global, limits: &Limits) -> Result<Vec<Row>, Memory>
 }
 
 impl Intake {
+    ghost use Rattle.gl_intake.specs.bodies.Accepting.{Accepts};
+
     /// An intake that has accepted nothing yet, under these limits. It has memory for a row and a
     /// log of each thread.
     pub fn new(alloc: Global, limits: &Limits) -> Result<Intake, Memory>
@@ -236,10 +238,7 @@ impl Intake {
     fn accept(&mut self, note: &Note) -> Result<Accepted, Memory>
         requires next { note_refusal self.old.limits self.old.stream note.now ≡ None }
         ensures answer { IfOk result (λ answer. answer ≡ accepted_as note.now.place note.now.body) }
-        ensures grown { OnOk result (self.new.stream ≡ self.old.stream ++ note.now ∷ []) }
-        ensures room { 1 ≤ spare_of self.old note.now.thread → IsOk result }
-        ensures unchanged { OnErr result (self.new.stream ≡ self.old.stream) }
-        ensures limits { self.new.limits ≡ self.old.limits }
+        ensures accepts { Accepts self.old self.new note.now result }
     {
         match note.body {
             Body::Happened(event) => {
@@ -257,10 +256,7 @@ impl Intake {
     fn accept_event(&mut self, note: &Note, event: &Event) -> Result<(), Memory>
         requires next { note_refusal self.old.limits self.old.stream note.now ≡ None }
         requires told { note.now.body ≡ Happened event.now }
-        ensures grown { OnOk result (self.new.stream ≡ self.old.stream ++ note.now ∷ []) }
-        ensures room { 1 ≤ spare_of self.old note.now.thread → IsOk result }
-        ensures unchanged { OnErr result (self.new.stream ≡ self.old.stream) }
-        ensures limits { self.new.limits ≡ self.old.limits }
+        ensures { Accepts self.old self.new note.now result }
     {
         let index = note.thread.number() as usize;
         append_both(&mut self.logs[index], &mut self.stream, *event, *note)?;
@@ -272,10 +268,7 @@ impl Intake {
     fn accept_end(&mut self, note: &Note, count: u32) -> Result<(), Memory>
         requires next { note_refusal self.old.limits self.old.stream note.now ≡ None }
         requires told { note.now.body ≡ Ended count }
-        ensures grown { OnOk result (self.new.stream ≡ self.old.stream ++ note.now ∷ []) }
-        ensures room { 1 ≤ spare_of self.old note.now.thread → IsOk result }
-        ensures unchanged { OnErr result (self.new.stream ≡ self.old.stream) }
-        ensures limits { self.new.limits ≡ self.old.limits }
+        ensures { Accepts self.old self.new note.now result }
     {
         let index = note.thread.number() as usize;
         append(&mut self.stream, *note)?;

@@ -4,7 +4,8 @@ use Rattle.std.specs.Prelude.{IfOk}
 use Rattle.gl_event.specs.Bounds.{Bounds}
 use Rattle.gl_io.specs.Reads.{HasRead}
 use Rattle.gl_std.specs.Feeding.{IsOver, ReadsOn}
-use Rattle.gl_std.specs.Heard.{listed_by, HasHeard, HasMet}
+use Rattle.gl_std.specs.Heard.{HasHeard}
+use Rattle.gl_std.specs.bodies.Hearing.{listed_by, HasMet}
 use Rattle.gl_std.specs.Judging.{HasJudged}
 use Rattle.gl_std.specs.Pieces.{judged}
 use Rattle.gl_std.specs.Trace.{trace_of, IsTraceOver}

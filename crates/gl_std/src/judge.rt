@@ -151,18 +151,43 @@ impl Judge {
         ensures few_skipped { self.new.skipped ≡ self.old.skipped }
         ensures few_stray { self.new.stray ≤ self.old.stray + 1 }
     {
-        let alloc = self.alloc;
         let found = self.find(operation, thread, operand, location);
+        self.take_found(operation, thread, operand, location, &found)
+    }
+
+    // `take_call`, where its names have these numbers.
+    fn take_found(
+        &mut self,
+        operation: Operation,
+        thread: &[u8],
+        operand: &[u8],
+        location: &[u8],
+        found: &Found,
+    ) -> Result<Judged, ReadFault>
+        requires sound { IsSound self.old }
+        requires found { found.now ≡ found_in self.old.names (shown_operation operation) thread.now operand.now location.now }
+        requires countable { self.old.line + 1 < 2 ^ 64 }
+        ensures ok { IfOk result (λ judged. (told : Trace) → HasJudged self.old told → after_call self.old.limits self.old.line told (shown_operation operation) thread.now operand.now location.now ≡ Ok (with_judged judged self.new.names told)) }
+        ensures judged { IfOk result (λ judged. (told : Trace) → HasJudged self.old told → HasJudged self.new (with_judged judged self.new.names told)) }
+        ensures known { IfOk result (λ judged. IsKnown judged (length self.new.names.threads)) }
+        ensures fault { (number : ℕ) (kind : StdKind) → result ≡ Err (ReadFault.Line number kind) → (told : Trace) → HasJudged self.old told
+            → after_call self.old.limits self.old.line told (shown_operation operation) thread.now operand.now location.now ≡ Err (ReadFault.Line number kind) }
+        ensures limits { self.new.limits ≡ self.old.limits }
+        ensures line { self.new.line ≡ self.old.line }
+        ensures few_skipped { self.new.skipped ≡ self.old.skipped }
+        ensures few_stray { self.new.stray ≤ self.old.stray + 1 }
+    {
+        let alloc = self.alloc;
         self.latest = found.thread;
-        let limit = self.limit_reached(operation, &found);
-        let number = self.names.operand_or_next(operation, &found);
-        let loc = self.names.loc_or_next(&found);
-        let own = self.names.thread_or_next(&found);
+        let limit = self.limit_reached(operation, found);
+        let number = self.names.operand_or_next(operation, found);
+        let loc = self.names.loc_or_next(found);
+        let own = self.names.thread_or_next(found);
         let event = event_of(operation, number, loc);
-        match stand(&mut self.standings, operation, &found, event, limit)? {
+        match stand(&mut self.standings, operation, found, event, limit)? {
             Verdict::Kept => {
                 self.names
-                    .tell(alloc, operation, &found, thread, operand, location)?;
+                    .tell(alloc, operation, found, thread, operand, location)?;
                 Ok(kept_event(&own, &event))
             }
             Verdict::Stray => {
@@ -177,15 +202,24 @@ impl Judge {
     }
 
     // The numbers of the names in a line. One look-up by hash for each, but none for the thread of the
-    // latest event, and none for the lock that a release is likely to be of.
-    fn find(&self, operation: Operation, thread: &[u8], operand: &[u8], location: &[u8]) -> Found
+    // latest event, none for the lock that a release is likely to be of, and none for what is as guessed.
+    fn find(
+        &mut self,
+        operation: Operation,
+        thread: &[u8],
+        operand: &[u8],
+        location: &[u8],
+    ) -> Found
         requires { is_on_itself (shown_operation operation) thread.now operand.now ≡ false }
-        ensures { result ≡ found_in self.now.names (shown_operation operation) thread.now operand.now location.now }
+        ensures found { result ≡ found_in self.old.names (shown_operation operation) thread.now operand.now location.now }
+        ensures same { self.new ≡ self.old }
     {
         let acting = self.names.find_thread_near(thread, self.latest);
         let likely = self.likely_released(operation, &acting);
         let operand = if operation.is_on_thread() {
-            self.names.find_thread(operand).map(ThreadId::number)
+            self.names
+                .find_thread_near(operand, None)
+                .map(ThreadId::number)
         } else {
             self.names
                 .find_lock_near(operand, likely)
@@ -194,7 +228,7 @@ impl Judge {
         Found {
             thread: acting,
             operand,
-            loc: self.names.find_loc(location),
+            loc: self.names.find_loc_again(location),
         }
     }
 

@@ -40,6 +40,7 @@
 
 mod faults;
 mod feed;
+mod guess;
 mod judge;
 mod laws;
 mod line;
@@ -52,6 +53,8 @@ mod reader;
 mod seed;
 mod standing;
 mod stream;
+#[cfg(test)]
+mod tests;
 mod text;
 mod trace;
 mod writing;

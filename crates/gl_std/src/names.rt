@@ -2,6 +2,7 @@
 ghost use Rattle.std.specs.Prelude.{◌≡◌, ◌≢◌, ◌+◌, ◌^◌, ◌<◌, [], ◌∷◌, ◌++◌, Some, None, length, position, slice_get, unwrap_or, AllPairs, IsTrue, OnOk, OnErr};
 ghost use Rattle.std.specs.Str.{bytes_eq};
 
+use crate::guess::{Guesses, Print};
 use crate::line::Operation;
 use crate::name::{Name, Wanted};
 use crate::seed::Seed;
@@ -14,6 +15,7 @@ use std::marker::Model;
 #[derive(Drop)]
 struct NameList {
     names: IndexSet<Name, Seed>,
+    guesses: Guesses,
 }
 
 impl Model for NameList {
@@ -35,6 +37,7 @@ impl NameList {
     {
         NameList {
             names: IndexSet::with_hasher(alloc, seed),
+            guesses: Guesses::new(alloc),
         }
     }
 
@@ -65,23 +68,45 @@ impl NameList {
         }
     }
 
-    /// The name's number. Where it is the guess, that takes one comparison and no hash.
-    fn find_near(&self, name: &[u8], guess: Option<u32>) -> Option<u32>
-        ensures { result ≡ position (bytes_eq name.now) self.now }
+    /// The name's number. Where it is `likely` or as guessed, that takes a comparison or two and no
+    /// look-up by hash.
+    fn find_near(&mut self, name: &[u8], likely: Option<u32>) -> Option<u32>
+        ensures number { result ≡ position (bytes_eq name.now) self.old }
+        ensures same { self.new ≡ self.old }
     {
-        match guess {
-            Some(number) => {
-                if self.has_number(name, number) {
-                    return Some(number);
-                }
-                self.find(name)
-            }
-            None => self.find(name),
+        if self.has_number(name, likely) {
+            return likely;
+        }
+        self.find_again(name)
+    }
+
+    /// The name's number. Where it is as guessed, that takes a comparison and no look-up by hash.
+    fn find_again(&mut self, name: &[u8]) -> Option<u32>
+        ensures number { result ≡ position (bytes_eq name.now) self.old }
+        ensures same { self.new ≡ self.old }
+    {
+        let print = Print::new(name);
+        let guess = self.guesses.get(print);
+        if self.has_number(name, guess) {
+            return guess;
+        }
+        let found = self.find(name);
+        self.guesses.put(print, found);
+        found
+    }
+
+    // Whether the name has this number, if that is one.
+    fn has_number(&self, name: &[u8], number: Option<u32>) -> bool
+        ensures { IsTrue result → position (bytes_eq name.now) self.now ≡ number }
+    {
+        match number {
+            Some(number) => self.is_name_of(name, number),
+            None => false,
         }
     }
 
-    // Whether the name has this number.
-    fn has_number(&self, name: &[u8], number: u32) -> bool
+    // Whether this is the name with this number.
+    fn is_name_of(&self, name: &[u8], number: u32) -> bool
         ensures { IsTrue result → position (bytes_eq name.now) self.now ≡ Some number }
     {
         if number >= self.len() {
@@ -97,6 +122,7 @@ impl NameList {
         ensures ok { OnOk result (self.new ≡ self.old ++ name.now ∷ []) }
         ensures err { OnErr result (self.new ≡ self.old) }
     {
+        self.guesses.make_room(alloc)?;
         let name = Name::new(alloc, name)?;
         self.names.insert(name)?;
         Ok(())
@@ -258,22 +284,38 @@ impl Names {
         self.locs.find(name).map(LocId::new)
     }
 
-    /// The number of the thread with this name. One look-up by hash, but none where it is the guess.
-    pub(crate) fn find_thread_near(&self, name: &[u8], guess: Option<ThreadId>) -> Option<ThreadId>
-        ensures { result ≡ position (bytes_eq name.now) self.now.threads }
+    /// The number of the thread with this name. One look-up by hash, but none where it is `likely` or
+    /// as guessed.
+    pub(crate) fn find_thread_near(
+        &mut self,
+        name: &[u8],
+        likely: Option<ThreadId>,
+    ) -> Option<ThreadId>
+        ensures number { result ≡ position (bytes_eq name.now) self.old.threads }
+        ensures same { self.new ≡ self.old }
     {
         self.threads
-            .find_near(name, guess.map(ThreadId::number))
+            .find_near(name, likely.map(ThreadId::number))
             .map(ThreadId::new)
     }
 
-    /// The number of the lock with this name. One look-up by hash, but none where it is the guess.
-    pub(crate) fn find_lock_near(&self, name: &[u8], guess: Option<LockId>) -> Option<LockId>
-        ensures { result ≡ position (bytes_eq name.now) self.now.locks }
+    /// The number of the lock with this name. One look-up by hash, but none where it is `likely` or as
+    /// guessed.
+    pub(crate) fn find_lock_near(&mut self, name: &[u8], likely: Option<LockId>) -> Option<LockId>
+        ensures number { result ≡ position (bytes_eq name.now) self.old.locks }
+        ensures same { self.new ≡ self.old }
     {
         self.locks
-            .find_near(name, guess.map(LockId::number))
+            .find_near(name, likely.map(LockId::number))
             .map(LockId::new)
+    }
+
+    /// The number of the location with this name. One look-up by hash, but none where it is as guessed.
+    pub(crate) fn find_loc_again(&mut self, name: &[u8]) -> Option<LocId>
+        ensures number { result ≡ position (bytes_eq name.now) self.old.locs }
+        ensures same { self.new ≡ self.old }
+    {
+        self.locs.find_again(name).map(LocId::new)
     }
 
     /// The number of the operand, or the next one for a new lock or thread.

@@ -3,7 +3,8 @@ ghost use Rattle.std.specs.Prelude.{◌≡◌, ℕ, ◌^◌, ◌<◌, ◌≤◌,
 ghost use Rattle.gl_event.specs.Bounds.{Bounds};
 ghost use Rattle.gl_io.specs.declared.source.TheConstants.{CHUNK};
 ghost use Rattle.gl_std.specs.Feeding.{fuel, HasGiven, IsFit, IsOver, ReadsOn};
-ghost use Rattle.gl_std.specs.Heard.{listed_by, HasHeard, Meets};
+ghost use Rattle.gl_std.specs.Heard.{HasHeard};
+ghost use Rattle.gl_std.specs.bodies.Hearing.{listed_by, Meets};
 ghost use Rattle.gl_std.specs.Judging.{with_judged, IsKnown};
 ghost use Rattle.gl_std.specs.Pieces.{IsFaulty};
 ghost use Rattle.gl_std.specs.Trace.{nothing, trace_of, IsTraceOver};

@@ -1,4 +1,4 @@
-use Rattle.std.proofs.Common.{◌<◌, ◌≤◌, length, refl, sym, subst, arith}
+use Rattle.std.proofs.Common.{◌<◌, ◌≤◌, length, refl, sym, subst, arith, rules}
 use Rattle.std.proofs.lemmas.Bool.{false≢true}
 use Rattle.gl_intake.specs.Stream.{Collected, spare_of}
 use Rattle.gl_intake.proofs.Next.{next_of_none}
@@ -19,11 +19,17 @@ invariant_of-self-2 c =
     (kept_end c.self.inside.limits c.self.inside.stream.items c.self.inside.logs.items c.self.inside.rows.items c.self.invariant c.args.note.now next
     c.args.count c.requires.told c.index_mut.result.now _ row_here refl refl)
 
-pub returns-in_err-append-clause-room : goal.returns-in_err-append-clause-room
-returns-in_err-append-clause-room c = λ some.
-    let next = next_of_none c.self.inside.limits c.self.inside.stream.items c.args.note.now (rw (← c.self.view_is) at c.requires.next) in
-    let spare = subst (λ (k : Collected). 1 ≤ spare_of k c.args.note.now.thread) (sym c.self.view_is) some in
-    let within : c.args.note.now.thread < length c.self.inside.logs.items = omega (arith, next.known, c.self.invariant.logs_are.count) in
-    let ok = c.append.ensures.room (stream_room c.self.inside.stream c.self.inside.logs.items c.args.note.now.thread within spare) in
-    let never = rw c.in_err-append.was at ok in
-    absurd (false≢true never)
+pub returns-in_err-append : goal.returns-in_err-append
+returns-in_err-append c =
+    record {
+      grown = search rules;
+      unchanged = search rules;
+      room = λ some.
+          let next = next_of_none c.self.inside.limits c.self.inside.stream.items c.args.note.now (rw (← c.self.view_is) at c.requires.next) in
+          let spare = subst (λ (k : Collected). 1 ≤ spare_of k c.args.note.now.thread) (sym c.self.view_is) some in
+          let within : c.args.note.now.thread < length c.self.inside.logs.items = omega (arith, next.known, c.self.invariant.logs_are.count) in
+          let ok = c.append.ensures.room (stream_room c.self.inside.stream c.self.inside.logs.items c.args.note.now.thread within spare) in
+          let never = rw c.in_err-append.was at ok in
+          absurd (false≢true never);
+      limits = search rules;
+    }

@@ -1,5 +1,5 @@
 use Rattle.std.proofs.Common.{Ok, Err, refl, sym, ap, ◌∙◌}
-use Rattle.gl_std.specs.Heard.{listed_by}
+use Rattle.gl_std.specs.bodies.Hearing.{listed_by}
 use Rattle.gl_std.proofs.HeardLemmas.{put_is}
 use Rattle.gl_std.proofs.text.Listing.finish.Goals as goal
 

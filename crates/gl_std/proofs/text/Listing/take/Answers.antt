@@ -1,6 +1,6 @@
 use Rattle.std.proofs.Common.{◌++◌, Ok, Err, refl, sym, ap, subst, ◌∙◌}
 use Rattle.gl_std.specs.Feeding.{IsOver, Steps}
-use Rattle.gl_std.specs.Heard.{listed_by}
+use Rattle.gl_std.specs.bodies.Hearing.{listed_by}
 use Rattle.gl_std.specs.declared.text.Listing.{Listing}
 use Rattle.gl_std.proofs.HeardLemmas.{listed_is, met_line}
 use Rattle.gl_std.proofs.text.Listing.take.Goals as goal

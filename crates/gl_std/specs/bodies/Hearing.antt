@@ -1,0 +1,28 @@
+-- What is met while a source is heard.
+use Rattle.std.specs.Prelude.{◌≡◌, ℕ, Bool, true, false, List, ◌++◌, Option, Ok}
+use Rattle.gl_event.specs.Bounds.{Bounds}
+use Rattle.gl_io.specs.Reads.{HasRead}
+use Rattle.gl_std.specs.Feeding.{HasGiven, IsOver, ReadsOn}
+use Rattle.gl_std.specs.Lines.{ended_lines}
+use Rattle.gl_std.specs.Pieces.{IsFaulty}
+use Rattle.gl_std.specs.Trace.{trace_of}
+use Rattle.gl_std.specs.declared.text.Listing.{Listing}
+use Rattle.gl_std.specs.declared.text.Progress.{Progress}
+use Rattle.gl_std.specs.declared.text.Progress.TheVariants.{More, End, Fault, Broke}
+use Rattle.gl_std.specs.declared.trace.Trace.{Trace}
+
+-- the trace of the lines so far
+abbrev pub listed_by : Listing → Trace
+listed_by l = record { names = l.feed.judge.names; lists = l.lists; skipped = l.feed.judge.skipped; stray = l.feed.judge.stray }
+
+-- what was met where the reads gave this text by then: its lines so far told the trace of the lists, or one of them is at fault
+abbrev pub HasMet : Bounds → ℕ → Option (List ℕ) → Option (List ℕ) → Bool → Listing → List ℕ → Progress → Type 0
+HasMet limits turns start now failed l text More = ReadsOn limits turns start now l.feed text (listed_by l)
+HasMet limits turns start now failed l text End = HasRead turns start now failed text true × (l.feed.judge.limits ≡ limits) × IsOver l.feed text (listed_by l)
+HasMet limits turns start now failed l text (Fault number kind) = HasGiven turns start now l.feed.turns text × IsFaulty limits text number kind
+HasMet limits turns start now failed l text Broke = HasRead turns start now failed text false × (trace_of limits (ended_lines text) ≡ Ok (listed_by l))
+
+-- that was met from such a text on, after which a piece more may have been read
+pub record Meets (limits : Bounds) (turns : ℕ) (start now : Option (List ℕ)) (failed : Bool) (l : Listing) (text : List ℕ) (progress : Progress) : Type 0 where
+  pub piece : List ℕ
+  pub met : HasMet limits turns start now failed l (text ++ piece) progress

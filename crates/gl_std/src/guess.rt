@@ -1,0 +1,121 @@
+//! Guesses of the numbers of names.
+use std::alloc::{AllocError, Global};
+
+// There are 2 to this power places for a guess.
+const BITS: u32 = 10;
+/// An odd number by which a product is spread over its upper bits.
+const SPREAD: u64 = 0x9e37_79b9_7f4a_7c15;
+
+/// What a name is guessed by: a hash of its first and last bytes and of its length.
+///
+/// It is cheap and has no seed, so names can be chosen to have one print. All that is lost then is
+/// that a guess is wrong.
+#[derive(Clone, Copy, Debug)]
+pub(crate) struct Print {
+    hash: u64,
+}
+
+impl Print {
+    /// The print of a name. Looks at 16 bytes at most.
+    pub(crate) fn new(name: &[u8]) -> Print {
+        let ends = ends_of(name) ^ (name.len() as u64).rotate_left(48);
+        Print {
+            hash: ends.wrapping_mul(SPREAD),
+        }
+    }
+
+    // The place of the guess.
+    fn place(self) -> usize {
+        (self.hash >> (64 - BITS)) as usize
+    }
+
+    // What tells prints of one place apart.
+    fn mark(self) -> u32 {
+        (self.hash >> 32) as u32
+    }
+}
+
+// The first and the last bytes of a name, mixed.
+fn ends_of(name: &[u8]) -> u64 {
+    let length = name.len();
+    if length >= 8 {
+        return eight(&name[..8]).rotate_left(29) ^ eight(&name[length - 8..]);
+    }
+    if length >= 4 {
+        return (u64::from(four(&name[..4])) << 32) ^ u64::from(four(&name[length - 4..]));
+    }
+    if length == 0 {
+        return 0;
+    }
+    (u64::from(name[0]) << 16) ^ (u64::from(name[length / 2]) << 8) ^ u64::from(name[length - 1])
+}
+
+// Eight bytes as a number.
+fn eight(bytes: &[u8]) -> u64 {
+    match <[u8; 8]>::try_from(bytes) {
+        Ok(bytes) => u64::from_le_bytes(bytes),
+        Err(_) => 0,
+    }
+}
+
+// Four bytes as a number.
+fn four(bytes: &[u8]) -> u32 {
+    match <[u8; 4]>::try_from(bytes) {
+        Ok(bytes) => u32::from_le_bytes(bytes),
+        Err(_) => 0,
+    }
+}
+
+// The number that was put last at a place, and the mark of its print.
+#[derive(Clone, Copy, Debug)]
+struct Guess {
+    mark: u32,
+    number: u32,
+}
+
+/// Numbers of names that were put lately, by their prints.
+///
+/// A guess is nothing to rely on: whoever asks for one compares the name with that of this number.
+#[derive(Drop, Debug)]
+pub(crate) struct Guesses {
+    // Empty until memory is taken.
+    guesses: Vec<Guess>,
+}
+
+impl Guesses {
+    /// No guesses, and no memory for any.
+    pub(crate) fn new(alloc: Global) -> Guesses {
+        Guesses {
+            guesses: Vec::new(alloc),
+        }
+    }
+
+    /// Takes memory for guesses, where that wasn't done before.
+    pub(crate) fn make_room(&mut self, alloc: Global) -> Result<(), AllocError> {
+        if self.guesses.is_empty() {
+            let none = Guess { mark: 0, number: 0 };
+            self.guesses = vec![in alloc; none; 1 << BITS]?;
+        }
+        Ok(())
+    }
+
+    /// A number that a name with this print may have.
+    pub(crate) fn get(&self, print: Print) -> Option<u32> {
+        let guess = self.guesses.get(print.place())?;
+        if guess.mark != print.mark() {
+            return None;
+        }
+        Some(guess.number)
+    }
+
+    /// Puts the number of a name with this print, if it has one and there is memory.
+    pub(crate) fn put(&mut self, print: Print, number: Option<u32>) {
+        let Some(number) = number else { return };
+        if let Some(guess) = self.guesses.get_mut(print.place()) {
+            *guess = Guess {
+                mark: print.mark(),
+                number,
+            };
+        }
+    }
+}
