@@ -14,6 +14,7 @@ use std::alloc::Global;
 use std::process::Abort;
 use std::test::Fail;
 
+mod at_size;
 mod components;
 mod cycles;
 mod knots;

@@ -22,8 +22,6 @@ mod list;
 mod numberer;
 mod seen;
 mod table;
-#[cfg(test)]
-mod tests;
 mod tracker;
 
 pub use edge::{Edge, Sample};

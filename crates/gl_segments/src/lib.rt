@@ -19,8 +19,6 @@ mod order;
 mod packed;
 mod search;
 mod steps;
-#[cfg(test)]
-mod tests;
 
 pub use faults::OrderFault;
 pub use laws::{

@@ -39,6 +39,3 @@ pub use laws::{
 };
 pub use steps::{Did, Step};
 pub use world::World;
-
-#[cfg(test)]
-mod tests;

@@ -1,12 +1,8 @@
-//! Edges that the search leaves out, and searches at size.
-use super::{acq, are_lawful, are_listed, rel};
+//! Edges that the search leaves out.
+use super::{acq, expect_first, fork, join, known_of, rel};
 use crate::neighbours::Sought;
-use crate::parallel::search_parallel;
-use crate::paths::search;
-use gl_edges::edges_of;
 use gl_event::{Event, Memory};
-use gl_filters::{Mode, Query};
-use gl_segments::Order;
+use gl_filters::Mode;
 use std::alloc::Global;
 use std::process::Abort;
 use std::test::Fail;
@@ -33,6 +29,23 @@ fn count_set(flags: &[bool]) -> usize {
     flags.iter().filter(|flag| **flag).count()
 }
 
+// How many edges of these lists may be in a cycle of at most four.
+fn count_kept(
+    rt: &impl Abort,
+    alloc: Global,
+    lists: &[Vec<Event>],
+    mode: Mode,
+) -> Result<usize, Fail> {
+    let known = known_of(rt, alloc, lists)?;
+    let sought = Sought {
+        table: known.edges.entries(),
+        order: &known.order,
+        mode,
+        len: 4,
+    };
+    Ok(count_set(sought.kept_edges(alloc)?.as_slice()))
+}
+
 // Four threads run the pieces of a ring of four locks under each of two gate locks in turn.
 fn ring_under_gates(alloc: Global) -> Result<Vec<Vec<Event>>, Memory> {
     let mut lists = Vec::new(alloc);
@@ -51,18 +64,8 @@ fn ring_under_gates(alloc: Global) -> Result<Vec<Vec<Event>>, Memory> {
 fn kinds_of_no_round(rt: HostRuntime) -> Result<(), Fail> {
     let alloc = rt.alloc();
     let lists = ring_under_gates(alloc)?;
-    assert!(rt; are_lawful(&lists));
-    let edges = edges_of(alloc, &lists)?;
-    let order = Order::of(alloc, &lists)?;
-    let mut sought = Sought {
-        table: edges.entries(),
-        order: &order,
-        mode: Mode::Basic,
-        len: 4,
-    };
-    assert!(rt; count_set(sought.kept_edges(alloc)?.as_slice()) == 8);
-    sought.mode = Mode::Guarded;
-    assert!(rt; count_set(sought.kept_edges(alloc)?.as_slice()) == 0);
+    assert!(rt; count_kept(&rt, alloc, &lists, Mode::Basic)? == 8);
+    assert!(rt; count_kept(&rt, alloc, &lists, Mode::Guarded)? == 0);
     Ok(())
 }
 
@@ -79,25 +82,6 @@ fn rings_of_all(alloc: Global, threads: u32) -> Result<Vec<Vec<Event>>, Memory> 
     Ok(lists)
 }
 
-// How many edges of these lists may be in a cycle of at most four.
-fn count_kept(
-    rt: &impl Abort,
-    alloc: Global,
-    lists: &[Vec<Event>],
-    mode: Mode,
-) -> Result<usize, Fail> {
-    assert!(rt; are_lawful(lists));
-    let edges = edges_of(alloc, lists)?;
-    let order = Order::of(alloc, lists)?;
-    let sought = Sought {
-        table: edges.entries(),
-        order: &order,
-        mode,
-        len: 4,
-    };
-    Ok(count_set(sought.kept_edges(alloc)?.as_slice()))
-}
-
 // Round the ring go four edges, of four threads. Each edge goes with edges of two others that lead
 // back from it, but three threads make no cycle; four do.
 #[test]
@@ -110,67 +94,58 @@ fn more_pieces_than_threads(rt: HostRuntime) -> Result<(), Fail> {
     Ok(())
 }
 
-// Of two kinds of edges that lead back, one has the gate lock of the edge that they lead to. Its own
-// kind is in no cycle, but the other one is.
+// Puts forks of these threads at the end, each followed by the join of its thread.
+fn add_turns(list: &mut Vec<Event>, threads: &[u32]) -> Result<(), Memory> {
+    for thread in threads {
+        list.push(fork(*thread, 1))?;
+        list.push(join(*thread, 2))?;
+    }
+    Ok(())
+}
+
+// Two threads, each of which lets four others run the pieces of a ring of four locks, one after the
+// other's end.
+fn ring_in_two_rows(alloc: Global) -> Result<Vec<Vec<Event>>, Memory> {
+    let mut first = vec![in alloc; fork(1, 1)]?;
+    add_turns(&mut first, &[2, 3, 4, 5])?;
+    let mut second = Vec::new(alloc);
+    add_turns(&mut second, &[6, 7, 8, 9])?;
+    let mut lists = vec![in alloc; first, second]?;
+    for piece in 0..8u32 {
+        lists.push(vec![in alloc; acq(piece % 4, 1), acq((piece + 1) % 4, 2)]?)?;
+    }
+    Ok(lists)
+}
+
+// Each edge of the ring may run beside edges of the other row that lead back from it, but of four
+// edges in two rows two are in one, where each thread ends before the next one starts: their
+// segments alone show that no cycle goes through any.
 #[test]
-fn one_kind_of_two(rt: HostRuntime) -> Result<(), Fail> {
+fn segments_of_no_round(rt: HostRuntime) -> Result<(), Fail> {
     let alloc = rt.alloc();
+    let lists = ring_in_two_rows(alloc)?;
+    assert!(rt; count_kept(&rt, alloc, &lists, Mode::Guarded)? == 8);
+    assert!(rt; count_kept(&rt, alloc, &lists, Mode::Full)? == 0);
+    Ok(())
+}
+
+// The lists of two threads, of which the second takes the locks under two gate locks in turn, and the
+// first under one of them the other way round.
+fn two_gates(alloc: Global) -> Result<Vec<Vec<Event>>, Memory> {
     let mut first = Vec::new(alloc);
     add_piece(&mut first, 2, 0, 1, 1)?;
     let mut second = Vec::new(alloc);
     add_piece(&mut second, 2, 1, 0, 2)?;
     add_piece(&mut second, 3, 1, 0, 3)?;
-    let lists = vec![in alloc; first, second]?;
-    assert!(rt; are_lawful(&lists));
-    let edges = edges_of(alloc, &lists)?;
-    let order = Order::of(alloc, &lists)?;
-    let found = search(alloc, &edges, &order, &Query::new(Mode::Full, 4, 9)?)?;
-    assert!(rt; are_listed(found.cycles.as_slice(), &[&[0, 4]]));
-    Ok(())
+    Ok(vec![in alloc; first, second]?)
 }
 
-// So many threads take lock 0 and then lock 1, and so many others the other way round.
-fn crossed(alloc: Global, there: u32, back: u32) -> Result<Vec<Vec<Event>>, Memory> {
-    let mut lists = Vec::new(alloc);
-    for _ in 0..there {
-        lists.push(vec![in alloc; acq(0, 1), acq(1, 2)]?)?;
-    }
-    for _ in 0..back {
-        lists.push(vec![in alloc; acq(1, 3), acq(0, 4)]?)?;
-    }
-    Ok(lists)
-}
-
-// As many cycles are listed as may be asked for, and there are more.
+// Of two kinds of edges that lead back, one has the gate lock of the edge that they lead to. Its own
+// kind is in no cycle, but the other one is.
 #[test]
-fn hundred_thousand_cycles(rt: HostRuntime) -> Result<(), Fail> {
+fn one_kind_of_two(rt: HostRuntime) -> Result<(), Fail> {
     let alloc = rt.alloc();
-    let lists = crossed(alloc, 317, 316)?;
-    assert!(rt; are_lawful(&lists));
-    let edges = edges_of(alloc, &lists)?;
-    let order = Order::of(alloc, &lists)?;
-    let found = search(alloc, &edges, &order, &Query::new(Mode::Full, 2, 100_000)?)?;
-    assert!(rt; found.more);
-    let cycles = found.cycles.as_slice();
-    assert!(rt; cycles.len() == 100_000);
-    assert!(rt; are_listed(&cycles[..1], &[&[0, 317]]));
-    assert!(rt; are_listed(&cycles[99_999..], &[&[316, 460]]));
-    Ok(())
-}
-
-// The same on several threads.
-#[test]
-fn hundred_thousand_cycles_in_parallel(rt: HostRuntime) -> Result<(), Fail> {
-    let alloc = rt.alloc();
-    let lists = crossed(alloc, 317, 316)?;
-    assert!(rt; are_lawful(&lists));
-    let edges = edges_of(alloc, &lists)?;
-    let order = Order::of(alloc, &lists)?;
-    let query = Query::new(Mode::Full, 2, 100_000)?;
-    let found = search_parallel(&rt, alloc, &edges, &order, &query)?;
-    assert!(rt; found.more);
-    let cycles = found.cycles.as_slice();
-    assert!(rt; cycles.len() == 100_000);
-    assert!(rt; are_listed(&cycles[99_999..], &[&[316, 460]]));
-    Ok(())
+    let lists = two_gates(alloc)?;
+    let known = known_of(&rt, alloc, &lists)?;
+    expect_first(&rt, alloc, &known, 9, &[&[0, 4]], false)
 }

@@ -1,6 +1,0 @@
-use Rattle.gl_std.specs.Streaming.{source_of, CanBeAsked}
-use Rattle.gl_std.proofs.tests.expect_items.Given as goal
-
--- the next item can be asked for
-abbrev pub invariant-loop-item : goal.invariant-loop-item
-invariant-loop-item g l = CanBeAsked l.lines (source_of l.lines).is_failed

@@ -1,0 +1,6 @@
+use Rattle.gl_std.specs.Streaming.{source_of, CanBeAsked}
+use Rattle.gl_std_tests.proofs.tests.tables.expect_endless.Given as goal
+
+-- the next item can be asked for
+abbrev pub invariant-loop : goal.invariant-loop
+invariant-loop g l = CanBeAsked l.lines (source_of l.lines).is_failed
