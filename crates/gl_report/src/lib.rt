@@ -16,6 +16,3 @@ pub use printing::text;
 pub use stats::{Stats, stats_text};
 pub use tree::{edge_json, json, json_text};
 pub use tree_v1::{edge_json_v1, json_text_v1, json_v1};
-
-#[cfg(test)]
-mod tests;

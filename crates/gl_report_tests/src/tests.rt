@@ -4,11 +4,11 @@ ghost use Rattle.gl_edges.specs.Order.{IsAboveLast};
 ghost use Rattle.gl_event.specs.Bounds.{greatest};
 ghost use Rattle.gl_std.specs.Trace.{IsTraceOver};
 
-use crate::{Stats, escaped_name, json_text, json_text_v1, lists_exclusive, stats_text, text};
 use gl_cycles::{Cycles, Found, Report, TrimOrder};
 use gl_edges::{Edge, EdgeList, Guard, Guards, Sample};
 use gl_event::{Limits, LocId, LockId, LockMode, Memory, ThreadId};
 use gl_filters::{Mode, Query};
+use gl_report::{Stats, escaped_name, json_text, json_text_v1, lists_exclusive, stats_text, text};
 use gl_std::{Names, Trace, read_trace};
 use serde_json::Value;
 use std::alloc::Global;
