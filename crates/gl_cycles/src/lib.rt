@@ -22,6 +22,7 @@
 mod chains;
 mod closers;
 mod components;
+mod dead_ends;
 mod followers;
 mod found;
 mod grains;
@@ -36,6 +37,7 @@ mod paths;
 mod ranks;
 mod removals;
 mod reports;
+mod rests;
 #[cfg(test)]
 mod tests;
 mod trims;
