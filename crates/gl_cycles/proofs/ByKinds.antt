@@ -156,7 +156,7 @@ unfolding goes_with
 threads_apart before mode e f goes = (and_parts (not (eqb e.held f.held)) _ (and_parts (not (eqb e.held f.held) && not (eqb e.thread f.thread)) _ goes).0).1
 
 -- what is alike to edges that go together may meet
-meet_alike : (before : Segment → Segment → Bool) (mode : Mode) (grain : Grain) (d e f g : Edge) → AreAlike grain d f → AreAlike grain e g
+pub meet_alike : (before : Segment → Segment → Bool) (mode : Mode) (grain : Grain) (d e f g : Edge) → AreAlike grain d f → AreAlike grain e g
     → kinds_go_together mode f g ≡ true → goes_with before mode f g ≡ true → may_meet before mode grain d e ≡ true
 meet_alike before mode ByKind d e f g first second kinds goes = kinds_alike mode ByKind d e f g first second kinds
 meet_alike before mode ByThread d e f g first second kinds goes =

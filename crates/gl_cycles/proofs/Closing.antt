@@ -11,12 +11,14 @@ use Rattle.gl_filters.specs.Cycle.{IsCycle, LeadsOn}
 use Rattle.gl_filters.specs.Judging.{following}
 use Rattle.gl_filters.specs.declared.query.Mode.{Mode}
 use Rattle.gl_filters.proofs.Round.{pair_goes, pair_goes_by_kind, leads_round}
+use Rattle.gl_edges.specs.declared.edge.Sample.{Sample}
+use Rattle.gl_cycles.specs.AllCycles.{edges_of_table}
 use Rattle.gl_cycles.specs.bodies.Kinds.{AreAlike, may_meet, place_after, GoesThrough, NoCycleThrough, CyclesHaveModels}
 use Rattle.gl_cycles.specs.bodies.Gaps.{gap_of, gap_closes, gap_leads, gap_behind, IsKnown, IsNarrowed, HasFlagged, ClosesBy, IsHopeless, NoneBy, AreHopeless}
 use Rattle.gl_cycles.specs.declared.dead_ends.DeadEnd.{DeadEnd}
 use Rattle.gl_cycles.specs.declared.dead_ends.Gap.{Gap}
 use Rattle.gl_cycles.specs.declared.grains.Grain.{Grain}
-use Rattle.gl_cycles.proofs.ByKinds.{place_first, place_round, place_within, place_follows, places_differ, meet_alike}
+use Rattle.gl_cycles.proofs.ByKinds.{place_first, place_round, place_within, place_follows, places_differ, meet_alike, edge_is}
 use Rattle.gl_cycles.proofs.Fronts.{element_at}
 
 -- what leads on from one edge to another
@@ -155,3 +157,25 @@ module _ (before : Segment → Segment → Bool) (mode : Mode) (grain : Grain) (
               let g_is : f ≡ g = same_Some f g (sym at ∙ ap (slice_get cycle) (sym (place_first (length cycle) (place_after (length cycle) k o) inside)) ∙ at_g) in
               subst (λ x. AreAlike grain x g) c_is (subst (AreAlike grain d) g_is alike)
           by inside (suc m) j c g at_j at_c at_g = absurd (cc)
+
+module _ (before : Segment → Segment → Bool) (mode : Mode) (grain : Grain) (table : List (Edge × Sample)) (rest : List ℕ) where
+  -- those of the rest before place n that may meet the edge are among these
+  abbrev pub IsNarrowedBelow : ℕ → Edge → List ℕ → Type 0
+  IsNarrowedBelow n f some = (p i : ℕ) (d : Edge) → p < n → slice_get rest p ≡ Some i → slice_get (edges_of_table table) i ≡ Some d → may_meet before mode grain f d ≡ true → Contains some i
+
+  -- one place more
+  pub narrowed_more : (n v : ℕ) (f : Edge) (old new : List ℕ) → IsNarrowedBelow n f old → ((j : ℕ) → Contains old j → Contains new j)
+      → ((d : Edge) → slice_get (edges_of_table table) v ≡ Some d → may_meet before mode grain f d ≡ true → Contains new v) → ((i : ℕ) → slice_get rest n ≡ Some i → v ≡ i) → IsNarrowedBelow (n + 1) f new
+  narrowed_more n v f old new had stay met is p i d below at stands meets =
+      elim (cases_eq p n) [
+        | inl same ↦
+            let v_is : v ≡ i = is i (sym (ap (slice_get rest) same) ∙ at) in
+            subst (Contains new) v_is (met d (ap (slice_get (edges_of_table table)) v_is ∙ stands) meets)
+        | inr other ↦ stay i (had p i d (omega arith) at stands meets)
+      ]
+
+  -- all places
+  pub narrowed_all : (next n : ℕ) (e : Edge × Sample) (some : List ℕ) → next < length table → length rest ≤ n → IsNarrowedBelow n (get_or table next e).0 some → IsNarrowed before mode grain (edges_of_table table) rest next some
+  narrowed_all next n e some there whole had i d f among stands stands_f meets =
+      let at = slice_get-get_or rest among.0 i among.1 ∙ ap Some among.2 in
+      had among.0 i d (omega (arith, among.1, whole)) at stands (ap (λ x. may_meet before mode grain x d) (sym (edge_is table e next f there stands_f)) ∙ meets)

@@ -1,7 +1,20 @@
-use Rattle.std.proofs.Common.{rules, ◌≡◌, ◌-◌, ◌⊎◌, ℕ, Some, slice_get, IsTrue, IfOk, OnOk, ◌+◌, ◌*◌, ◌<◌, ◌≤◌, length, ◌/◌, ◌%◌, Bool, true, false, nat_eq, nat_lt, List, [], ◌∷◌, ◌++◌, slice_index_or, slice_set, bit_and, bit_or, Fits, w8, w32, w64, Bor, MutBor}
-use Rattle.gl_cycles.specs.bodies.Gaps.{gap_of, gap_closes, gap_leads, gap_behind, IsKnown}
+use Rattle.std.proofs.Common.{◌≡◌, ◌<◌, length, Some, sym, ap, subst, ◌∙◌, arith, refl}
+use Rattle.std.specs.Prelude.{slice_get}
+use Rattle.std.proofs.lemmas.Option.{slice_get_read, same_Some}
 use Rattle.gl_cycles.proofs.dead_ends.DeadEnds.has.Goals as goal
 
--- src/dead_ends.rt:137:5
+-- the lists are compared element by element
 pub returns : goal.returns
-returns c = ?
+returns c = λ same.
+    let known = c.args.self.now.known in
+    let place = c.in-Some.field-0.now in
+    let below : place < length known.items = omega (arith, c.if-place-len.false, known.ok.0) in
+    let one : slice_get known.items place ≡ Some c.index.result.now = slice_get_read known.items _ place _ known.ok.0 (omega (arith, below, known.ok.0)) c.index.ensures in
+    let other : slice_get known.items place ≡ Some c.index-2.result.now = slice_get_read known.items _ place _ known.ok.0 (omega (arith, below, known.ok.0)) c.index-2.ensures in
+    record {
+      place = place;
+      end = c.index.result.now;
+      stands = one;
+      same_gap = c.if-not-is_same.ensures tt refl;
+      same_rest = ap (λ end. end.rest.items) (same_Some c.index.result.now c.index-2.result.now (sym one ∙ other)) ∙ sym c.as_slice.ensures.value ∙ ?;
+    }
