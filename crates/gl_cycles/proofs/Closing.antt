@@ -12,7 +12,7 @@ use Rattle.gl_filters.specs.Judging.{following}
 use Rattle.gl_filters.specs.declared.query.Mode.{Mode}
 use Rattle.gl_filters.proofs.Round.{pair_goes, pair_goes_by_kind, leads_round}
 use Rattle.gl_edges.specs.declared.edge.Sample.{Sample}
-use Rattle.gl_cycles.specs.AllCycles.{edges_of_table}
+use Rattle.gl_filters.specs.Picked.{edges_of_table}
 use Rattle.gl_cycles.specs.bodies.Kinds.{AreAlike, may_meet, place_after, GoesThrough, NoCycleThrough, CyclesHaveModels}
 use Rattle.gl_cycles.specs.bodies.Gaps.{gap_of, gap_closes, gap_leads, gap_behind, IsKnown, IsNarrowed, HasFlagged, ClosesBy, IsHopeless, NoneBy, AreHopeless}
 use Rattle.gl_cycles.specs.declared.dead_ends.DeadEnd.{DeadEnd}

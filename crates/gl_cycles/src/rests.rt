@@ -6,7 +6,7 @@
 //! tried again.
 ghost use Rattle.std.specs.Prelude.{◌≡◌, ◌<◌, ◌∷◌, [], ℕ, Some, true, false, length, slice_get, OnOk, IfOk, All, Contains};
 ghost use Rattle.gl_segments.specs.Clocks.{is_before};
-ghost use Rattle.gl_cycles.specs.AllCycles.{edges_of_table};
+ghost use Rattle.gl_filters.specs.Picked.{edges_of_table};
 ghost use Rattle.gl_cycles.specs.bodies.Kinds.{may_meet, HasModels, NoCycleThrough};
 ghost use Rattle.gl_cycles.specs.bodies.Gaps.{HasFlagged, IsNarrowed, IsHopeless, NoneBy, AreHopeless};
 ghost use Rattle.gl_edges.specs.declared.edge.Edge.{Edge};

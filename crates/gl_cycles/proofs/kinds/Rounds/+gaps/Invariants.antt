@@ -1,7 +1,7 @@
 use Rattle.std.proofs.Common.{◌≡◌, ℕ, ◌+◌, ◌*◌, ◌<◌, Some}
 use Rattle.std.specs.Prelude.{slice_get}
 use Rattle.gl_segments.specs.Clocks.{is_before}
-use Rattle.gl_cycles.specs.AllCycles.{edges_of_table}
+use Rattle.gl_filters.specs.Picked.{edges_of_table}
 use Rattle.gl_cycles.specs.bodies.Gaps.{NoneBy, AreHopeless}
 use Rattle.gl_cycles.proofs.kinds.Rounds.+gaps.Given as goal
 

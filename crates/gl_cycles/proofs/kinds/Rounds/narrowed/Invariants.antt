@@ -2,7 +2,7 @@ use Rattle.std.proofs.Common.{◌≡◌, ℕ, ◌<◌, true, Some, length}
 use Rattle.std.specs.Prelude.{slice_get, All, Contains}
 use Rattle.gl_edges.specs.declared.edge.Edge.{Edge}
 use Rattle.gl_segments.specs.Clocks.{is_before}
-use Rattle.gl_cycles.specs.AllCycles.{edges_of_table}
+use Rattle.gl_filters.specs.Picked.{edges_of_table}
 use Rattle.gl_cycles.specs.bodies.Kinds.{may_meet}
 use Rattle.gl_cycles.proofs.kinds.Rounds.narrowed.Given as goal
 
