@@ -20,7 +20,7 @@ use std::thread::Threads;
 const PARTS: usize = 16;
 
 // For how many edges other threads don't pay.
-const FEW: usize = 2_000;
+const FEW: usize = 1_000;
 
 // How many times ways back are looked for, since what one part leaves out another one sees the next
 // time.
@@ -28,7 +28,7 @@ const PASSES: usize = 3;
 
 /// What leaves out edges.
 #[derive(Clone, Copy, Debug)]
-enum Reason {
+pub(crate) enum Reason {
     // none of a cycle is alike to them
     Alike(Grain),
     // they have no way back
@@ -36,8 +36,8 @@ enum Reason {
 }
 
 impl Sought<'_> {
-    // Leaves out edges of a part.
-    fn leave_out(
+    /// Leaves out edges of a part.
+    pub(crate) fn leave_out(
         &self,
         alloc: Global,
         reason: Reason,
@@ -122,8 +122,8 @@ fn left_by_parts(
     found
 }
 
-// Leaves out edges of all parts, in a thread each.
-fn leave_out_by_parts(
+/// Leaves out edges of all parts, some parts in each thread.
+pub(crate) fn leave_out_by_parts(
     rt: &(impl Threads + Sync),
     alloc: Global,
     sought: &Sought<'_>,
