@@ -27,6 +27,7 @@ use crate::followers::Followers;
 use crate::grains::Grain;
 use crate::models::models;
 use crate::neighbours::Sought;
+use crate::parts::Part;
 use crate::paths::{PATH, longer_path};
 use gl_edges::Edge;
 use gl_event::Memory;
@@ -130,11 +131,12 @@ impl Sought<'_> {
         i
     }
 
-    /// Leaves out each edge to which none of a cycle is alike.
+    /// Leaves out each edge to whose model, if that is in this part, none of a cycle is alike.
     pub(crate) fn leave_out_alike(
         &self,
         alloc: Global,
         grain: Grain,
+        part: Part,
         kept: &mut Vec<bool>,
     ) -> Result<(), Memory>
         requires { KeepsCycles (is_before self.now.order.now) self.now.mode self.now.len (edges_of_table self.now.table.now) kept.old.items }
@@ -144,18 +146,20 @@ impl Sought<'_> {
             return Ok(());
         }
         let models = models(alloc, self.table, kept, grain)?;
-        let dead = self.dead_alike(alloc, grain, &models, kept)?;
+        let dead = self.dead_alike(alloc, grain, part, &models, kept)?;
         for i in 0..self.table.len() {
             self.leave_out_dead(grain, &models, &dead, kept, i);
         }
         Ok(())
     }
 
-    // For each position whether an edge is a model there to which none of a cycle is alike.
+    // For each position whether an edge is a model of this part there to which none of a cycle is
+    // alike.
     fn dead_alike(
         &self,
         alloc: Global,
         grain: Grain,
+        part: Part,
         models: &[usize],
         kept: &[bool],
     ) -> Result<Vec<bool>, Memory>
@@ -170,7 +174,7 @@ impl Sought<'_> {
             flags,
             index,
         };
-        rounds.dead_models(alloc)
+        rounds.dead_models(alloc, part)
     }
 
     // Leaves out the edge at a position, if no edge of a cycle is alike to its model.
@@ -343,30 +347,32 @@ impl Rounds<'_> {
         self.may_close(longer.as_slice(), tries)
     }
 
-    // For each position whether an edge is a model there to which none of a cycle is alike.
-    fn dead_models(&self, alloc: Global) -> Result<Vec<bool>, Memory>
+    // For each position whether an edge is a model of this part there to which none of a cycle is
+    // alike.
+    fn dead_models(&self, alloc: Global, part: Part) -> Result<Vec<bool>, Memory>
         requires models { HasModels self.now }
         ensures { IfOk result (λ dead. AreDead (is_before self.now.sought.order.now) self.now.sought.mode self.now.grain self.now.sought.len (edges_of_table self.now.sought.table.now) dead.items) }
     {
         let models = self.models(alloc)?;
         let mut ends = DeadEnds::none(alloc);
         let mut effort = Effort {
-            tries: TRIES,
-            tests: TESTS,
+            tries: part.share_of(TRIES),
+            tests: part.share_of(TESTS),
         };
         let mut dead = Vec::with_capacity(alloc, self.flags.len())?;
         for i in 0..self.sought.table.len() {
-            let is_dead = self.is_dead(alloc, i, &models, &dead, &mut ends, &mut effort)?;
+            let is_dead = self.is_dead(alloc, part, i, &models, &dead, &mut ends, &mut effort)?;
             dead.push(is_dead)?;
         }
         Ok(dead)
     }
 
-    // Whether an edge is a model at a position and none of a cycle is alike to it. No where that
-    // isn't known.
+    // Whether an edge is a model of this part at a position and none of a cycle is alike to it. No
+    // where that isn't known.
     fn is_dead(
         &self,
         alloc: Global,
+        part: Part,
         i: usize,
         models: &[usize],
         dead: &[bool],
@@ -382,6 +388,9 @@ impl Rounds<'_> {
         ensures none { IfOk result (λ is. is ≡ true → NoCycleThrough (is_before self.now.sought.order.now) self.now.sought.mode self.now.grain self.now.sought.len (edges_of_table self.now.sought.table.now) (i ∷ [])) }
         ensures ends { OnOk result (AreHopeless (is_before self.now.sought.order.now) self.now.sought.mode self.now.grain self.now.sought.len (edges_of_table self.now.sought.table.now) self.now.flags.items ends.new.known.items) }
     {
+        if !part.has(i) {
+            return Ok(false);
+        }
         if !self.flags[i] {
             return Ok(false);
         }

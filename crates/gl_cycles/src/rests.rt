@@ -70,6 +70,9 @@ impl Rounds<'_> {
         ensures none { IfOk result (λ is. is ≡ true → NoCycleThrough (is_before self.now.sought.order.now) self.now.sought.mode self.now.grain self.now.sought.len (edges_of_table self.now.sought.table.now) (root ∷ [])) }
         ensures ends { OnOk result (AreHopeless (is_before self.now.sought.order.now) self.now.sought.mode self.now.grain self.now.sought.len (edges_of_table self.now.sought.table.now) self.now.flags.items ends.new.known.items) }
     {
+        if !has_spent(tests, models.len()) {
+            return Ok(false);
+        }
         let alive = self.alive(alloc, models, dead)?;
         let rest = self.narrowed(alloc, &alive, root)?;
         let gap = Gap::of(&self.sought.table[root].0, self.sought.len);

@@ -19,6 +19,7 @@ mod cycles;
 mod knots;
 mod loops;
 mod parallel;
+mod parts;
 mod pruning;
 mod reports;
 mod trim_orders;
