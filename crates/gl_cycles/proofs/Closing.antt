@@ -105,6 +105,15 @@ module _ (before : Segment → Segment → Bool) (mode : Mode) (grain : Grain) (
             tried there.0 model.place (slice_get-get_or rest there.0 model.place there.1 ∙ ap Some there.2) cycle k m model.model next.0 among is by below next.1 model.stands model.alike
       ]
 
+  -- one more of the rest was tried
+  pub tried_next : (gap : Gap) (rest : List ℕ) (n v : ℕ) → ((p i : ℕ) → p < n → slice_get rest p ≡ Some i → NoneBy before mode grain len edges flags gap rest i) → ((i : ℕ) → slice_get rest n ≡ Some i → v ≡ i)
+      → NoneBy before mode grain len edges flags gap rest v → (p i : ℕ) → p < n + 1 → slice_get rest p ≡ Some i → NoneBy before mode grain len edges flags gap rest i
+  tried_next gap rest n v had is none p i below at =
+      elim (cases_eq p n) [
+        | inl same ↦ subst (NoneBy before mode grain len edges flags gap rest) (is i (sym (ap (slice_get rest) same) ∙ at)) none
+        | inr other ↦ had p i (omega arith) at
+      ]
+
   -- what is known
   pub hopeless_known : (ends : List DeadEnd) (gap : Gap) (rest : List ℕ) → AreHopeless before mode grain len edges flags ends → IsKnown ends gap rest → IsHopeless before mode grain len edges flags gap rest
   hopeless_known ends gap rest each known =

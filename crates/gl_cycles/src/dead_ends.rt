@@ -16,8 +16,8 @@ use std::collections::HashMap;
 // An odd number with its ones spread evenly.
 const SPREAD: u64 = 0x9E37_79B9_7F4A_7C15;
 
-// How many positions are remembered in all.
-const ROOM: usize = 2_000_000;
+/// How many positions are remembered in all.
+pub(crate) const ROOM: usize = 2_000_000;
 
 /// What is missing of a round: a way from one lock back to another.
 #[derive(Clone, Copy, Drop)]
@@ -122,14 +122,14 @@ pub(crate) struct DeadEnds {
 }
 
 impl DeadEnds {
-    /// None.
-    pub(crate) fn none(alloc: Global) -> DeadEnds
+    /// None, and room for so many positions.
+    pub(crate) fn none(alloc: Global, room: usize) -> DeadEnds
         ensures { (i : ℕ) (end : DeadEnd) → ¬ (slice_get result.known.items i ≡ Some end) }
     {
         DeadEnds {
             known: Vec::new(alloc),
             by_print: HashMap::new(alloc),
-            room: ROOM,
+            room,
         }
     }
 
@@ -170,7 +170,10 @@ impl DeadEnds {
 // A number that is the same for the same gap and models, and hardly ever for others.
 fn print_of(gap: &Gap, rest: &[usize]) -> u64 {
     let mut print = mixed(u64::from(gap.wanted.number()), u64::from(gap.held.number()));
-    print = mixed(print, (gap.left as u64) << 1 | u64::from(gap.wanted_mode == LockMode::Shared));
+    print = mixed(
+        print,
+        (gap.left as u64) << 1 | u64::from(gap.wanted_mode == LockMode::Shared),
+    );
     for &position in rest {
         print = mixed(print, position as u64);
     }

@@ -22,7 +22,7 @@ ghost use Rattle.gl_cycles.specs.bodies.Gaps.{HasFlagged, AreHopeless};
 ghost use Rattle.gl_cycles.specs.bodies.OffCycles.{KeepsCycles};
 ghost use Rattle.gl_edges.specs.declared.edge.Edge.{Edge};
 
-use crate::dead_ends::DeadEnds;
+use crate::dead_ends::{DeadEnds, ROOM};
 use crate::followers::Followers;
 use crate::grains::Grain;
 use crate::models::models;
@@ -35,13 +35,13 @@ use gl_filters::{goes_with, kinds_go_together, leads_on};
 use std::alloc::Global;
 
 // How many models are tried as the next one of a round, in all.
-const TRIES: usize = 5_000_000;
+const TRIES: usize = 1_000_000;
 
 // And how many for one model, before rests are looked at.
 const FEW: usize = 1_000;
 
 // How many models of rests are looked at, in all.
-const TESTS: usize = 20_000_000;
+const TESTS: usize = 2_000_000;
 
 // Whether two edges have the same threads and segments, as far as the grain tells them apart.
 fn are_made_alike(grain: Grain, e: &Edge, f: &Edge) -> bool
@@ -354,7 +354,7 @@ impl Rounds<'_> {
         ensures { IfOk result (λ dead. AreDead (is_before self.now.sought.order.now) self.now.sought.mode self.now.grain self.now.sought.len (edges_of_table self.now.sought.table.now) dead.items) }
     {
         let models = self.models(alloc)?;
-        let mut ends = DeadEnds::none(alloc);
+        let mut ends = DeadEnds::none(alloc, part.share_of(ROOM));
         let mut effort = Effort {
             tries: part.share_of(TRIES),
             tests: part.share_of(TESTS),

@@ -8,7 +8,6 @@ ghost use Rattle.gl_filters.specs.Picked.{edges_of_table};
 ghost use Rattle.gl_cycles.specs.bodies.OffCycles.{KeepsCycles};
 
 use crate::grains::Grain;
-use crate::loops::edges_on_loops;
 use crate::neighbours::Sought;
 use crate::parts::Part;
 use gl_event::Memory;
@@ -17,7 +16,7 @@ use std::alloc::Global;
 use std::thread::Threads;
 
 // How many parts there are: more than most machines have processors, so that they even out.
-const PARTS: usize = 16;
+const PARTS: usize = 8;
 
 // For how many edges other threads don't pay.
 const FEW: usize = 1_000;
@@ -173,7 +172,7 @@ pub(crate) fn kept_edges(
 ) -> Result<Vec<bool>, Memory>
     ensures { IfOk result (λ kept. KeepsCycles (is_before sought.now.order.now) sought.now.mode sought.now.len (edges_of_table sought.now.table.now) kept.items) }
 {
-    let mut kept = edges_on_loops(alloc, sought.table)?;
+    let mut kept = sought.on_loops(alloc)?;
     leave_out_by_parts(rt, alloc, sought, Reason::Alike(Grain::ByKind), &mut kept)?;
     narrow(rt, alloc, sought, &mut kept)?;
     leave_out_by_parts(rt, alloc, sought, Reason::Alike(Grain::ByThread), &mut kept)?;

@@ -166,6 +166,14 @@ impl Sought<'_> {
         Ok(has_changed)
     }
 
+    /// Which edges lie on a loop, as far as ranks of locks tell: for each a flag.
+    pub(crate) fn on_loops(&self, alloc: Global) -> Result<Vec<bool>, Memory>
+        ensures { IfOk result (λ kept. KeepsCycles (is_before self.now.order.now) self.now.mode self.now.len (edges_of_table self.now.table.now) kept.items) }
+    {
+        let kept = edges_on_loops(alloc, self.table)?;
+        Ok(kept)
+    }
+
     /// Which edges may be in a cycle: for each a flag. Those that lie on no loop are left out, then
     /// those that have no way back, and before and after that those to which none of a cycle is
     /// alike: by kind first, since there may be many edges of each kind.
@@ -173,7 +181,7 @@ impl Sought<'_> {
         ensures { IfOk result (λ kept. KeepsCycles (is_before self.now.order.now) self.now.mode self.now.len (edges_of_table self.now.table.now) kept.items) }
     {
         let whole = Part::whole();
-        let mut kept = edges_on_loops(alloc, self.table)?;
+        let mut kept = self.on_loops(alloc)?;
         self.leave_out_alike(alloc, Grain::ByKind, whole, &mut kept)?;
         self.narrow(alloc, whole, &mut kept)?;
         self.leave_out_alike(alloc, Grain::ByThread, whole, &mut kept)?;

@@ -32,12 +32,7 @@ impl Rounds<'_> {
     }
 
     // Those of the models that aren't flagged as dead.
-    fn alive(
-        &self,
-        alloc: Global,
-        models: &[usize],
-        dead: &[bool],
-    ) -> Result<Vec<usize>, Memory>
+    fn alive(&self, alloc: Global, models: &[usize], dead: &[bool]) -> Result<Vec<usize>, Memory>
         requires { All (λ i. i < length self.now.sought.table.now) models.now }
         ensures within { IfOk result (λ alive. All (λ i. i < length self.now.sought.table.now) alive.items) }
         ensures all { IfOk result (λ alive. (i : ℕ) → Contains models.now i → ¬ (slice_get dead.now i ≡ Some true) → Contains alive.items i) }
@@ -97,12 +92,7 @@ impl Rounds<'_> {
     }
 
     // Those of the rest that may meet the edge at a position.
-    fn narrowed(
-        &self,
-        alloc: Global,
-        rest: &[usize],
-        next: usize,
-    ) -> Result<Vec<usize>, Memory>
+    fn narrowed(&self, alloc: Global, rest: &[usize], next: usize) -> Result<Vec<usize>, Memory>
         requires within { All (λ i. i < length self.now.sought.table.now) rest.now }
         requires there { next < length self.now.sought.table.now }
         ensures within { IfOk result (λ some. All (λ i. i < length self.now.sought.table.now) some.items) }

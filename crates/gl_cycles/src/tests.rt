@@ -22,6 +22,7 @@ mod parallel;
 mod parts;
 mod pruning;
 mod reports;
+mod rests;
 mod trim_orders;
 mod trims;
 

@@ -1,7 +1,6 @@
 //! Edges that are left out part by part.
 use super::{acq, are_lawful, known_in, rel};
 use crate::grains::Grain;
-use crate::loops::edges_on_loops;
 use crate::narrowing::{Reason, kept_edges, leave_out_by_parts};
 use crate::neighbours::Sought;
 use crate::parts::Part;
@@ -38,10 +37,10 @@ fn only_of_its_own(rt: HostRuntime) -> Result<(), Fail> {
     let sought = Sought::of(&known.edges, &known.order, &query);
     let odd = [false, false, false, true, false, false, false, true];
     let even = [false, false, true, false, false, false, true, false];
-    let mut left = edges_on_loops(alloc, sought.table)?;
+    let mut left = sought.on_loops(alloc)?;
     sought.leave_out(alloc, Reason::NoWay, Part::one(0, 2), &mut left)?;
     assert!(rt; left.as_slice() == odd.as_slice());
-    let mut left = edges_on_loops(alloc, sought.table)?;
+    let mut left = sought.on_loops(alloc)?;
     let by_kind = Reason::Alike(Grain::ByKind);
     sought.leave_out(alloc, by_kind, Part::one(1, 2), &mut left)?;
     assert!(rt; left.as_slice() == even.as_slice());
@@ -99,7 +98,7 @@ fn ways_by_parts(rt: HostRuntime) -> Result<(), Fail> {
     let edges = edges_of(alloc, &lists)?;
     let order = Order::of(alloc, &lists)?;
     let guarded = Sought::of(&edges, &order, &Query::new(Mode::Guarded, 4, 1)?);
-    let mut left = edges_on_loops(alloc, edges.entries())?;
+    let mut left = guarded.on_loops(alloc)?;
     assert!(rt; count_set(left.as_slice()) == 1_020);
     leave_out_by_parts(&rt, alloc, &guarded, Reason::NoWay, &mut left)?;
     assert!(rt; count_set(left.as_slice()) == 0);

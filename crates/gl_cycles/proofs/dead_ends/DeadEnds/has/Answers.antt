@@ -1,6 +1,8 @@
 use Rattle.std.proofs.Common.{◌≡◌, ◌<◌, length, Some, sym, ap, subst, ◌∙◌, arith, refl}
 use Rattle.std.specs.Prelude.{slice_get}
+use Rattle.std.proofs.lemmas.Bool.Decides.{Decides-eqb}
 use Rattle.std.proofs.lemmas.Option.{slice_get_read, same_Some}
+use Rattle.std.proofs.lemmas.Slice.Eq.{slice_eq-Decides}
 use Rattle.gl_cycles.proofs.dead_ends.DeadEnds.has.Goals as goal
 
 -- the lists are compared element by element
@@ -15,6 +17,6 @@ returns c = λ same.
       place = place;
       end = c.index.result.now;
       stands = one;
-      same_gap = c.if-not-is_same.ensures tt refl;
-      same_rest = ap (λ end. end.rest.items) (same_Some c.index.result.now c.index-2.result.now (sym one ∙ other)) ∙ sym c.as_slice.ensures.value ∙ ?;
+      same_gap = c.if-not-is_same.ensures refl;
+      same_rest = ap (λ end. end.rest.items) (same_Some c.index.result.now c.index-2.result.now (sym one ∙ other)) ∙ sym c.as_slice.ensures.value ∙ (slice_eq-Decides Decides-eqb _ _ _ c.eq.ensures).0 same;
     }

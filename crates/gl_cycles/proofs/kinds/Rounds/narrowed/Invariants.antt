@@ -10,4 +10,4 @@ use Rattle.gl_cycles.proofs.kinds.Rounds.narrowed.Given as goal
 abbrev pub invariant-loop-place : goal.invariant-loop-place
 invariant-loop-place l = All (λ j. j < length l.self.sought.table.now) l.some.items
     × ((p i : ℕ) (d : Edge) → p < l.place → slice_get l.rest p ≡ Some i → slice_get (edges_of_table l.self.sought.table.now) i ≡ Some d
-      → may_meet (is_before l.self.sought.order.now) l.self.sought.mode l.self.grain l.edge d ≡ true → Contains l.some.items i)
+    → may_meet (is_before l.self.sought.order.now) l.self.sought.mode l.self.grain l.edge d ≡ true → Contains l.some.items i)
