@@ -170,6 +170,9 @@ impl Rounds<'_> {
         if !gap.leads_to(edge) {
             return Ok(false);
         }
+        if !has_spent(tests, rest.len()) {
+            return Ok(true);
+        }
         let some = self.narrowed(alloc, rest, next)?;
         let behind = gap.behind(edge);
         self.may_close_gap(alloc, &behind, &some, ends, tests)

@@ -47,14 +47,14 @@ fn no_room(rt: HostRuntime) -> Result<(), Fail> {
     Ok(())
 }
 
-// Eight threads run the pieces of a ring of eight locks, each its piece under each of so many gate
+// Eight threads run the pieces of a ring of eight locks, each its piece under each of these gate
 // locks.
-fn eight_under_gates(alloc: Global, gates: u32) -> Result<Vec<Vec<Event>>, Memory> {
+fn eight_under_gates(alloc: Global, gates: &[u32]) -> Result<Vec<Vec<Event>>, Memory> {
     let mut lists = Vec::new(alloc);
     for thread in 0..8u32 {
         let next = (thread + 1) % 8;
         let mut list = Vec::new(alloc);
-        for gate in 8..8 + gates {
+        for &gate in gates {
             list.push(acq(gate, 1))?;
             list.push(acq(thread, 2))?;
             list.push(acq(next, 3))?;
@@ -85,9 +85,9 @@ fn count_kept(alloc: Global, lists: &[Vec<Event>]) -> Result<usize, Fail> {
 #[test]
 fn eight_pieces_under_gates(rt: HostRuntime) -> Result<(), Fail> {
     let alloc = rt.alloc();
-    let seven = eight_under_gates(alloc, 7)?;
+    let seven = eight_under_gates(alloc, &[8, 9, 10, 11, 12, 13, 14])?;
     assert!(rt; count_kept(alloc, &seven)? == 0);
-    let eight = eight_under_gates(alloc, 8)?;
+    let eight = eight_under_gates(alloc, &[8, 9, 10, 11, 12, 13, 14, 15])?;
     assert!(rt; count_kept(alloc, &eight)? == 64);
     Ok(())
 }
