@@ -1,9 +1,9 @@
-use Rattle.std.proofs.Common.{◌≡◌, ◌≤◌, ℕ, false, length, get_or, refl, sym, subst, ◌∙◌, arith}
+use Rattle.std.proofs.Common.{◌≤◌, length, get_or, refl, sym, subst, arith}
 use Rattle.std.proofs.lemmas.Option.{get_or_from_slice_get, slice_get_within}
 use Rattle.rayon.proofs.ListFacts.{IfOk-then}
 use Rattle.gl_segments.specs.Clocks.{is_before}
 use Rattle.gl_filters.specs.Picked.{edges_of_table}
-use Rattle.gl_cycles.specs.bodies.Gaps.{IsHopeless, gap_behind}
+use Rattle.gl_cycles.specs.bodies.Gaps.{IsHopeless}
 use Rattle.gl_cycles.proofs.Closing.{hopeless_short, hopeless_known, hopeless_tried, hopeless_more, tried_next, none_stray, none_behind}
 use Rattle.gl_cycles.proofs.Fronts.{edge_at}
 use Rattle.gl_cycles.proofs.kinds.Rounds.+gaps.Goals as goal

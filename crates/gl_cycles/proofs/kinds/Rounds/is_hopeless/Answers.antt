@@ -1,7 +1,7 @@
 use Rattle.std.proofs.Common.{get_or, subst}
 use Rattle.gl_segments.specs.Clocks.{is_before}
 use Rattle.gl_filters.specs.Picked.{edges_of_table}
-use Rattle.gl_cycles.specs.bodies.Gaps.{IsHopeless, IsNarrowed, gap_of}
+use Rattle.gl_cycles.specs.bodies.Gaps.{IsHopeless, IsNarrowed}
 use Rattle.gl_cycles.proofs.ByKinds.{from_not_true}
 use Rattle.gl_cycles.proofs.Closing.{none_from_gap}
 use Rattle.gl_cycles.proofs.Fronts.{edge_at}

@@ -1,4 +1,4 @@
-use Rattle.std.proofs.Common.{◌≡◌, ℕ, Some, length, arith}
+use Rattle.std.proofs.Common.{arith}
 use Rattle.std.proofs.lemmas.Option.{get_or_from_slice_get}
 use Rattle.gl_segments.specs.Clocks.{is_before}
 use Rattle.gl_cycles.proofs.Closing.{narrowed_more, narrowed_all}
