@@ -24,7 +24,7 @@ HERE = os.path.dirname(os.path.realpath(__file__))
 BUILT = os.path.join(os.path.dirname(HERE), "crates", "goodlock", "out", "goodlock")
 FOLDER = os.environ.get("BENCH_DIR", "/tmp/goodlock-bench")
 
-# The options of bench/make_trace.py for each shape, by size.
+# The options of bench/make_trace.py for each shape, by size; behind `ask` what is asked in place of --query.
 SHAPES = {
     "gated-requests": {
         "small": ["--threads 100", "--threads 200"],
@@ -32,7 +32,12 @@ SHAPES = {
     },
     "alternating-gates": {
         "small": ["--segments 2", "--segments 5"],
-        "large": ["--segments 10", "--segments 100", "--segments 100 --sections 6 --gates 3"],
+        "large": [
+            "--segments 10",
+            "--segments 100",
+            "--segments 100 --sections 6 --gates 3",
+            "--segments 20 --sections 10 --gates 9 ask --len 16",
+        ],
     },
     "early-and-late": {
         "small": ["--threads 100 --segments 200"],
@@ -40,7 +45,20 @@ SHAPES = {
     },
     "few-threads": {
         "small": ["--segments 10"],
-        "large": ["--segments 30", "--segments 100", "--threads 5 --sections 6 --segments 100"],
+        "large": [
+            "--segments 30",
+            "--segments 100",
+            "--threads 5 --sections 6 --segments 100",
+            "--threads 7 --sections 14 --segments 20 ask --len 16",
+        ],
+    },
+    # Two locks in any order each time: an edge leads to ten others, and there are thousands of cycles.
+    "many-locks": {
+        "small": ["--locks 1000 --sections 10000 --events 80000 --depth 2 --disorder 1 --others 0 ask --len 4 --max 100000"],
+        "large": [
+            "--locks 10000 --sections 100000 --events 800000 --depth 2 --disorder 1 --others 0 ask --len 4 --max 100000",
+            "--locks 10000 --sections 100000 --events 800000 --depth 2 --disorder 1 --others 0 ask --len 5 --max 100000",
+        ],
     },
     "colliding-names": {"small": ["--locks 10000"], "large": ["--locks 100000"]},
     "ordinary-names": {"small": ["--locks 10000"], "large": ["--locks 100000"]},
@@ -113,18 +131,19 @@ def main():
     for peer in ("plain", "tuned"):
         source, built = os.path.join(HERE, peer, "main.rs"), os.path.join(FOLDER, peer)
         subprocess.run(["rustc", "--edition", "2021", "-C", "opt-level=3", "-o", built, source], check=True)
-    query = options.query.split()
-    goodlock = [os.path.abspath(options.program), "predict", *query]
+    goodlock = [os.path.abspath(options.program), "predict"]
     cores = [int(n) for n in options.cores.split(",") if n]
     programs = [(f"goodlock, {n} core{'s' * (n > 1)}", goodlock, n) for n in cores] or [("goodlock", goodlock, None)]
-    programs += [(peer, [os.path.join(FOLDER, peer), *query], None) for peer in ("plain", "tuned")]
+    programs += [(peer, [os.path.join(FOLDER, peer)], None) for peer in ("plain", "tuned")]
     print(f"{options.query}; each run is ended after {options.seconds:g} seconds\n")
     print("| Trace | KB | " + " | ".join(name for name, _, _ in programs) + " |")
     print("|---" * (len(programs) + 2) + "|")
     differ = False
     for shape in options.shapes.split(","):
         for size in [options.sizes] if options.sizes else ["small", "large"]:
-            for settings in SHAPES[shape][size]:
+            for row in SHAPES[shape][size]:
+                settings, _, asked = row.partition(" ask ")
+                query = (asked or options.query).split()
                 with tempfile.NamedTemporaryFile(suffix=".std") as trace:
                     maker = [sys.executable, os.path.join(HERE, "make_trace.py"), "--shape", shape, *settings.split()]
                     subprocess.run(maker, stdout=trace, check=True)
@@ -132,13 +151,13 @@ def main():
                     for turn in range(options.runs):
                         for (_, command, count), seen in zip(programs, results):
                             if not any(result.answer is None for result in seen):
-                                seen.append(run(command, trace.name, options.seconds, count))
+                                seen.append(run([*command, *query], trace.name, options.seconds, count))
                     answers = [result.answer for seen in results for result in seen if result.answer is not None]
                     is_equal = all(answer == answers[0] for answer in answers)
                     kilobytes = os.path.getsize(trace.name) / 1_000
                 cells = [shown(seen, options.seconds) for seen in results]
                 told = "" if is_equal else " the answers DIFFER"
-                print(f"| `{shape} {settings}`{told} | {kilobytes:.0f} | {' | '.join(cells)} |", flush=True)
+                print(f"| `{shape} {row}`{told} | {kilobytes:.0f} | {' | '.join(cells)} |", flush=True)
                 differ = differ or not is_equal
     return 1 if differ else 0
 

@@ -1,14 +1,14 @@
 -- Edges to which none of a cycle is alike.
-use Rattle.std.proofs.Common.{◌≡◌, ◌≢◌, ℕ, zero, suc, ◌+◌, ◌-◌, ◌<◌, ◌≤◌, ◌⊎◌, Bool, true, false, not, ◌&&◌, eqb, ltb, cond, List, [], ◌∷◌, ◌++◌, length, map, get_or, set, Option, Some, None, refl, sym, ap, subst, ◌∙◌, arith, inl, inr}
-use Rattle.std.specs.Prelude.{slice_get, All, Contains}
-use Rattle.std.proofs.lemmas.Bool.{and_parts, and_from, cases_Bool, cases_eq, eqb-true, ne_eqb, eq-eqb, false≢true, lt-ltb, le-ltb, ltb-true, ltb-false}
+use Rattle.std.proofs.Common.{◌≡◌, ◌≢◌, ℕ, zero, suc, ◌+◌, ◌-◌, ◌<◌, ◌≤◌, ◌⊎◌, Bool, true, false, not, ◌&&◌, eqb, ltb, cond, List, [], ◌∷◌, ◌++◌, length, get_or, set, Option, Some, None, refl, sym, ap, subst, ◌∙◌, arith, inl, inr}
+use Rattle.std.specs.Prelude.{slice_get, All}
+use Rattle.std.proofs.lemmas.Bool.{and_parts, and_from, cases_Bool, cases_eq, ne_eqb, eq-eqb, false≢true, lt-ltb, le-ltb, ltb-true, ltb-false}
 use Rattle.std.proofs.lemmas.List.{length-map, length_push}
 use Rattle.std.proofs.lemmas.Option.{slice_get-get_or, slice_get_within, get_or_from_slice_get, same_Some}
 use Rattle.gl_event.specs.declared.events.Segment.{Segment}
 use Rattle.gl_edges.specs.declared.edge.Edge.{Edge}
 use Rattle.gl_edges.specs.declared.edge.Sample.{Sample}
 use Rattle.gl_event.specs.Modes.{conflict}
-use Rattle.gl_filters.specs.Cycle.{asks_guards, LeadsOn, IsCycle}
+use Rattle.gl_filters.specs.Cycle.{asks_guards, IsCycle}
 use Rattle.gl_filters.specs.Judging.{following}
 use Rattle.gl_filters.specs.declared.query.Mode.{Mode}
 use Rattle.gl_edges.specs.Clashes.{guards_clash}
@@ -22,7 +22,6 @@ use Rattle.gl_cycles.specs.declared.grains.Grain.TheVariants.{ByKind, ByThread, 
 use Rattle.gl_cycles.specs.bodies.Followers.{IsNextWith, held_lock}
 use Rattle.gl_cycles.specs.bodies.OffCycles.{IsOffCycles, KeepsCycles}
 use Rattle.gl_cycles.proofs.Back.{kept_at}
-use Rattle.gl_edges.specs.declared.guards.Guard.{Guard}
 use Rattle.gl_cycles.proofs.Beside.{set_here, push_before, push_at_end}
 use Rattle.gl_cycles.proofs.Fronts.{edge_at, element_at, AreWithin}
 
@@ -156,7 +155,7 @@ unfolding goes_with
 threads_apart before mode e f goes = (and_parts (not (eqb e.held f.held)) _ (and_parts (not (eqb e.held f.held) && not (eqb e.thread f.thread)) _ goes).0).1
 
 -- what is alike to edges that go together may meet
-meet_alike : (before : Segment → Segment → Bool) (mode : Mode) (grain : Grain) (d e f g : Edge) → AreAlike grain d f → AreAlike grain e g
+pub meet_alike : (before : Segment → Segment → Bool) (mode : Mode) (grain : Grain) (d e f g : Edge) → AreAlike grain d f → AreAlike grain e g
     → kinds_go_together mode f g ≡ true → goes_with before mode f g ≡ true → may_meet before mode grain d e ≡ true
 meet_alike before mode ByKind d e f g first second kinds goes = kinds_alike mode ByKind d e f g first second kinds
 meet_alike before mode ByThread d e f g first second kinds goes =

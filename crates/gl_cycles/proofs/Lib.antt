@@ -14,6 +14,7 @@ pub mod Back
 pub mod Watching
 pub mod Beside
 pub mod ByKinds
+pub mod Closing
 pub mod Removing
 pub mod Whole
 pub mod Surviving

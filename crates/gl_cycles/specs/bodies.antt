@@ -1,6 +1,7 @@
 -- The words of loops and private functions. No public contract cites them.
 pub mod Blocks
 pub mod Followers
+pub mod Gaps
 pub mod Kinds
 pub mod OffCycles
 pub mod Ranks

@@ -18,13 +18,16 @@ ghost use Rattle.gl_cycles.specs.declared.paths.TheConstants.{PATH};
 ghost use Rattle.gl_filters.specs.Picked.{edges_of_table, picked};
 ghost use Rattle.gl_cycles.specs.bodies.Followers.{IsIndexOf};
 ghost use Rattle.gl_cycles.specs.bodies.Kinds.{AreAlike, AreMadeAlike, may_meet, HasModel, AreModels, HasModels, LastLeadsTo, MayMeetAll, NoCycleThrough, AreDead};
+ghost use Rattle.gl_cycles.specs.bodies.Gaps.{HasFlagged, AreHopeless};
 ghost use Rattle.gl_cycles.specs.bodies.OffCycles.{KeepsCycles};
 ghost use Rattle.gl_edges.specs.declared.edge.Edge.{Edge};
 
+use crate::dead_ends::{DeadEnds, ROOM};
 use crate::followers::Followers;
 use crate::grains::Grain;
 use crate::models::models;
 use crate::neighbours::Sought;
+use crate::parts::Part;
 use crate::paths::{PATH, longer_path};
 use gl_edges::Edge;
 use gl_event::Memory;
@@ -32,7 +35,13 @@ use gl_filters::{goes_with, kinds_go_together, leads_on};
 use std::alloc::Global;
 
 // How many models are tried as the next one of a round, in all.
-const TRIES: usize = 5_000_000;
+const TRIES: usize = 1_000_000;
+
+// And how many for one model, before rests are looked at.
+const FEW: usize = 1_000;
+
+// How many models of rests are looked at, in all.
+const TESTS: usize = 2_000_000;
 
 // Whether two edges have the same threads and segments, as far as the grain tells them apart.
 fn are_made_alike(grain: Grain, e: &Edge, f: &Edge) -> bool
@@ -122,11 +131,12 @@ impl Sought<'_> {
         i
     }
 
-    /// Leaves out each edge to which none of a cycle is alike.
+    /// Leaves out each edge to whose model, if that is in this part, none of a cycle is alike.
     pub(crate) fn leave_out_alike(
         &self,
         alloc: Global,
         grain: Grain,
+        part: Part,
         kept: &mut Vec<bool>,
     ) -> Result<(), Memory>
         requires { KeepsCycles (is_before self.now.order.now) self.now.mode self.now.len (edges_of_table self.now.table.now) kept.old.items }
@@ -136,18 +146,20 @@ impl Sought<'_> {
             return Ok(());
         }
         let models = models(alloc, self.table, kept, grain)?;
-        let dead = self.dead_alike(alloc, grain, &models, kept)?;
+        let dead = self.dead_alike(alloc, grain, part, &models, kept)?;
         for i in 0..self.table.len() {
             self.leave_out_dead(grain, &models, &dead, kept, i);
         }
         Ok(())
     }
 
-    // For each position whether an edge is a model there to which none of a cycle is alike.
+    // For each position whether an edge is a model of this part there to which none of a cycle is
+    // alike.
     fn dead_alike(
         &self,
         alloc: Global,
         grain: Grain,
+        part: Part,
         models: &[usize],
         kept: &[bool],
     ) -> Result<Vec<bool>, Memory>
@@ -162,7 +174,7 @@ impl Sought<'_> {
             flags,
             index,
         };
-        rounds.dead_models(alloc)
+        rounds.dead_models(alloc, part)
     }
 
     // Leaves out the edge at a position, if no edge of a cycle is alike to its model.
@@ -196,15 +208,36 @@ fn has_any(flags: &[bool]) -> bool {
     false
 }
 
+/// How much may still be done.
+#[derive(Drop)]
+pub(crate) struct Effort {
+    // how many models may be tried as the next one of a round
+    tries: usize,
+    // how many models of rests may be looked at
+    tests: usize,
+}
+
+impl Effort {
+    // How many models are tried for the next one.
+    fn few(&self) -> usize {
+        FEW.min(self.tries)
+    }
+
+    // Some models were tried.
+    fn spend(&mut self, tries: usize) {
+        self.tries = self.tries.saturating_sub(tries);
+    }
+}
+
 /// A search for rounds of models: each one leads on to the next, and the last one to the first, and
 /// no two of them are kept apart by what the grain tells of them.
 #[derive(Drop)]
 pub(crate) struct Rounds<'a> {
-    sought: Sought<'a>,
+    pub(crate) sought: Sought<'a>,
     // what tells edges apart
-    grain: Grain,
+    pub(crate) grain: Grain,
     // which edges are models
-    flags: Vec<bool>,
+    pub(crate) flags: Vec<bool>,
     // leads through the models
     index: Followers,
 }
@@ -225,7 +258,7 @@ impl Rounds<'_> {
     }
 
     // Whether edges that are alike to these two may stand in one cycle.
-    fn may_meet(&self, e: &Edge, f: &Edge) -> bool
+    pub(crate) fn may_meet(&self, e: &Edge, f: &Edge) -> bool
         ensures { result ≡ may_meet (is_before self.now.sought.order.now) self.now.sought.mode self.now.grain e.now f.now }
     {
         match self.grain {
@@ -314,28 +347,63 @@ impl Rounds<'_> {
         self.may_close(longer.as_slice(), tries)
     }
 
-    // For each position whether an edge is a model there to which none of a cycle is alike.
-    fn dead_models(&self, alloc: Global) -> Result<Vec<bool>, Memory>
+    // For each position whether an edge is a model of this part there to which none of a cycle is
+    // alike.
+    fn dead_models(&self, alloc: Global, part: Part) -> Result<Vec<bool>, Memory>
         requires models { HasModels self.now }
         ensures { IfOk result (λ dead. AreDead (is_before self.now.sought.order.now) self.now.sought.mode self.now.grain self.now.sought.len (edges_of_table self.now.sought.table.now) dead.items) }
     {
-        let mut tries = TRIES;
+        let models = self.models(alloc)?;
+        let mut ends = DeadEnds::none(alloc, part.share_of(ROOM));
+        let mut effort = Effort {
+            tries: part.share_of(TRIES),
+            tests: part.share_of(TESTS),
+        };
         let mut dead = Vec::with_capacity(alloc, self.flags.len())?;
         for i in 0..self.sought.table.len() {
-            dead.push(self.is_dead(i, &mut tries))?;
+            let is_dead = self.is_dead(alloc, part, i, &models, &dead, &mut ends, &mut effort)?;
+            dead.push(is_dead)?;
         }
         Ok(dead)
     }
 
-    // Whether an edge is a model at a position and none of a cycle is alike to it.
-    fn is_dead(&self, i: usize, tries: &mut usize) -> bool
+    // Whether an edge is a model of this part at a position and none of a cycle is alike to it. No
+    // where that isn't known.
+    fn is_dead(
+        &self,
+        alloc: Global,
+        part: Part,
+        i: usize,
+        models: &[usize],
+        dead: &[bool],
+        ends: &mut DeadEnds,
+        effort: &mut Effort,
+    ) -> Result<bool, Memory>
         requires there { i < length self.now.sought.table.now }
-        requires models { HasModels self.now }
-        ensures { result ≡ true → NoCycleThrough (is_before self.now.sought.order.now) self.now.sought.mode self.now.grain self.now.sought.len (edges_of_table self.now.sought.table.now) (i ∷ []) }
+        requires lawful { HasModels self.now }
+        requires within { All (λ j. j < length self.now.sought.table.now) models.now }
+        requires all { HasFlagged self.now.flags.items models.now }
+        requires dead { (j : ℕ) → slice_get dead.now j ≡ Some true → NoCycleThrough (is_before self.now.sought.order.now) self.now.sought.mode self.now.grain self.now.sought.len (edges_of_table self.now.sought.table.now) (j ∷ []) }
+        requires ends { AreHopeless (is_before self.now.sought.order.now) self.now.sought.mode self.now.grain self.now.sought.len (edges_of_table self.now.sought.table.now) self.now.flags.items ends.old.known.items }
+        ensures none { IfOk result (λ is. is ≡ true → NoCycleThrough (is_before self.now.sought.order.now) self.now.sought.mode self.now.grain self.now.sought.len (edges_of_table self.now.sought.table.now) (i ∷ [])) }
+        ensures ends { OnOk result (AreHopeless (is_before self.now.sought.order.now) self.now.sought.mode self.now.grain self.now.sought.len (edges_of_table self.now.sought.table.now) self.now.flags.items ends.new.known.items) }
     {
-        if !self.flags[i] {
-            return false;
+        if !part.has(i) {
+            return Ok(false);
         }
-        !self.may_close(&[i], tries)
+        if !self.flags[i] {
+            return Ok(false);
+        }
+        let few = effort.few();
+        let mut tries = few;
+        let may = self.may_close(&[i], &mut tries);
+        effort.spend(few.saturating_sub(tries));
+        if !may {
+            return Ok(true);
+        }
+        if tries > 0 {
+            return Ok(false);
+        }
+        self.is_hopeless(alloc, i, models, dead, ends, &mut effort.tests)
     }
 }

@@ -22,6 +22,7 @@
 mod chains;
 mod closers;
 mod components;
+mod dead_ends;
 mod followers;
 mod found;
 mod grains;
@@ -29,13 +30,16 @@ mod kinds;
 mod laws;
 mod loops;
 mod models;
+mod narrowing;
 mod neighbours;
 mod numbers;
 mod parallel;
+mod parts;
 mod paths;
 mod ranks;
 mod removals;
 mod reports;
+mod rests;
 #[cfg(test)]
 mod tests;
 mod trims;

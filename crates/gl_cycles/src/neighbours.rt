@@ -16,14 +16,15 @@ ghost use Rattle.gl_cycles.specs.bodies.Walks.{IsNumbered, label_at, ShowsNoWay}
 use crate::grains::Grain;
 use crate::loops::edges_on_loops;
 use crate::numbers::{Ends, Numbers};
+use crate::parts::Part;
 use crate::ways::Ways;
-use gl_edges::{Edge, Sample};
+use gl_edges::{Edge, EdgeList, Sample};
 use gl_event::Memory;
-use gl_filters::{Mode, goes_with};
+use gl_filters::{Mode, Query, goes_with};
 use gl_segments::Order;
 use std::alloc::Global;
 
-// How many times all edges are looked at, and how many links of ways in all.
+// How many times all edges are looked at, and how many links of ways and edges beside them in all.
 const ROUNDS: usize = 1_000;
 
 const BUDGET: usize = 100_000_000;
@@ -35,6 +36,23 @@ pub(crate) struct Sought<'a> {
     pub(crate) order: &'a Order,
     pub(crate) mode: Mode,
     pub(crate) len: usize,
+}
+
+impl<'a> Sought<'a> {
+    /// What a query asks of these edges.
+    pub(crate) fn of(edges: &'a EdgeList, order: &'a Order, query: &Query) -> Sought<'a>
+        ensures table { result.table.now ≡ edges.now }
+        ensures order { result.order.now ≡ order.now }
+        ensures mode { result.mode ≡ query.now.mode }
+        ensures len { result.len ≡ query.now.len }
+    {
+        Sought {
+            table: edges.entries(),
+            order,
+            mode: query.mode(),
+            len: query.len() as usize,
+        }
+    }
 }
 
 // The label of a lock.
@@ -96,9 +114,11 @@ impl Sought<'_> {
         goes_with(self.mode, self.order, &self.table[i].0, edge)
     }
 
-    // Leaves out the edge at a position, if it has no way back. Whether it was left out.
+    // Leaves out the edge at a position, if it is in this part and has no way back. Whether it was
+    // left out.
     fn leave_out_at(
         &self,
+        part: Part,
         ways: &mut Ways,
         ends: &[Ends],
         kept: &mut Vec<bool>,
@@ -110,9 +130,13 @@ impl Sought<'_> {
         requires numbered { IsNumbered (edges_of_table self.now.table.now) ends.now }
         ensures { OnOk result (KeepsCycles (is_before self.now.order.now) self.now.mode self.now.len (edges_of_table self.now.table.now) kept.new.items) }
     {
+        if !part.has(x) {
+            return Ok(false);
+        }
         if !kept[x] || !ways.has_none(self, kept, ends[x], &self.table[x].0)? {
             return Ok(false);
         }
+        ways.pay(self.table.len());
         if !self.is_without_way(ends, kept, &ways.labels, x) {
             return Ok(false);
         }
@@ -120,9 +144,10 @@ impl Sought<'_> {
         Ok(true)
     }
 
-    // Leaves out each edge that has no way back. Whether any was left out.
+    // Leaves out each edge of a part that has no way back. Whether any was left out.
     fn leave_out_each(
         &self,
+        part: Part,
         ways: &mut Ways,
         ends: &[Ends],
         kept: &mut Vec<bool>,
@@ -134,11 +159,19 @@ impl Sought<'_> {
     {
         let mut has_changed = false;
         for x in 0..self.table.len() {
-            if self.leave_out_at(ways, ends, kept, x)? {
+            if self.leave_out_at(part, ways, ends, kept, x)? {
                 has_changed = true;
             }
         }
         Ok(has_changed)
+    }
+
+    /// Which edges lie on a loop, as far as ranks of locks tell: for each a flag.
+    pub(crate) fn on_loops(&self, alloc: Global) -> Result<Vec<bool>, Memory>
+        ensures { IfOk result (λ kept. KeepsCycles (is_before self.now.order.now) self.now.mode self.now.len (edges_of_table self.now.table.now) kept.items) }
+    {
+        let kept = edges_on_loops(alloc, self.table)?;
+        Ok(kept)
     }
 
     /// Which edges may be in a cycle: for each a flag. Those that lie on no loop are left out, then
@@ -147,25 +180,32 @@ impl Sought<'_> {
     pub(crate) fn kept_edges(&self, alloc: Global) -> Result<Vec<bool>, Memory>
         ensures { IfOk result (λ kept. KeepsCycles (is_before self.now.order.now) self.now.mode self.now.len (edges_of_table self.now.table.now) kept.items) }
     {
-        let mut kept = edges_on_loops(alloc, self.table)?;
-        self.leave_out_alike(alloc, Grain::ByKind, &mut kept)?;
-        self.narrow(alloc, &mut kept)?;
-        self.leave_out_alike(alloc, Grain::ByThread, &mut kept)?;
-        self.leave_out_alike(alloc, Grain::BySegment, &mut kept)?;
+        let whole = Part::whole();
+        let mut kept = self.on_loops(alloc)?;
+        self.leave_out_alike(alloc, Grain::ByKind, whole, &mut kept)?;
+        self.narrow(alloc, whole, &mut kept)?;
+        self.leave_out_alike(alloc, Grain::ByThread, whole, &mut kept)?;
+        self.leave_out_alike(alloc, Grain::BySegment, whole, &mut kept)?;
         Ok(kept)
     }
 
-    // Leaves out edges that have no way back, as long as there are any and the search for them may
-    // go on.
-    fn narrow(&self, alloc: Global, kept: &mut Vec<bool>) -> Result<(), Memory>
+    /// Leaves out edges of a part that have no way back, as long as there are any and the search for
+    /// them may go on.
+    pub(crate) fn narrow(
+        &self,
+        alloc: Global,
+        part: Part,
+        kept: &mut Vec<bool>,
+    ) -> Result<(), Memory>
         requires { KeepsCycles (is_before self.now.order.now) self.now.mode self.now.len (edges_of_table self.now.table.now) kept.old.items }
         ensures { OnOk result (KeepsCycles (is_before self.now.order.now) self.now.mode self.now.len (edges_of_table self.now.table.now) kept.new.items) }
     {
         let numbers = Numbers::of(alloc, self.table)?;
         let ends = numbers.of_edges(alloc, self.table)?;
-        let mut ways = Ways::new(alloc, self, numbers.count(), &ends, kept, BUDGET)?;
+        let budget = part.share_of(BUDGET);
+        let mut ways = Ways::new(alloc, self, numbers.count(), &ends, kept, budget)?;
         for _ in 0..ROUNDS {
-            if !self.leave_out_each(&mut ways, &ends, kept)? {
+            if !self.leave_out_each(part, &mut ways, &ends, kept)? {
                 return Ok(());
             }
         }

@@ -7,6 +7,7 @@ ghost use Rattle.gl_filters.specs.Test.{can_follow, goes_with, leads_back, is_pa
 ghost use Rattle.gl_filters.specs.Picked.{edges_of_table, picked};
 ghost use Rattle.gl_cycles.specs.AllCycles.{all_cycles};
 ghost use Rattle.gl_cycles.specs.bodies.Blocks.{block};
+ghost use Rattle.gl_cycles.specs.bodies.OffCycles.{KeepsCycles};
 ghost use Rattle.gl_cycles.specs.bodies.Searching.{IsReady, first_from};
 ghost use Rattle.gl_edges.specs.declared.edge.Edge.{Edge};
 
@@ -39,13 +40,15 @@ pub(crate) struct Searcher<'a> {
 }
 
 impl<'a> Searcher<'a> {
-    // The search for what a query asks. Edges that are in no cycle are left out.
+    // The search for what a query asks, among edges of which those that aren't kept are in no cycle.
     pub(crate) fn of(
         alloc: Global,
         edges: &'a EdgeList,
         order: &'a Order,
         query: &Query,
+        kept: Vec<bool>,
     ) -> Result<Searcher<'a>, Memory>
+        requires kept { KeepsCycles (is_before order.now) query.now.mode query.now.len (edges_of_table edges.now) kept.items }
         ensures some { IfOk result (λ s. 0 < s.len) }
         ensures ready { IfOk result IsReady }
         ensures cap { IfOk result (λ s. s.cap ≡ query.now.max + 1) }
@@ -54,13 +57,6 @@ impl<'a> Searcher<'a> {
         let table = edges.entries();
         let mode = query.mode();
         let len = query.len() as usize;
-        let sought = Sought {
-            table,
-            order,
-            mode,
-            len,
-        };
-        let kept = sought.kept_edges(alloc)?;
         let index = Followers::of(alloc, table, &kept)?;
         Ok(Searcher {
             table,
@@ -314,7 +310,8 @@ pub fn search(
     ensures cycles { IfOk result (λ found. found.cycles ≡ take query.now.max (all_cycles (is_before order.now) query.now.mode query.now.len (edges_of_table edges.now))) }
     ensures more { IfOk result (λ found. IsTrue found.more ↔ (query.now.max < length (all_cycles (is_before order.now) query.now.mode query.now.len (edges_of_table edges.now)))) }
 {
-    let search = Searcher::of(alloc, edges, order, query)?;
+    let kept = Sought::of(edges, order, query).kept_edges(alloc)?;
+    let search = Searcher::of(alloc, edges, order, query, kept)?;
     let cycles = search.first_cycles(alloc)?;
     Ok(listed(cycles, query.max() as usize))
 }

@@ -20,8 +20,10 @@ mod cycles;
 mod knots;
 mod loops;
 mod parallel;
+mod parts;
 mod pruning;
 mod reports;
+mod rests;
 mod trim_orders;
 mod trims;
 

@@ -29,7 +29,7 @@ pub(crate) struct Ways {
     pub(crate) labels: Vec<usize>,
     // the locks that were reached, in order
     reached: Vec<usize>,
-    // how many links may still be looked at
+    // how many links and edges may still be looked at
     budget: usize,
 }
 
@@ -82,6 +82,9 @@ impl Ways {
         ends: Ends,
         edge: &Edge,
     ) -> Result<bool, Memory> {
+        if self.budget == 0 {
+            return Ok(false);
+        }
         self.forget(sought.len);
         self.reach(ends.wanted, 0)?;
         for turn in 0..self.labels.len() {
@@ -97,6 +100,11 @@ impl Ways {
             }
         }
         Ok(true)
+    }
+
+    /// Takes what it costs to look at so many edges from the budget.
+    pub(crate) fn pay(&mut self, edges: usize) {
+        self.budget = self.budget.saturating_sub(edges);
     }
 
     // No lock is reached.

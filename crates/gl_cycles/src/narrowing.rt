@@ -1,0 +1,187 @@
+//! Edges that are in no cycle, left out on several threads.
+//!
+//! The positions of a table are dealt out to parts. In each part a thread leaves out edges of its own,
+//! and knows nothing of the others. What is left is what each of them leaves.
+ghost use Rattle.std.specs.Prelude.{◌<◌, length, All, IfOk, OnOk};
+ghost use Rattle.gl_segments.specs.Clocks.{is_before};
+ghost use Rattle.gl_filters.specs.Picked.{edges_of_table};
+ghost use Rattle.gl_cycles.specs.bodies.OffCycles.{KeepsCycles};
+
+use crate::grains::Grain;
+use crate::neighbours::Sought;
+use crate::parts::Part;
+use gl_event::Memory;
+use rayon::prelude::*;
+use std::alloc::Global;
+use std::thread::Threads;
+
+// How many parts there are: more than most machines have processors, so that they even out.
+const PARTS: usize = 8;
+
+// For how many edges other threads don't pay.
+const FEW: usize = 1_000;
+
+// How many times ways back are looked for, since what one part leaves out another one sees the next
+// time.
+const PASSES: usize = 3;
+
+/// What leaves out edges.
+#[derive(Clone, Copy, Debug)]
+pub(crate) enum Reason {
+    // none of a cycle is alike to them
+    Alike(Grain),
+    // they have no way back
+    NoWay,
+}
+
+impl Sought<'_> {
+    /// Leaves out edges of a part.
+    pub(crate) fn leave_out(
+        &self,
+        alloc: Global,
+        reason: Reason,
+        part: Part,
+        kept: &mut Vec<bool>,
+    ) -> Result<(), Memory>
+        requires { KeepsCycles (is_before self.now.order.now) self.now.mode self.now.len (edges_of_table self.now.table.now) kept.old.items }
+        ensures { OnOk result (KeepsCycles (is_before self.now.order.now) self.now.mode self.now.len (edges_of_table self.now.table.now) kept.new.items) }
+    {
+        match reason {
+            Reason::Alike(grain) => self.leave_out_alike(alloc, grain, part, kept),
+            Reason::NoWay => self.narrow(alloc, part, kept),
+        }
+    }
+
+    // What is left if edges of a part are left out.
+    fn left(
+        &self,
+        alloc: Global,
+        reason: Reason,
+        part: Part,
+        kept: &[bool],
+    ) -> Result<Vec<bool>, Memory>
+        requires { KeepsCycles (is_before self.now.order.now) self.now.mode self.now.len (edges_of_table self.now.table.now) kept.now }
+        ensures { IfOk result (λ left. KeepsCycles (is_before self.now.order.now) self.now.mode self.now.len (edges_of_table self.now.table.now) left.items) }
+    {
+        let mut left = Vec::from_slice(alloc, kept)?;
+        self.leave_out(alloc, reason, part, &mut left)?;
+        Ok(left)
+    }
+
+    // Leaves out the edge at a position, if it isn't left.
+    fn leave_out_too(&self, left: &[bool], kept: &mut Vec<bool>, i: usize)
+        requires there { i < length self.now.table.now }
+        requires left { KeepsCycles (is_before self.now.order.now) self.now.mode self.now.len (edges_of_table self.now.table.now) left.now }
+        requires kept { KeepsCycles (is_before self.now.order.now) self.now.mode self.now.len (edges_of_table self.now.table.now) kept.old.items }
+        ensures { KeepsCycles (is_before self.now.order.now) self.now.mode self.now.len (edges_of_table self.now.table.now) kept.new.items }
+    {
+        if !left[i] {
+            kept[i] = false;
+        }
+    }
+
+    // Leaves out what isn't left.
+    fn leave_out_all(&self, left: &[bool], kept: &mut Vec<bool>)
+        requires left { KeepsCycles (is_before self.now.order.now) self.now.mode self.now.len (edges_of_table self.now.table.now) left.now }
+        requires kept { KeepsCycles (is_before self.now.order.now) self.now.mode self.now.len (edges_of_table self.now.table.now) kept.old.items }
+        ensures { KeepsCycles (is_before self.now.order.now) self.now.mode self.now.len (edges_of_table self.now.table.now) kept.new.items }
+    {
+        for i in 0..self.table.len() {
+            self.leave_out_too(left, kept, i);
+        }
+    }
+}
+
+// How many flags are set.
+fn count_set(flags: &[bool]) -> usize {
+    flags.iter().filter(|&&flag| flag).count()
+}
+
+// What is left by each part.
+fn left_by_parts(
+    rt: &(impl Threads + Sync),
+    alloc: Global,
+    sought: &Sought<'_>,
+    reason: Reason,
+    kept: &[bool],
+) -> Result<Vec<Vec<bool>>, Memory>
+    requires { KeepsCycles (is_before sought.now.order.now) sought.now.mode sought.now.len (edges_of_table sought.now.table.now) kept.now }
+    ensures { IfOk result (λ parts. All (λ left. KeepsCycles (is_before sought.now.order.now) sought.now.mode sought.now.len (edges_of_table sought.now.table.now) left.items) parts.items) }
+{
+    let found: Result<Vec<Vec<bool>>, Memory> = (0..PARTS)
+        .into_par_iter()
+        .map(
+            |number: usize| -> Result<Vec<bool>, Memory>
+                requires { KeepsCycles (is_before sought.now.order.now) sought.now.mode sought.now.len (edges_of_table sought.now.table.now) kept.now }
+                ensures { IfOk result (λ left. KeepsCycles (is_before sought.entry.now.order.now) sought.entry.now.mode sought.entry.now.len (edges_of_table sought.entry.now.table.now) left.items) }
+            { sought.left(alloc, reason, Part::one(number, PARTS), kept) },
+        )
+        .with_min_len(1)
+        .collect(rt, alloc)?;
+    found
+}
+
+/// Leaves out edges of all parts, some parts in each thread.
+pub(crate) fn leave_out_by_parts(
+    rt: &(impl Threads + Sync),
+    alloc: Global,
+    sought: &Sought<'_>,
+    reason: Reason,
+    kept: &mut Vec<bool>,
+) -> Result<(), Memory>
+    requires kept { KeepsCycles (is_before sought.now.order.now) sought.now.mode sought.now.len (edges_of_table sought.now.table.now) kept.old.items }
+    ensures { OnOk result (KeepsCycles (is_before sought.now.order.now) sought.now.mode sought.now.len (edges_of_table sought.now.table.now) kept.new.items) }
+{
+    if count_set(kept) <= FEW {
+        return sought.leave_out(alloc, reason, Part::whole(), kept);
+    }
+    let parts = left_by_parts(rt, alloc, sought, reason, kept)?;
+    for i in 0..parts.len() {
+        sought.leave_out_all(&parts[i], kept);
+    }
+    Ok(())
+}
+
+// Leaves out edges that have no way back, as long as there are any and the search for them may go on.
+fn narrow(
+    rt: &(impl Threads + Sync),
+    alloc: Global,
+    sought: &Sought<'_>,
+    kept: &mut Vec<bool>,
+) -> Result<(), Memory>
+    requires kept { KeepsCycles (is_before sought.now.order.now) sought.now.mode sought.now.len (edges_of_table sought.now.table.now) kept.old.items }
+    ensures { OnOk result (KeepsCycles (is_before sought.now.order.now) sought.now.mode sought.now.len (edges_of_table sought.now.table.now) kept.new.items) }
+{
+    for _ in 0..PASSES {
+        let before = count_set(kept);
+        leave_out_by_parts(rt, alloc, sought, Reason::NoWay, kept)?;
+        if count_set(kept) == before {
+            return Ok(());
+        }
+    }
+    Ok(())
+}
+
+/// Which edges may be in a cycle: for each a flag. Those that lie on no loop are left out, then those
+/// that have no way back, and before and after that those to which none of a cycle is alike: by kind
+/// first, since there may be many edges of each kind.
+pub(crate) fn kept_edges(
+    rt: &(impl Threads + Sync),
+    alloc: Global,
+    sought: &Sought<'_>,
+) -> Result<Vec<bool>, Memory>
+    ensures { IfOk result (λ kept. KeepsCycles (is_before sought.now.order.now) sought.now.mode sought.now.len (edges_of_table sought.now.table.now) kept.items) }
+{
+    let mut kept = sought.on_loops(alloc)?;
+    leave_out_by_parts(rt, alloc, sought, Reason::Alike(Grain::ByKind), &mut kept)?;
+    narrow(rt, alloc, sought, &mut kept)?;
+    leave_out_by_parts(rt, alloc, sought, Reason::Alike(Grain::ByThread), &mut kept)?;
+    leave_out_by_parts(
+        rt,
+        alloc,
+        sought,
+        Reason::Alike(Grain::BySegment),
+        &mut kept,
+    )?;
+    Ok(kept)
+}
