@@ -53,8 +53,6 @@ mod reader;
 mod seed;
 mod standing;
 mod stream;
-#[cfg(test)]
-mod tests;
 mod text;
 mod trace;
 mod writing;

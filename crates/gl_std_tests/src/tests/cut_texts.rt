@@ -19,7 +19,11 @@ fn items_of<'a>(alloc: Global, text: &'a [u8], piece: usize) -> Result<Lines<Pie
 }
 
 // The next answer is this one.
-pub(super) fn expect_next(rt: &impl Abort, lines: &mut Lines<Pieces<'_>>, expected: &Result<Item, LinesFault>)
+pub(super) fn expect_next(
+    rt: &impl Abort,
+    lines: &mut Lines<Pieces<'_>>,
+    expected: &Result<Item, LinesFault>,
+)
     requires { CanBeAsked lines.old (source_of lines.old).is_failed }
     ensures { CanBeAsked lines.new (source_of lines.new).is_failed }
 {
