@@ -3,7 +3,8 @@
 #
 #     bench/run.sh [PROGRAM [ARGUMENT..]]
 #
-# PROGRAM is goodlock's (crates/goodlock/out/goodlock with `predict` unless given); ARGUMENTs go to it.
+# PROGRAM is goodlock's (crates/goodlock/out/goodlock with `predict` unless given); ARGUMENTs go to it, as `live` or
+# `live --stream --threads 1024`, which print the same.
 # BENCH_DIR   folder for the two Rust programs and the traces   (/tmp/goodlock-bench)
 # EVENTS      about how many lines a trace has              (1000000)
 # SHAPES      which shapes of bench/make_trace.py           (all)

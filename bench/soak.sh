@@ -1,5 +1,5 @@
 #!/bin/bash
-# Runs `live`, and `live --stream` where the program has it, on a long trace and compares the bytes with `predict`'s.
+# Runs `live` and `live --stream` on a long trace and compares the bytes with `predict`'s.
 #
 #     bench/soak.sh [PROGRAM]
 #
@@ -73,13 +73,9 @@ echo "${SHAPE:-many-locks}: $(tr '\n' ' ' <"$work/stats.out")"
 printf '%-15s %6s %8s %10s %9s\n' command status clock processor memory
 {
     row predict predict
-    help=$("$program" live --help 2>/dev/null </dev/null) || { echo "the program has no live: SKIPPED"; exit 0; }
     # shellcheck disable=SC2086  # the options are words
     row live live ${OPTIONS:-}
-    case $help in
-        # shellcheck disable=SC2086
-        *--stream*) row live-stream live --stream --threads 1024 ${OPTIONS:-} ;;
-        *) echo "live has no --stream: SKIPPED" ;;
-    esac
+    # shellcheck disable=SC2086
+    row live-stream live --stream --threads 1024 ${OPTIONS:-}
 } | tee "$work/rows"
 ! grep -q DIFFERS "$work/rows"

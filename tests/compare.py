@@ -386,6 +386,7 @@ def worked_of_commands():
     nested = ["T0 acq c @1", "T0 acq a @2", "T0 acq b @3", "T1 acq b @4", "T1 acq a @5"]
     guarded = [edge("T0", "c", 1, "a", 2, 1), edge("T0", "c", 1, "b", 3, 2, ["c", "a"])]
     guarded += [edge("T0", "a", 2, "b", 3, 2, ["c", "a"]), edge("T1", "b", 4, "a", 5, 1)]
+    one_thread = "live --stream --threads 1"
     return [
         ("empty_input", "predict --json", b"", NONE_JSON),
         ("opposite_order", "predict --json", lines(*OPPOSITE), OPPOSITE_JSON),
@@ -420,6 +421,21 @@ def worked_of_commands():
         ("an unclosed operand", "live --stream", unclosed, refused(2, "bad operand")),
         ("fork_join_fork", "live", fork_loop, (b"", b"goodlock: inconsistent: T0.2 precedes itself\n", 2)),
         ("fork_join_fork", "live --stream", fork_loop, (b"", b"goodlock: inconsistent: T0.2 precedes itself\n", 2)),
+        ("crlf_and_skipped", one_thread, crlf, NONE),
+        ("guards by number", "live --stream --json --threads 2", lines(*nested), as_json(guarded, [[2, 3]])),
+        ("lanes left over", "live --stream --threads 1024 --ring 1", lines(*OPPOSITE), (OPPOSITE_REPORT, b"", 1)),
+        ("16 shards", "live --stream --shards 16 --ring 1", lines(*OPPOSITE), (OPPOSITE_REPORT, b"", 1)),
+        # The first line with a fault is told, whatever the lines before it and after it say.
+        ("a loop before a bad line", "live --stream", fork_loop + b"T0\n", refused(5, "no bar")),
+        ("a cycle before a bad line", "live --stream", lines(*OPPOSITE) + b"T0|acq|7", refused(7, "bad operand")),
+        ("two bad lines", "live --stream", b"T0|acq(|1\nT0\n", refused(1, "bad operand")),
+        ("a bad line, then a thread too many", one_thread, b"T0\n" + lines(*OPPOSITE), refused(1, "no bar")),
+        # Which threads a line mentions: an event's, and a forked or joined one.
+        ("a forked thread too many", one_thread, lines("T0 fork T1 @1"), refused(1, "too many threads")),
+        ("a joined thread too many", one_thread, lines("T0 acq a @1", "T0 join T1 @2"), refused(2, "too many threads")),
+        ("a stray's thread has no number", one_thread, lines("T0 acq a @1", "T1 rel a @2"), NONE),
+        ("a skipped line's thread has no number", one_thread, lines("T0 acq a @1", "T1 r a @2"), NONE),
+        ("a forked thread has a lane", "live --stream --threads 2", lines("T0 fork T1 @1", "T1 acq a @2"), NONE),
         ("empty_input", "replay", b"", (b"", b"", 0)),
         (
             "replayed_lists",

@@ -85,9 +85,25 @@ USAGE = {
     "predict": {"--help": 0, "--version": 0, "predict --help": 0, "": 2, "predict --len 17": 2, "predict --mode Full": 2},
     "stats": {"stats --json": 2},
     "live": {"live --help": 0, "live --ring 0": 2, "live --ring 65537": 2, "live --shards 0": 2, "live --recorders 17": 2},
-    "live --stream": {"live --stream --threads 0": 2, "live --threads 1025": 2},
+    "live --stream": {
+        "live --stream --threads 0": 2, "live --threads 1025": 2, "live --stream=yes": 2, "live --stream --stream": 2,
+        "predict --stream": 2, "predict --threads 2": 2,
+    },
     "check": {"check --help": 0, "check --json": 2},
-}
+}  # fmt: skip
+
+# Options by which the threads of a session wait for one another all the time. A trace here has three threads at most.
+CLOSE = {"live": "--recorders 2 --shards 2 --ring 1", "live --stream": "--shards 2 --ring 1 --threads 3"}
+SHARDS = 4  # unless --shards is given
+
+
+def swept(words, name):
+    """The words to which memory and threads are refused. A session's are close; with its own 64 lanes, each of which
+    takes memory, a stream is tried once."""
+    close = CLOSE.get(words.removesuffix(" --json"))
+    if close is None:
+        return [words]
+    return [f"{words} {close}", *[words] * (name == "opposite_order" and words in CLOSE)]
 
 
 def text_of(words, name):
@@ -181,12 +197,22 @@ class Tests:
             self.check_that(f"{words}, {name}, memory {how}", OUT_OF_MEMORY in answers, "no refusal was told")
 
     def threads(self, words, name, text, ample):
+        """Where a worker or the collector of a stream can't be started, nothing is read, so nothing else is told."""
+        options = words.split()
+        shards = int(options[options.index("--shards") + 1]) if "--shards" in options else SHARDS
+        of_stream = shards + 1 if "--stream" in options else 0
+        count = 0
         for number, run in self.runner.sweep(words, text, "thread", "once"):
-            self.check(f"{words}, {name}, thread call {number}", [ample, UNCONFIRMED, OUT_OF_MEMORY], run)
+            right = [UNCONFIRMED] if number <= of_stream else [ample, UNCONFIRMED, OUT_OF_MEMORY]
+            self.check(f"{words}, {name}, thread call {number}", right, run)
+            count += 1
+        self.check_that(f"{words}, {name}, threads", count >= of_stream, f"{count} threads, not {of_stream} or more")
 
     def reads(self, words, name, text, ample):
-        """A failed read is told, unless a line that was ended before has a fault. An interrupted read has failed."""
+        """A failed read is told, unless a line that was ended before has a fault. An interrupted read has failed. A
+        stream isn't read beyond a line with a fault."""
         self.check(f"{words}, {name}, short", [ample], self.runner.run(words, text, is_short=True))
+        stops = "--stream" in words.split() and ample == BAD_LINE
         for how, is_short in (("once", False), ("onwards", False), ("interrupted", False), ("once", True)):
             count = 0
             for number, run in self.runner.sweep(words, text, "read", how, is_short):
@@ -197,6 +223,10 @@ class Tests:
                 is_input = set(run.refused) == {"0"}
                 self.check_that(f"{words}, {name}, read call {number}", is_input, "not of standard input")
                 count += 1
+            if stops:  # each byte of the two lines, or all that there is
+                exact = text.index(b"\n", text.index(b"\n") + 1) + 1 if is_short else 1
+                self.check_that(f"{words}, {name}, read {how}", count == exact, f"{count} reads, not {exact}")
+                continue
             # Each byte, and the end.
             least = len(text) + 1 if is_short else 2
             self.check_that(f"{words}, {name}, read {how}", count >= least, f"{count} reads, not {least} or more")
@@ -295,11 +325,13 @@ def main():
                 text, ample = text_of(words, name), compare.in_format(ANSWERS[words][name])
                 before = tests.passed + tests.failed
                 tests.check(f"{words}, {name}", [ample], tests.runner.run(words, text))
-                tests.memory(words, name, text, ample)
-                tests.threads(words, name, text, ample)
+                for session in swept(words, name):
+                    tests.check(f"{session}, {name}", [ample], tests.runner.run(session, text))
+                    tests.memory(session, name, text, ample)
+                    tests.threads(session, name, text, ample)
                 tests.reads(words, name, text, ample)
                 tests.writes(words, name, text, ample)
-                print(f"{words}, {name}: {tests.passed + tests.failed - before} answers")
+                print(f"{words}, {name}: {tests.passed + tests.failed - before} answers", flush=True)
             tests.ends(words, text_of(words, "opposite_order"), compare.in_format(ANSWERS[words]["opposite_order"]))
             for usage, status in USAGE.get(words, {}).items():
                 tests.usage(usage, status)

@@ -24,8 +24,6 @@ mod fields;
 mod input;
 mod reports;
 mod sayings;
-#[cfg(test)]
-mod tests;
 
 pub use faults::CheckFault;
 pub use input::split_input;

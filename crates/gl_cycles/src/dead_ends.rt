@@ -8,16 +8,17 @@
 ghost use Rattle.std.specs.Prelude.{◌≡◌, ◌-◌, ◌⊎◌, ℕ, Some, slice_get, IsTrue, IfOk, OnOk};
 ghost use Rattle.gl_cycles.specs.bodies.Gaps.{gap_of, gap_closes, gap_leads, gap_behind, IsKnown};
 
+use crate::prints::mixed;
 use gl_edges::Edge;
 use gl_event::{LockId, LockMode, Memory};
 use std::alloc::Global;
 use std::collections::HashMap;
 
-// An odd number with its ones spread evenly.
-const SPREAD: u64 = 0x9E37_79B9_7F4A_7C15;
-
-/// How many positions are remembered in all.
+/// How much is remembered for one grain: of each gap its models take one, and the gap itself [`GAP_ROOM`].
 pub(crate) const ROOM: usize = 2_000_000;
+
+// What a gap takes of the room beside its models, since it has fields and a place in the map.
+const GAP_ROOM: usize = 8;
 
 /// What is missing of a round: a way from one lock back to another.
 #[derive(Clone, Copy, Drop)]
@@ -117,12 +118,12 @@ pub(crate) struct DeadEnds {
     pub(crate) known: Vec<DeadEnd>,
     // where those with a fingerprint stand
     by_print: HashMap<u64, usize>,
-    // how many positions may still be remembered
+    // how much may still be remembered
     room: usize,
 }
 
 impl DeadEnds {
-    /// None, and room for so many positions.
+    /// None, and so much room.
     pub(crate) fn none(alloc: Global, room: usize) -> DeadEnds
         ensures { (i : ℕ) (end : DeadEnd) → ¬ (slice_get result.known.items i ≡ Some end) }
     {
@@ -155,10 +156,11 @@ impl DeadEnds {
         ensures { OnOk result ((i : ℕ) (end : DeadEnd) → slice_get self.new.known.items i ≡ Some end
             → (slice_get self.old.known.items i ≡ Some end) ⊎ ((end.gap ≡ gap.now) × (end.rest.items ≡ rest.now))) }
     {
-        if self.room < rest.len() {
+        let size = GAP_ROOM + rest.len();
+        if self.room < size {
             return Ok(());
         }
-        self.room -= rest.len();
+        self.room -= size;
         let place = self.known.len();
         self.by_print.insert(print_of(gap, rest), place)?;
         let end = DeadEnd::of(alloc, gap, rest)?;
@@ -178,9 +180,4 @@ fn print_of(gap: &Gap, rest: &[usize]) -> u64 {
         print = mixed(print, position as u64);
     }
     print
-}
-
-// A number that stands for both.
-fn mixed(print: u64, number: u64) -> u64 {
-    (print ^ number).wrapping_mul(SPREAD).rotate_left(29)
 }

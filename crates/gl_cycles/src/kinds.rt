@@ -25,7 +25,7 @@ ghost use Rattle.gl_edges.specs.declared.edge.Edge.{Edge};
 use crate::dead_ends::{DeadEnds, ROOM};
 use crate::followers::Followers;
 use crate::grains::Grain;
-use crate::models::models;
+use crate::models::models_of;
 use crate::neighbours::Sought;
 use crate::parts::Part;
 use crate::paths::{PATH, longer_path};
@@ -34,13 +34,13 @@ use gl_event::Memory;
 use gl_filters::{goes_with, kinds_go_together, leads_on};
 use std::alloc::Global;
 
-// How many models are tried as the next one of a round, in all.
+// How many models are tried as the next one of a round, for one grain.
 const TRIES: usize = 1_000_000;
 
 // And how many for one model, before rests are looked at.
-const FEW: usize = 1_000;
+const TRIES_OF_ONE: usize = 1_000;
 
-// How many models of rests are looked at, in all.
+// How many models of rests are looked at, for one grain.
 const TESTS: usize = 2_000_000;
 
 // Whether two edges have the same threads and segments, as far as the grain tells them apart.
@@ -83,7 +83,7 @@ impl Sought<'_> {
         alloc: Global,
         grain: Grain,
         kept: &[bool],
-        models: &[usize],
+        model_of_each: &[usize],
     ) -> Result<Vec<bool>, Memory>
         requires kept { length kept.now ≡ length self.now.table.now }
         ensures long { IfOk result (λ flags. length flags.items ≡ length self.now.table.now) }
@@ -91,7 +91,7 @@ impl Sought<'_> {
     {
         let mut flags = vec![in alloc; false; self.table.len()]?;
         for i in 0..self.table.len() {
-            self.flag_model(grain, kept[i], models, i, &mut flags);
+            self.flag_model(grain, kept[i], model_of_each, i, &mut flags);
         }
         Ok(flags)
     }
@@ -101,7 +101,7 @@ impl Sought<'_> {
         &self,
         grain: Grain,
         is_kept: bool,
-        models: &[usize],
+        model_of_each: &[usize],
         i: usize,
         flags: &mut Vec<bool>,
     )
@@ -114,17 +114,17 @@ impl Sought<'_> {
         if !is_kept {
             return;
         }
-        let model = self.model_of(grain, models, i);
+        let model = self.model_of(grain, model_of_each, i);
         flags[model] = true;
     }
 
     // The position of the model of the edge at a position.
-    fn model_of(&self, grain: Grain, models: &[usize], i: usize) -> usize
+    fn model_of(&self, grain: Grain, model_of_each: &[usize], i: usize) -> usize
         requires there { i < length self.now.table.now }
         ensures within { result < length self.now.table.now }
         ensures alike { (d e : Edge) → slice_get (edges_of_table self.now.table.now) result ≡ Some d → slice_get (edges_of_table self.now.table.now) i ≡ Some e → AreAlike grain d e }
     {
-        let model = models.get(i).copied().unwrap_or(i);
+        let model = model_of_each.get(i).copied().unwrap_or(i);
         if model < self.table.len() && are_alike(grain, &self.table[model].0, &self.table[i].0) {
             return model;
         }
@@ -145,10 +145,10 @@ impl Sought<'_> {
         if !has_any(kept) {
             return Ok(());
         }
-        let models = models(alloc, self.table, kept, grain)?;
-        let dead = self.dead_alike(alloc, grain, part, &models, kept)?;
+        let model_of_each = models_of(alloc, self.table, kept, grain)?;
+        let dead = self.dead_alike(alloc, grain, part, &model_of_each, kept)?;
         for i in 0..self.table.len() {
-            self.leave_out_dead(grain, &models, &dead, kept, i);
+            self.leave_out_dead(grain, &model_of_each, &dead, kept, i);
         }
         Ok(())
     }
@@ -160,13 +160,13 @@ impl Sought<'_> {
         alloc: Global,
         grain: Grain,
         part: Part,
-        models: &[usize],
+        model_of_each: &[usize],
         kept: &[bool],
     ) -> Result<Vec<bool>, Memory>
         requires { KeepsCycles (is_before self.now.order.now) self.now.mode self.now.len (edges_of_table self.now.table.now) kept.now }
         ensures { IfOk result (λ dead. AreDead (is_before self.now.order.now) self.now.mode grain self.now.len (edges_of_table self.now.table.now) dead.items) }
     {
-        let flags = self.flags_of(alloc, grain, kept, models)?;
+        let flags = self.flags_of(alloc, grain, kept, model_of_each)?;
         let index = Followers::of(alloc, self.table, &flags)?;
         let rounds = Rounds {
             sought: *self,
@@ -181,7 +181,7 @@ impl Sought<'_> {
     fn leave_out_dead(
         &self,
         grain: Grain,
-        models: &[usize],
+        model_of_each: &[usize],
         dead: &[bool],
         kept: &mut Vec<bool>,
         i: usize,
@@ -191,7 +191,7 @@ impl Sought<'_> {
         requires dead { AreDead (is_before self.now.order.now) self.now.mode grain self.now.len (edges_of_table self.now.table.now) dead.now }
         ensures { KeepsCycles (is_before self.now.order.now) self.now.mode self.now.len (edges_of_table self.now.table.now) kept.new.items }
     {
-        let model = self.model_of(grain, models, i);
+        let model = self.model_of(grain, model_of_each, i);
         if dead[model] {
             kept[i] = false;
         }
@@ -218,9 +218,9 @@ pub(crate) struct Effort {
 }
 
 impl Effort {
-    // How many models are tried for the next one.
-    fn few(&self) -> usize {
-        FEW.min(self.tries)
+    // How many models may be tried for one.
+    fn tries_of_one(&self) -> usize {
+        TRIES_OF_ONE.min(self.tries)
     }
 
     // Some models were tried.
@@ -394,10 +394,10 @@ impl Rounds<'_> {
         if !self.flags[i] {
             return Ok(false);
         }
-        let few = effort.few();
-        let mut tries = few;
+        let given = effort.tries_of_one();
+        let mut tries = given;
         let may = self.may_close(&[i], &mut tries);
-        effort.spend(few.saturating_sub(tries));
+        effort.spend(given.saturating_sub(tries));
         if !may {
             return Ok(true);
         }

@@ -36,6 +36,7 @@ mod numbers;
 mod parallel;
 mod parts;
 mod paths;
+mod prints;
 mod ranks;
 mod removals;
 mod reports;

@@ -3,12 +3,10 @@
 //! Nothing of this is proved, and nothing relies on it but for speed: that an edge and its model are
 //! alike is checked. So guards may be compared by a fingerprint.
 use crate::grains::Grain;
+use crate::prints::mixed;
 use gl_edges::{Edge, Guards, Sample};
 use gl_event::{LockId, LockMode, Memory};
 use std::alloc::Global;
-
-// An odd number with its ones spread evenly.
-const SPREAD: u64 = 0x9E37_79B9_7F4A_7C15;
 
 // What is looked at of an edge, and its position.
 #[derive(Clone, Copy, Debug, PartialEq, Eq, PartialOrd, Ord)]
@@ -57,14 +55,14 @@ fn fingerprint(guards: &Guards) -> u64 {
     for guard in guards.as_slice() {
         let is_shared = guard.mode == LockMode::Shared;
         let number = (u64::from(guard.lock.number()) << 1) | u64::from(is_shared);
-        print = (print ^ number).wrapping_mul(SPREAD).rotate_left(29);
+        print = mixed(print, number);
     }
     print
 }
 
 /// For each edge that is kept the position of the first one that is alike. Sorts them. Where no two
 /// are alike the answer is empty.
-pub(crate) fn models(
+pub(crate) fn models_of(
     alloc: Global,
     table: &[(Edge, Sample)],
     kept: &[bool],
@@ -80,15 +78,15 @@ pub(crate) fn models(
         }
     }
     kinds.sort_unstable();
-    let mut models = vec![in alloc; 0; table.len()]?;
+    let mut model_of_each = vec![in alloc; 0; table.len()]?;
     let mut first = 0;
     for i in 0..kinds.len() {
         if !are_alike(&kinds, first, i) {
             first = i;
         }
-        put(&mut models, &kinds, first, i);
+        put(&mut model_of_each, &kinds, first, i);
     }
-    Ok(models)
+    Ok(model_of_each)
 }
 
 // Whether the kinds at these places are one.
@@ -100,12 +98,12 @@ fn are_alike(kinds: &[Kind], a: usize, b: usize) -> bool {
 }
 
 // Puts down that the edge of the first of these kinds is the model of the other one's.
-fn put(models: &mut Vec<usize>, kinds: &[Kind], first: usize, i: usize) {
+fn put(model_of_each: &mut Vec<usize>, kinds: &[Kind], first: usize, i: usize) {
     let (Some(&model), Some(&kind)) = (kinds.get(first), kinds.get(i)) else {
         return;
     };
     let position = kind.position;
-    if let Some(place) = models.get_mut(position) {
+    if let Some(place) = model_of_each.get_mut(position) {
         *place = model.position;
     }
 }

@@ -1,7 +1,7 @@
 //! Edges that are in no cycle, left out on several threads.
 //!
 //! The positions of a table are dealt out to parts. In each part a thread leaves out edges of its own,
-//! and knows nothing of the others. What is left is what each of them leaves.
+//! and knows nothing of the others. An edge stays that stays by each of them.
 ghost use Rattle.std.specs.Prelude.{◌<◌, length, All, IfOk, OnOk};
 ghost use Rattle.gl_segments.specs.Clocks.{is_before};
 ghost use Rattle.gl_filters.specs.Picked.{edges_of_table};
@@ -21,8 +21,8 @@ const PARTS: usize = 8;
 // For how many edges other threads don't pay.
 const FEW: usize = 1_000;
 
-// How many times ways back are looked for, since what one part leaves out another one sees the next
-// time.
+// How many times ways back are looked for, each time within the whole budget, since what one part
+// leaves out another one sees the next time.
 const PASSES: usize = 3;
 
 /// What leaves out edges.
@@ -52,8 +52,8 @@ impl Sought<'_> {
         }
     }
 
-    // What is left if edges of a part are left out.
-    fn left(
+    // Which edges stay if some of a part are left out.
+    fn kept_by_part(
         &self,
         alloc: Global,
         reason: Reason,
@@ -61,44 +61,44 @@ impl Sought<'_> {
         kept: &[bool],
     ) -> Result<Vec<bool>, Memory>
         requires { KeepsCycles (is_before self.now.order.now) self.now.mode self.now.len (edges_of_table self.now.table.now) kept.now }
-        ensures { IfOk result (λ left. KeepsCycles (is_before self.now.order.now) self.now.mode self.now.len (edges_of_table self.now.table.now) left.items) }
+        ensures { IfOk result (λ stay. KeepsCycles (is_before self.now.order.now) self.now.mode self.now.len (edges_of_table self.now.table.now) stay.items) }
     {
-        let mut left = Vec::from_slice(alloc, kept)?;
-        self.leave_out(alloc, reason, part, &mut left)?;
-        Ok(left)
+        let mut stay = Vec::from_slice(alloc, kept)?;
+        self.leave_out(alloc, reason, part, &mut stay)?;
+        Ok(stay)
     }
 
-    // Leaves out the edge at a position, if it isn't left.
-    fn leave_out_too(&self, left: &[bool], kept: &mut Vec<bool>, i: usize)
+    // Leaves out the edge at a position, if it isn't one that stays.
+    fn leave_out_unless(&self, stay: &[bool], kept: &mut Vec<bool>, i: usize)
         requires there { i < length self.now.table.now }
-        requires left { KeepsCycles (is_before self.now.order.now) self.now.mode self.now.len (edges_of_table self.now.table.now) left.now }
+        requires stay { KeepsCycles (is_before self.now.order.now) self.now.mode self.now.len (edges_of_table self.now.table.now) stay.now }
         requires kept { KeepsCycles (is_before self.now.order.now) self.now.mode self.now.len (edges_of_table self.now.table.now) kept.old.items }
         ensures { KeepsCycles (is_before self.now.order.now) self.now.mode self.now.len (edges_of_table self.now.table.now) kept.new.items }
     {
-        if !left[i] {
+        if !stay[i] {
             kept[i] = false;
         }
     }
 
-    // Leaves out what isn't left.
-    fn leave_out_all(&self, left: &[bool], kept: &mut Vec<bool>)
-        requires left { KeepsCycles (is_before self.now.order.now) self.now.mode self.now.len (edges_of_table self.now.table.now) left.now }
+    // Leaves out all but those that stay.
+    fn leave_out_others(&self, stay: &[bool], kept: &mut Vec<bool>)
+        requires stay { KeepsCycles (is_before self.now.order.now) self.now.mode self.now.len (edges_of_table self.now.table.now) stay.now }
         requires kept { KeepsCycles (is_before self.now.order.now) self.now.mode self.now.len (edges_of_table self.now.table.now) kept.old.items }
         ensures { KeepsCycles (is_before self.now.order.now) self.now.mode self.now.len (edges_of_table self.now.table.now) kept.new.items }
     {
         for i in 0..self.table.len() {
-            self.leave_out_too(left, kept, i);
+            self.leave_out_unless(stay, kept, i);
         }
     }
 }
 
-// How many flags are set.
-fn count_set(flags: &[bool]) -> usize {
+/// How many flags are set.
+pub(crate) fn count_set(flags: &[bool]) -> usize {
     flags.iter().filter(|&&flag| flag).count()
 }
 
-// What is left by each part.
-fn left_by_parts(
+// Which edges stay by each part.
+fn kept_by_each(
     rt: &(impl Threads + Sync),
     alloc: Global,
     sought: &Sought<'_>,
@@ -106,15 +106,15 @@ fn left_by_parts(
     kept: &[bool],
 ) -> Result<Vec<Vec<bool>>, Memory>
     requires { KeepsCycles (is_before sought.now.order.now) sought.now.mode sought.now.len (edges_of_table sought.now.table.now) kept.now }
-    ensures { IfOk result (λ parts. All (λ left. KeepsCycles (is_before sought.now.order.now) sought.now.mode sought.now.len (edges_of_table sought.now.table.now) left.items) parts.items) }
+    ensures { IfOk result (λ parts. All (λ stay. KeepsCycles (is_before sought.now.order.now) sought.now.mode sought.now.len (edges_of_table sought.now.table.now) stay.items) parts.items) }
 {
     let found: Result<Vec<Vec<bool>>, Memory> = (0..PARTS)
         .into_par_iter()
         .map(
             |number: usize| -> Result<Vec<bool>, Memory>
                 requires { KeepsCycles (is_before sought.now.order.now) sought.now.mode sought.now.len (edges_of_table sought.now.table.now) kept.now }
-                ensures { IfOk result (λ left. KeepsCycles (is_before sought.entry.now.order.now) sought.entry.now.mode sought.entry.now.len (edges_of_table sought.entry.now.table.now) left.items) }
-            { sought.left(alloc, reason, Part::one(number, PARTS), kept) },
+                ensures { IfOk result (λ stay. KeepsCycles (is_before sought.entry.now.order.now) sought.entry.now.mode sought.entry.now.len (edges_of_table sought.entry.now.table.now) stay.items) }
+            { sought.kept_by_part(alloc, reason, Part::one(number, PARTS), kept) },
         )
         .with_min_len(1)
         .collect(rt, alloc)?;
@@ -135,9 +135,9 @@ pub(crate) fn leave_out_by_parts(
     if count_set(kept) <= FEW {
         return sought.leave_out(alloc, reason, Part::whole(), kept);
     }
-    let parts = left_by_parts(rt, alloc, sought, reason, kept)?;
+    let parts = kept_by_each(rt, alloc, sought, reason, kept)?;
     for i in 0..parts.len() {
-        sought.leave_out_all(&parts[i], kept);
+        sought.leave_out_others(&parts[i], kept);
     }
     Ok(())
 }
@@ -162,10 +162,8 @@ fn narrow(
     Ok(())
 }
 
-/// Which edges may be in a cycle: for each a flag. Those that lie on no loop are left out, then those
-/// that have no way back, and before and after that those to which none of a cycle is alike: by kind
-/// first, since there may be many edges of each kind.
-pub(crate) fn kept_edges(
+/// The same as [`Sought::kept_edges`], on several threads: which edges may be in a cycle.
+pub(crate) fn kept_edges_parallel(
     rt: &(impl Threads + Sync),
     alloc: Global,
     sought: &Sought<'_>,

@@ -24,9 +24,11 @@ use gl_filters::{Mode, Query, goes_with};
 use gl_segments::Order;
 use std::alloc::Global;
 
-// How many times all edges are looked at, and how many links of ways and edges beside them in all.
+// How many times all edges are looked at in a pass.
 const ROUNDS: usize = 1_000;
 
+// How many links of ways and edges beside them are looked at in a pass, by all parts together. In one
+// thread there is one pass.
 const BUDGET: usize = 100_000_000;
 
 /// What is looked for: cycles of a mode, of so many edges at most.

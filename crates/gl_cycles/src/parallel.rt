@@ -7,7 +7,7 @@ ghost use Rattle.gl_cycles.specs.AllCycles.{all_cycles};
 ghost use Rattle.gl_cycles.specs.bodies.Searching.{IsReady, first_from};
 
 use crate::found::Found;
-use crate::narrowing::kept_edges;
+use crate::narrowing::kept_edges_parallel;
 use crate::neighbours::Sought;
 use crate::paths::{Searcher, listed};
 use gl_edges::EdgeList;
@@ -183,11 +183,11 @@ fn first_cycles(
 }
 
 /// The same as [`search`](crate::search), on several threads. What leaves out edges before the search
-/// deals out the edges to parts, each of which leaves out some of its own. Then each edge in turn is the first of paths,
-/// and the edges are dealt out in runs: the first few to one thread, and then each time as many as
-/// were dealt out before, in pieces of one length. The search ends after the run in which one cycle
-/// more than are listed was found. Each run goes to its end, so that what is found and in which order
-/// doesn't depend on the threads.
+/// deals out the edges to parts, each of which leaves out some of its own. Then each edge in turn is
+/// the first of paths, and the edges are dealt out in runs: the first few to one thread, and then each
+/// time as many as were dealt out before, in pieces of one length. The search ends after the run in
+/// which one cycle more than are listed was found. Each run goes to its end, so that what is found and
+/// in which order doesn't depend on the threads.
 ///
 /// Err where memory was refused.
 pub fn search_parallel(
@@ -200,7 +200,7 @@ pub fn search_parallel(
     ensures cycles { IfOk result (λ found. found.cycles ≡ take query.now.max (all_cycles (is_before order.now) query.now.mode query.now.len (edges_of_table edges.now))) }
     ensures more { IfOk result (λ found. IsTrue found.more ↔ (query.now.max < length (all_cycles (is_before order.now) query.now.mode query.now.len (edges_of_table edges.now)))) }
 {
-    let kept = kept_edges(rt, alloc, &Sought::of(edges, order, query))?;
+    let kept = kept_edges_parallel(rt, alloc, &Sought::of(edges, order, query))?;
     let search = Searcher::of(alloc, edges, order, query, kept)?;
     let cycles = first_cycles(rt, alloc, &search)?;
     Ok(listed(cycles, query.max() as usize))

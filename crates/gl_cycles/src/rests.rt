@@ -65,7 +65,7 @@ impl Rounds<'_> {
         ensures none { IfOk result (λ is. is ≡ true → NoCycleThrough (is_before self.now.sought.order.now) self.now.sought.mode self.now.grain self.now.sought.len (edges_of_table self.now.sought.table.now) (root ∷ [])) }
         ensures ends { OnOk result (AreHopeless (is_before self.now.sought.order.now) self.now.sought.mode self.now.grain self.now.sought.len (edges_of_table self.now.sought.table.now) self.now.flags.items ends.new.known.items) }
     {
-        if !has_spent(tests, models.len()) {
+        if !take_tests(tests, models.len()) {
             return Ok(false);
         }
         let alive = self.alive(alloc, models, dead)?;
@@ -133,7 +133,7 @@ impl Rounds<'_> {
         if ends.has(gap, rest) {
             return Ok(false);
         }
-        if !has_spent(tests, rest.len()) {
+        if !take_tests(tests, rest.len()) {
             return Ok(true);
         }
         for place in 0..rest.len() {
@@ -170,7 +170,7 @@ impl Rounds<'_> {
         if !gap.leads_to(edge) {
             return Ok(false);
         }
-        if !has_spent(tests, rest.len()) {
+        if !take_tests(tests, rest.len()) {
             return Ok(true);
         }
         let some = self.narrowed(alloc, rest, next)?;
@@ -179,13 +179,13 @@ impl Rounds<'_> {
     }
 }
 
-// Takes so many of the tests that are left, if there are as many. Whether there were.
-fn has_spent(tests: &mut usize, some: usize) -> bool {
-    let left = *tests;
-    if left < some {
+// Takes so many of the tests that may still be made, if there are as many. Whether there were.
+fn take_tests(tests: &mut usize, some: usize) -> bool {
+    let before = *tests;
+    if before < some {
         return false;
     }
-    *tests = left - some;
+    *tests = before - some;
     true
 }
 

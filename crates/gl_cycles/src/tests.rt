@@ -24,6 +24,7 @@ mod parts;
 mod pruning;
 mod reports;
 mod rests;
+mod rings;
 mod trim_orders;
 mod trims;
 

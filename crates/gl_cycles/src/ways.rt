@@ -69,11 +69,6 @@ impl Ways {
         })
     }
 
-    /// How many links may still be looked at.
-    pub(crate) fn budget(&self) -> usize {
-        self.budget
-    }
-
     /// Looks for a way back for the edge at a position, and leaves labels. True where none was found.
     pub(crate) fn has_none(
         &mut self,

@@ -1,11 +1,7 @@
 //! Worked examples, and each call that takes memory on its happy path.
-ghost use Rattle.std.specs.Prelude.{◌≡◌, ◌≤◌, ℕ, List, map, length, slice_get, Some, IsTrue};
-ghost use Rattle.gl_event.specs.Bounds.{greatest};
-ghost use Rattle.gl_event.specs.Lawful.{IsLawful};
-ghost use Rattle.gl_event.specs.declared.events.Event.{Event};
-
+use crate::lawful::are_lawful;
 use gl_edges::{Edge, EdgeList, Guard, Sample, edges_of};
-use gl_event::{Event, Limits, LocId, LockId, LockMode, Memory, ThreadId};
+use gl_event::{Event, LocId, LockId, LockMode, Memory, ThreadId};
 use std::alloc::Global;
 use std::process::Abort;
 use std::test::Fail;
@@ -41,14 +37,6 @@ fn fork(thread: u32, loc: u32) -> Event {
         thread: ThreadId::new(thread),
         loc: LocId::new(loc),
     }
-}
-
-// Whether the lists are lawful under the greatest limits.
-fn are_lawful(lists: &[Vec<Event>]) -> bool
-    ensures few { IsTrue result → length lists.now ≤ 1024 }
-    ensures lawful { IsTrue result → (thread : ℕ) (es : List Event) → slice_get (map (λ v. v.items) lists.now) thread ≡ Some es → IsLawful greatest thread es }
-{
-    gl_recorder::are_lawful(&Limits::greatest(), lists)
 }
 
 // An edge and its sample, as they are wanted.

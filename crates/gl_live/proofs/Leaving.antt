@@ -8,11 +8,11 @@ use Rattle.gl_event.specs.declared.events.Event.{Event}
 use Rattle.gl_shards.specs.Feeds.{Sending, AllSent}
 use Rattle.gl_world.proofs.Lists.{same_some, get_in}
 use Rattle.gl_engine.specs.Collecting.{Collecting, lanes_of}
-use Rattle.gl_engine.specs.Gathering.{Gathering}
+use Rattle.gl_engine.specs.Gathering.{Gathering, AreOurs}
 use Rattle.gl_engine.specs.Recording.{Closed}
 use Rattle.gl_engine.specs.Settling.{IsSettled}
 use Rattle.gl_engine.proofs.Confirming.{receipt_of_thread}
-use Rattle.gl_live.specs.bodies.Seats.{Seating, seating_of, gathered_from, IsReceiptOf}
+use Rattle.gl_live.specs.bodies.Seats.{Seating, seating_of, gathered_from, AreReceipts, IsReceiptOf}
 
 -- what holds of all elements holds of the one at a place
 pub all_get : {X : Type 0} (P : X → Type 0) (xs : List X) (at : ℕ) (x : X) → slice_get xs at ≡ Some x → All P xs → P x
@@ -56,3 +56,12 @@ settled_lists g lists receipts settled sent is count are =
     let r : Closed = found.1 in
     let its = all_get (IsReceiptOf (gathered_from g) lists) receipts at r found.2 are in
     subst (λ t. slice_get settled t ≡ slice_get lists t) found.3 (is.each at r found.2 ∙ sym its.whole))
+
+-- receipts of the session that was gathered
+pub ours : (g : Gathering) (receipts : List Closed) → AreReceipts (gathered_from g) receipts → AreOurs g receipts
+ours g receipts are = λ at r here same lane there.
+    let its = all_get (IsReceiptOf (gathered_from g) are.lists) receipts at r here are.each in
+    (same_some r.lane lane (sym its.seat.lane ∙ there), its.seat.limits)
+
+pub are_receipts : (s : Seating) (lists : List (List Event)) (receipts : List Closed) → All (IsReceiptOf s lists) receipts → AreReceipts s receipts
+are_receipts s lists receipts each = record { lists = lists; each = each }

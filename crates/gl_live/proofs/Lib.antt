@@ -1,3 +1,7 @@
 pub mod Seated
 pub mod Opened
 pub mod Leaving
+pub mod Padding
+pub mod Following
+pub mod Streamings
+pub mod NextEvents

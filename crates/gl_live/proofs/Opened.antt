@@ -7,6 +7,7 @@ use Rattle.std.specs.Vec.{vec_len, vec_capacity}
 use Rattle.std.proofs.lemmas.List.{length-map}
 use Rattle.std.proofs.lemmas.Option.{slice_get-map}
 use Rattle.gl_event.specs.Bounds.{Bounds}
+use Rattle.gl_event.specs.declared.limits.TheConstants.{MAX_EVENTS}
 use Rattle.gl_lane.specs.Lanes.{LaneId}
 use Rattle.gl_world.proofs.Lists.{get_in}
 use Rattle.gl_engine.specs.Collecting.{Collecting, IsOpened, fresh_row, lanes_of}
@@ -15,7 +16,11 @@ use Rattle.gl_shards.specs.declared.shard.TheConstants.{MAX_SHARDS}
 use Rattle.gl_live.specs.bodies.Desks.{IsDeskOf}
 use Rattle.gl_live.specs.bodies.Ready.{IsReady}
 use Rattle.gl_live.specs.bodies.Seats.{Seating, seating_of, IsRecorderOf}
+use Rattle.gl_live.specs.bodies.Streams.{AreRecorded, IsReadyToRead}
 use Rattle.gl_live.specs.declared.session.Session.{Session}
+use Rattle.gl_live.specs.declared.streaming.ReadSession.{ReadSession}
+use Rattle.gl_live.proofs.Seated.{events_none}
+use Rattle.gl_intake.specs.Stream.{events_of}
 
 lanes_of_fresh : (lanes : List LaneId) → map (λ row. row.lane) (map fresh_row lanes) ≡ lanes
 lanes_of_fresh [] = refl
@@ -60,4 +65,32 @@ module _ (session : ℕ) (limits : Bounds) (recorders : List Recording) (c : Col
         no_receipt = no_receipt;
         none_served = none_served;
         room = omega (arith, room, empty, inlets);
+      }
+
+  -- what is ready to record a text
+  pub ready_to_read : (threads shards : ℕ) → limits.threads ≡ threads → limits.events ≡ MAX_EVENTS → 1 ≤ shards → shards ≤ MAX_SHARDS → (x : ReadSession) → x.collector ≡ c → x.recorders.items ≡ recorders
+      → length x.outlets.items ≡ shards → map (λ i. i.feed) x.inlets.items ≡ map (λ o. o.feed) x.outlets.items → All (λ o. o.sent ≡ []) x.outlets.items
+      → x.receipts.items ≡ [] → vec_len x.receipts ≡ 0 → threads ≤ vec_capacity x.receipts → x.served.items ≡ [] → vec_len x.served ≡ 0 → shards ≤ vec_capacity x.served → IsReadyToRead x
+  ready_to_read threads shards known events some fit x is are count feeds unsent no_receipt empty room none_served empty_served served_room =
+      let inlets : length x.inlets.items ≡ shards = sym (length-map x.inlets.items (λ i. i.feed)) ∙ ap length feeds ∙ length-map x.outlets.items (λ o. o.feed) ∙ count in
+      let many : length x.recorders.items ≡ threads = ap length are ∙ opened.count ∙ known in
+      record {
+        threads_are = ap (λ (y : Collecting). y.limits.threads) (is ∙ opened.collects) ∙ known ∙ sym many;
+        events_are = ap (λ (y : Collecting). y.limits.events) (is ∙ opened.collects) ∙ events;
+        unused =
+            subst (λ rs. AreRecorded (seating_of x.collector) [] rs) (sym are)
+            (subst (λ (y : Collecting). AreRecorded (seating_of y) [] recorders) (sym is)
+            (record {
+              seats = λ thread r here. (one_ours thread r here).seat;
+              threads = λ thread r here. ap (λ (y : Recording). y.thread) (opened.fresh thread r here);
+              events = λ thread r here. ap (events_of r.thread) (one_ours thread r here).unused ∙ events_none r.thread;
+            }));
+        some = omega (arith, some, count);
+        fit = subst (λ n. n ≤ MAX_SHARDS) (sym count) fit;
+        unsent = unsent;
+        feeds = feeds;
+        no_receipt = no_receipt;
+        room = omega (arith, room, empty, many);
+        none_served = none_served;
+        served_room = omega (arith, served_room, empty_served, inlets);
       }

@@ -13,7 +13,7 @@ use Rattle.gl_engine.specs.Recording.{Recording, Closed, recorded, recorded_whol
 
 -- ---- one recorder
 
-events_none : (thread : ℕ) → events_of thread [] ≡ []
+pub events_none : (thread : ℕ) → events_of thread [] ≡ []
 unfolding events_of
 events_none thread = refl
 

@@ -8,6 +8,7 @@ use gl_cycles::ReportFault;
 use gl_engine::SettleFault;
 use gl_event::Segment;
 use gl_shards::ServeFault;
+use gl_std::LinesFault;
 
 /// Why a session gives no report.
 #[derive(Drop, Debug)]
@@ -17,8 +18,17 @@ pub enum LiveFault {
     Inconsistent { at: Segment, ring: Vec<Segment> },
     /// Memory was refused.
     Memory,
-    /// A thread couldn't be started, or it isn't confirmed that all events were collected.
+    /// A thread couldn't be started, or it isn't confirmed that all events were recorded and collected.
     Unconfirmed,
+}
+
+/// Why a session over a text gives no report.
+#[derive(Drop, Debug)]
+pub enum StreamFault {
+    /// The text has no trace, or couldn't be read to its end.
+    Text(LinesFault),
+    /// The session gives none: before any of the text was read, or once all of it was told.
+    Session(LiveFault),
 }
 
 /// Why there is no report over the edges that were collected.

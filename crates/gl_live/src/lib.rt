@@ -1,5 +1,5 @@
 //! Sessions over given lists of events: threads record them at once, workers take the edges, and the
-//! report is that of the lists.
+//! report is that of the lists. And sessions over a text, which is recorded as it is read.
 //!
 //! ```text
 //! let options = SessionOptions { recorders: 2, shards: 3, ring: 256 };
@@ -14,10 +14,12 @@ mod room;
 mod run;
 mod session;
 mod start;
-#[cfg(test)]
-mod tests;
+mod stream;
+mod streaming;
 mod working;
 
-pub use faults::LiveFault;
+pub use faults::{LiveFault, StreamFault};
 pub use live::live_report;
 pub use session::SessionOptions;
+pub use stream::stream_report;
+pub use streaming::StreamOptions;

@@ -16,7 +16,7 @@ ghost use Rattle.gl_engine.specs.Recording.{Closed};
 ghost use Rattle.gl_engine.specs.Settling.{IsSettled};
 ghost use Rattle.gl_live.specs.Faults.{IsLiveFault};
 ghost use Rattle.gl_live.specs.bodies.Runs.{HasRun};
-ghost use Rattle.gl_live.specs.bodies.Seats.{gathered_from, IsReceiptOf};
+ghost use Rattle.gl_live.specs.bodies.Seats.{gathered_from, AreReceipts, IsReceiptOf};
 
 use crate::faults::{LiveFault, unreported, unserved, unsettled};
 use crate::room::keep;
@@ -57,15 +57,10 @@ fn settle_workers(
     Ok(())
 }
 
-// Settles what was gathered with the receipts. The lists are those that were given.
-fn settle(
-    gathered: Gathered,
-    receipts: &mut [Receipt],
-    lists: &[Vec<Event>],
-) -> Result<(Settled, Vec<Sent>), LiveFault>
-    requires receipts { All (IsReceiptOf (gathered_from gathered) (lists_of lists.now)) receipts.old }
-    requires threads { gathered.limits.threads ≡ length lists.now }
-    ensures lists { IfOk result (λ settled. settled.0 ≡ lists_of lists.now) }
+// Settles what was gathered with the receipts. The lists are those that the receipts are for.
+fn settle(gathered: Gathered, receipts: &mut [Receipt]) -> Result<(Settled, Vec<Sent>), LiveFault>
+    requires ours { AreReceipts (gathered_from gathered) receipts.old }
+    ensures lists { (lists : List (List Event)) → gathered.limits.threads ≡ length lists → All (IsReceiptOf (gathered_from gathered) lists) receipts.old → IfOk result (λ settled. settled.0 ≡ lists) }
     ensures settled { IfOk result (λ settled. IsSettled receipts.old settled.0 settled.1.items) }
     ensures sent { IfOk result (λ settled. settled.1.items ≡ gathered.sent) }
     ensures whole { OnOk result (gathered.fault ≡ None) }
@@ -93,20 +88,19 @@ fn report_settled(
     }
 }
 
-// The report of a session that has run.
-fn conclude(
+/// The report of a session that has run: that of the lists that its receipts are for.
+pub fn conclude(
     rt: &(impl Threads + Sync),
     ran: Ran,
     tables: Vec<Table>,
-    lists: &[Vec<Event>],
     query: &Query,
 ) -> Result<Report, LiveFault>
-    requires run { HasRun (length lists.now) (vec_capacity tables) ran.gathered ran.served.items }
-    requires receipts { All (IsReceiptOf (gathered_from ran.gathered) (lists_of lists.now)) ran.receipts.items }
+    requires run { HasRun (vec_capacity tables) ran.gathered ran.served.items }
+    requires ours { AreReceipts (gathered_from ran.gathered) ran.receipts.items }
     requires empty { tables.items ≡ [] }
     requires none { vec_len tables ≡ 0 }
-    ensures report { IfOk result (λ report. IsGoodlockReport query.now (lists_of lists.now) report) }
-    ensures fault { IfErr result (IsLiveFault (lists_of lists.now)) }
+    ensures report { (lists : List (List Event)) → ran.gathered.limits.threads ≡ length lists → All (IsReceiptOf (gathered_from ran.gathered) lists) ran.receipts.items → IfOk result (λ report. IsGoodlockReport query.now lists report) }
+    ensures fault { (lists : List (List Event)) → ran.gathered.limits.threads ≡ length lists → All (IsReceiptOf (gathered_from ran.gathered) lists) ran.receipts.items → IfErr result (IsLiveFault lists) }
 {
     let Ran {
         gathered,
@@ -114,7 +108,7 @@ fn conclude(
         served,
     } = ran;
     let mut tables = tables;
-    match settle(gathered, receipts.as_mut_slice(), lists) {
+    match settle(gathered, receipts.as_mut_slice()) {
         Ok((settled, sent)) => match settle_workers(served, sent, &mut tables) {
             Ok(()) => report_settled(rt, settled, tables, query),
             Err(fault) => Err(fault),
@@ -174,7 +168,7 @@ pub fn live_report<R: Threads + Wait + Sync, G: Gate + Sync>(
         return Err(LiveFault::Memory);
     };
     match run_session(rt, alloc, lists, gate, session) {
-        Ok(ran) => conclude(rt, ran, tables, lists, query),
+        Ok(ran) => conclude(rt, ran, tables, query),
         Err(fault) => Err(fault),
     }
 }

@@ -53,8 +53,8 @@ fn record_each<R: Wait>(rt: &R, recorder: &mut Recorder, list: &[Event]) -> bool
     true
 }
 
-// Closes the recorder as soon as there is room for its end mark. None where nobody is left to collect.
-fn close_wait<R: Wait>(rt: &R, recorder: Recorder) -> Option<Receipt>
+/// Closes the recorder as soon as there is room for its end mark. None where nobody is left to collect.
+pub fn close_wait<R: Wait>(rt: &R, recorder: Recorder) -> Option<Receipt>
     ensures seat { IfSome result (λ receipt. left_by receipt ≡ seat_of recorder) }
     ensures all { IfSome result (λ receipt. recorded_whole receipt ≡ recorded recorder) }
 {

@@ -1,5 +1,5 @@
 //! The run of a session: its threads are started, and joined when the collector is done.
-ghost use Rattle.std.specs.Prelude.{List, length, IfOk, IfErr};
+ghost use Rattle.std.specs.Prelude.{◌≡◌, List, length, IfOk, IfErr};
 ghost use Rattle.std.specs.List.{All};
 ghost use Rattle.gl_event.specs.declared.events.Event.{Event};
 ghost use Rattle.gl_segments.specs.Orders.{lists_of};
@@ -49,7 +49,8 @@ fn run_threads<'s, E, R: Threads + Wait + Sync, G: Gate + Sync>(
     session: Session,
 ) -> Result<Ran, LiveFault>
     requires ready { IsReady (length lists.now) session }
-    ensures run { IfOk result (λ ran. HasRun (length lists.now) (length session.outlets.items) ran.gathered ran.served.items) }
+    ensures run { IfOk result (λ ran. HasRun (length session.outlets.items) ran.gathered ran.served.items) }
+    ensures threads { IfOk result (λ ran. ran.gathered.limits.threads ≡ length lists.now) }
     ensures receipts { IfOk result (λ ran. All (IsReceiptOf (gathered_from ran.gathered) (lists_of lists.now)) ran.receipts.items) }
     ensures fault { (all : List (List Event)) → IfErr result (IsLiveFault all) }
 {
@@ -100,7 +101,8 @@ pub fn run_session<R: Threads + Wait + Sync, G: Gate + Sync>(
     session: Session,
 ) -> Result<Ran, LiveFault>
     requires ready { IsReady (length lists.now) session }
-    ensures run { IfOk result (λ ran. HasRun (length lists.now) (length session.outlets.items) ran.gathered ran.served.items) }
+    ensures run { IfOk result (λ ran. HasRun (length session.outlets.items) ran.gathered ran.served.items) }
+    ensures threads { IfOk result (λ ran. ran.gathered.limits.threads ≡ length lists.now) }
     ensures receipts { IfOk result (λ ran. All (IsReceiptOf (gathered_from ran.gathered) (lists_of lists.now)) ran.receipts.items) }
     ensures fault { (all : List (List Event)) → IfErr result (IsLiveFault all) }
 {
@@ -111,7 +113,8 @@ pub fn run_session<R: Threads + Wait + Sync, G: Gate + Sync>(
         rt,
         move |scope| -> Result<Ran, LiveFault>
             requires ready { IsReady (length lists.now) session }
-            ensures run { IfOk result (λ ran. HasRun (length lists.entry.now) (length session.outlets.items) ran.gathered ran.served.items) }
+            ensures run { IfOk result (λ ran. HasRun (length session.outlets.items) ran.gathered ran.served.items) }
+            ensures threads { IfOk result (λ ran. ran.gathered.limits.threads ≡ length lists.entry.now) }
             ensures receipts { IfOk result (λ ran. All (IsReceiptOf (gathered_from ran.gathered) (lists_of lists.entry.now)) ran.receipts.items) }
             ensures fault { (all : List (List Event)) → IfErr result (IsLiveFault all) }
         { run_threads(scope, rt, alloc, start, lists, gate, session) },

@@ -2,7 +2,7 @@
 ghost use Rattle.std.specs.Prelude.{◌≡◌, ◌<◌, ◌≤◌, ◌+◌, [], map, length, IfOk};
 ghost use Rattle.std.specs.List.{All};
 ghost use Rattle.std.specs.Vec.{vec_len, vec_capacity};
-ghost use Rattle.gl_event.specs.declared.limits.TheConstants.{MAX_THREADS, MAX_RING};
+ghost use Rattle.gl_event.specs.declared.limits.TheConstants.{MAX_EVENTS, MAX_THREADS, MAX_RING};
 ghost use Rattle.gl_shards.specs.declared.shard.TheConstants.{MAX_SHARDS};
 ghost use Rattle.gl_live.specs.bodies.Desks.{IsDeskOf};
 ghost use Rattle.gl_live.specs.bodies.Seats.{Seating, seating_of, IsRecorderOf};
@@ -36,16 +36,17 @@ pub struct Session {
     pub served: Vec<Served>,
 }
 
-// The number of each session: there is one at a time.
-const SESSION: u64 = 0;
+/// The number of each session: there is one at a time.
+pub const SESSION: u64 = 0;
 
-// The limits of a session with so many threads.
-fn session_limits(threads: u32, ring: u32) -> Limits
+/// The limits of a session with so many threads.
+pub fn session_limits(threads: u32, ring: u32) -> Limits
     requires some_thread { 1 ≤ threads }
     requires threads_fit { threads ≤ MAX_THREADS }
     requires some_ring { 1 ≤ ring }
     requires ring_fits { ring ≤ MAX_RING }
-    ensures { result.threads ≡ threads }
+    ensures threads { result.threads ≡ threads }
+    ensures events { result.events ≡ MAX_EVENTS }
 {
     let Ok(limits) = Limits::new(threads, ring, MAX_EVENTS, MAX_NAMES) else {
         unreachable!()
@@ -106,8 +107,8 @@ fn desks(alloc: Global, recorders: Vec<Recorder>, count: u32) -> Result<Vec<Desk
     Ok(desks)
 }
 
-// So many feeds, with this capacity.
-fn feeds(alloc: Global, count: u32, capacity: u32) -> Result<(Vec<Outlet>, Vec<Inlet>), Memory>
+/// So many feeds, with this capacity.
+pub fn feeds(alloc: Global, count: u32, capacity: u32) -> Result<(Vec<Outlet>, Vec<Inlet>), Memory>
     requires some { 1 ≤ capacity }
     requires fit { capacity ≤ MAX_RING }
     ensures count { IfOk result (λ ends. length ends.0.items ≡ count) }

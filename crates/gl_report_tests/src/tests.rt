@@ -4,11 +4,12 @@ ghost use Rattle.gl_edges.specs.Order.{IsAboveLast};
 ghost use Rattle.gl_event.specs.Bounds.{greatest};
 ghost use Rattle.gl_std.specs.Trace.{IsTraceOver};
 
+use crate::format_1::json_if_exclusive;
 use gl_cycles::{Cycles, Found, Report, TrimOrder};
 use gl_edges::{Edge, EdgeList, Guard, Guards, Sample};
 use gl_event::{Limits, LocId, LockId, LockMode, Memory, ThreadId};
 use gl_filters::{Mode, Query};
-use gl_report::{Stats, escaped_name, json_text, json_text_v1, lists_exclusive, stats_text, text};
+use gl_report::{Stats, escaped_name, json_text, stats_text, text};
 use gl_std::{Names, Trace, read_trace};
 use serde_json::Value;
 use std::alloc::Global;
@@ -141,12 +142,10 @@ fn expect_json_v1(
 ) -> Result<(), Fail> {
     let names = names_of(alloc, lines)?;
     let report = report_of(rt, alloc, rows, cycles, false)?;
-    if lists_exclusive(&report) {
-        let printed = json_text_v1(alloc, &names, &report)?;
-        assert_eq!(rt; printed.as_slice(), want);
-        return Ok(());
+    match json_if_exclusive(alloc, &names, &report)? {
+        Some(printed) => assert_eq!(rt; printed.as_slice(), want),
+        None => assert!(rt; false, "not of format 1"),
     }
-    assert!(rt; false);
     Ok(())
 }
 

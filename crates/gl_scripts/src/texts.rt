@@ -1,6 +1,7 @@
 //! Texts that are read line by line.
 ghost use Rattle.gl_io.specs.Wrapped.{has_failed};
-ghost use Rattle.gl_std.specs.Streaming.{source_of, CanBeAsked};
+ghost use Rattle.gl_std.specs.Sourced.{items_of, source_of};
+ghost use Rattle.gl_std.specs.Streaming.{CanBeAsked};
 ghost use Rattle.std.specs.Prelude.{IfOk};
 
 use crate::say::{Stop, refused, say};
@@ -18,7 +19,7 @@ const OPPOSITE_ORDER: &[u8] =
 
 // The lines of the text, none of which was read yet.
 fn unread(rt: &HostRuntime, text: &'static [u8]) -> Result<Text, AllocError>
-    ensures { IfOk result (λ lines. CanBeAsked lines (has_failed (source_of lines))) }
+    ensures { IfOk result (λ lines. CanBeAsked (items_of lines) (has_failed (source_of lines))) }
 {
     let limits = Limits::greatest();
     Lines::new(
@@ -32,7 +33,7 @@ fn unread(rt: &HostRuntime, text: &'static [u8]) -> Result<Text, AllocError>
 
 // The lines of the text, for which memory may be refused once.
 fn lines_of(rt: &HostRuntime, text: &'static [u8]) -> Result<Text, AllocError>
-    ensures { IfOk result (λ lines. CanBeAsked lines (has_failed (source_of lines))) }
+    ensures { IfOk result (λ lines. CanBeAsked (items_of lines) (has_failed (source_of lines))) }
 {
     if let Ok(lines) = unread(rt, text) {
         return Ok(lines);
@@ -43,8 +44,8 @@ fn lines_of(rt: &HostRuntime, text: &'static [u8]) -> Result<Text, AllocError>
 
 // Asks for the next item. Whether there was no memory for it: then each later answer is that too.
 fn has_spoilt(rt: &HostRuntime, lines: &mut Text) -> bool
-    requires { CanBeAsked lines.old (has_failed (source_of lines.old)) }
-    ensures { CanBeAsked lines.new (has_failed (source_of lines.new)) }
+    requires { CanBeAsked (items_of lines.old) (has_failed (source_of lines.old)) }
+    ensures { CanBeAsked (items_of lines.new) (has_failed (source_of lines.new)) }
 {
     let item = lines.next();
     if item == Err(LinesFault::Memory) {

@@ -1,11 +1,6 @@
 //! Worked examples.
-ghost use Rattle.std.specs.Prelude.{◌≡◌, ℕ, ◌≤◌, List, length, slice_get, Some, IsTrue};
-ghost use Rattle.gl_event.specs.Bounds.{greatest};
-ghost use Rattle.gl_event.specs.Lawful.{IsLawful};
-ghost use Rattle.gl_event.specs.declared.events.Event.{Event};
-ghost use Rattle.gl_segments.specs.Orders.{lists_of};
-
-use gl_event::{Event, Limits, LocId, LockId, LockMode, Segment, ThreadId};
+use crate::lawful::are_lawful;
+use gl_event::{Event, LocId, LockId, LockMode, Segment, ThreadId};
 use gl_segments::{Order, OrderFault};
 use std::alloc::{AllocError, Global};
 use std::test::Fail;
@@ -50,14 +45,6 @@ fn seg(thread: u32, index: u32) -> Segment {
         thread: ThreadId::new(thread),
         index,
     }
-}
-
-// Whether the lists are lawful under the greatest limits.
-fn are_lawful(lists: &[Vec<Event>]) -> bool
-    ensures few { IsTrue result → length lists.now ≤ 1024 }
-    ensures lawful { IsTrue result → (thread : ℕ) (es : List Event) → slice_get (lists_of lists.now) thread ≡ Some es → IsLawful greatest thread es }
-{
-    gl_recorder::are_lawful(&Limits::greatest(), lists)
 }
 
 fn is_segment(found: Segment, wanted: Segment) -> bool {

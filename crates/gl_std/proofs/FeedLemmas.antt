@@ -11,8 +11,12 @@ use Rattle.std.proofs.lemmas.List.{take_all, drop-drop, length-take, length-take
 use Rattle.gl_event.specs.Bounds.{Bounds}
 use Rattle.gl_io.specs.Reads.{HasRead}
 use Rattle.gl_io.specs.declared.source.TheConstants.{CHUNK}
-use Rattle.gl_std.specs.Feeding.{is_idle, left_of, HasFilled, HasGiven, HasStepped, IsAt, IsOver, Reaches, ReadsOn, Steps}
-use Rattle.gl_std.specs.Judging.{HasJudged, with_judged}
+use Rattle.gl_std.specs.Feeding as feeding
+use Rattle.gl_std.specs.Feeding.{HasGiven}
+use Rattle.gl_std.specs.Judging as judging
+use Rattle.gl_std.specs.bodies.States.{left_of, HasJudged, IsAt, IsOver, Reaches, ReadsOn}
+use Rattle.gl_std.specs.bodies.Telling.{with_judged}
+use Rattle.gl_std.specs.bodies.Stepping.{is_idle, HasFilled, HasStepped, Steps}
 use Rattle.gl_std.specs.Lines.{LF, CR, ended_lines, without_cr}
 use Rattle.gl_std.specs.Pieces.{IsFaulty}
 use Rattle.gl_std.specs.Trace.{after_line, after_shape, and_then, nothing, trace_of}
@@ -169,20 +173,20 @@ left_none (b ∷ buffer) zero = refl
 left_none (b ∷ buffer) (suc stop) = left_none buffer stop
 
 -- the place behind a line
-pub at_line : (old new : Feed) (end after text : List ℕ) (told more : Trace) (at : IsAt old text told) → left_of old ≡ end ++ LF ∷ after → left_of new ≡ after → Reaches new.judge new.unfinished.items (with_end at.seen end) more → IsAt new text more
+pub at_line : (old new : feeding.Feed) (end after text : List ℕ) (told more : Trace) (at : feeding.IsAt old text told) → old.left ≡ end ++ LF ∷ after → new.left ≡ after → feeding.Reaches new.judge new.beginning (with_end at.seen end) more → feeding.IsAt new text more
 at_line old new end after text told more at is left reaches =
     record {
       seen = with_end at.seen end;
-      parts = more_read text at.seen (left_of old) end after at.parts is ∙ ap (λ l. with_end at.seen end ++ l) (sym left);
+      parts = more_read text at.seen old.left end after at.parts is ∙ ap (λ l. with_end at.seen end ++ l) (sym left);
       reaches = reaches;
     }
 
 -- the place at the end of a read
-pub at_end : (old new : Feed) (text : List ℕ) (told : Trace) (at : IsAt old text told) → left_of new ≡ [] → Reaches new.judge new.unfinished.items (at.seen ++ left_of old) told → IsAt new text told
+pub at_end : (old new : feeding.Feed) (text : List ℕ) (told : Trace) (at : feeding.IsAt old text told) → new.left ≡ [] → feeding.Reaches new.judge new.beginning (at.seen ++ old.left) told → feeding.IsAt new text told
 at_end old new text told at left reaches =
     record {
-      seen = at.seen ++ left_of old;
-      parts = at.parts ∙ sym (append_nil (at.seen ++ left_of old)) ∙ ap (λ l. (at.seen ++ left_of old) ++ l) (sym left);
+      seen = at.seen ++ old.left;
+      parts = at.parts ∙ sym (append_nil (at.seen ++ old.left)) ∙ ap (λ l. (at.seen ++ old.left) ++ l) (sym left);
       reaches = reaches;
     }
 
@@ -329,14 +333,14 @@ last_over f text line told r some over is after =
 -- ---- the beginning
 
 -- nothing was read
-pub begun : (limits : Bounds) (turns : ℕ) (start : Option (List ℕ)) (f : Feed) → f.judge.limits ≡ limits → f.judge.line ≡ 1 → HasJudged f.judge nothing → f.unfinished.items ≡ [] → f.start ≡ 0 → f.end ≡ 0 → f.turns ≡ turns → ReadsOn limits turns start start f [] nothing
-begun limits turns start f same line judged none begin end left =
+pub begun : (limits : Bounds) (turns : ℕ) (start : Option (List ℕ)) (f : feeding.Feed) → f.judge.limits ≡ limits → f.judge.line ≡ 1 → judging.HasJudged f.judge nothing → f.beginning ≡ [] → f.left ≡ [] → f.turns ≡ turns → feeding.ReadsOn limits turns start start f [] nothing
+begun limits turns start f same line judged none left turn =
     record {
-      given = given_nothing turns f.turns start left;
+      given = given_nothing turns f.turns start turn;
       same = same;
       at = record {
         seen = [];
-        parts = sym (ap (λ n. drop n (take f.end f.buffer.items)) (begin ∙ sym end) ∙ left_none f.buffer.items f.end);
+        parts = sym left;
         reaches = record {
           unfinished = [];
           is = told_nothing f.judge.limits f.judge.line nothing [] line refl refl;

@@ -3,10 +3,9 @@ use Rattle.std.proofs.Common.{◌≡◌, ℕ, Bool, true, List, Option, Result, 
 use Rattle.std.specs.Prelude.{IfOk}
 use Rattle.gl_event.specs.Bounds.{Bounds}
 use Rattle.gl_io.specs.Reads.{HasRead}
-use Rattle.gl_std.specs.Feeding.{IsOver, ReadsOn}
+use Rattle.gl_std.specs.bodies.States.{HasJudged, IsOver, ReadsOn}
 use Rattle.gl_std.specs.Heard.{HasHeard}
 use Rattle.gl_std.specs.bodies.Hearing.{listed_by, HasMet}
-use Rattle.gl_std.specs.Judging.{HasJudged}
 use Rattle.gl_std.specs.Pieces.{judged}
 use Rattle.gl_std.specs.Trace.{trace_of, IsTraceOver}
 use Rattle.gl_std.specs.declared.faults.ReadFault.{ReadFault}

@@ -2,10 +2,11 @@
 use Rattle.std.proofs.Common.{◌≡◌, ℕ, zero, suc, ◌+◌, ◌-◌, ◌<◌, ◌≤◌, Bool, true, false, cond, List, [], ◌∷◌, ◌++◌, length, replicate, Option, Some, None, All, Result, Ok, Err, get_or, is_none, unwrap_or, map, refl, sym, ap, subst, ◌∙◌, append_assoc, length-append, arith}
 use Rattle.std.specs.Prelude.{slice_get, slice_set, IfSome}
 use Rattle.std.proofs.lemmas.List.{length-map, length-replicate, replicate_more, map-append, map-set}
-use Rattle.gl_event.specs.Bounds.{Bounds}
+use Rattle.gl_event.specs.Bounds.{AreWithinRange, Bounds}
 use Rattle.gl_event.specs.declared.events.Event.{Event}
 use Rattle.gl_event.specs.Lawful.{lock_refusal}
-use Rattle.gl_std.specs.Judging.{with_judged, HasJudged, IsSound}
+use Rattle.gl_std.specs.bodies.Telling.{with_judged}
+use Rattle.gl_std.specs.Judging.{Judge, HasJudged, IsSound}
 use Rattle.gl_std.specs.Listed.{listed}
 use Rattle.gl_std.specs.Standings.{State, StandsAfter, AreStanding, count_of}
 use Rattle.gl_std.specs.Line.{Operation, is_on_thread}
@@ -14,7 +15,6 @@ use Rattle.gl_std.specs.Trace.{events_of, with_event, with_list, after_call, IsT
 use Rattle.gl_std.specs.bodies.Finding.{found_in, with_lists, event_found, limit_found, limit_fault, verdict_of, with_names, after_verdict}
 use Rattle.gl_std.specs.declared.faults.StdKind.{StdKind}
 use Rattle.gl_std.specs.declared.faults.ReadFault.{ReadFault}
-use Rattle.gl_std.specs.declared.judge.Judge.{Judge}
 use Rattle.gl_std.specs.declared.judge.Judged.{Judged}
 use Rattle.gl_std.specs.declared.judge.Judged.TheVariants.{Event as Told}
 use Rattle.gl_std.specs.declared.names.Found.{Found}
@@ -160,19 +160,20 @@ events_fit most (es ∷ lists) (t ∷ states) are each = by (events_fit most lis
     by later (suc k) d within = later k d (omega (arith, within))
 
 -- what stands for a trace that obeys the limits is sound
-pub sound_of : (j : Judge) (told : Trace) → HasJudged j told → IsTraceOver j.limits told → j.skipped < j.line → j.stray < j.line → IsSound j
-sound_of j told judged over few_skipped few_stray =
+pub sound_of : (j : Judge) (told : Trace) → HasJudged j told → IsTraceOver j.limits told → AreWithinRange j.limits → j.skipped < j.line → j.stray < j.line → IsSound j
+sound_of j told judged over in_range few_skipped few_stray =
     record {
       told = told;
       judged = judged;
       sound = over;
+      in_range = in_range;
       few_skipped = few_skipped;
       few_stray = few_stray;
       threads_fit = subst (λ names. length names.threads ≤ j.limits.threads) (sym judged.names) over.threads_fit;
       locks_fit = subst (λ names. length names.locks ≤ j.limits.names) (sym judged.names) over.locks_fit;
       locs_fit = subst (λ names. length names.locs ≤ j.limits.names) (sym judged.names) over.locs_fit;
-      events_fit = events_fit j.limits.events told.lists j.standings.items judged.states over.events_fit;
-      one_standing_each = standing_length told.lists j.standings.items judged.states ∙ over.one_list_each ∙ ap (λ names. length names.threads) (sym judged.names);
+      events_fit = events_fit j.limits.events told.lists j.standings judged.states over.events_fit;
+      one_standing_each = standing_length told.lists j.standings judged.states ∙ over.one_list_each ∙ ap (λ names. length names.threads) (sym judged.names);
     }
 
 -- a line that tells an event, by what was found out of it
@@ -234,10 +235,10 @@ call_kept names names2 states told operation thread operand location found event
     (λ i. record { names = to_names i; lists = to_lists i; skipped = told.skipped; stray = told.stray })
 
 -- the judge of a line that is kept stands for its trace
-pub kept_has : (j : Judge) (told : Trace) (judged : Judged) (own : ℕ) (event : Event) (lists : List (List Event)) → judged ≡ Told own event → AreStanding lists j.standings.items → lists ≡ listed (length j.names.threads) told.lists own event → j.skipped ≡ told.skipped → j.stray ≡ told.stray → HasJudged j (with_judged judged j.names told)
+pub kept_has : (j : Judge) (told : Trace) (judged : Judged) (own : ℕ) (event : Event) (lists : List (List Event)) → judged ≡ Told own event → AreStanding lists j.standings → lists ≡ listed (length j.names.threads) told.lists own event → j.skipped ≡ told.skipped → j.stray ≡ told.stray → HasJudged j (with_judged judged j.names told)
 kept_has j told judged own event lists is are same skipped stray =
     subst (λ r. HasJudged j (with_judged r j.names told)) (sym is)
-    (record { names = refl; states = subst (λ ls. AreStanding ls j.standings.items) same are; skipped = skipped; stray = stray })
+    (record { names = refl; states = subst (λ ls. AreStanding ls j.standings) same are; skipped = skipped; stray = stray })
 
 -- a fault is the same, whatever stands in its place
 abbrev fault_or : {A : Type 0} → ReadFault → Result A ReadFault → ReadFault

@@ -1,7 +1,8 @@
 -- What a reader knows between two lines.
 use Rattle.std.proofs.Common.{◌≡◌, ℕ, List, Ok, sym, ap, subst, ◌∙◌}
 use Rattle.gl_event.specs.Bounds.{Bounds}
-use Rattle.gl_std.specs.Judging.{HasJudged, IsSound, with_judged}
+use Rattle.gl_std.specs.bodies.States.{HasJudged, IsSound}
+use Rattle.gl_std.specs.bodies.Telling.{with_judged}
 use Rattle.gl_std.specs.bodies.Reading.{told_by, IsReady}
 use Rattle.gl_std.specs.Trace.{after_line, IsTraceOver}
 use Rattle.gl_std.specs.declared.judge.Judged.{Judged}

@@ -8,6 +8,7 @@ pub mod Lines
 pub mod Listed
 pub mod Names
 pub mod Pieces
+pub mod Sourced
 pub mod Standings
 pub mod Streaming
 pub mod Trace

@@ -1,45 +1,49 @@
 -- A trace that is read item by item.
-use Rattle.std.specs.Prelude.{◌≡◌, ◌⊎◌, ℕ, Bool, true, false, List, ◌++◌, Option, Result, Ok, Err}
+use Rattle.std.specs.Prelude.{◌≡◌, ◌⊎◌, ℕ, ◌+◌, Bool, true, false, List, ◌++◌, Option, Some, None, Result, Ok, Err, length}
 use Rattle.gl_event.specs.Bounds.{Bounds}
+use Rattle.gl_event.specs.declared.events.Event.{Event as EventOf}
 use Rattle.gl_io.specs.Reads.{HasRead}
-use Rattle.gl_std.specs.Feeding.{HasGiven, IsFit, ReadsOn}
-use Rattle.gl_std.specs.Judging.{HasJudged, with_judged}
+use Rattle.gl_std.specs.Feeding.{Feed, HasGiven, IsFit, ReadsOn}
+use Rattle.gl_std.specs.Judging.{HasJudged}
 use Rattle.gl_std.specs.Lines.{ended_lines}
+use Rattle.gl_std.specs.Listed.{listed}
 use Rattle.gl_std.specs.Names.{NameLists}
 use Rattle.gl_std.specs.Pieces.{IsFaulty}
 use Rattle.gl_std.specs.Trace.{trace_of}
 use Rattle.gl_std.specs.declared.faults.LinesFault.{LinesFault}
 use Rattle.gl_std.specs.declared.faults.LinesFault.TheVariants.{Line, Read, Memory}
 use Rattle.gl_std.specs.declared.faults.ReadFault.TheVariants.{Line as LineFault}
-use Rattle.gl_std.specs.declared.feed.Feed.{Feed}
-use Rattle.gl_std.specs.declared.judge.Judged.{Judged}
-use Rattle.gl_std.specs.declared.judge.Judged.TheVariants.{Blank, Skipped as SkippedLine, Stray as StrayLine, Event as EventLine}
 use Rattle.gl_std.specs.declared.stream.Item.{Item}
 use Rattle.gl_std.specs.declared.stream.Item.TheVariants.{Event, Skipped, Stray, End}
-use Rattle.gl_std.specs.declared.stream.Lines.{Lines}
-use Rattle.gl_std.specs.declared.stream.Stage.{Stage}
-use Rattle.gl_std.specs.declared.stream.Stage.TheVariants.{Reading, Done, Faulty}
 use Rattle.gl_std.specs.declared.trace.Trace.{Trace}
 
--- where the bytes come from
-abbrev pub source_of : {R : Type 0} → Lines R → R
-source_of l = l.input
+-- what the next item comes from: from reading on; it is the end, once that or the item before it was answered; or it is the
+-- fault that was answered
+pub data Stage : Type 0 where
+  Reading : Stage
+  Done : Stage
+  Faulty : LinesFault → Stage
+
+-- the items of a text: what the next one comes from, and what is known of the text
+pub record Stream : Type 0 where
+  pub stage : Stage
+  pub feed : Feed
 
 -- the names so far
-abbrev pub names_of : {R : Type 0} → Lines R → NameLists
-names_of l = l.feed.judge.names
+abbrev pub names_of : Stream → NameLists
+names_of i = i.feed.judge.names
 
 -- the end was answered, or the item before it
-abbrev pub IsDone : {R : Type 0} → Lines R → Type 0
-IsDone l = l.stage ≡ Done
+abbrev pub IsDone : Stream → Type 0
+IsDone i = i.stage ≡ Done
 
 -- this fault was answered
-abbrev pub HasFault : {R : Type 0} → Lines R → LinesFault → Type 0
-HasFault l fault = l.stage ≡ Faulty fault
+abbrev pub HasFault : Stream → LinesFault → Type 0
+HasFault i fault = i.stage ≡ Faulty fault
 
 -- no fault was answered
-abbrev pub HasNoFault : {R : Type 0} → Lines R → Type 0
-HasNoFault l = (fault : LinesFault) → ¬ HasFault l fault
+abbrev pub HasNoFault : Stream → Type 0
+HasNoFault i = (fault : LinesFault) → ¬ HasFault i fault
 
 -- while reading goes on the source hasn't failed, and nothing is counted beyond what numbers hold
 abbrev pub CanReadOn : Stage → Bool → Feed → Type 0
@@ -48,8 +52,8 @@ CanReadOn Done failed f = Unit {0}
 CanReadOn (Faulty fault) failed f = Unit {0}
 
 -- the next item can be asked for
-abbrev pub CanBeAsked : {R : Type 0} → Lines R → Bool → Type 0
-CanBeAsked l failed = CanReadOn l.stage failed l.feed
+abbrev pub CanBeAsked : Stream → Bool → Type 0
+CanBeAsked i failed = CanReadOn i.stage failed i.feed
 
 -- what the text told where the items so far are these of the trace: while reading goes on, its lines so far; at the end, all of
 -- it; at a fault, that its first line at fault is that one, or the trace of the lines that LF has ended where a read failed
@@ -61,26 +65,33 @@ HasToldAt (Faulty Read) limits turns start now failed f text told = HasRead turn
 HasToldAt (Faulty Memory) limits turns start now failed f text told = Unit {0}
 
 -- the reads so far gave this text, and the items so far told this trace of it
-abbrev pub HasTold : {R : Type 0} → Bounds → ℕ → Option (List ℕ) → Option (List ℕ) → Bool → Lines R → List ℕ → Trace → Type 0
-HasTold limits turns start now failed l text told = HasToldAt l.stage limits turns start now failed l.feed text told
+abbrev pub HasTold : Bounds → ℕ → Option (List ℕ) → Option (List ℕ) → Bool → Stream → List ℕ → Trace → Type 0
+HasTold limits turns start now failed i text told = HasToldAt i.stage limits turns start now failed i.feed text told
 
 -- no line at fault was answered, nor was memory refused
-abbrev pub CanBeNamed : {R : Type 0} → Lines R → Type 0
-CanBeNamed l = (fault : LinesFault) → HasFault l fault → fault ≡ Read
+abbrev pub CanBeNamed : Stream → Type 0
+CanBeNamed i = (fault : LinesFault) → HasFault i fault → fault ≡ Read
 
--- what the line of an item is
-abbrev pub line_of : Item → Judged
-line_of (Event thread event) = EventLine thread event
-line_of Skipped = SkippedLine
-line_of Stray = StrayLine
-line_of End = Blank
+-- the thread and the event that an item tells, if it tells one
+abbrev pub event_in : Item → Option (ℕ × EventOf)
+event_in (Event thread event) = Some (thread, event)
+event_in Skipped = None
+event_in Stray = None
+event_in End = None
+
+-- the trace with what an item tells, after which the names are these
+abbrev pub with_item : Item → NameLists → Trace → Trace
+with_item (Event thread event) names told = record told { names = names; lists = listed (length names.threads) told.lists thread event }
+with_item Skipped names told = record told { skipped = told.skipped + 1 }
+with_item Stray names told = record told { stray = told.stray + 1 }
+with_item End names told = told
 
 -- the trace with the item that was answered, after which the names are these
 abbrev pub with_answer : Result Item LinesFault → NameLists → Trace → Trace
-with_answer (Ok item) names told = with_judged (line_of item) names told
+with_answer (Ok item) names told = with_item item names told
 with_answer (Err fault) names told = told
 
 -- the answer goes on from a text and its trace: a piece more may have been read
-pub record GoesOn {R : Type 0} (limits : Bounds) (turns : ℕ) (start now : Option (List ℕ)) (failed : Bool) (l : Lines R) (text : List ℕ) (told : Trace) (result : Result Item LinesFault) : Type 0 where
+pub record GoesOn (limits : Bounds) (turns : ℕ) (start now : Option (List ℕ)) (failed : Bool) (i : Stream) (text : List ℕ) (told : Trace) (result : Result Item LinesFault) : Type 0 where
   pub piece : List ℕ
-  pub tells : HasTold limits turns start now failed l (text ++ piece) (with_answer result (names_of l) told)
+  pub tells : HasTold limits turns start now failed i (text ++ piece) (with_answer result (names_of i) told)

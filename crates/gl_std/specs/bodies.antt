@@ -3,3 +3,6 @@ pub mod Finding
 pub mod Hearing
 pub mod Reading
 pub mod Shown
+pub mod States
+pub mod Stepping
+pub mod Telling

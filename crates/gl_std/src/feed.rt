@@ -2,10 +2,12 @@
 ghost use Rattle.std.specs.Prelude.{◌≡◌, ℕ, ◌+◌, ◌^◌, ◌<◌, ◌≤◌, false, List, [], ◌∷◌, ◌++◌, Contains, Option, Ok, Err, IfNone, IfOk, IfSome, OnErr, OnOk, length, take, vec_len};
 ghost use Rattle.gl_event.specs.Bounds.{Bounds};
 ghost use Rattle.gl_io.specs.Reads.{HasRead};
-ghost use Rattle.gl_std.specs.Judging.{with_judged, HasJudged, IsKnown, IsSound};
+ghost use Rattle.gl_std.specs.Feeding.{HasGiven};
+ghost use Rattle.gl_std.specs.bodies.States.{left_of, HasJudged, IsAt, IsFit, IsOver, IsSound, Reaches, ReadsOn};
+ghost use Rattle.gl_std.specs.bodies.Telling.{with_judged, IsKnown};
 ghost use Rattle.gl_std.specs.Lines.{LF};
 ghost use Rattle.gl_std.specs.Pieces.{IsFaulty};
-ghost use Rattle.gl_std.specs.Feeding.{fuel, is_idle, left_of, HasDrained, HasFilled, HasGiven, IsAt, IsFit, IsOver, Reaches, ReadsOn, Steps};
+ghost use Rattle.gl_std.specs.bodies.Stepping.{fuel, is_idle, HasDrained, HasFilled, Steps};
 ghost use Rattle.gl_std.specs.Trace.{nothing, trace_of};
 ghost use Rattle.gl_std.specs.declared.faults.StdKind.{StdKind};
 ghost use Rattle.gl_std.specs.declared.judge.Judged.{Judged};
@@ -95,6 +97,7 @@ impl Feed {
             → Steps limits turns start (R.remaining input.new) (R.failed input.new) self.new text told result }
         ensures fit { OnOk result (IsFit self.new) }
         ensures found { IfOk result (λ step. is_idle step ≡ false) }
+        ensures known { (judged : Judged) → result ≡ Ok (Step.Told judged) → IsKnown judged (length self.new.judge.names.threads) }
         ensures sound { OnOk result (R.failed input.new ≡ false) }
     {
         let mut step = Step::More;

@@ -51,7 +51,8 @@ impl Judge {
     ghost use Rattle.std.specs.Prelude.{false};
     ghost use Rattle.gl_std.specs.Line.{is_on_itself};
     ghost use Rattle.gl_std.specs.Standings.{count_of};
-    ghost use Rattle.gl_std.specs.Judging.{with_judged, HasJudged, IsKnown, IsSound};
+    ghost use Rattle.gl_std.specs.bodies.States.{HasJudged, IsSound};
+    ghost use Rattle.gl_std.specs.bodies.Telling.{with_judged, IsKnown};
     ghost use Rattle.gl_std.specs.bodies.Finding.{found_in, limit_found};
     ghost use Rattle.gl_std.specs.bodies.Reading.{AreApart};
     ghost use Rattle.gl_std.specs.bodies.Shown.{shown};
@@ -66,6 +67,8 @@ impl Judge {
         ensures limits { result.limits ≡ limits }
         ensures line { result.line ≡ 1 }
     {
+        // its contract says that the limits are in range
+        let _ = limits.threads();
         Judge {
             alloc,
             limits,

@@ -25,7 +25,8 @@
 //! number and what is wrong with it.
 //!
 //! [`read_source`] reads the text of a [`Source`] as it comes, read by read, and doesn't keep it.
-//! [`Lines`] gives the lines of such a text one at a time, each as an [`Item`], and keeps no events.
+//! [`Lines`] gives the lines of such a text one at a time, each as an [`Item`], and keeps no events;
+//! [`Items`] does so with a source that is lent to each call.
 //! Both are given a [`Seed`] for the hash of names: with one that was drawn at random, names can't be
 //! chosen to make reading slow. [`write_trace`] writes a trace as a text, thread by thread.
 //!
@@ -70,7 +71,7 @@ pub use lists::Lists;
 pub use names::Names;
 pub use read::{read_seeded, read_trace};
 pub use seed::Seed;
-pub use stream::{Item, Lines};
+pub use stream::{Item, Items, Lines};
 pub use text::{Heard, read_source};
 pub use trace::Trace;
 pub use writing::write_trace;

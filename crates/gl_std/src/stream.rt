@@ -1,10 +1,14 @@
 //! Reading a trace item by item, as its text comes.
-ghost use Rattle.std.specs.Prelude.{◌≡◌, ℕ, ◌^◌, ◌≤◌, Bool, true, false, List, [], Option, Ok, Err, IfErr, IfOk, OnOk};
+ghost use Rattle.std.specs.Prelude.{◌≡◌, ℕ, ◌^◌, ◌<◌, ◌≤◌, Bool, true, false, List, [], Option, Ok, Err, IfErr, IfOk, OnOk, length};
 ghost use Rattle.gl_event.specs.Bounds.{Bounds};
+ghost use Rattle.gl_event.specs.declared.events.Event.{Event as EventOf};
 ghost use Rattle.gl_io.specs.Reads.{HasRead};
 ghost use Rattle.gl_std.specs.Feeding.{IsFit, IsOver, ReadsOn};
-ghost use Rattle.gl_std.specs.Streaming.{line_of, names_of, source_of, with_answer, CanBeAsked, CanBeNamed, GoesOn, HasFault, HasNoFault, HasTold, IsDone};
+ghost use Rattle.gl_std.specs.Sourced.{items_of, source_of};
+ghost use Rattle.gl_std.specs.Streaming.{event_in, names_of, with_answer, CanBeAsked, CanBeNamed, GoesOn, HasFault, HasNoFault, HasTold, IsDone};
+ghost use Rattle.gl_std.specs.Streaming.Stage.{Reading};
 ghost use Rattle.gl_std.specs.Trace.{nothing};
+ghost use Rattle.gl_std.specs.bodies.Telling.{item_in};
 ghost use Rattle.gl_std.specs.declared.faults.LinesFault.{LinesFault};
 ghost use Rattle.gl_std.specs.declared.trace.Trace.{Trace};
 
@@ -16,6 +20,7 @@ use crate::seed::Seed;
 use gl_event::{Event, Limits, ThreadId};
 use gl_io::Source;
 use std::alloc::{AllocError, Global};
+use std::marker::Model;
 
 /// What the next line of a text is, where it is neither empty nor at fault, or that there is none.
 #[derive(Clone, Copy, Debug, PartialEq, Eq)]
@@ -30,6 +35,18 @@ pub enum Item {
     End,
 }
 
+impl Item {
+    /// The number of the thread and its event, where the item tells one.
+    pub fn event(self) -> Option<(u32, Event)>
+        ensures { result ≡ event_in self }
+    {
+        match self {
+            Item::Event { thread, event } => Some((thread.number(), event)),
+            Item::Skipped | Item::Stray | Item::End => None,
+        }
+    }
+}
+
 // What the next answer comes from.
 #[derive(Clone, Copy)]
 enum Stage {
@@ -38,34 +55,38 @@ enum Stage {
     Faulty(LinesFault),
 }
 
-/// The lines of the text that a source gives, one after the other. No more is kept of them than what
-/// was read last, the names, what each thread holds, and so much of a line that isn't ended as tells
-/// that it is too long.
+/// The items of a text, one after the other, where the source is lent to each call. No more is kept of
+/// the text than what was read last, the names, what each thread holds, and so much of a line that isn't
+/// ended as tells that it is too long.
+///
+/// Contracts see what the next item comes from, and what is known of the text.
 #[derive(Drop)]
-pub struct Lines<R> {
-    input: R,
+pub struct Items {
     feed: Feed,
     stage: Stage,
 }
 
-impl<R: Source + Drop> Lines<R> {
-    /// The lines of what the source gives in at most `turns` reads. For texts of others the seed is
-    /// one that was drawn at random.
-    pub fn new(
-        alloc: Global,
-        input: R,
-        limits: &Limits,
-        turns: u64,
-        seed: Seed,
-    ) -> Result<Lines<R>, AllocError>
-        requires not_failed { R.failed input ≡ false }
+impl Model for Items {
+    ghost use Rattle.gl_std.specs.Streaming.{Stream};
+    ghost use Rattle.gl_std.specs.bodies.States.{stream_of, IsHeld};
+
+    ghost Value = { Stream };
+
+    ghost view = { λ i. stream_of i.stage i.feed };
+
+    ghost invariant = { λ i. IsHeld i.stage i.feed };
+}
+
+impl Items {
+    /// The items of what a source gives in at most `turns` reads. For texts of others the seed is one
+    /// that was drawn at random.
+    pub fn new(alloc: Global, limits: &Limits, turns: u64, seed: Seed) -> Result<Items, AllocError>
         requires few_turns { turns ≤ 2 ^ 40 }
-        ensures tells { IfOk result (λ l. HasTold limits.now turns (R.remaining input) (R.remaining (source_of l)) (R.failed (source_of l)) l [] nothing) }
-        ensures usable { IfOk result (λ l. CanBeAsked l (R.failed (source_of l))) }
+        ensures tells { IfOk result (λ i. (start : Option (List ℕ)) → HasTold limits.now turns start start false i [] nothing) }
+        ensures usable { IfOk result (λ i. CanBeAsked i false) }
     {
         let feed = Feed::new(alloc, limits, turns, seed)?;
-        Ok(Lines {
-            input,
+        Ok(Items {
             feed,
             stage: Stage::Reading,
         })
@@ -76,12 +97,13 @@ impl<R: Source + Drop> Lines<R> {
     /// After [`Item::End`] each answer is that, and after a fault each answer is that fault.
     /// [`LinesFault::Read`] comes where a read failed or the turns were used up, once each line that
     /// LF has ended was answered; the first line at fault comes before that. Each line is cut once, and
-    /// each of its names looked up once by hash.
-    pub fn next(&mut self) -> Result<Item, LinesFault>
-        requires usable { CanBeAsked self.old (R.failed (source_of self.old)) }
-        ensures tells { (limits : Bounds) (turns : ℕ) (start : Option (List ℕ)) (text : List ℕ) (told : Trace) → HasTold limits turns start (R.remaining (source_of self.old)) (R.failed (source_of self.old)) self.old text told
-            → GoesOn limits turns start (R.remaining (source_of self.new)) (R.failed (source_of self.new)) self.new text told result }
-        ensures usable { CanBeAsked self.new (R.failed (source_of self.new)) }
+    /// each of its names looked up at most once by hash.
+    pub fn next<R: Source>(&mut self, input: &mut R) -> Result<Item, LinesFault>
+        requires usable { CanBeAsked self.old (R.failed input.old) }
+        ensures tells { (limits : Bounds) (turns : ℕ) (start : Option (List ℕ)) (text : List ℕ) (told : Trace) → HasTold limits turns start (R.remaining input.old) (R.failed input.old) self.old text told
+            → GoesOn limits turns start (R.remaining input.new) (R.failed input.new) self.new text told result }
+        ensures known { (thread : ℕ) (event : EventOf) → result ≡ Ok (Item.Event thread event) → thread < length (names_of self.new).threads }
+        ensures usable { CanBeAsked self.new (R.failed input.new) }
         ensures end { result ≡ Ok Item.End → IsDone self.new }
         ensures item { OnOk result (HasNoFault self.new) }
         ensures fault { IfErr result (HasFault self.new) }
@@ -89,25 +111,26 @@ impl<R: Source + Drop> Lines<R> {
         ensures fault_again { (fault : LinesFault) → HasFault self.old fault → result ≡ Err fault }
     {
         match self.stage {
-            Stage::Reading => self.read_on(),
+            Stage::Reading => self.read_on(input),
             Stage::Done => Ok(Item::End),
             Stage::Faulty(fault) => Err(fault),
         }
     }
 
     // `next`, while reading goes on.
-    fn read_on(&mut self) -> Result<Item, LinesFault>
-        requires reading { self.old.stage ≡ Stage.Reading }
+    fn read_on<R: Source>(&mut self, input: &mut R) -> Result<Item, LinesFault>
+        requires reading { self.old.stage ≡ Reading }
         requires fit { IsFit self.old.feed }
-        requires not_failed { R.failed (source_of self.old) ≡ false }
-        ensures tells { (limits : Bounds) (turns : ℕ) (start : Option (List ℕ)) (text : List ℕ) (told : Trace) → ReadsOn limits turns start (R.remaining (source_of self.old)) self.old.feed text told
-            → GoesOn limits turns start (R.remaining (source_of self.new)) (R.failed (source_of self.new)) self.new text told result }
-        ensures usable { CanBeAsked self.new (R.failed (source_of self.new)) }
+        requires not_failed { R.failed input.old ≡ false }
+        ensures tells { (limits : Bounds) (turns : ℕ) (start : Option (List ℕ)) (text : List ℕ) (told : Trace) → ReadsOn limits turns start (R.remaining input.old) self.old.feed text told
+            → GoesOn limits turns start (R.remaining input.new) (R.failed input.new) self.new text told result }
+        ensures known { (thread : ℕ) (event : EventOf) → result ≡ Ok (Item.Event thread event) → thread < length (names_of self.new).threads }
+        ensures usable { CanBeAsked self.new (R.failed input.new) }
         ensures end { result ≡ Ok Item.End → IsDone self.new }
         ensures item { OnOk result (HasNoFault self.new) }
         ensures fault { IfErr result (HasFault self.new) }
     {
-        match self.feed.next(&mut self.input) {
+        match self.feed.next(input) {
             Ok(Step::Told(judged)) => Ok(item_of(judged)),
             Ok(Step::End) => self.finish(),
             Ok(Step::More) => unreachable!(),
@@ -123,10 +146,10 @@ impl<R: Source + Drop> Lines<R> {
         requires fit { IsFit self.old.feed }
         ensures tells { (limits : Bounds) (turns : ℕ) (start now : Option (List ℕ)) (failed : Bool) (text : List ℕ) (told : Trace) → HasRead turns start now failed text true → self.old.feed.judge.limits ≡ limits → IsOver self.old.feed text told
             → HasTold limits turns start now failed self.new text (with_answer result (names_of self.new) told) }
-        ensures usable { CanBeAsked self.new (R.failed (source_of self.new)) }
+        ensures known { (thread : ℕ) (event : EventOf) → result ≡ Ok (Item.Event thread event) → thread < length (names_of self.new).threads }
+        ensures usable { (failed : Bool) → CanBeAsked self.new failed }
         ensures end { OnOk result (IsDone self.new) }
         ensures fault { IfErr result (HasFault self.new) }
-        ensures same_source { source_of self.new ≡ source_of self.old }
     {
         match self.feed.last() {
             Ok(judged) => {
@@ -144,22 +167,75 @@ impl<R: Source + Drop> Lines<R> {
         }
     }
 
+    /// The names so far, how many lines were skipped, and how many were strays. After a line at fault,
+    /// or where memory was refused, they say nothing.
+    pub fn parts(self) -> (Names, u64, u64)
+        ensures names { (limits : Bounds) (turns : ℕ) (start now : Option (List ℕ)) (failed : Bool) (text : List ℕ) (told : Trace) → CanBeNamed self → HasTold limits turns start now failed self text told → result.0 ≡ told.names }
+        ensures skipped { (limits : Bounds) (turns : ℕ) (start now : Option (List ℕ)) (failed : Bool) (text : List ℕ) (told : Trace) → CanBeNamed self → HasTold limits turns start now failed self text told → result.1 ≡ told.skipped }
+        ensures stray { (limits : Bounds) (turns : ℕ) (start now : Option (List ℕ)) (failed : Bool) (text : List ℕ) (told : Trace) → CanBeNamed self → HasTold limits turns start now failed self text told → result.2 ≡ told.stray }
+    {
+        self.feed.into_parts()
+    }
+}
+
+/// The lines of the text that a source gives, one after the other: its [`Items`], with the source.
+#[derive(Drop)]
+pub struct Lines<R> {
+    input: R,
+    items: Items,
+}
+
+impl<R: Source + Drop> Lines<R> {
+    /// The lines of what the source gives in at most `turns` reads. For texts of others the seed is
+    /// one that was drawn at random.
+    pub fn new(
+        alloc: Global,
+        input: R,
+        limits: &Limits,
+        turns: u64,
+        seed: Seed,
+    ) -> Result<Lines<R>, AllocError>
+        requires not_failed { R.failed input ≡ false }
+        requires few_turns { turns ≤ 2 ^ 40 }
+        ensures tells { IfOk result (λ l. HasTold limits.now turns (R.remaining input) (R.remaining (source_of l)) (R.failed (source_of l)) (items_of l) [] nothing) }
+        ensures usable { IfOk result (λ l. CanBeAsked (items_of l) (R.failed (source_of l))) }
+    {
+        let items = Items::new(alloc, limits, turns, seed)?;
+        Ok(Lines { input, items })
+    }
+
+    /// The next item, as [`Items::next`] answers it.
+    pub fn next(&mut self) -> Result<Item, LinesFault>
+        requires usable { CanBeAsked (items_of self.old) (R.failed (source_of self.old)) }
+        ensures tells { (limits : Bounds) (turns : ℕ) (start : Option (List ℕ)) (text : List ℕ) (told : Trace) → HasTold limits turns start (R.remaining (source_of self.old)) (R.failed (source_of self.old)) (items_of self.old) text told
+            → GoesOn limits turns start (R.remaining (source_of self.new)) (R.failed (source_of self.new)) (items_of self.new) text told result }
+        ensures known { (thread : ℕ) (event : EventOf) → result ≡ Ok (Item.Event thread event) → thread < length (names_of (items_of self.new)).threads }
+        ensures usable { CanBeAsked (items_of self.new) (R.failed (source_of self.new)) }
+        ensures end { result ≡ Ok Item.End → IsDone (items_of self.new) }
+        ensures item { OnOk result (HasNoFault (items_of self.new)) }
+        ensures fault { IfErr result (HasFault (items_of self.new)) }
+        ensures end_again { IsDone (items_of self.old) → result ≡ Ok Item.End }
+        ensures fault_again { (fault : LinesFault) → HasFault (items_of self.old) fault → result ≡ Err fault }
+    {
+        self.items.next(&mut self.input)
+    }
+
     /// The names so far, how many lines were skipped, how many were strays, and the source. After a
     /// line at fault, or where memory was refused, the first three say nothing.
     pub fn parts(self) -> (Names, u64, u64, R)
-        ensures names { (limits : Bounds) (turns : ℕ) (start : Option (List ℕ)) (text : List ℕ) (told : Trace) → CanBeNamed self → HasTold limits turns start (R.remaining (source_of self)) (R.failed (source_of self)) self text told → result.0 ≡ told.names }
-        ensures skipped { (limits : Bounds) (turns : ℕ) (start : Option (List ℕ)) (text : List ℕ) (told : Trace) → CanBeNamed self → HasTold limits turns start (R.remaining (source_of self)) (R.failed (source_of self)) self text told → result.1 ≡ told.skipped }
-        ensures stray { (limits : Bounds) (turns : ℕ) (start : Option (List ℕ)) (text : List ℕ) (told : Trace) → CanBeNamed self → HasTold limits turns start (R.remaining (source_of self)) (R.failed (source_of self)) self text told → result.2 ≡ told.stray }
+        ensures names { (limits : Bounds) (turns : ℕ) (start now : Option (List ℕ)) (failed : Bool) (text : List ℕ) (told : Trace) → CanBeNamed (items_of self) → HasTold limits turns start now failed (items_of self) text told → result.0 ≡ told.names }
+        ensures skipped { (limits : Bounds) (turns : ℕ) (start now : Option (List ℕ)) (failed : Bool) (text : List ℕ) (told : Trace) → CanBeNamed (items_of self) → HasTold limits turns start now failed (items_of self) text told → result.1 ≡ told.skipped }
+        ensures stray { (limits : Bounds) (turns : ℕ) (start now : Option (List ℕ)) (failed : Bool) (text : List ℕ) (told : Trace) → CanBeNamed (items_of self) → HasTold limits turns start now failed (items_of self) text told → result.2 ≡ told.stray }
         ensures source { result.3 ≡ source_of self }
     {
-        let (names, skipped, stray) = self.feed.into_parts();
+        let (names, skipped, stray) = self.items.parts();
         (names, skipped, stray, self.input)
     }
 }
 
 // The line as an item; a blank one stands for the end.
 fn item_of(judged: Judged) -> Item
-    ensures { line_of result ≡ judged }
+    ensures { result ≡ item_in judged }
 {
     match judged {
         Judged::Blank => Item::End,

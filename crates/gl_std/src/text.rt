@@ -2,10 +2,12 @@
 ghost use Rattle.std.specs.Prelude.{◌≡◌, ℕ, ◌^◌, ◌<◌, ◌≤◌, List, [], Option, Ok, IfOk, OnOk, length, vec_len, false, true};
 ghost use Rattle.gl_event.specs.Bounds.{Bounds};
 ghost use Rattle.gl_io.specs.declared.source.TheConstants.{CHUNK};
-ghost use Rattle.gl_std.specs.Feeding.{fuel, HasGiven, IsFit, IsOver, ReadsOn};
+ghost use Rattle.gl_std.specs.Feeding.{HasGiven};
+ghost use Rattle.gl_std.specs.bodies.States.{IsFit, IsOver, ReadsOn};
+ghost use Rattle.gl_std.specs.bodies.Telling.{with_judged, IsKnown};
+ghost use Rattle.gl_std.specs.bodies.Stepping.{fuel};
 ghost use Rattle.gl_std.specs.Heard.{HasHeard};
 ghost use Rattle.gl_std.specs.bodies.Hearing.{listed_by, Meets};
-ghost use Rattle.gl_std.specs.Judging.{with_judged, IsKnown};
 ghost use Rattle.gl_std.specs.Pieces.{IsFaulty};
 ghost use Rattle.gl_std.specs.Trace.{nothing, trace_of, IsTraceOver};
 ghost use Rattle.gl_std.specs.declared.faults.StdKind.{StdKind as Kind};

@@ -1,7 +1,9 @@
 //! Worked examples of gl_std, by its public calls.
 //!
-//! They stand in a crate of their own, since a crate is proved once more with its tests.
+//! They stand in a crate of their own, since a crate is proved once more with its tests. [`pieces`] gives
+//! them texts that come in pieces and may fail.
 #![tactic(auto)]
 
+pub mod pieces;
 #[cfg(test)]
 mod tests;

@@ -1,6 +1,7 @@
 //! What worlds answer, step by step.
 ghost use Rattle.std.specs.Prelude.{◌≡◌, length, IfOk};
 
+use crate::wishes::two_lists;
 use gl_event::{Body, Event, LocId, LockId, LockMode, Note, ThreadId};
 use gl_intake::{Accepted, Refused};
 use gl_world::{Did, Step, World};
@@ -80,29 +81,6 @@ fn ended(thread: u32, count: u32) -> Note {
         place: count,
         body: Body::Ended { count },
     }
-}
-
-// The wishes of one thread.
-fn one_list(alloc: Global, list: Vec<Event>) -> Result<Vec<Vec<Event>>, AllocError>
-    ensures { IfOk result (λ wishes. length wishes.items ≡ 1) }
-{
-    let mut wishes = Vec::new(alloc);
-    wishes.push(list)?;
-    Ok(wishes)
-}
-
-// The wishes of two threads.
-fn two_lists(
-    alloc: Global,
-    first: Vec<Event>,
-    second: Vec<Event>,
-) -> Result<Vec<Vec<Event>>, AllocError>
-    ensures { IfOk result (λ wishes. length wishes.items ≡ 2) }
-{
-    let mut wishes = Vec::new(alloc);
-    wishes.push(first)?;
-    wishes.push(second)?;
-    Ok(wishes)
 }
 
 // Two threads that take the locks a and b, of numbers 0 and 1, in opposite orders. The second

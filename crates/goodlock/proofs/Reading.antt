@@ -161,6 +161,8 @@ can_run words (Live o) asks =
       shards_fit = numbers.shards.fits;
       some_ring = numbers.ring.some;
       ring_fits = numbers.ring.fits;
+      some_thread = λ _. numbers.threads.some;
+      threads_fit = λ _. numbers.threads.fits;
     }
 can_run words (Stats q) asks = tt
 can_run words Replay asks = tt

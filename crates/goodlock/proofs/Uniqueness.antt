@@ -13,7 +13,7 @@ use Rattle.gl_segments.proofs.LawLemmas.{agree}
 use Rattle.gl_cycles.proofs.Uniqueness.{same_segment}
 use Rattle.goodlock.specs.Answer.{Answer, IsLeastBeforeItself, AnswersAreUnique, PlainAnswersAreUnique}
 use Rattle.goodlock.specs.Answer.Answer.{Refusal}
-use Rattle.goodlock.specs.Answer.IsAnswer.{bad_line, no_order, ordered}
+use Rattle.goodlock.specs.Answer.IsAnswerUnder.{bad_line, no_order, ordered}
 use Rattle.goodlock.specs.Answer.IsPlainAnswer.{bad_line as plain_fault, plain}
 use Rattle.goodlock.specs.Lines.{fault_line, inconsistent_line}
 
@@ -44,18 +44,18 @@ printed_agree printed s t p q e of_p of_q =
     (λ i. printed (λ a b. agree s.lists p q of_p here a b i) (e i))
 
 pub unique : AnswersAreUnique
-unique printed text _ _ (bad_line l k p) (bad_line m n q) = ap Refusal (ap said_of (sym p ∙ q))
-unique printed text _ _ (bad_line l k p) (no_order t at q least) = cc
-unique printed text _ _ (bad_line l k p) (ordered t before q fine decides) = cc
-unique printed text _ _ (no_order s at p least) (bad_line m n q) = cc
-unique printed text _ _ (no_order s at p least) (no_order t there q lowest) = ap Refusal (loops_agree s t at there (same_trace (trace_of greatest text) s t p q) least lowest)
-unique printed text _ _ (no_order s at p least) (ordered t before q fine decides) =
-    absurd (fine.each at (subst (λ (u : Trace). Before u.lists at at) (same_trace (trace_of greatest text) s t p q) least.loops))
-unique printed text _ _ (ordered s before p fine decides) (bad_line m n q) = cc
-unique printed text _ _ (ordered s before p fine decides) (no_order t at q least) =
-    absurd (fine.each at (subst (λ (u : Trace). Before u.lists at at) (sym (same_trace (trace_of greatest text) s t p q)) least.loops))
-unique printed text _ _ (ordered s before p fine decides) (ordered t other q sound settles) =
-    printed_agree printed s t before other (same_trace (trace_of greatest text) s t p q) decides settles
+unique limits printed text _ _ (bad_line l k p) (bad_line m n q) = ap Refusal (ap said_of (sym p ∙ q))
+unique limits printed text _ _ (bad_line l k p) (no_order t at q least) = cc
+unique limits printed text _ _ (bad_line l k p) (ordered t before q fine decides) = cc
+unique limits printed text _ _ (no_order s at p least) (bad_line m n q) = cc
+unique limits printed text _ _ (no_order s at p least) (no_order t there q lowest) = ap Refusal (loops_agree s t at there (same_trace (trace_of limits text) s t p q) least lowest)
+unique limits printed text _ _ (no_order s at p least) (ordered t before q fine decides) =
+    absurd (fine.each at (subst (λ (u : Trace). Before u.lists at at) (same_trace (trace_of limits text) s t p q) least.loops))
+unique limits printed text _ _ (ordered s before p fine decides) (bad_line m n q) = cc
+unique limits printed text _ _ (ordered s before p fine decides) (no_order t at q least) =
+    absurd (fine.each at (subst (λ (u : Trace). Before u.lists at at) (sym (same_trace (trace_of limits text) s t p q)) least.loops))
+unique limits printed text _ _ (ordered s before p fine decides) (ordered t other q sound settles) =
+    printed_agree printed s t before other (same_trace (trace_of limits text) s t p q) decides settles
 
 pub plain_unique : PlainAnswersAreUnique
 plain_unique printed text _ _ (plain_fault l k p) (plain_fault m n q) = ap Refusal (ap said_of (sym p ∙ q))

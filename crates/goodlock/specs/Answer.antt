@@ -1,7 +1,7 @@
 -- What is answered to a text: what a command prints of its trace, or why it prints nothing.
 use Rattle.std.specs.Prelude.{◌≡◌, ◌++◌, ℕ, Bool, List, Ok, Err, length, nat_lt, if◌then◌else◌, codes}
 use Rattle.serde_json.specs.Written.{compact_text}
-use Rattle.gl_event.specs.Bounds.{greatest}
+use Rattle.gl_event.specs.Bounds.{Bounds, greatest}
 use Rattle.gl_event.specs.declared.events.Event.{Event}
 use Rattle.gl_event.specs.declared.events.Segment.{Segment}
 use Rattle.gl_std.specs.Names.{NameLists}
@@ -66,14 +66,18 @@ replay trace = Prints (written trace.names trace.lists) Done
 
 -- ---- what is answered to a text
 
--- by a command that prints this of a trace and of the order of its segments
-pub data IsAnswer (printed : (Segment → Segment → Bool) → Trace → Answer) (text : List ℕ) : Answer → Type 0 where
+-- under these limits, by a command that prints this of a trace and of the order of its segments
+pub data IsAnswerUnder (limits : Bounds) (printed : (Segment → Segment → Bool) → Trace → Answer) (text : List ℕ) : Answer → Type 0 where
   -- the first line with a fault
-  bad_line : (line : ℕ) (kind : StdKind) → trace_of greatest text ≡ Err (Line line kind) → IsAnswer printed text (Refusal (fault_line line kind))
+  bad_line : (line : ℕ) (kind : StdKind) → trace_of limits text ≡ Err (Line line kind) → IsAnswerUnder limits printed text (Refusal (fault_line line kind))
   -- forks and joins that can't have happened
-  no_order : (trace : Trace) (at : Segment) → trace_of greatest text ≡ Ok trace → IsLeastBeforeItself trace.lists at → IsAnswer printed text (Refusal (inconsistent_line trace.names at))
+  no_order : (trace : Trace) (at : Segment) → trace_of limits text ≡ Ok trace → IsLeastBeforeItself trace.lists at → IsAnswerUnder limits printed text (Refusal (inconsistent_line trace.names at))
   -- what is printed of the trace
-  ordered : (trace : Trace) (before : Segment → Segment → Bool) → trace_of greatest text ≡ Ok trace → IsConsistent trace.lists → DecidesBefore trace.lists before → IsAnswer printed text (printed before trace)
+  ordered : (trace : Trace) (before : Segment → Segment → Bool) → trace_of limits text ≡ Ok trace → IsConsistent trace.lists → DecidesBefore trace.lists before → IsAnswerUnder limits printed text (printed before trace)
+
+-- under the greatest limits
+abbrev pub IsAnswer : ((Segment → Segment → Bool) → Trace → Answer) → List ℕ → Answer → Type 0
+IsAnswer printed text answer = IsAnswerUnder greatest printed text answer
 
 -- by a command that prints this of a trace, be there an order of its segments or not
 pub data IsPlainAnswer (printed : Trace → Answer) (text : List ℕ) : Answer → Type 0 where
@@ -85,7 +89,7 @@ pub data IsPlainAnswer (printed : Trace → Answer) (text : List ℕ) : Answer �
 -- a text has one answer
 abbrev pub AnswersAreUnique : Type 0
 AnswersAreUnique =
-    (printed : (Segment → Segment → Bool) → Trace → Answer) (text : List ℕ) (a b : Answer) → IsAnswer printed text a → IsAnswer printed text b → a ≡ b
+    (limits : Bounds) (printed : (Segment → Segment → Bool) → Trace → Answer) (text : List ℕ) (a b : Answer) → IsAnswerUnder limits printed text a → IsAnswerUnder limits printed text b → a ≡ b
 
 abbrev pub PlainAnswersAreUnique : Type 0
 PlainAnswersAreUnique = (printed : Trace → Answer) (text : List ℕ) (a b : Answer) → IsPlainAnswer printed text a → IsPlainAnswer printed text b → a ≡ b

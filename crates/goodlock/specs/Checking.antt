@@ -1,5 +1,5 @@
 -- What `check` answers to an input, which is a report and after its line the text of a trace, and how it ends.
-use Rattle.std.specs.Prelude.{◌≡◌, ◌≢◌, ◌==◌, ◌++◌, ℕ, Bool, true, false, List, Option, Ok, Err, codes}
+use Rattle.std.specs.Prelude.{◌≡◌, ◌≢◌, ◌==◌, ◌++◌, ℕ, true, false, List, Ok, Err, codes}
 use Rattle.std.specs.Io.KnownBytes.{Keeps}
 use Rattle.std.specs.List.{before_first, after_first}
 use Rattle.gl_event.specs.Bounds.{greatest}
@@ -58,7 +58,7 @@ pub data HasChecked (turns : ℕ) (input output : Use) : Ended → Type 0 where
   -- memory for the input was refused while it was read, and nothing was written
   out_of_memory : Keeps output.before output.after → output.failed ≡ false → HasChecked turns input output ended.Memory
   -- only this much was read: the lines of its trace that LF had ended are judged, and nothing was written
-  cut_short : (bytes : List ℕ) (how : Ended) → HasRead turns input.before input.after input.failed bytes false → EndsEarlyAs (trace_in bytes) how
+  cut_short : (bytes : List ℕ) (how : Ended) → HasRead turns input.before input.after input.failed bytes false → EndsEarlyAs greatest (trace_in bytes) how
       → Keeps output.before output.after → output.failed ≡ false → HasChecked turns input output how
   -- the input was read whole
   ended_so : (bytes : List ℕ) (how : Ended) → HasRead turns input.before input.after input.failed bytes true → EndsAs IsCheckAnswer bytes output.before output.after output.failed how

@@ -1,8 +1,9 @@
 -- How a command ends: what was read, what was written, and what is answered.
-use Rattle.std.specs.Prelude.{◌≡◌, ◌≢◌, ℕ, ◌<◌, Bool, true, false, List, Option, Result, Ok, Err, length, take}
+use Rattle.std.specs.Prelude.{◌≡◌, ◌≢◌, ◌++◌, ℕ, ◌<◌, Bool, true, false, List, Option, Result, Ok, Err, length, take}
 use Rattle.std.specs.Io.KnownBytes.{Appends, Keeps}
-use Rattle.gl_event.specs.Bounds.{greatest}
+use Rattle.gl_event.specs.Bounds.{Bounds, greatest}
 use Rattle.gl_io.specs.Reads.{HasRead}
+use Rattle.gl_std.specs.Feeding.{HasGiven}
 use Rattle.gl_std.specs.Lines.{ended_lines}
 use Rattle.gl_std.specs.Trace.{trace_of}
 use Rattle.gl_std.specs.declared.faults.StdKind.{StdKind}
@@ -13,10 +14,6 @@ use Rattle.goodlock.specs.Answer.{Answer}
 use Rattle.goodlock.specs.Answer.Answer.{Prints, Refusal}
 use Rattle.goodlock.specs.Lines.{fault_line}
 use Rattle.goodlock.specs.declared.answer.Printed.{Printed}
-use Rattle.goodlock.specs.declared.answer.Stop.{Stop}
-use Rattle.goodlock.specs.declared.answer.Stop.TheVariants as stop
-use Rattle.goodlock.specs.declared.recorded.LiveStop.{LiveStop}
-use Rattle.goodlock.specs.declared.recorded.LiveStop.TheVariants as live_stop
 use Rattle.goodlock.specs.declared.ended.Ended.{Ended}
 use Rattle.goodlock.specs.declared.ended.Ended.TheVariants.{Clean, Cycles, Done, Refused, Memory, ReadFailed, WriteFailed, Unconfirmed}
 use Rattle.goodlock.specs.declared.ended.Outcome.{Outcome}
@@ -63,40 +60,45 @@ EndsAs IsAnswered text old new failed Unconfirmed = ⊥
 
 -- ---- it wasn't
 
--- the line is that of the first fault in the lines that LF had ended
-pub record IsFaultBefore (text line : List ℕ) : Type 0 where
+-- the line is that of the first fault, under these limits, in the lines that LF had ended
+pub record IsFaultBefore (limits : Bounds) (text line : List ℕ) : Type 0 where
   pub number : ℕ
   pub kind : StdKind
-  pub first : trace_of greatest (ended_lines text) ≡ Err (Line number kind)
+  pub first : trace_of limits (ended_lines text) ≡ Err (Line number kind)
   pub said : line ≡ fault_line number kind
 
--- no line that LF had ended has a fault
-abbrev pub HasNoFault : List ℕ → Type 0
-HasNoFault text = (number : ℕ) (kind : StdKind) → trace_of greatest (ended_lines text) ≢ Err (Line number kind)
+-- no line that LF had ended has a fault under these limits
+abbrev pub HasNoFault : Bounds → List ℕ → Type 0
+HasNoFault limits text = (number : ℕ) (kind : StdKind) → trace_of limits (ended_lines text) ≢ Err (Line number kind)
 
 -- how it ended, where no more than this text was read
-abbrev pub EndsEarlyAs : List ℕ → Ended → Type 0
-EndsEarlyAs text (Refused line) = IsFaultBefore text line.items
-EndsEarlyAs text ReadFailed = HasNoFault text
-EndsEarlyAs text Memory = Unit {0}
-EndsEarlyAs text other = ⊥
+abbrev pub EndsEarlyAs : Bounds → List ℕ → Ended → Type 0
+EndsEarlyAs limits text (Refused line) = IsFaultBefore limits text line.items
+EndsEarlyAs limits text ReadFailed = HasNoFault limits text
+EndsEarlyAs limits text Memory = Unit {0}
+EndsEarlyAs limits text other = ⊥
 
 -- the reads ended before the text was read whole, or before there was memory for it
-pub data HasEndedEarly (turns : ℕ) (input : Use) : Ended → Type 0 where
+pub data HasEndedEarly (limits : Bounds) (turns : ℕ) (input : Use) : Ended → Type 0 where
   -- memory for the text was refused while it was read
-  out_of_memory : HasEndedEarly turns input Memory
+  out_of_memory : HasEndedEarly limits turns input Memory
   -- only this text was read
-  cut_short : (text : List ℕ) (ended : Ended) → HasRead turns input.before input.after input.failed text false → EndsEarlyAs text ended → HasEndedEarly turns input ended
+  cut_short : (text : List ℕ) (ended : Ended) → HasRead turns input.before input.after input.failed text false → EndsEarlyAs limits text ended → HasEndedEarly limits turns input ended
 
 -- ---- either
 
--- the end of a command that answers so to a text, after at most so many turns over this reader and this writer
-pub data HasEnded (IsAnswered : List ℕ → Answer → Type 0) (turns : ℕ) (input output : Use) : Ended → Type 0 where
+-- the end of a command that judges lines under these limits and answers so to a text, after at most so many turns over this reader and
+-- this writer
+pub data HasEndedUnder (limits : Bounds) (IsAnswered : List ℕ → Answer → Type 0) (turns : ℕ) (input output : Use) : Ended → Type 0 where
   -- nothing was written
-  early : (ended : Ended) → HasEndedEarly turns input ended → Keeps output.before output.after → output.failed ≡ false → HasEnded IsAnswered turns input output ended
+  early : (ended : Ended) → HasEndedEarly limits turns input ended → Keeps output.before output.after → output.failed ≡ false → HasEndedUnder limits IsAnswered turns input output ended
   -- a text was read whole
   ended_so : (text : List ℕ) (ended : Ended) → HasRead turns input.before input.after input.failed text true → EndsAs IsAnswered text output.before output.after output.failed ended
-      → HasEnded IsAnswered turns input output ended
+      → HasEndedUnder limits IsAnswered turns input output ended
+
+-- under the greatest limits
+abbrev pub HasEnded : (List ℕ → Answer → Type 0) → ℕ → Use → Use → Ended → Type 0
+HasEnded IsAnswered turns input output ended = HasEndedUnder greatest IsAnswered turns input output ended
 
 -- the end of a command that runs a session to answer so: as any other, or nothing is written because the session isn't confirmed
 pub data HasEndedLive (IsAnswered : List ℕ → Answer → Type 0) (turns : ℕ) (input output : Use) : Ended → Type 0 where
@@ -105,6 +107,25 @@ pub data HasEndedLive (IsAnswered : List ℕ → Answer → Type 0) (turns : ℕ
   -- a text was read whole, and nothing was written
   unconfirmed : (text : List ℕ) → HasRead turns input.before input.after input.failed text true → Keeps output.before output.after → output.failed ≡ false
       → HasEndedLive IsAnswered turns input output Unconfirmed
+
+-- the lines of the text that LF has ended are refused with this line, whatever follows them
+abbrev pub IsRefusedAlready : (List ℕ → Answer → Type 0) → List ℕ → Ended → Type 0
+IsRefusedAlready IsAnswered text (Refused line) = (rest : List ℕ) → IsAnswered (ended_lines text ++ rest) (Refusal line.items)
+IsRefusedAlready IsAnswered text other = ⊥
+
+-- the end of a command that runs a session over a text as it comes, to answer so: as any other; or reading stops at a line; or nothing is
+-- written because no session could be begun, or because it isn't confirmed
+pub data HasEndedStreamed (limits : Bounds) (IsAnswered : List ℕ → Answer → Type 0) (turns : ℕ) (input output : Use) : Ended → Type 0 where
+  -- as any other command that judges lines under these limits and answers so
+  confirmed : (ended : Ended) → HasEndedUnder limits IsAnswered turns input output ended → HasEndedStreamed limits IsAnswered turns input output ended
+  -- this text was read, so many turns before they were used up; the lines in it are refused already, and nothing was written
+  met_fault : (text : List ℕ) (left : ℕ) (ended : Ended) → HasGiven turns input.before input.after left text → IsRefusedAlready IsAnswered text ended
+      → Keeps output.before output.after → output.failed ≡ false → HasEndedStreamed limits IsAnswered turns input output ended
+  -- nothing was read, and nothing written
+  unstarted : input.after ≡ input.before → Keeps output.before output.after → output.failed ≡ false → HasEndedStreamed limits IsAnswered turns input output Unconfirmed
+  -- a text was read whole, and nothing was written
+  unconfirmed : (text : List ℕ) → HasRead turns input.before input.after input.failed text true → Keeps output.before output.after → output.failed ≡ false
+      → HasEndedStreamed limits IsAnswered turns input output Unconfirmed
 
 -- ---- the two halves
 
@@ -122,14 +143,7 @@ HasWrittenText printed told old new failed Done = (told ≡ outcome.Done) × App
 HasWrittenText printed told old new failed (WriteFailed count) = Appends old new (take count printed) × (count < length printed) × (failed ≡ true)
 HasWrittenText printed told old new failed other = ⊥
 
--- what became of an answer
-abbrev pub EndsWith : Result Printed Stop → Option (List ℕ) → Option (List ℕ) → Bool → Ended → Type 0
+-- what became of a text to be printed, or of an end that has none
+abbrev pub EndsWith : Result Printed Ended → Option (List ℕ) → Option (List ℕ) → Bool → Ended → Type 0
 EndsWith (Ok printed) old new failed ended = HasWrittenText printed.text.items printed.outcome old new failed ended
-EndsWith (Err (stop.Refused line)) old new failed ended = (ended ≡ Refused line) × Keeps old new × (failed ≡ false)
-EndsWith (Err stop.Memory) old new failed ended = (ended ≡ Memory) × Keeps old new × (failed ≡ false)
-
--- what became of the answer of a session
-abbrev pub EndsLiveWith : Result Printed LiveStop → Option (List ℕ) → Option (List ℕ) → Bool → Ended → Type 0
-EndsLiveWith (Ok printed) old new failed ended = EndsWith (Ok printed) old new failed ended
-EndsLiveWith (Err (live_stop.Stopped why)) old new failed ended = EndsWith (Err why) old new failed ended
-EndsLiveWith (Err live_stop.Unconfirmed) old new failed ended = (ended ≡ Unconfirmed) × Keeps old new × (failed ≡ false)
+EndsWith (Err why) old new failed ended = (ended ≡ why) × Keeps old new × (failed ≡ false)

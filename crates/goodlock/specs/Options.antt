@@ -50,9 +50,19 @@ shards_rule = record (option_rule (codes "shards") (codes "4")) { parser = Some 
 abbrev pub ring_rule : Rule
 ring_rule = record (option_rule (codes "ring") (codes "256")) { parser = Some (takes.Signed (pos 1) (pos 65536)) }
 
+-- whole numbers from 1 to 1,024
+abbrev pub threads_rule : Rule
+threads_rule = record (option_rule (codes "threads") (codes "64")) { parser = Some (takes.Signed (pos 1) (pos 1024)) }
+
 -- a flag
+abbrev pub flag_rule : Text → Rule
+flag_rule name = record (new_rule name) { long = Some name; action = Some SetTrue }
+
 abbrev pub json_rule : Rule
-json_rule = record (new_rule (codes "json")) { long = Some (codes "json"); action = Some SetTrue }
+json_rule = flag_rule (codes "json")
+
+abbrev pub stream_rule : Rule
+stream_rule = flag_rule (codes "stream")
 
 -- a command of this name with the options of a query
 abbrev pub query_app : Text → App
@@ -62,9 +72,13 @@ query_app name = with_rule (with_rule (with_rule (new_app name) mode_rule) len_r
 abbrev pub predict : App
 predict = with_rule (query_app (codes "predict")) json_rule
 
--- the command that predicts by a session, with the numbers of its recorder threads, of its shards, and of the notes in a ring
+-- the command of a session that reads first, with the numbers of its recorder threads, of its shards, and of the notes in a ring
+abbrev pub session_app : App
+session_app = with_rule (with_rule (with_rule (with_rule (query_app (codes "live")) json_rule) recorders_rule) shards_rule) ring_rule
+
+-- the command that predicts by a session, with whether it records as the text comes, and then how many threads this may name
 abbrev pub live : App
-live = with_rule (with_rule (with_rule (with_rule (query_app (codes "live")) json_rule) recorders_rule) shards_rule) ring_rule
+live = with_rule (with_rule session_app stream_rule) threads_rule
 
 -- the command that counts
 abbrev pub stats : App
@@ -121,11 +135,18 @@ pub record IsNumberIn (rows : List Row) (id : Text) (greatest number : ℕ) : Ty
   pub some : 1 ≤ number
   pub fits : number ≤ greatest
 
--- the options' values are these numbers of a session, each within its range
+-- the flag was given, or it wasn't
+pub record IsFlagIn (rows : List Row) (id : Text) (is_given : Bool) : Type 0 where
+  pub given : one_of id rows ≡ Some (codes "true") → is_given ≡ true
+  pub left_out : one_of id rows ≡ Some (codes "false") → is_given ≡ false
+
+-- the options' values are these of a session, each number within its range
 pub record AsksForSession (rows : List Row) (options : LiveOptions) : Type 0 where
   pub recorders : IsNumberIn rows (codes "recorders") 16 options.recorders
   pub shards : IsNumberIn rows (codes "shards") 16 options.shards
   pub ring : IsNumberIn rows (codes "ring") 65536 options.ring
+  pub stream : IsFlagIn rows (codes "stream") options.stream
+  pub threads : IsNumberIn rows (codes "threads") 1024 options.threads
 
 -- the flag asks for this form
 pub record IsFormIn (rows : List Row) (form : Form) : Type 0 where

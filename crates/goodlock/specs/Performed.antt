@@ -2,7 +2,8 @@
 use Rattle.std.specs.Prelude.{ℕ}
 use Rattle.goodlock.specs.Answer.{IsAnswer, IsPlainAnswer, counts, prediction, replay}
 use Rattle.goodlock.specs.Checking.{HasChecked}
-use Rattle.goodlock.specs.Ending.{HasEnded, HasEndedLive, Use}
+use Rattle.goodlock.specs.Ending.{HasEnded, Use}
+use Rattle.goodlock.specs.Sessions.{HasEndedSession}
 use Rattle.goodlock.specs.declared.ended.Ended.{Ended}
 use Rattle.goodlock.specs.declared.options.Command.{Command}
 use Rattle.goodlock.specs.declared.options.Command.TheVariants.{Predict, Live, Stats, Replay, Check}
@@ -10,7 +11,7 @@ use Rattle.goodlock.specs.declared.options.Command.TheVariants.{Predict, Live, S
 -- each command ends with its own answer, after at most so many turns over this reader and this writer
 abbrev pub HasPerformed : Command → ℕ → Use → Use → Ended → Type 0
 HasPerformed (Predict query form) turns input output ended = HasEnded (IsAnswer (prediction query form)) turns input output ended
-HasPerformed (Live options) turns input output ended = HasEndedLive (IsAnswer (prediction options.query options.form)) turns input output ended
+HasPerformed (Live options) turns input output ended = HasEndedSession options turns input output ended
 HasPerformed (Stats query) turns input output ended = HasEnded (IsAnswer (counts query)) turns input output ended
 HasPerformed Replay turns input output ended = HasEnded (IsPlainAnswer replay) turns input output ended
 HasPerformed Check turns input output ended = HasChecked turns input output ended

@@ -1,5 +1,5 @@
 //! What is answered to a text.
-ghost use Rattle.std.specs.Prelude.{◌≡◌, ◌≢◌, ℕ, Ok, Err, List, IfOk, IfErr, OnOk};
+ghost use Rattle.std.specs.Prelude.{◌≡◌, ℕ, Ok, List, IfOk, IfErr, OnOk};
 ghost use Rattle.gl_event.specs.Bounds.{greatest};
 ghost use Rattle.gl_std.specs.Trace.{trace_of, IsTraceOver};
 ghost use Rattle.gl_segments.specs.Clocks.{is_before, OrdersBy};
@@ -7,10 +7,8 @@ ghost use Rattle.gl_segments.specs.Segments.{IsConsistent};
 ghost use Rattle.goodlock.specs.Answer.{IsAnswer, IsPlainAnswer, counts, outcome_of, prediction, printed_report, replay, report_of};
 ghost use Rattle.goodlock.specs.Answer.Answer.{Prints, Refusal};
 ghost use Rattle.goodlock.specs.bodies.Stops.{IfRefused, IsFaultIn, IsLoopOf, IsReportOf, SaysWhyNoReport};
-ghost use Rattle.gl_std.specs.declared.faults.StdKind.{StdKind};
-ghost use Rattle.gl_std.specs.declared.faults.ReadFault.TheVariants.{Line};
 
-use crate::ended::{Form, Outcome};
+use crate::ended::{Ended, Form, Outcome};
 use crate::lines::{fault_line, inconsistent_line};
 use gl_cycles::{Report, report_by_parallel};
 use gl_edges::edges_of;
@@ -19,7 +17,7 @@ use gl_filters::Query;
 use gl_report::{Stats, json_text, stats_text, text};
 use gl_segments::{Order, OrderFault};
 use gl_std::{Names, ReadFault, Trace, write_trace};
-use std::alloc::{AllocError, Global};
+use std::alloc::Global;
 use std::thread::Threads;
 
 /// What a command prints of a text.
@@ -38,25 +36,6 @@ struct Reported {
     report: Report,
 }
 
-/// Why nothing is printed of a text.
-#[derive(Drop, Debug)]
-pub(crate) enum Stop {
-    /// This line for standard error says it.
-    Refused(Vec<u8>),
-    /// Memory was refused.
-    Memory,
-}
-
-impl From<AllocError> for Stop {
-    ghost use Rattle.goodlock.specs.declared.answer.Stop.TheVariants.{Memory};
-
-    ghost from_gives = { λ _ e. e ≡ Memory };
-
-    fn from(_e: AllocError) -> Stop {
-        Stop::Memory
-    }
-}
-
 /// The greatest limits.
 pub(crate) fn greatest_limits() -> Limits
     ensures { result ≡ greatest }
@@ -68,34 +47,34 @@ pub(crate) fn greatest_limits() -> Limits
 }
 
 /// The trace that was read, or the line that says its first fault.
-pub(crate) fn trace_or_line(alloc: Global, read: Result<Trace, ReadFault>) -> Result<Trace, Stop>
+pub(crate) fn trace_or_line(alloc: Global, read: Result<Trace, ReadFault>) -> Result<Trace, Ended>
     ensures trace { IfOk result (λ t. read ≡ Ok t) }
-    ensures refused { IfErr result (λ stop. IfRefused stop (IsFaultIn read)) }
+    ensures refused { IfErr result (λ ended. IfRefused ended (IsFaultIn read)) }
 {
     match read {
         Ok(trace) => Ok(trace),
         Err(ReadFault::Line { line, kind }) => {
             let line = fault_line(alloc, line, kind)?;
-            Err(Stop::Refused(line))
+            Err(Ended::Refused(line))
         }
-        Err(ReadFault::Memory) => Err(Stop::Memory),
+        Err(ReadFault::Memory) => Err(Ended::Memory),
     }
 }
 
 // The order of a trace's segments, or the line that says which one is before itself.
-fn order_or_line(alloc: Global, trace: &Trace) -> Result<Order, Stop>
+fn order_or_line(alloc: Global, trace: &Trace) -> Result<Order, Ended>
     requires { IsTraceOver greatest trace.now }
     ensures order { IfOk result (λ order. OrdersBy trace.now.lists order) }
     ensures consistent { OnOk result (IsConsistent trace.now.lists) }
-    ensures refused { IfErr result (λ stop. IfRefused stop (IsLoopOf trace.now)) }
+    ensures refused { IfErr result (λ ended. IfRefused ended (IsLoopOf trace.now)) }
 {
     match Order::of(alloc, trace.lists.as_slice()) {
         Ok(order) => Ok(order),
         Err(OrderFault::Inconsistent { at, ring: _ring }) => {
             let line = inconsistent_line(alloc, &trace.names, at)?;
-            Err(Stop::Refused(line))
+            Err(Ended::Refused(line))
         }
-        Err(OrderFault::Memory) => Err(Stop::Memory),
+        Err(OrderFault::Memory) => Err(Ended::Memory),
     }
 }
 
@@ -135,11 +114,11 @@ fn trace_and_report(
     alloc: Global,
     read: Result<Trace, ReadFault>,
     query: &Query,
-) -> Result<Reported, Stop>
+) -> Result<Reported, Ended>
     requires { IfOk read (IsTraceOver greatest) }
     ensures report { IfOk result (λ r. IsReportOf query.now read r.trace r.report) }
     ensures over { IfOk result (λ r. IsTraceOver greatest r.trace) }
-    ensures refused { IfErr result (λ stop. IfRefused stop (SaysWhyNoReport read)) }
+    ensures refused { IfErr result (λ ended. IfRefused ended (SaysWhyNoReport read)) }
 {
     let trace = trace_or_line(alloc, read)?;
     let order = order_or_line(alloc, &trace)?;
@@ -164,10 +143,10 @@ pub(crate) fn predicted(
     read: Result<Trace, ReadFault>,
     query: &Query,
     form: Form,
-) -> Result<Printed, Stop>
+) -> Result<Printed, Ended>
     requires { IfOk read (IsTraceOver greatest) }
     ensures printed { IfOk result (λ p. (text : List ℕ) → trace_of greatest text ≡ read → IsAnswer (prediction query.now form) text (Prints p.text.items p.outcome)) }
-    ensures refused { IfErr result (λ stop. IfRefused stop (λ line. (text : List ℕ) → trace_of greatest text ≡ read → IsAnswer (prediction query.now form) text (Refusal line))) }
+    ensures refused { IfErr result (λ ended. IfRefused ended (λ line. (text : List ℕ) → trace_of greatest text ≡ read → IsAnswer (prediction query.now form) text (Refusal line))) }
 {
     let Reported { trace, report } = trace_and_report(rt, alloc, read, query)?;
     let outcome = outcome_of(&report);
@@ -182,10 +161,10 @@ pub(crate) fn counted(
     alloc: Global,
     read: Result<Trace, ReadFault>,
     query: &Query,
-) -> Result<Printed, Stop>
+) -> Result<Printed, Ended>
     requires { IfOk read (IsTraceOver greatest) }
     ensures printed { IfOk result (λ p. (text : List ℕ) → trace_of greatest text ≡ read → IsAnswer (counts query.now) text (Prints p.text.items p.outcome)) }
-    ensures refused { IfErr result (λ stop. IfRefused stop (λ line. (text : List ℕ) → trace_of greatest text ≡ read → IsAnswer (counts query.now) text (Refusal line))) }
+    ensures refused { IfErr result (λ ended. IfRefused ended (λ line. (text : List ℕ) → trace_of greatest text ≡ read → IsAnswer (counts query.now) text (Refusal line))) }
 {
     let Reported { trace, report } = trace_and_report(rt, alloc, read, query)?;
     let text = stats_text(alloc, &Stats::of(&trace, &report))?;
@@ -196,10 +175,10 @@ pub(crate) fn counted(
 }
 
 /// The trace of the texts that have this trace or first fault, written, or their first fault.
-pub(crate) fn replayed(alloc: Global, read: Result<Trace, ReadFault>) -> Result<Printed, Stop>
+pub(crate) fn replayed(alloc: Global, read: Result<Trace, ReadFault>) -> Result<Printed, Ended>
     requires { IfOk read (IsTraceOver greatest) }
     ensures printed { IfOk result (λ p. (text : List ℕ) → trace_of greatest text ≡ read → IsPlainAnswer replay text (Prints p.text.items p.outcome)) }
-    ensures refused { IfErr result (λ stop. IfRefused stop (λ line. (text : List ℕ) → trace_of greatest text ≡ read → IsPlainAnswer replay text (Refusal line))) }
+    ensures refused { IfErr result (λ ended. IfRefused ended (λ line. (text : List ℕ) → trace_of greatest text ≡ read → IsPlainAnswer replay text (Refusal line))) }
 {
     let trace = trace_or_line(alloc, read)?;
     let text = write_trace(alloc, &trace)?;
@@ -207,13 +186,4 @@ pub(crate) fn replayed(alloc: Global, read: Result<Trace, ReadFault>) -> Result<
         text,
         outcome: Outcome::Done,
     })
-}
-
-/// Says the fault that was read in a trace's place, if one was.
-pub(crate) fn judge(alloc: Global, read: Result<Trace, ReadFault>) -> Result<(), Stop>
-    ensures none { OnOk result ((number : ℕ) (kind : StdKind) → read ≢ Err (Line number kind)) }
-    ensures refused { IfErr result (λ stop. IfRefused stop (IsFaultIn read)) }
-{
-    let _trace = trace_or_line(alloc, read)?;
-    Ok(())
 }

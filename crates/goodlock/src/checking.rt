@@ -9,7 +9,7 @@ ghost use Rattle.goodlock.specs.Ending.{EndsEarlyAs};
 ghost use Rattle.goodlock.specs.bodies.Opinions.{SaysAccepted, SaysRefused};
 ghost use Rattle.goodlock.specs.bodies.Stops.{IfRefused, IsFaultIn};
 
-use crate::answer::{Printed, Stop, greatest_limits, trace_or_line};
+use crate::answer::{Printed, greatest_limits, trace_or_line};
 use crate::ended::{Ended, Outcome};
 use crate::lines::inconsistent_line;
 use gl_check::{CheckFault, Checked, check, split_input};
@@ -41,20 +41,20 @@ fn acceptance(alloc: Global, checked: &Checked) -> Result<Printed, Memory>
 }
 
 // The trace of a text, or the line that says its first fault.
-fn text_trace(alloc: Global, text: &[u8], seed: Seed) -> Result<Trace, Stop>
+fn text_trace(alloc: Global, text: &[u8], seed: Seed) -> Result<Trace, Ended>
     ensures trace { IfOk result (λ t. trace_of greatest text.now ≡ Ok t) }
     ensures over { IfOk result (IsTraceOver greatest) }
-    ensures refused { IfErr result (λ stop. IfRefused stop (IsFaultIn (trace_of greatest text.now))) }
+    ensures refused { IfErr result (λ ended. IfRefused ended (IsFaultIn (trace_of greatest text.now))) }
 {
     let read = read_seeded(alloc, text, &greatest_limits(), seed);
     trace_or_line(alloc, read)
 }
 
 // What is answered of a report of this trace.
-fn answer_of(alloc: Global, trace: &Trace, report: &[u8]) -> Result<Printed, Stop>
+fn answer_of(alloc: Global, trace: &Trace, report: &[u8]) -> Result<Printed, Ended>
     requires { IsTraceOver greatest trace.now }
     ensures printed { IfOk result (λ p. SaysAccepted trace.now report.now p.text.items p.outcome) }
-    ensures refused { IfErr result (λ stop. IfRefused stop (SaysRefused trace.now report.now)) }
+    ensures refused { IfErr result (λ ended. IfRefused ended (SaysRefused trace.now report.now)) }
 {
     match check(alloc, trace, report) {
         Ok(checked) => {
@@ -63,19 +63,19 @@ fn answer_of(alloc: Global, trace: &Trace, report: &[u8]) -> Result<Printed, Sto
         }
         Err(fault) => {
             if matches!(fault, CheckFault::Memory) {
-                return Err(Stop::Memory);
+                return Err(Ended::Memory);
             }
             let line = refusal(alloc, &trace.names, &fault)?;
-            Err(Stop::Refused(line))
+            Err(Ended::Refused(line))
         }
     }
 }
 
 /// What is answered to an input that was read whole: a report, and after its line the text of a trace.
 /// A fault of the trace comes first.
-pub(crate) fn checked(alloc: Global, input: &[u8], seed: Seed) -> Result<Printed, Stop>
+pub(crate) fn checked(alloc: Global, input: &[u8], seed: Seed) -> Result<Printed, Ended>
     ensures printed { IfOk result (λ p. IsCheckAnswer input.now (Prints p.text.items p.outcome)) }
-    ensures refused { IfErr result (λ stop. IfRefused stop (λ line. IsCheckAnswer input.now (Refusal line))) }
+    ensures refused { IfErr result (λ ended. IfRefused ended (λ line. IsCheckAnswer input.now (Refusal line))) }
 {
     let (report, text) = split_input(input);
     let trace = text_trace(alloc, text, seed)?;
@@ -85,12 +85,11 @@ pub(crate) fn checked(alloc: Global, input: &[u8], seed: Seed) -> Result<Printed
 /// How `check` ends over an input that wasn't read whole: with the first fault in the lines of the
 /// trace that were ended, if one has a fault.
 pub(crate) fn end_cut(alloc: Global, input: &[u8], seed: Seed) -> Ended
-    ensures { EndsEarlyAs (trace_in input.now) result }
+    ensures { EndsEarlyAs greatest (trace_in input.now) result }
 {
     let (_report, text) = split_input(input);
     match text_trace(alloc, ended_lines(text), seed) {
         Ok(_trace) => Ended::ReadFailed,
-        Err(Stop::Refused(line)) => Ended::Refused(line),
-        Err(Stop::Memory) => Ended::Memory,
+        Err(ended) => ended,
     }
 }

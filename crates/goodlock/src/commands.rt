@@ -8,16 +8,17 @@ ghost use Rattle.gl_std.specs.Lines.{ended_lines};
 ghost use Rattle.gl_std.specs.Trace.{trace_of, IsTraceOver};
 ghost use Rattle.goodlock.specs.Answer.{IsAnswer, IsPlainAnswer, counts, prediction, replay};
 ghost use Rattle.goodlock.specs.Checking.{HasChecked};
-ghost use Rattle.goodlock.specs.Ending.{EndsEarlyAs, EndsLiveWith, EndsWith, HasEnded, HasEndedEarly, HasEndedLive, HasHeardAll, HasWrittenText, used};
+ghost use Rattle.goodlock.specs.Ending.{EndsEarlyAs, EndsWith, HasEnded, HasEndedEarly, HasHeardAll, HasWrittenText, used};
 ghost use Rattle.goodlock.specs.Performed.{HasPerformed};
-ghost use Rattle.goodlock.specs.Sessions.{AreOfSession, CanRun};
+ghost use Rattle.goodlock.specs.Sessions.{AreOfSession, CanRun, HasEndedSession};
 
-use crate::answer::{Printed, Stop, counted, greatest_limits, judge, predicted, replayed};
+use crate::answer::{Printed, counted, greatest_limits, predicted, replayed, trace_or_line};
 use crate::checking::{checked, end_cut};
 use crate::ended::{Ended, Form, Outcome};
 use crate::live_options::LiveOptions;
 use crate::options::Command;
-use crate::recorded::{LiveStop, recorded};
+use crate::recorded::recorded;
+use crate::streamed::streamed;
 use gl_filters::Query;
 use gl_io::{Sink, Source, WriteFault, read_whole, write_out};
 use gl_shards::{Gate, Open};
@@ -32,12 +33,11 @@ const TURNS: u64 = 1_000_000_000;
 // How a command ends over a text that wasn't read whole, with this trace or first fault of the
 // lines that LF has ended.
 fn end_early(alloc: Global, read: Result<Trace, ReadFault>) -> Ended
-    ensures { (text : List ℕ) → trace_of greatest (ended_lines text) ≡ read → EndsEarlyAs text result }
+    ensures { (text : List ℕ) → trace_of greatest (ended_lines text) ≡ read → EndsEarlyAs greatest text result }
 {
-    match judge(alloc, read) {
-        Ok(()) => Ended::ReadFailed,
-        Err(Stop::Refused(line)) => Ended::Refused(line),
-        Err(Stop::Memory) => Ended::Memory,
+    match trace_or_line(alloc, read) {
+        Ok(_trace) => Ended::ReadFailed,
+        Err(ended) => ended,
     }
 }
 
@@ -53,7 +53,7 @@ fn hear<I: Source>(
     requires few_turns { turns ≤ 2 ^ 40 }
     ensures heard { IfOk result (HasHeardAll turns (used (I.remaining input.old) (I.remaining input.new) (I.failed input.new))) }
     ensures over { IfOk result (λ read. IfOk read (IsTraceOver greatest)) }
-    ensures early { IfErr result (HasEndedEarly turns (used (I.remaining input.old) (I.remaining input.new) (I.failed input.new))) }
+    ensures early { IfErr result (HasEndedEarly greatest turns (used (I.remaining input.old) (I.remaining input.new) (I.failed input.new))) }
 {
     let Ok(heard) = read_source(alloc, input, turns, &greatest_limits(), seed) else {
         return Err(Ended::Memory);
@@ -87,26 +87,13 @@ fn write<O: Sink>(output: &mut O, printed: &Printed) -> Ended
 }
 
 // Writes what is answered, if it is a text to be printed.
-fn end<O: Sink>(output: &mut O, answered: Result<Printed, Stop>) -> Ended
+fn end<O: Sink>(output: &mut O, answered: Result<Printed, Ended>) -> Ended
     requires { O.failed output.old ≡ false }
     ensures { EndsWith answered (O.contents output.old) (O.contents output.new) (O.failed output.new) result }
 {
     match answered {
         Ok(printed) => write(output, &printed),
-        Err(Stop::Refused(line)) => Ended::Refused(line),
-        Err(Stop::Memory) => Ended::Memory,
-    }
-}
-
-// Writes what a session answers, if it is a text to be printed.
-fn end_live<O: Sink>(output: &mut O, answered: Result<Printed, LiveStop>) -> Ended
-    requires { O.failed output.old ≡ false }
-    ensures { EndsLiveWith answered (O.contents output.old) (O.contents output.new) (O.failed output.new) result }
-{
-    match answered {
-        Ok(printed) => end(output, Ok(printed)),
-        Err(LiveStop::Stopped(stop)) => end(output, Err(stop)),
-        Err(LiveStop::Unconfirmed) => Ended::Unconfirmed,
+        Err(ended) => ended,
     }
 }
 
@@ -145,8 +132,12 @@ pub fn predict<R: AllocGlobal + Threads + Sync, I: Source, O: Sink>(
 /// the same bytes**, whatever the threads' timing. Each thread of the trace has a lane of its own; lane `t`
 /// is recorded by recorder thread `t` modulo their number, event after event; the collector runs in the
 /// calling thread, and a worker keeps the edges of each shard. A trace without threads opens no session.
-///
 /// The input is read whole before a thread is started, and no thread records before all were.
+///
+/// With [`LiveOptions::stream`] the calling thread reads and records each event as it is read, into one of
+/// [`LiveOptions::threads`] lanes, and the collector has a thread of its own: edges are shipped before the
+/// input ends. It ends as `predict` does under that limit of threads; but reading stops at the first line
+/// with a fault, which is refused as `predict` refuses it, whatever follows.
 pub fn live<R: AllocGlobal + Threads + Wait + Sync, I: Source, O: Sink>(
     rt: &R,
     input: &mut I,
@@ -159,7 +150,7 @@ pub fn live<R: AllocGlobal + Threads + Wait + Sync, I: Source, O: Sink>(
     requires writable { O.failed output.old ≡ false }
     requires few_turns { turns ≤ 2 ^ 40 }
     requires session { AreOfSession options.now }
-    ensures { HasEndedLive (IsAnswer (prediction options.now.query options.now.form)) turns (used (I.remaining input.old) (I.remaining input.new) (I.failed input.new)) (used (O.contents output.old) (O.contents output.new) (O.failed output.new)) result }
+    ensures { HasEndedSession options.now turns (used (I.remaining input.old) (I.remaining input.new) (I.failed input.new)) (used (O.contents output.old) (O.contents output.new) (O.failed output.new)) result }
 {
     live_gated(rt, input, output, turns, seed, options, &Open)
 }
@@ -178,11 +169,14 @@ pub fn live_gated<R: AllocGlobal + Threads + Wait + Sync, I: Source, O: Sink, G:
     requires writable { O.failed output.old ≡ false }
     requires few_turns { turns ≤ 2 ^ 40 }
     requires session { AreOfSession options.now }
-    ensures { HasEndedLive (IsAnswer (prediction options.now.query options.now.form)) turns (used (I.remaining input.old) (I.remaining input.new) (I.failed input.new)) (used (O.contents output.old) (O.contents output.new) (O.failed output.new)) result }
+    ensures { HasEndedSession options.now turns (used (I.remaining input.old) (I.remaining input.new) (I.failed input.new)) (used (O.contents output.old) (O.contents output.new) (O.failed output.new)) result }
 {
+    if options.stream {
+        return end(output, streamed(rt, input, turns, seed, options, gate));
+    }
     let alloc = rt.alloc();
     match hear(alloc, input, turns, seed) {
-        Ok(read) => end_live(output, recorded(rt, alloc, read, options, gate)),
+        Ok(read) => end(output, recorded(rt, alloc, read, options, gate)),
         Err(ended) => ended,
     }
 }

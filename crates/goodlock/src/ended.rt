@@ -1,4 +1,7 @@
 //! How a command ends.
+ghost use Rattle.std.specs.Prelude.{◌≡◌};
+
+use std::alloc::AllocError;
 
 /// How a command ended.
 #[derive(Drop, Debug)]
@@ -22,6 +25,16 @@ pub enum Ended {
     /// A thread of a session couldn't be started, or it isn't confirmed that all that was recorded was
     /// collected. Nothing was written.
     Unconfirmed,
+}
+
+impl From<AllocError> for Ended {
+    ghost use Rattle.goodlock.specs.declared.ended.Ended.TheVariants.{Memory};
+
+    ghost from_gives = { λ _ ended. ended ≡ Memory };
+
+    fn from(_e: AllocError) -> Ended {
+        Ended::Memory
+    }
 }
 
 /// How a command ends once what it prints is written.

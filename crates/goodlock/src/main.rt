@@ -27,6 +27,7 @@ mod lines;
 mod live_options;
 mod options;
 mod recorded;
+mod streamed;
 #[cfg(test)]
 mod tests;
 

@@ -353,8 +353,8 @@ fn command_in(matches: &ArgMatches<'_>) -> Option<Command>
 /// The words are `goodlock predict`, `goodlock live` or `goodlock stats`, then any of `--mode` with
 /// `basic`, `guarded` or `full` (the default), `--len` with a number from 2 to 16 (4), and `--max` with
 /// one from 1 to 100,000 (1,000), of `predict` and `live` also `--json`, and of `live` `--recorders` and
-/// `--shards` with numbers from 1 to 16 (4 each) and `--ring` with one from 1 to 65,536 (256), each once
-/// at the most; or `goodlock replay` or `goodlock check`. `--help`, of the program or of a command, and `--version` ask for a
+/// `--shards` with numbers from 1 to 16 (4 each), `--ring` with one from 1 to 65,536 (256), `--stream`,
+/// and `--threads` with a number from 1 to 1,024 (64), each once at the most; or `goodlock replay` or `goodlock check`. `--help`, of the program or of a command, and `--version` ask for a
 /// text.
 pub fn parse<'a, S: AsStr>(alloc: Global, words: &'a [S]) -> Result<Command, Usage>
     ensures asks { IfOk result (Asks (map S.text words.entry.now)) }

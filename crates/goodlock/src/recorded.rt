@@ -8,46 +8,17 @@ ghost use Rattle.goodlock.specs.Answer.Answer.{Prints, Refusal};
 ghost use Rattle.goodlock.specs.Sessions.{AreOfSession};
 ghost use Rattle.goodlock.specs.bodies.Stops.{IfStopped, IsLoopOf};
 
-use crate::answer::{Printed, Stop, outcome_of, print, trace_or_line};
+use crate::answer::{Printed, outcome_of, print, trace_or_line};
+use crate::ended::Ended;
 use crate::lines::inconsistent_line;
 use crate::live_options::LiveOptions;
 use gl_cycles::Report;
 use gl_live::{LiveFault, SessionOptions, live_report};
 use gl_shards::Gate;
 use gl_std::{ReadFault, Trace};
-use std::alloc::{AllocError, Global};
+use std::alloc::Global;
 use std::sync::Wait;
 use std::thread::Threads;
-
-/// Why a session prints nothing of a text.
-#[derive(Drop, Debug)]
-pub(crate) enum LiveStop {
-    /// What would stop any command that predicts.
-    Stopped(Stop),
-    /// A thread couldn't be started, or it isn't confirmed that all was collected.
-    Unconfirmed,
-}
-
-impl From<Stop> for LiveStop {
-    ghost use Rattle.goodlock.specs.declared.recorded.LiveStop.TheVariants.{Stopped};
-
-    ghost from_gives = { λ stop e. e ≡ Stopped stop };
-
-    fn from(stop: Stop) -> LiveStop {
-        LiveStop::Stopped(stop)
-    }
-}
-
-impl From<AllocError> for LiveStop {
-    ghost use Rattle.goodlock.specs.declared.answer.Stop.TheVariants.{Memory};
-    ghost use Rattle.goodlock.specs.declared.recorded.LiveStop.TheVariants.{Stopped};
-
-    ghost from_gives = { λ _ e. e ≡ Stopped Memory };
-
-    fn from(_e: AllocError) -> LiveStop {
-        LiveStop::Stopped(Stop::Memory)
-    }
-}
 
 // The report of a trace by a session, or why there is none.
 fn session_report<R: Threads + Wait + Sync, G: Gate + Sync>(
@@ -56,11 +27,11 @@ fn session_report<R: Threads + Wait + Sync, G: Gate + Sync>(
     trace: &Trace,
     options: &LiveOptions,
     gate: &G,
-) -> Result<Report, LiveStop>
+) -> Result<Report, Ended>
     requires trace { IsTraceOver greatest trace.now }
     requires session { AreOfSession options.now }
     ensures report { IfOk result (λ report. IsGoodlockReport options.now.query trace.now.lists report) }
-    ensures refused { IfErr result (λ stop. IfStopped stop (IsLoopOf trace.now)) }
+    ensures refused { IfErr result (λ ended. IfStopped ended (IsLoopOf trace.now)) }
 {
     let LiveOptions {
         query,
@@ -78,10 +49,10 @@ fn session_report<R: Threads + Wait + Sync, G: Gate + Sync>(
         Ok(report) => Ok(report),
         Err(LiveFault::Inconsistent { at, ring: _ring }) => {
             let line = inconsistent_line(alloc, &trace.names, at)?;
-            Err(LiveStop::Stopped(Stop::Refused(line)))
+            Err(Ended::Refused(line))
         }
-        Err(LiveFault::Memory) => Err(LiveStop::Stopped(Stop::Memory)),
-        Err(LiveFault::Unconfirmed) => Err(LiveStop::Unconfirmed),
+        Err(LiveFault::Memory) => Err(Ended::Memory),
+        Err(LiveFault::Unconfirmed) => Err(Ended::Unconfirmed),
     }
 }
 
@@ -93,11 +64,11 @@ pub(crate) fn recorded<R: Threads + Wait + Sync, G: Gate + Sync>(
     read: Result<Trace, ReadFault>,
     options: &LiveOptions,
     gate: &G,
-) -> Result<Printed, LiveStop>
+) -> Result<Printed, Ended>
     requires over { IfOk read (IsTraceOver greatest) }
     requires session { AreOfSession options.now }
     ensures printed { IfOk result (λ p. (text : List ℕ) → trace_of greatest text ≡ read → IsAnswer (prediction options.now.query options.now.form) text (Prints p.text.items p.outcome)) }
-    ensures refused { IfErr result (λ stop. IfStopped stop (λ line. (text : List ℕ) → trace_of greatest text ≡ read → IsAnswer (prediction options.now.query options.now.form) text (Refusal line))) }
+    ensures refused { IfErr result (λ ended. IfStopped ended (λ line. (text : List ℕ) → trace_of greatest text ≡ read → IsAnswer (prediction options.now.query options.now.form) text (Refusal line))) }
 {
     let trace = trace_or_line(alloc, read)?;
     let report = session_report(rt, alloc, &trace, options, gate)?;

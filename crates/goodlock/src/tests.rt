@@ -17,6 +17,8 @@ mod cuts;
 mod faults;
 mod json;
 mod sessions;
+mod streams;
+mod tables;
 mod traces;
 mod usage;
 

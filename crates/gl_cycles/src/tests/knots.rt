@@ -1,4 +1,5 @@
 //! Many edges that lead to each other.
+use super::pruning::kept_of;
 use super::trims::expect_trimmed;
 use super::{acq, expect, expect_first, known_in, known_of, three_and_three};
 use crate::neighbours::Sought;
@@ -67,11 +68,11 @@ fn no_way_back(rt: HostRuntime) -> Result<(), Fail> {
     };
     let none = [false; 8];
     let ring = [false, false, true, true, false, false, true, true];
-    assert!(rt; sought.kept_edges(alloc)?.as_slice() == ring.as_slice());
+    assert!(rt; kept_of(&rt, alloc, &sought)?.as_slice() == ring.as_slice());
     sought.len = 3;
-    assert!(rt; sought.kept_edges(alloc)?.as_slice() == none.as_slice());
+    assert!(rt; kept_of(&rt, alloc, &sought)?.as_slice() == none.as_slice());
     sought.len = 16;
     sought.mode = Mode::Guarded;
-    assert!(rt; sought.kept_edges(alloc)?.as_slice() == none.as_slice());
+    assert!(rt; kept_of(&rt, alloc, &sought)?.as_slice() == none.as_slice());
     Ok(())
 }

@@ -1,14 +1,12 @@
 //! Edges that are left out part by part.
-use super::{acq, are_lawful, known_in, rel};
+use super::pruning::count_kept;
+use super::rings::ring_under_gates;
+use super::{acq, known_in, known_of};
 use crate::grains::Grain;
-use crate::narrowing::{Reason, kept_edges, leave_out_by_parts};
+use crate::narrowing::{Reason, count_set, leave_out_by_parts};
 use crate::neighbours::Sought;
 use crate::parts::Part;
-use gl_edges::edges_of;
-use gl_event::{Event, Memory};
 use gl_filters::{Mode, Query};
-use gl_segments::Order;
-use std::alloc::Global;
 use std::test::Fail;
 
 // The positions of five in three parts.
@@ -47,45 +45,14 @@ fn only_of_its_own(rt: HostRuntime) -> Result<(), Fail> {
     Ok(())
 }
 
-// So many threads run the pieces of a ring of four locks in turn, each its piece under each of these
-// gate locks.
-fn ring_of_threads(alloc: Global, threads: u32, gates: &[u32]) -> Result<Vec<Vec<Event>>, Memory> {
-    let mut lists = Vec::new(alloc);
-    for thread in 0..threads {
-        let lock = thread % 4;
-        let next = (thread + 1) % 4;
-        let mut list = Vec::new(alloc);
-        for &gate in gates {
-            list.push(acq(gate, 1))?;
-            list.push(acq(lock, 2))?;
-            list.push(acq(next, 3))?;
-            list.push(rel(next, 4))?;
-            list.push(rel(lock, 5))?;
-            list.push(rel(gate, 6))?;
-        }
-        lists.push(list)?;
-    }
-    Ok(lists)
-}
-
-// How many flags are set.
-fn count_set(flags: &[bool]) -> usize {
-    flags.iter().filter(|flag| **flag).count()
-}
-
 // Each of the parts has some of 2,000 edges. Under two gate locks no cycle goes through any kind of
 // them. Without regard to gate locks each one is in a cycle.
 #[test]
 fn kinds_by_parts(rt: HostRuntime) -> Result<(), Fail> {
     let alloc = rt.alloc();
-    let lists = ring_of_threads(alloc, 1_000, &[4, 5])?;
-    assert!(rt; are_lawful(&lists));
-    let edges = edges_of(alloc, &lists)?;
-    let order = Order::of(alloc, &lists)?;
-    let guarded = Sought::of(&edges, &order, &Query::new(Mode::Guarded, 4, 1)?);
-    assert!(rt; count_set(kept_edges(&rt, alloc, &guarded)?.as_slice()) == 0);
-    let basic = Sought::of(&edges, &order, &Query::new(Mode::Basic, 4, 1)?);
-    assert!(rt; count_set(kept_edges(&rt, alloc, &basic)?.as_slice()) == 2_000);
+    let lists = ring_under_gates(alloc, 1_000, 4, &[4, 5])?;
+    assert!(rt; count_kept(&rt, alloc, &lists, Mode::Guarded, 4)? == 0);
+    assert!(rt; count_kept(&rt, alloc, &lists, Mode::Basic, 4)? == 2_000);
     Ok(())
 }
 
@@ -93,11 +60,10 @@ fn kinds_by_parts(rt: HostRuntime) -> Result<(), Fail> {
 #[test]
 fn ways_by_parts(rt: HostRuntime) -> Result<(), Fail> {
     let alloc = rt.alloc();
-    let lists = ring_of_threads(alloc, 1_020, &[4])?;
-    assert!(rt; are_lawful(&lists));
-    let edges = edges_of(alloc, &lists)?;
-    let order = Order::of(alloc, &lists)?;
-    let guarded = Sought::of(&edges, &order, &Query::new(Mode::Guarded, 4, 1)?);
+    let lists = ring_under_gates(alloc, 1_020, 4, &[4])?;
+    let known = known_of(&rt, alloc, &lists)?;
+    let query = Query::new(Mode::Guarded, 4, 1)?;
+    let guarded = Sought::of(&known.edges, &known.order, &query);
     let mut left = guarded.on_loops(alloc)?;
     assert!(rt; count_set(left.as_slice()) == 1_020);
     leave_out_by_parts(&rt, alloc, &guarded, Reason::NoWay, &mut left)?;

@@ -1,61 +1,45 @@
 //! Edges that the search leaves out.
-use super::{acq, expect_first, fork, join, known_of, rel};
+ghost use Rattle.std.specs.Prelude.{◌<◌};
+
+use super::rings::{add_piece, ring_under_gates, under_gates};
+use super::{acq, expect_first, fork, join, known_of};
+use crate::narrowing::{count_set, kept_edges_parallel};
 use crate::neighbours::Sought;
 use gl_event::{Event, Memory};
 use gl_filters::Mode;
 use std::alloc::Global;
 use std::process::Abort;
 use std::test::Fail;
+use std::thread::Threads;
 
-// A thread takes three locks one inside the other, and releases them.
-fn add_piece(
-    list: &mut Vec<Event>,
-    gate: u32,
-    lock: u32,
-    next: u32,
-    loc: u32,
-) -> Result<(), Memory> {
-    list.push(acq(gate, loc))?;
-    list.push(acq(lock, loc))?;
-    list.push(acq(next, loc))?;
-    list.push(rel(next, loc))?;
-    list.push(rel(lock, loc))?;
-    list.push(rel(gate, loc))?;
-    Ok(())
+// Which edges may be in a cycle, as one thread finds them. Several find the same.
+pub(super) fn kept_of(
+    rt: &(impl Abort + Threads + Sync),
+    alloc: Global,
+    sought: &Sought<'_>,
+) -> Result<Vec<bool>, Fail> {
+    let kept = sought.kept_edges(alloc)?;
+    let by_parts = kept_edges_parallel(rt, alloc, sought)?;
+    assert!(rt; kept.as_slice() == by_parts.as_slice());
+    Ok(kept)
 }
 
-// How many flags are set.
-fn count_set(flags: &[bool]) -> usize {
-    flags.iter().filter(|flag| **flag).count()
-}
-
-// How many edges of these lists may be in a cycle of at most four.
-fn count_kept(
-    rt: &impl Abort,
+// How many edges of these lists may be in a cycle of at most so many.
+pub(super) fn count_kept(
+    rt: &(impl Abort + Threads + Sync),
     alloc: Global,
     lists: &[Vec<Event>],
     mode: Mode,
+    len: usize,
 ) -> Result<usize, Fail> {
     let known = known_of(rt, alloc, lists)?;
     let sought = Sought {
         table: known.edges.entries(),
         order: &known.order,
         mode,
-        len: 4,
+        len,
     };
-    Ok(count_set(sought.kept_edges(alloc)?.as_slice()))
-}
-
-// Four threads run the pieces of a ring of four locks under each of two gate locks in turn.
-fn ring_under_gates(alloc: Global) -> Result<Vec<Vec<Event>>, Memory> {
-    let mut lists = Vec::new(alloc);
-    for thread in 0..4u32 {
-        let mut list = Vec::new(alloc);
-        add_piece(&mut list, 4, thread, (thread + 1) % 4, 1)?;
-        add_piece(&mut list, 5, thread, (thread + 1) % 4, 2)?;
-        lists.push(list)?;
-    }
-    Ok(lists)
+    Ok(count_set(kept_of(rt, alloc, &sought)?.as_slice()))
 }
 
 // Each edge of the ring goes with edges that lead back from it, but of four edges under two gate
@@ -63,34 +47,48 @@ fn ring_under_gates(alloc: Global) -> Result<Vec<Vec<Event>>, Memory> {
 #[test]
 fn kinds_of_no_round(rt: HostRuntime) -> Result<(), Fail> {
     let alloc = rt.alloc();
-    let lists = ring_under_gates(alloc)?;
-    assert!(rt; count_kept(&rt, alloc, &lists, Mode::Basic)? == 8);
-    assert!(rt; count_kept(&rt, alloc, &lists, Mode::Guarded)? == 0);
+    let lists = ring_under_gates(alloc, 4, 4, &[4, 5])?;
+    assert!(rt; count_kept(&rt, alloc, &lists, Mode::Basic, 4)? == 8);
+    assert!(rt; count_kept(&rt, alloc, &lists, Mode::Guarded, 4)? == 0);
     Ok(())
 }
 
-// So many threads, each of which runs all pieces of a ring of four locks.
+// A thread runs all pieces of a ring of four locks in one segment, and then begins the next one.
+fn add_ring(list: &mut Vec<Event>) -> Result<(), Memory> {
+    for lock in 0..4u32 {
+        add_piece(list, 4 + lock, lock, (lock + 1) % 4, 1)?;
+    }
+    list.push(fork(1_000, 2))?;
+    Ok(())
+}
+
+// A thread that does so in thirty segments.
+fn thirty_rings(alloc: Global) -> Result<Vec<Event>, Memory> {
+    let mut list = Vec::new(alloc);
+    for _ in 0..30 {
+        add_ring(&mut list)?;
+    }
+    Ok(list)
+}
+
+// So many such threads.
 fn rings_of_all(alloc: Global, threads: u32) -> Result<Vec<Vec<Event>>, Memory> {
     let mut lists = Vec::new(alloc);
     for _ in 0..threads {
-        let mut list = Vec::new(alloc);
-        for lock in 0..4u32 {
-            add_piece(&mut list, 4 + lock, lock, (lock + 1) % 4, 1)?;
-        }
-        lists.push(list)?;
+        lists.push(thirty_rings(alloc)?)?;
     }
     Ok(lists)
 }
 
 // Round the ring go four edges, of four threads. Each edge goes with edges of two others that lead
-// back from it, but three threads make no cycle; four do.
+// back from it, but three threads make no cycle, in whichever of their segments; four do.
 #[test]
 fn more_pieces_than_threads(rt: HostRuntime) -> Result<(), Fail> {
     let alloc = rt.alloc();
     let three = rings_of_all(alloc, 3)?;
-    assert!(rt; count_kept(&rt, alloc, &three, Mode::Basic)? == 0);
+    assert!(rt; count_kept(&rt, alloc, &three, Mode::Basic, 4)? == 0);
     let four = rings_of_all(alloc, 4)?;
-    assert!(rt; count_kept(&rt, alloc, &four, Mode::Basic)? == 16);
+    assert!(rt; count_kept(&rt, alloc, &four, Mode::Basic, 4)? == 480);
     Ok(())
 }
 
@@ -124,8 +122,42 @@ fn ring_in_two_rows(alloc: Global) -> Result<Vec<Vec<Event>>, Memory> {
 fn segments_of_no_round(rt: HostRuntime) -> Result<(), Fail> {
     let alloc = rt.alloc();
     let lists = ring_in_two_rows(alloc)?;
-    assert!(rt; count_kept(&rt, alloc, &lists, Mode::Guarded)? == 8);
-    assert!(rt; count_kept(&rt, alloc, &lists, Mode::Full)? == 0);
+    assert!(rt; count_kept(&rt, alloc, &lists, Mode::Guarded, 4)? == 8);
+    assert!(rt; count_kept(&rt, alloc, &lists, Mode::Full, 4)? == 0);
+    Ok(())
+}
+
+// A thread runs a piece under gate locks that go with a number: under one for 0, and else under six.
+fn gated_piece(alloc: Global, number: u32, piece: u32, next: u32) -> Result<Vec<Event>, Memory>
+    requires { number < 8 }
+{
+    let own = 16 + number * 6;
+    if number == 0 {
+        return under_gates(alloc, &[own], piece, next);
+    }
+    let gates = [own, own + 1, own + 2, own + 3, own + 4, own + 5];
+    under_gates(alloc, &gates, piece, next)
+}
+
+// Sixteen threads run the pieces of a ring of sixteen locks, each under gate locks that only the piece
+// across the ring has too: the first piece and the one across under one, and the others under six.
+fn ring_of_pairs(alloc: Global) -> Result<Vec<Vec<Event>>, Memory> {
+    let mut lists = Vec::new(alloc);
+    for piece in 0..16u32 {
+        lists.push(gated_piece(alloc, piece % 8, piece, (piece + 1) % 16)?)?;
+    }
+    Ok(lists)
+}
+
+// From the first piece no way leads back past the one across, and so none does from any other. The
+// pieces between can be run under so many choices of gate locks, of which each leaves others across,
+// that no search for rounds ends.
+#[test]
+fn no_way_back_among_many_rounds(rt: HostRuntime) -> Result<(), Fail> {
+    let alloc = rt.alloc();
+    let lists = ring_of_pairs(alloc)?;
+    assert!(rt; count_kept(&rt, alloc, &lists, Mode::Basic, 16)? == 86);
+    assert!(rt; count_kept(&rt, alloc, &lists, Mode::Guarded, 16)? == 0);
     Ok(())
 }
 

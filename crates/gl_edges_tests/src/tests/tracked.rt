@@ -1,38 +1,10 @@
 //! One thread's events, one step after the other.
-ghost use Rattle.std.specs.Prelude.{IsTrue};
-ghost use Rattle.gl_event.specs.Bounds.{greatest};
-ghost use Rattle.gl_event.specs.Lawful.{IsLawful};
-
 use super::{acq, are_as_wanted, plain, rel};
-use gl_edges::{Edge, Sample, Tracker};
-use gl_event::{Event, Limits, MAX_THREADS, Memory, ThreadId};
+use crate::lawful::is_lawful;
+use crate::stepping::stepped;
+use gl_event::{Event, Memory, ThreadId};
 use std::alloc::Global;
 use std::test::Fail;
-
-// Whether the list is lawful under the greatest limits.
-fn is_lawful(thread: ThreadId, list: &[Event]) -> bool
-    ensures { IsTrue result → IsLawful greatest thread list.now }
-{
-    if thread.number() >= MAX_THREADS {
-        return false;
-    }
-    gl_recorder::is_lawful(&Limits::greatest(), thread, list)
-}
-
-// The edges of the thread's events, one event after the other.
-fn stepped(alloc: Global, thread: ThreadId, list: &[Event]) -> Result<Vec<(Edge, Sample)>, Memory>
-    requires { IsLawful greatest thread list.now }
-{
-    let mut tracker = Tracker::new(thread);
-    let mut found = Vec::new(alloc);
-    for event in list {
-        let pairs = tracker.step(alloc, *event)?;
-        for pair in pairs {
-            found.push(pair)?;
-        }
-    }
-    Ok(found)
-}
 
 // Locks that are not released in the opposite order of their acquires, event by event.
 #[test]

@@ -1,5 +1,6 @@
 -- Recorders and receipts of a session over given lists.
 use Rattle.std.specs.Prelude.{◌≡◌, ℕ, List, [], Some, slice_get}
+use Rattle.std.specs.List.{All}
 use Rattle.gl_event.specs.Bounds.{Bounds}
 use Rattle.gl_event.specs.declared.events.Event.{Event}
 use Rattle.gl_lane.specs.Lanes.{LaneId}
@@ -51,3 +52,8 @@ pub record IsRecorderOf (s : Seating) (r : Recording) : Type 0 where
 pub record IsReceiptOf (s : Seating) (lists : List (List Event)) (r : Closed) : Type 0 where
   pub seat : IsSeatOf s (left_by r)
   pub whole : slice_get lists r.thread ≡ Some (recorded_whole r)
+
+-- the receipts are of the session, each for its thread's list in some lists
+pub record AreReceipts (s : Seating) (receipts : List Closed) : Type 0 where
+  pub lists : List (List Event)
+  pub each : All (IsReceiptOf s lists) receipts

@@ -2,7 +2,8 @@
 use Rattle.std.specs.Prelude.{◌≡◌, ℕ, Bool, true, false, List, ◌++◌, Option, Ok}
 use Rattle.gl_event.specs.Bounds.{Bounds}
 use Rattle.gl_io.specs.Reads.{HasRead}
-use Rattle.gl_std.specs.Feeding.{HasGiven, IsOver, ReadsOn}
+use Rattle.gl_std.specs.Feeding.{HasGiven}
+use Rattle.gl_std.specs.bodies.States.{IsOver, ReadsOn}
 use Rattle.gl_std.specs.Lines.{ended_lines}
 use Rattle.gl_std.specs.Pieces.{IsFaulty}
 use Rattle.gl_std.specs.Trace.{trace_of}

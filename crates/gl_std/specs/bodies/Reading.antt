@@ -1,6 +1,6 @@
 -- What a reader knows between two lines.
 use Rattle.std.specs.Prelude.{◌≡◌, false}
-use Rattle.gl_std.specs.Judging.{HasJudged, IsSound}
+use Rattle.gl_std.specs.bodies.States.{HasJudged, IsSound}
 use Rattle.gl_std.specs.Line.{Shape, is_on_itself}
 use Rattle.gl_std.specs.Line.Shape.{Blank, Bad, Other, Call}
 use Rattle.gl_std.specs.Trace.{IsTraceOver}

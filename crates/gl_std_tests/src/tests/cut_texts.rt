@@ -1,9 +1,10 @@
 //! Texts that are told item by item.
 ghost use Rattle.std.specs.Prelude.{IfOk};
-ghost use Rattle.gl_std.specs.Streaming.{source_of, CanBeAsked};
+ghost use Rattle.gl_std.specs.Sourced.{items_of, source_of};
+ghost use Rattle.gl_std.specs.Streaming.{CanBeAsked};
 
-use super::pieces::Pieces;
 use super::{acquire, expect, expect_names, greatest, long_line, release};
+use crate::pieces::Pieces;
 use gl_event::{Event, ThreadId};
 use gl_std::{Item, Lines, LinesFault, Seed, StdKind};
 use std::alloc::Global;
@@ -12,7 +13,7 @@ use std::test::Fail;
 
 // The text's items, read so many bytes at a time.
 fn items_of<'a>(alloc: Global, text: &'a [u8], piece: usize) -> Result<Lines<Pieces<'a>>, Fail>
-    ensures { IfOk result (λ l. CanBeAsked l (source_of l).is_failed) }
+    ensures { IfOk result (λ l. CanBeAsked (items_of l) (source_of l).is_failed) }
 {
     let input = Pieces::new(text, piece, false);
     Ok(Lines::new(alloc, input, &greatest()?, 100_000, Seed::fixed())?)
@@ -24,16 +25,16 @@ pub(super) fn expect_next(
     lines: &mut Lines<Pieces<'_>>,
     expected: &Result<Item, LinesFault>,
 )
-    requires { CanBeAsked lines.old (source_of lines.old).is_failed }
-    ensures { CanBeAsked lines.new (source_of lines.new).is_failed }
+    requires { CanBeAsked (items_of lines.old) (source_of lines.old).is_failed }
+    ensures { CanBeAsked (items_of lines.new) (source_of lines.new).is_failed }
 {
     expect(rt, &lines.next(), expected);
 }
 
 // The next answers are these items.
 pub(super) fn expect_items(rt: &impl Abort, lines: &mut Lines<Pieces<'_>>, items: &[Item])
-    requires { CanBeAsked lines.old (source_of lines.old).is_failed }
-    ensures { CanBeAsked lines.new (source_of lines.new).is_failed }
+    requires { CanBeAsked (items_of lines.old) (source_of lines.old).is_failed }
+    ensures { CanBeAsked (items_of lines.new) (source_of lines.new).is_failed }
 {
     for item in items {
         expect_next(rt, lines, &Ok(*item));
@@ -188,7 +189,7 @@ fn parts_at_the_end(rt: HostRuntime) -> Result<(), Fail> {
 
 // After one line that LF has ended, the text can't be read.
 fn expect_broken(rt: &impl Abort, lines: &mut Lines<Pieces<'_>>)
-    requires { CanBeAsked lines.old (source_of lines.old).is_failed }
+    requires { CanBeAsked (items_of lines.old) (source_of lines.old).is_failed }
 {
     expect_next(rt, lines, &Ok(told(0, acquire(0, 0))));
     expect_next(rt, lines, &Err(LinesFault::Read));

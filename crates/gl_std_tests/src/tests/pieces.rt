@@ -1,65 +1,14 @@
 //! Texts that come in pieces.
-ghost use Rattle.std.specs.Prelude.{◌≡◌, ◌≤◌, false, None};
+ghost use Rattle.std.specs.Prelude.{◌≤◌};
 
 use super::{
-    acquire, expect, expect_acquire, expect_dropped, expect_list, expect_lists, expect_loc,
-    greatest, release,
+    acquire, expect, expect_acquire, expect_dropped, expect_list, expect_lists, expect_loc, release,
 };
-use gl_std::{Failed, Heard, ReadFault, Seed, Source, StdKind, read_source};
+use crate::pieces::{Pieces, hear};
+use gl_std::{Heard, ReadFault, StdKind};
 use std::alloc::Global;
 use std::process::Abort;
 use std::test::Fail;
-
-// Gives its text in pieces, and then ends or fails.
-#[derive(Drop)]
-pub(super) struct Pieces<'a> {
-    pub(super) rest: &'a [u8],
-    piece: usize,
-    fails: bool,
-    is_failed: bool,
-    reads: u64,
-}
-
-impl<'a> Pieces<'a> {
-    pub(super) fn new(rest: &'a [u8], piece: usize, fails: bool) -> Pieces<'a>
-        ensures { result.is_failed ≡ false }
-    {
-        Pieces {
-            rest,
-            piece,
-            fails,
-            is_failed: false,
-            reads: 0,
-        }
-    }
-}
-
-impl Source for Pieces<'_> {
-    ghost remaining = { λ _. None };
-
-    ghost failed = { λ s. s.is_failed };
-
-    fn read(&mut self, buffer: &mut [u8]) -> Result<usize, Failed> {
-        self.reads = self.reads.saturating_add(1);
-        let count = self.piece.min(self.rest.len()).min(buffer.len());
-        if count == 0 && self.fails {
-            self.is_failed = true;
-            return Err(Failed);
-        }
-        buffer[..count].copy_from_slice(&self.rest[..count]);
-        self.rest = &self.rest[count..];
-        Ok(count)
-    }
-}
-
-// What is read of the pieces.
-pub(super) fn hear(alloc: Global, input: &mut Pieces<'_>, turns: u64) -> Result<Heard, Fail>
-    requires sound { input.old.is_failed ≡ false }
-    requires few { turns ≤ 100 }
-{
-    let limits = greatest()?;
-    Ok(read_source(alloc, input, turns, &limits, Seed::fixed())?)
-}
 
 // Five lines that tell three events of one thread.
 fn expect_five_lines(rt: &impl Abort, heard: &Heard) {

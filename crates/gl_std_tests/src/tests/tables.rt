@@ -1,10 +1,11 @@
 //! Texts that stop after so many bytes, each number of them in turn, and texts that never end.
 ghost use Rattle.std.specs.Prelude.{◌≡◌, ◌<◌, ◌≤◌, None, length, IfOk};
-ghost use Rattle.gl_std.specs.Streaming.{source_of, CanBeAsked};
+ghost use Rattle.gl_std.specs.Sourced.{items_of, source_of};
+ghost use Rattle.gl_std.specs.Streaming.{CanBeAsked};
 
 use super::cut_texts::{expect_items, expect_next, told};
-use super::pieces::{Pieces, hear};
 use super::{acquire, expect, greatest, release};
+use crate::pieces::{Pieces, hear};
 use gl_std::{Failed, Heard, Item, Lines, LinesFault, ReadFault, Seed, Source, StdKind, Trace};
 use std::alloc::Global;
 use std::process::Abort;
@@ -195,7 +196,7 @@ impl Source for Endless<'_> {
 // The line for ever, of which so many bytes are read.
 fn for_ever<'a>(alloc: Global, line: &'a [u8], turns: u64) -> Result<Lines<Endless<'a>>, Fail>
     requires few { turns ≤ 100_000 }
-    ensures { IfOk result (λ l. CanBeAsked l (source_of l).is_failed) }
+    ensures { IfOk result (λ l. CanBeAsked (items_of l) (source_of l).is_failed) }
 {
     let input = Endless {
         line,
@@ -207,8 +208,8 @@ fn for_ever<'a>(alloc: Global, line: &'a [u8], turns: u64) -> Result<Lines<Endle
 
 // The next answer is this one.
 fn expect_more(rt: &impl Abort, lines: &mut Lines<Endless<'_>>, expected: &Result<Item, LinesFault>)
-    requires { CanBeAsked lines.old (source_of lines.old).is_failed }
-    ensures { CanBeAsked lines.new (source_of lines.new).is_failed }
+    requires { CanBeAsked (items_of lines.old) (source_of lines.old).is_failed }
+    ensures { CanBeAsked (items_of lines.new) (source_of lines.new).is_failed }
 {
     expect(rt, &lines.next(), expected);
 }

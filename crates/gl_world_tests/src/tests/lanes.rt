@@ -1,8 +1,9 @@
 //! What a thread takes or passes over, and notes that are offered again.
 use super::{
-    acquire, acquire_shared, again, does, end, misplaced, one_list, opposite_order, pull, pulled,
-    release, take,
+    acquire, acquire_shared, again, does, end, misplaced, opposite_order, pull, pulled, release,
+    take,
 };
+use crate::wishes::one_list;
 use gl_event::{Limits, Refusal, ThreadId};
 use gl_intake::{Accepted, Refused};
 use gl_world::{Did, World};

@@ -1,5 +1,6 @@
 //! Steps that aren't enabled.
-use super::{acquire, again, does, end, one_list, pull, pulled, take};
+use super::{acquire, again, does, end, pull, pulled, take};
+use crate::wishes::one_list;
 use gl_event::Limits;
 use gl_intake::Accepted;
 use gl_world::{Did, Step, World};

@@ -3,8 +3,9 @@ ghost use Rattle.std.specs.Prelude.{◌≡◌, length, IfOk};
 
 use super::{
     acquire, again, does, end, ended, goes, happened, join, misplaced, opposite_order, pull,
-    pulled, release, take, two_lists,
+    pulled, release, take,
 };
+use crate::wishes::two_lists;
 use gl_cycles::{Report, ReportFault};
 use gl_edges::{Edge, Sample};
 use gl_event::{Event, Limits, Note, Segment};

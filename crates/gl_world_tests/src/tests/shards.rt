@@ -1,7 +1,8 @@
 //! Edges on their way to the shards' tables.
 ghost use Rattle.std.specs.Prelude.{◌≤◌, length};
 
-use super::{acquire, does, end, goes, one_list, pull, pulled, release, take};
+use super::{acquire, does, end, goes, pull, pulled, release, take};
+use crate::wishes::one_list;
 use gl_event::Limits;
 use gl_world::{Did, Step, World};
 use std::test::Fail;

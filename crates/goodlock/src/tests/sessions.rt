@@ -25,10 +25,11 @@ use std::thread;
 use std::thread::Threads;
 
 // A session with these numbers, as lines of text.
-fn session(query: Query, recorders: u32, shards: u32, ring: u32) -> LiveOptions
+pub(super) fn session(query: Query, recorders: u32, shards: u32, ring: u32) -> LiveOptions
     ensures recorders { result.recorders ≡ recorders }
     ensures shards { result.shards ≡ shards }
     ensures ring { result.ring ≡ ring }
+    ensures threads { result.threads ≡ 64 }
 {
     LiveOptions {
         query,
@@ -36,6 +37,8 @@ fn session(query: Query, recorders: u32, shards: u32, ring: u32) -> LiveOptions
         recorders,
         shards,
         ring,
+        stream: false,
+        threads: 64,
     }
 }
 
@@ -114,7 +117,7 @@ const LOOKS: u32 = 10_000_000;
 
 // A gate at which the workers of two shards meet: each sets its own flag and looks for the other's.
 #[derive(Drop)]
-struct Meeting {
+pub(crate) struct Meeting {
     first: AtomicU64,
     second: AtomicU64,
     taken: AtomicU64,
@@ -123,7 +126,7 @@ struct Meeting {
 
 impl Meeting {
     // How often each worker passed, what they had taken before, and how many met no other.
-    fn passes(&self) -> (u64, u64, u64, u64) {
+    pub(crate) fn passes(&self) -> (u64, u64, u64, u64) {
         (
             self.first.load(Ordering::SeqCst),
             self.second.load(Ordering::SeqCst),
@@ -131,6 +134,27 @@ impl Meeting {
             self.alone.load(Ordering::SeqCst),
         )
     }
+}
+
+// A gate that nobody has passed.
+pub(crate) fn new_meeting() -> Meeting {
+    Meeting {
+        first: AtomicU64::new(0),
+        second: AtomicU64::new(0),
+        taken: AtomicU64::new(0),
+        alone: AtomicU64::new(0),
+    }
+}
+
+// Whether both workers pass while this looks.
+pub(crate) fn has_met(gate: &Meeting) -> bool {
+    for _ in 0..LOOKS {
+        if gate.first.load(Ordering::SeqCst) > 0 && gate.second.load(Ordering::SeqCst) > 0 {
+            return true;
+        }
+        thread::yield_now();
+    }
+    false
 }
 
 impl Gate for Meeting {
@@ -154,12 +178,7 @@ impl Gate for Meeting {
 // A session is opened, and its two workers are both at work at one moment, each on its first edge.
 #[test]
 fn gated_workers(rt: HostRuntime) -> Result<(), Fail> {
-    let gate = Meeting {
-        first: AtomicU64::new(0),
-        second: AtomicU64::new(0),
-        taken: AtomicU64::new(0),
-        alone: AtomicU64::new(0),
-    };
+    let gate = new_meeting();
     let options = session(full()?, 2, 2, 256);
     let mut input = FromStd::new(OPPOSITE_ORDER);
     let mut output = FromStd::new(Vec::new(rt.alloc()));
@@ -276,6 +295,8 @@ fn live_words(rt: HostRuntime) -> Result<(), Fail> {
         recorders: 16,
         shards: 16,
         ring: 65_536,
+        stream: false,
+        threads: 64,
     };
     expect_command(&rt, &words, &Command::Live(options));
     Ok(())

@@ -17,10 +17,12 @@ join_workers-requires-clause-room g c =
 pub returns-clause-run : goal.returns-clause-run
 returns-clause-run g c =
     let feeds = c.join_workers.ensures.feeds ∙ c.if-not-start_workers.ensures.feeds refl ∙ c.requires.ready.feeds in record {
-      threads_are = ap (λ (b : Bounds). b.threads) c.run-gathered.ensures.limits ∙ c.requires.ready.threads_are;
       shards_are = as_long _ _ c.join_workers.new.served.items c.args.session.outlets.items feeds;
       feeds = λ none. feeds ∙ sym (c.run-gathered.ensures.feeds none);
     }
+
+pub returns-clause-threads : goal.returns-clause-threads
+returns-clause-threads g c = ap (λ (b : Bounds). b.threads) c.run-gathered.ensures.limits ∙ c.requires.ready.threads_are
 
 pub returns-clause-receipts : goal.returns-clause-receipts
 returns-clause-receipts g c =

@@ -1,5 +1,5 @@
 use Rattle.std.proofs.Common.{◌≡◌, ◌++◌, [], Ok, sym, ap, subst, ◌∙◌}
-use Rattle.gl_std.specs.Feeding.{ReadsOn}
+use Rattle.gl_std.specs.bodies.States.{ReadsOn}
 use Rattle.gl_std.specs.bodies.Hearing.{listed_by, Meets}
 use Rattle.gl_std.specs.Trace.{nothing}
 use Rattle.gl_std.proofs.HeardLemmas.{heard_over, heard_trace_over, heard_whole, listed_is}

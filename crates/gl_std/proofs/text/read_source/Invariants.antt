@@ -1,5 +1,6 @@
 use Rattle.std.proofs.Common.{◌≡◌, false, List, ℕ}
-use Rattle.gl_std.specs.Feeding.{fuel, IsFit, ReadsOn}
+use Rattle.gl_std.specs.bodies.States.{IsFit, ReadsOn}
+use Rattle.gl_std.specs.bodies.Stepping.{fuel}
 use Rattle.gl_std.specs.bodies.Hearing.{listed_by}
 use Rattle.gl_std.proofs.text.read_source.Given as goal
 

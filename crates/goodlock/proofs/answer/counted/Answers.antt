@@ -15,7 +15,7 @@ returns-in_err-trace-clause-refused g c =
     let p = err_from_is_err_and c.from_residual.result c.from_residual.ensures.1 in
     let asked = counts c.args.query.now in
     rw (p.1, p.2) (refused_then c.in_err-trace.field-0.0 (SaysWhyNoReport c.args.read) (λ line. (text : List ℕ) → trace_of greatest text ≡ c.args.read → IsAnswer asked text (Refusal line))
-    (no_report asked c.args.read) c.in_err-trace.ensures.refused)
+    (no_report greatest asked c.args.read) c.in_err-trace.ensures.refused)
 
 pub returns-clause-printed : goal.returns-clause-printed
 returns-clause-printed g c = λ text is.
@@ -23,7 +23,7 @@ returns-clause-printed g c = λ text is.
     let both = c.in_ok-trace.field-0 in
     let text_is = c.in_ok-text.ensures ∙ ap stats_text c.of.ensures in
     subst (IsAnswer asked text) (ap (λ t. Prints t Done) (sym text_is))
-    (with_report asked (λ report. Prints (stats_text (stats_of both.trace report)) Done) c.args.query.now c.args.read both.trace both.report c.in_ok-trace.ensures.report (λ before. refl) text is)
+    (with_report greatest asked (λ report. Prints (stats_text (stats_of both.trace report)) Done) c.args.query.now c.args.read both.trace both.report c.in_ok-trace.ensures.report (λ before. refl) text is)
 
 pub returns-in_err-text-clause-refused : goal.returns-in_err-text-clause-refused
 returns-in_err-text-clause-refused g c =

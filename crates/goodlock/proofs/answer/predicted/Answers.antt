@@ -13,14 +13,14 @@ returns-in_err-trace-clause-refused g c =
     let p = err_from_is_err_and c.from_residual.result c.from_residual.ensures.1 in
     let asked = prediction c.args.query.now c.args.form in
     rw (p.1, p.2) (refused_then c.in_err-trace.field-0.0 (SaysWhyNoReport c.args.read) (λ line. (text : List ℕ) → trace_of greatest text ≡ c.args.read → IsAnswer asked text (Refusal line))
-    (no_report asked c.args.read) c.in_err-trace.ensures.refused)
+    (no_report greatest asked c.args.read) c.in_err-trace.ensures.refused)
 
 pub returns-clause-printed : goal.returns-clause-printed
 returns-clause-printed g c = λ text is.
     let asked = prediction c.args.query.now c.args.form in
     let both = c.in_ok-trace.field-0 in
     subst (IsAnswer asked text) (λ i. Prints (sym c.in_ok-text.ensures i) (sym c.outcome_of-outcome.ensures i))
-    (with_report asked (λ report. Prints (printed_report c.args.form both.trace.names report) (outcome_of report)) c.args.query.now c.args.read both.trace both.report c.in_ok-trace.ensures.report (λ before. refl) text is)
+    (with_report greatest asked (λ report. Prints (printed_report c.args.form both.trace.names report) (outcome_of report)) c.args.query.now c.args.read both.trace both.report c.in_ok-trace.ensures.report (λ before. refl) text is)
 
 pub returns-in_err-text-clause-refused : goal.returns-in_err-text-clause-refused
 returns-in_err-text-clause-refused g c =

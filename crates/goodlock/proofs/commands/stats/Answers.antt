@@ -1,6 +1,6 @@
 use Rattle.std.proofs.KnownBytes.{Keeps-refl}
 use Rattle.goodlock.specs.Answer.{IsAnswer, counts}
-use Rattle.goodlock.specs.Ending.HasEnded.{early}
+use Rattle.goodlock.specs.Ending.HasEndedUnder.{early}
 use Rattle.goodlock.proofs.Answering.{ends}
 use Rattle.goodlock.proofs.commands.stats.Goals as goal
 

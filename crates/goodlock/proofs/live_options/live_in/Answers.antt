@@ -14,3 +14,7 @@ returns-in_err-shards-clause-none c = λ _.
 pub returns-in_err-ring-clause-none : goal.returns-in_err-ring-clause-none
 returns-in_err-ring-clause-none c = λ _.
     no_session (rows_of (found_of c.args.options.now)) (λ o query numbers. c.in_err-ring.ensures.none refl o.ring numbers.ring)
+
+pub returns-in_err-threads-clause-none : goal.returns-in_err-threads-clause-none
+returns-in_err-threads-clause-none c = λ _.
+    no_session (rows_of (found_of c.args.options.now)) (λ o query numbers. c.in_err-threads.ensures.none refl o.threads numbers.threads)

@@ -1,6 +1,8 @@
 use Rattle.std.proofs.Common.{◌≡◌, ◌++◌, [], sym, subst, ◌∙◌, append_assoc, arith}
 use Rattle.std.proofs.lemmas.Bool.Decides.{nat_tests}
-use Rattle.gl_std.specs.Feeding.{left_of, HasFilled, HasGiven}
+use Rattle.gl_std.specs.Feeding.{HasGiven}
+use Rattle.gl_std.specs.bodies.States.{left_of}
+use Rattle.gl_std.specs.bodies.Stepping.{HasFilled}
 use Rattle.gl_std.proofs.FeedLemmas.{append_nil, used_up}
 use Rattle.gl_std.proofs.feed.Feed.drain.Goals as goal
 

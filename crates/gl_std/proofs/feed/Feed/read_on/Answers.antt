@@ -1,7 +1,7 @@
 use Rattle.std.proofs.Common.{◌≡◌, [], take, drop, sym, ap, subst, ◌∙◌, arith}
 use Rattle.std.proofs.lemmas.Bool.Decides.{nat_tests}
-use Rattle.gl_std.specs.Feeding.{left_of, HasFilled}
-use Rattle.gl_std.specs.Judging.{HasJudged}
+use Rattle.gl_std.specs.bodies.States.{left_of, HasJudged}
+use Rattle.gl_std.specs.bodies.Stepping.{HasFilled}
 use Rattle.gl_std.proofs.FeedLemmas.{front_of, left_none, over_of, read_more, stepped_here, used_up}
 use Rattle.gl_std.proofs.feed.Feed.read_on.Goals as goal
 

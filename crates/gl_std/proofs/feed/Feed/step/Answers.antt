@@ -1,6 +1,7 @@
 use Rattle.std.proofs.Common.{ℕ, List, [], Err, sym, ap, subst, ◌∙◌}
-use Rattle.gl_std.specs.Feeding.{HasGiven, IsAt}
-use Rattle.gl_std.specs.Judging.{with_judged}
+use Rattle.gl_std.specs.Feeding.{HasGiven}
+use Rattle.gl_std.specs.bodies.States.{IsAt}
+use Rattle.gl_std.specs.bodies.Telling.{with_judged}
 use Rattle.gl_std.specs.declared.trace.Trace.{Trace}
 use Rattle.gl_std.specs.Pieces.{IsFaulty}
 use Rattle.gl_std.proofs.FeedLemmas.{at_none, at_some, stepped_here}

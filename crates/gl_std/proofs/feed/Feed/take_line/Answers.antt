@@ -1,6 +1,6 @@
 use Rattle.std.proofs.Common.{◌≡◌, ◌++◌, take, drop, Err, ap, ◌∙◌, arith}
 use Rattle.std.proofs.lemmas.Grind.{common_steps}
-use Rattle.gl_std.specs.Feeding.{left_of}
+use Rattle.gl_std.specs.bodies.States.{feed_of, left_of}
 use Rattle.gl_std.specs.Line.{cut_at}
 use Rattle.gl_std.specs.Lines.{LF}
 use Rattle.gl_std.specs.declared.faults.ReadFault.TheVariants.{Line}
@@ -25,7 +25,7 @@ pub returns-in_ok-judged-in-Some-clause-some : goal.returns-in_ok-judged-in-Some
 returns-in_ok-judged-in-Some-clause-some c = λ text told at.
     let old = c.args.self.now in
     let cut = first_end (left_of old) c.in-Some.end.now c.in-Some.field-0-1.now (c.in-Some.ensures ∙ ap (cut_at LF) (slice_rest (take old.end c.deref.result.now) old.start ∙ ap (λ xs. drop old.start (take old.end xs)) c.deref.ensures.value)) in
-    at_line old _ c.in-Some.end.now c.in-Some.field-0-1.now text told _ at cut.0
+    at_line (feed_of old) _ c.in-Some.end.now c.in-Some.field-0-1.now text told _ at cut.0
     (left_after old.buffer.items c.in-Some.end.now c.in-Some.field-0-1.now old.start old.end cut.0)
     (c.in_ok-judged-in-Some.ensures.reaches at.seen told at.reaches)
 
@@ -38,7 +38,7 @@ returns-in_ok-judged-in-Some-clause-order c =
 pub returns-in_ok-keep-in-None-clause-none : goal.returns-in_ok-keep-in-None-clause-none
 returns-in_ok-keep-in-None-clause-none c = λ text told at.
     let old = c.args.self.now in
-    at_end old _ text told at (left_none old.buffer.items old.end)
+    at_end (feed_of old) _ text told at (left_none old.buffer.items old.end)
     (reached_more old.judge old.unfinished.items c.keep.new.unfinished.items (left_of old) at.seen told at.reaches (no_end (left_of old) (c.in-None.ensures ∙ ap (cut_at LF) (slice_rest (take old.end c.deref.result.now) old.start ∙ ap (λ xs. drop old.start (take old.end xs)) c.deref.ensures.value)))
     (c.in_ok-keep-in-None.ensures.kept ∙ ap (λ xs. take KEPT (old.unfinished.items ++ xs)) (slice_rest (take old.end c.deref-in-None.result.now) old.start ∙ ap (λ xs. drop old.start (take old.end xs)) c.deref-in-None.ensures.value)))
 

@@ -9,4 +9,4 @@ pub returns-clause-sound : goal.returns-clause-sound
 returns-clause-sound c =
     sound_of _ nothing
     (record { names = c.new.ensures; states = subst (AreStanding []) (sym c.new-2.ensures.items) tt; skipped = refl; stray = refl })
-    (nothing_over c.args.limits) (omega arith) (omega arith)
+    (nothing_over c.args.limits) c.threads.ensures.within (omega arith) (omega arith)

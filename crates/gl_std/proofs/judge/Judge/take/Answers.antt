@@ -1,5 +1,6 @@
 use Rattle.std.proofs.Common.{sym, ap, subst, ◌∙◌, arith}
-use Rattle.gl_std.specs.Judging.{with_judged}
+use Rattle.gl_event.specs.Bounds.{AreWithinRange}
+use Rattle.gl_std.specs.bodies.Telling.{with_judged}
 use Rattle.gl_std.specs.Trace.{after_shape, IsTraceOver}
 use Rattle.gl_std.proofs.JudgingLemmas.{sound_of}
 use Rattle.gl_std.proofs.StepLemmas.{after_line_over}
@@ -16,5 +17,6 @@ returns-clause-sound c =
     let judged = c.in_ok-judged.ensures.judged was.told was.judged in
     sound_of _ told (record { names = judged.names; states = judged.states; skipped = judged.skipped; stray = judged.stray })
     (subst (λ limits. IsTraceOver limits told) (sym c.take_shape.ensures.limits) over)
+    (subst AreWithinRange (sym c.take_shape.ensures.limits) was.in_range)
     (omega (arith, was.few_skipped, c.take_shape.ensures.few_skipped, c.take_shape.ensures.line))
     (omega (arith, was.few_stray, c.take_shape.ensures.few_stray, c.take_shape.ensures.line))

@@ -1,6 +1,6 @@
 use Rattle.std.proofs.Common.{◌≡◌, ℕ, Err, subst}
 use Rattle.gl_std.specs.Trace.{after_call}
-use Rattle.gl_std.specs.Judging.{HasJudged}
+use Rattle.gl_std.specs.bodies.States.{HasJudged}
 use Rattle.gl_std.specs.bodies.Shown.{shown_operation}
 use Rattle.gl_std.specs.declared.faults.ReadFault.TheVariants.{Line}
 use Rattle.gl_std.specs.declared.faults.StdKind.{StdKind}

@@ -1,5 +1,5 @@
 use Rattle.std.proofs.Common.{◌≡◌, Ok, length, sym, ap, subst, ◌∙◌}
-use Rattle.gl_std.specs.Judging.{with_judged, IsKnown}
+use Rattle.gl_std.specs.bodies.Telling.{with_judged, IsKnown}
 use Rattle.gl_std.specs.Trace.{event_of}
 use Rattle.gl_std.specs.bodies.Finding.{event_found, operand_number}
 use Rattle.gl_std.specs.bodies.Shown.{shown_operation}

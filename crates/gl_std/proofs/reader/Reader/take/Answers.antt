@@ -1,5 +1,5 @@
 use Rattle.std.proofs.Common.{sym, ap, ◌∙◌}
-use Rattle.gl_std.specs.Judging.{with_judged}
+use Rattle.gl_std.specs.bodies.Telling.{with_judged}
 use Rattle.gl_std.specs.Listed.{listed}
 use Rattle.gl_std.specs.bodies.Reading.{told_by}
 use Rattle.gl_std.proofs.ReadingLemmas.{line_ready}

@@ -1,5 +1,6 @@
 use Rattle.std.proofs.Common.{◌++◌, Ok, Err, refl, sym, ap, subst, ◌∙◌}
-use Rattle.gl_std.specs.Feeding.{IsOver, Steps}
+use Rattle.gl_std.specs.bodies.States.{IsOver}
+use Rattle.gl_std.specs.bodies.Stepping.{Steps}
 use Rattle.gl_std.specs.bodies.Hearing.{listed_by}
 use Rattle.gl_std.specs.declared.text.Listing.{Listing}
 use Rattle.gl_std.proofs.HeardLemmas.{listed_is, met_line}

@@ -1,0 +1,48 @@
+-- What becomes of a text that a session records as it is read.
+use Rattle.std.specs.Prelude.{◌≡◌, ◌⊎◌, ℕ, Bool, List, [], Option, Result, Ok, Err}
+use Rattle.gl_event.specs.Bounds.{Bounds}
+use Rattle.gl_segments.specs.Segments.{IsLeastInRing}
+use Rattle.gl_filters.specs.Asked.{Asked}
+use Rattle.gl_cycles.specs.Reports.{IsGoodlockReport}
+use Rattle.gl_cycles.specs.declared.found.Report.{Report}
+use Rattle.gl_std.specs.Streaming.{HasFault, HasTold, IsDone, Stream}
+use Rattle.gl_std.specs.Trace.{nothing}
+use Rattle.gl_std.specs.declared.trace.Trace.{Trace}
+use Rattle.gl_live.specs.declared.faults.LiveFault.TheVariants.{Inconsistent, Memory, Unconfirmed}
+use Rattle.gl_live.specs.declared.faults.StreamFault.{StreamFault}
+use Rattle.gl_live.specs.declared.faults.StreamFault.TheVariants.{Text, Session}
+
+-- none of a text's items was asked for yet, under a limit of so many threads
+pub record IsUnread (threads : ℕ) (now : Option (List ℕ)) (failed : Bool) (items : Stream) : Type 0 where
+  pub limits : Bounds
+  pub turns : ℕ
+  pub start : Option (List ℕ)
+  pub as_many : limits.threads ≡ threads
+  pub tells : HasTold limits turns start now failed items [] nothing
+
+-- why there is no report where the items told this trace: the fault that they answered; or all was told, and a segment is before itself; or
+-- memory was refused, or the session isn't confirmed
+abbrev pub IsStreamFault : Stream → Trace → StreamFault → Type 0
+IsStreamFault items told (Text fault) = HasFault items fault
+IsStreamFault items told (Session (Inconsistent at ring)) = IsDone items × IsLeastInRing told.lists at ring.items
+IsStreamFault items told (Session Memory) = Unit {0}
+IsStreamFault items told (Session Unconfirmed) = Unit {0}
+
+-- a session fails before any of a text was read, or once all of it was told: what the source had left is what it has left, or the end was
+-- answered
+abbrev pub FailsInTime : {Y : Type 0} → Option (List ℕ) → Option (List ℕ) → Stream → Result Y StreamFault → Type 0
+FailsInTime old new items (Ok y) = Unit {0}
+FailsInTime old new items (Err (Text fault)) = Unit {0}
+FailsInTime old new items (Err (Session fault)) = (new ≡ old) ⊎ IsDone items
+
+-- the report of all that was told, or why there is none
+abbrev pub IsReportOf : Asked → Stream → Trace → Result Report StreamFault → Type 0
+IsReportOf asked items told (Ok report) = IsDone items × IsGoodlockReport asked told.lists report
+IsReportOf asked items told (Err fault) = IsStreamFault items told fault
+
+-- the reads gave a text, and the items told a trace of it, of which this is the report
+pub record Becomes (asked : Asked) (limits : Bounds) (turns : ℕ) (start now : Option (List ℕ)) (failed : Bool) (items : Stream) (result : Result Report StreamFault) : Type 0 where
+  pub text : List ℕ
+  pub told : Trace
+  pub tells : HasTold limits turns start now failed items text told
+  pub reports : IsReportOf asked items told result

@@ -1,0 +1,110 @@
+-- A session that records a text as it is read.
+use Rattle.std.specs.Prelude.{◌≡◌, ℕ, ◌+◌, ◌<◌, ◌≤◌, Bool, List, [], Option, Some, None, Result, Ok, Err, length, map, slice_get, slice_index_or}
+use Rattle.std.specs.List.{All}
+use Rattle.std.specs.Vec.{vec_len, vec_capacity}
+use Rattle.gl_event.specs.Bounds.{Bounds}
+use Rattle.gl_event.specs.Lawful.{refusal}
+use Rattle.gl_event.specs.declared.events.Event.{Event}
+use Rattle.gl_event.specs.declared.limits.TheConstants.{MAX_EVENTS}
+use Rattle.gl_shards.specs.Feeds.{Sending}
+use Rattle.gl_shards.specs.declared.shard.TheConstants.{MAX_SHARDS}
+use Rattle.gl_std.specs.Streaming.{event_in, HasFault, HasTold, IsDone, Stream}
+use Rattle.gl_std.specs.declared.faults.LinesFault.{LinesFault}
+use Rattle.gl_std.specs.declared.stream.Item.{Item}
+use Rattle.gl_std.specs.declared.trace.Trace.{Trace}
+use Rattle.gl_engine.specs.Collecting.{Collecting, lanes_of}
+use Rattle.gl_engine.specs.Gathering.{Gathering}
+use Rattle.gl_engine.specs.Recording.{Recording, recorded}
+use Rattle.gl_live.specs.Streamed.{IsStreamFault}
+use Rattle.gl_live.specs.bodies.Padded.{padded}
+use Rattle.gl_live.specs.bodies.Seats.{Seating, seating_of, gathered_from, seat_of, IsSeatOf, IsReceiptOf}
+use Rattle.gl_live.specs.declared.faults.StreamFault.{StreamFault}
+use Rattle.gl_live.specs.declared.run.Ran.{Ran}
+use Rattle.gl_live.specs.declared.streaming.ReadSession.{ReadSession}
+
+-- the recorders are those of the session, in the order of thread numbers, and each has recorded its thread's events of these lists
+pub record AreRecorded (s : Seating) (lists : List (List Event)) (recorders : List Recording) : Type 0 where
+  pub seats : (thread : ℕ) (r : Recording) → slice_get recorders thread ≡ Some r → IsSeatOf s (seat_of r)
+  pub threads : (thread : ℕ) (r : Recording) → slice_get recorders thread ≡ Some r → r.thread ≡ thread
+  pub events : (thread : ℕ) (r : Recording) → slice_get recorders thread ≡ Some r → recorded r ≡ slice_index_or lists thread []
+
+-- an event is of one of so many threads
+abbrev pub IsOfThreads : ℕ → Item → Type 0
+IsOfThreads threads item = (thread : ℕ) (event : Event) → event_in item ≡ Some (thread, event) → thread < threads
+
+-- the recorder is one of the session, and has recorded the whole of its thread's list
+pub record HasTaken (s : Seating) (lists : List (List Event)) (r : Recording) : Type 0 where
+  pub seat : IsSeatOf s (seat_of r)
+  pub whole : slice_get lists r.thread ≡ Some (recorded r)
+
+-- there is a recorder for each thread, those of the collector's session, which have recorded nothing and take as many events as there may be;
+-- a feed for each shard, 1 to 16, through
+-- which nothing was sent; and room for what recorders and workers leave
+pub record IsReadyToRead (s : ReadSession) : Type 0 where
+  pub threads_are : s.collector.limits.threads ≡ length s.recorders.items
+  pub events_are : s.collector.limits.events ≡ MAX_EVENTS
+  pub unused : AreRecorded (seating_of s.collector) [] s.recorders.items
+  pub some : 1 ≤ length s.outlets.items
+  pub fit : length s.outlets.items ≤ MAX_SHARDS
+  pub unsent : All (λ o. o.sent ≡ []) s.outlets.items
+  pub feeds : map (λ i. i.feed) s.inlets.items ≡ map (λ o. o.feed) s.outlets.items
+  pub no_receipt : s.receipts.items ≡ []
+  pub room : vec_len s.receipts + length s.recorders.items ≤ vec_capacity s.receipts
+  pub none_served : s.served.items ≡ []
+  pub served_room : vec_len s.served + length s.inlets.items ≤ vec_capacity s.served
+
+-- what a collector's thread leaves that was lent these outlets
+pub record HasGathered (c : Collecting) (outlets : List Sending) (g : Gathering) : Type 0 where
+  pub session : g.session ≡ c.session
+  pub limits : g.limits ≡ c.limits
+  pub lanes : g.lanes ≡ lanes_of c
+  pub feeds : g.fault ≡ None → map (λ s. s.feed) g.sent ≡ map (λ o. o.feed) outlets
+
+-- the reads gave a text, and the recorders have recorded what the items told of it
+pub record Follows (s : Seating) (limits : Bounds) (turns : ℕ) (start now : Option (List ℕ)) (failed : Bool) (items : Stream) (recorders : List Recording) : Type 0 where
+  pub text : List ℕ
+  pub told : Trace
+  pub tells : HasTold limits turns start now failed items text told
+  pub recorded : AreRecorded s told.lists recorders
+
+-- recorders have recorded what the items told of a text, under a limit of as many threads as there are recorders; each takes as many events
+-- as there may be
+pub record IsRecording (now : Option (List ℕ)) (failed : Bool) (items : Stream) (recorders : List Recording) : Type 0 where
+  pub s : Seating
+  pub limits : Bounds
+  pub turns : ℕ
+  pub start : Option (List ℕ)
+  pub as_many : limits.threads ≡ length recorders
+  pub threads_are : s.limits.threads ≡ limits.threads
+  pub events_are : s.limits.events ≡ MAX_EVENTS
+  pub follows : Follows s limits turns start now failed items recorders
+
+-- the thread's recorder may take the event next
+pub record MayTake (recorders : List Recording) (thread : ℕ) (event : Event) : Type 0 where
+  pub recorder : Recording
+  pub here : slice_get recorders thread ≡ Some recorder
+  pub lawful : refusal recorder.limits recorder.thread (recorded recorder) event ≡ None
+
+-- an event is one that its thread's recorder may take next
+abbrev pub CanBeTaken : List Recording → Item → Type 0
+CanBeTaken recorders item = (thread : ℕ) (event : Event) → event_in item ≡ Some (thread, event) → MayTake recorders thread event
+
+-- the reads gave a text, of which the items told no more than this trace, for this fault
+pub record Stops (limits : Bounds) (turns : ℕ) (start now : Option (List ℕ)) (failed : Bool) (items : Stream) (fault : LinesFault) : Type 0 where
+  pub text : List ℕ
+  pub told : Trace
+  pub tells : HasTold limits turns start now failed items text told
+  pub why : HasFault items fault
+
+-- what a session of so many threads leaves where the items told this trace: receipts for the trace's lists, and for an empty one of each
+-- thread that the trace doesn't have; or why there is no report
+abbrev pub LeavesAll : ℕ → Stream → Trace → Result Ran StreamFault → Type 0
+LeavesAll threads items told (Ok ran) = IsDone items × ((more : ℕ) → threads ≡ length told.lists + more → All (IsReceiptOf (gathered_from ran.gathered) (padded more told.lists)) ran.receipts.items)
+LeavesAll threads items told (Err fault) = IsStreamFault items told fault
+
+-- the reads gave a text, the items told a trace of it, and a session of so many threads has recorded it
+pub record HasStreamed (limits : Bounds) (turns : ℕ) (start now : Option (List ℕ)) (failed : Bool) (threads : ℕ) (items : Stream) (ran : Result Ran StreamFault) : Type 0 where
+  pub text : List ℕ
+  pub told : Trace
+  pub tells : HasTold limits turns start now failed items text told
+  pub leaves : LeavesAll threads items told ran

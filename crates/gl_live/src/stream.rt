@@ -1,0 +1,95 @@
+//! The report of a text by a session that records it as it is read.
+ghost use Rattle.std.specs.Prelude.{◌≡◌, ◌≤◌, ℕ, Bool, [], List, Option, IfOk, OnOk};
+ghost use Rattle.std.specs.Vec.{vec_len, vec_capacity};
+ghost use Rattle.gl_event.specs.Bounds.{Bounds};
+ghost use Rattle.gl_event.specs.declared.limits.TheConstants.{MAX_THREADS, MAX_RING};
+ghost use Rattle.gl_shards.specs.declared.shard.TheConstants.{MAX_SHARDS};
+ghost use Rattle.gl_std.specs.Streaming.{CanBeAsked, HasTold, IsDone};
+ghost use Rattle.gl_std.specs.Trace.{nothing};
+ghost use Rattle.gl_live.specs.Streamed.{Becomes, FailsInTime, IsUnread};
+ghost use Rattle.gl_live.specs.bodies.Runs.{HasRun};
+ghost use Rattle.gl_live.specs.bodies.Seats.{gathered_from, AreReceipts};
+ghost use Rattle.gl_live.specs.bodies.Streams.{HasStreamed};
+
+use crate::faults::{LiveFault, StreamFault};
+use crate::live::conclude;
+use crate::run::Ran;
+use crate::streaming::{StreamOptions, prepare_to_read, read_session};
+use gl_cycles::Report;
+use gl_filters::Query;
+use gl_shards::{Gate, Table};
+use gl_std::{Items, Source};
+use std::alloc::Global;
+use std::sync::Wait;
+use std::thread::Threads;
+
+// The report of a session that has recorded a text, or why there is none.
+fn report_streamed(
+    rt: &(impl Threads + Sync),
+    ran: Result<Ran, StreamFault>,
+    tables: Vec<Table>,
+    query: &Query,
+) -> Result<Report, StreamFault>
+    requires run { IfOk ran (λ r. HasRun (vec_capacity tables) r.gathered r.served.items) }
+    requires ours { IfOk ran (λ r. AreReceipts (gathered_from r.gathered) r.receipts.items) }
+    requires empty { tables.items ≡ [] }
+    requires none { vec_len tables ≡ 0 }
+    ensures becomes { (limits : Bounds) (turns : ℕ) (start now : Option (List ℕ)) (failed : Bool) (items : Items) → IfOk ran (λ r. r.gathered.limits.threads ≡ limits.threads) → HasStreamed limits turns start now failed limits.threads items ran
+        → Becomes query.now limits turns start now failed items result }
+    ensures in_time { (old new : Option (List ℕ)) (items : Items) → OnOk ran (IsDone items) → FailsInTime old new items ran → FailsInTime old new items result }
+{
+    match ran {
+        Ok(ran) => match conclude(rt, ran, tables, query) {
+            Ok(report) => Ok(report),
+            Err(fault) => Err(StreamFault::Session(fault)),
+        },
+        Err(fault) => Err(fault),
+    }
+}
+
+/// The Goodlock report of the text that a source gives, by a session that records it as it is read:
+/// whatever the threads' timing, it is that of the trace of the text, where this names no more threads than
+/// there are lanes.
+///
+/// The items are those of the text, of which none was asked for yet, under a limit of as many threads as
+/// there are lanes; they are handed back. The calling thread reads, and records each event into the lane of
+/// its thread's number before it reads on; the collector runs in a thread of its own, which is started
+/// last; each worker is passed the gate. So edges are shipped before the text has ended. At its end, and
+/// at a fault, all lanes are closed. Where a thread couldn't be started, nothing is read.
+///
+/// # Errors
+///
+/// In this order: [`LiveFault::Memory`] where a growth was refused before the
+/// threads; [`LiveFault::Unconfirmed`] where a thread couldn't be started;
+/// [`StreamFault::Text`] with the fault that the items answered; what went wrong in the run; a worker, of
+/// the least shard, that had no memory; then why there is no report.
+pub fn stream_report<R: Threads + Wait + Sync, S: Source, G: Gate + Sync>(
+    rt: &R,
+    alloc: Global,
+    items: Items,
+    input: &mut S,
+    options: &StreamOptions,
+    query: &Query,
+    gate: &G,
+) -> (Result<Report, StreamFault>, Items)
+    requires usable { CanBeAsked items (S.failed input.old) }
+    requires unread { IsUnread options.now.threads (S.remaining input.old) (S.failed input.old) items }
+    requires some_thread { 1 ≤ options.now.threads }
+    requires threads_fit { options.now.threads ≤ MAX_THREADS }
+    requires some_shard { 1 ≤ options.now.shards }
+    requires shards_fit { options.now.shards ≤ MAX_SHARDS }
+    requires some_ring { 1 ≤ options.now.ring }
+    requires ring_fits { options.now.ring ≤ MAX_RING }
+    ensures becomes { (limits : Bounds) (turns : ℕ) (start : Option (List ℕ)) → limits.threads ≡ options.now.threads → HasTold limits turns start (S.remaining input.old) (S.failed input.old) items [] nothing
+        → Becomes query.now limits turns start (S.remaining input.new) (S.failed input.new) result.1 result.0 }
+    ensures in_time { FailsInTime (S.remaining input.old) (S.remaining input.new) result.1 result.0 }
+{
+    let Ok(session) = prepare_to_read(alloc, options) else {
+        return (Err(StreamFault::Session(LiveFault::Memory)), items);
+    };
+    let Ok(tables) = Vec::with_capacity(alloc, options.shards as usize) else {
+        return (Err(StreamFault::Session(LiveFault::Memory)), items);
+    };
+    let (ran, items) = read_session(rt, alloc, gate, session, items, input);
+    (report_streamed(rt, ran, tables, query), items)
+}

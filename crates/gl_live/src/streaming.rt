@@ -1,0 +1,348 @@
+//! A session that records a text as it is read.
+ghost use Rattle.std.specs.Prelude.{◌≡◌, ◌<◌, ◌≤◌, ◌+◌, ℕ, true, false, [], List, Ok, Option, length, IfErr, IfOk, IfSome, OnOk};
+ghost use Rattle.std.specs.List.{All};
+ghost use Rattle.std.specs.Vec.{vec_len, vec_capacity};
+ghost use Rattle.gl_event.specs.Bounds.{Bounds};
+ghost use Rattle.gl_event.specs.declared.events.Event.{Event as EventOf};
+ghost use Rattle.gl_event.specs.declared.limits.TheConstants.{MAX_THREADS, MAX_RING};
+ghost use Rattle.gl_shards.specs.declared.shard.TheConstants.{MAX_SHARDS};
+ghost use Rattle.gl_std.specs.Listed.{listed};
+ghost use Rattle.gl_std.specs.Names.{NameLists};
+ghost use Rattle.gl_std.specs.Streaming.{with_item, CanBeAsked, HasTold, IsDone};
+ghost use Rattle.gl_std.specs.Trace.{nothing};
+ghost use Rattle.gl_std.specs.declared.trace.Trace.{Trace};
+ghost use Rattle.gl_live.specs.Streamed.{FailsInTime, IsUnread};
+ghost use Rattle.gl_live.specs.bodies.Runs.{HasRun};
+ghost use Rattle.gl_live.specs.bodies.Seats.{Seating, gathered_from, AreReceipts, IsReceiptOf};
+ghost use Rattle.gl_live.specs.bodies.Streams.{AreRecorded, CanBeTaken, Follows, HasGathered, HasStreamed, HasTaken, IsOfThreads, IsReadyToRead, IsRecording, MayTake, Stops};
+
+use crate::faults::{LiveFault, StreamFault};
+use crate::recording::close_wait;
+use crate::room::keep;
+use crate::run::Ran;
+use crate::session::{SESSION, feeds, session_limits};
+use crate::working::{join_workers, start_workers};
+use gl_engine::{Collector, Gathered, Receipt, Recorder, open};
+use gl_event::{Event, Memory};
+use gl_shards::{Gate, Inlet, Outlet, Served};
+use gl_std::{Item, Items, LinesFault, Source};
+use std::alloc::Global;
+use std::snapshot::Snapshot;
+use std::sync::Wait;
+use std::thread;
+use std::thread::{Promise, PromisedHandle, Scope, Threads};
+
+/// How a session over a text is run.
+#[derive(Clone, Copy, Debug, PartialEq, Eq)]
+pub struct StreamOptions {
+    /// How many lanes there are, 1 to 1,024: as many threads as the text may name.
+    pub threads: u32,
+    /// How many workers there are, 1 to 16.
+    pub shards: u32,
+    /// The capacity of each lane and of each feed, 1 to 65,536.
+    pub ring: u32,
+}
+
+/// A session that is ready to record a text.
+#[derive(Drop)]
+pub struct ReadSession {
+    pub collector: Collector,
+    pub recorders: Vec<Recorder>,
+    pub outlets: Vec<Outlet>,
+    pub inlets: Vec<Inlet>,
+    pub receipts: Vec<Receipt>,
+    pub served: Vec<Served>,
+}
+
+/// A session with so many lanes.
+///
+/// It makes every growth of the run but those of the text, of the collector, of the workers and of the
+/// report.
+pub fn prepare_to_read(alloc: Global, options: &StreamOptions) -> Result<ReadSession, Memory>
+    requires some_thread { 1 ≤ options.now.threads }
+    requires threads_fit { options.now.threads ≤ MAX_THREADS }
+    requires some_shard { 1 ≤ options.now.shards }
+    requires shards_fit { options.now.shards ≤ MAX_SHARDS }
+    requires some_ring { 1 ≤ options.now.ring }
+    requires ring_fits { options.now.ring ≤ MAX_RING }
+    ensures ready { IfOk result IsReadyToRead }
+    ensures threads { IfOk result (λ session. length session.recorders.items ≡ options.now.threads) }
+    ensures shards { IfOk result (λ session. length session.outlets.items ≡ options.now.shards) }
+{
+    let limits = session_limits(options.threads, options.ring);
+    let (recorders, collector) = open(alloc, SESSION, &limits)?;
+    let (outlets, inlets) = feeds(alloc, options.shards, options.ring)?;
+    Ok(ReadSession {
+        collector,
+        recorders,
+        outlets,
+        inlets,
+        receipts: Vec::with_capacity(alloc, options.threads as usize)?,
+        served: Vec::with_capacity(alloc, options.shards as usize)?,
+    })
+}
+
+// Records the event by its thread's recorder, as soon as there is room for it.
+fn record_one<R: Wait>(rt: &R, recorders: &mut Vec<Recorder>, thread: u32, event: Event)
+    requires may_take { MayTake recorders.old.items thread event }
+    ensures count { length recorders.new.items ≡ length recorders.old.items }
+    ensures recorded { (s : Seating) (lists : List (List EventOf)) (threads : ℕ) → thread < threads → AreRecorded s lists recorders.old.items → AreRecorded s (listed threads lists thread event) recorders.new.items }
+{
+    let recorder = &mut recorders[thread as usize];
+    let Ok(_) = recorder.record_wait(rt, event) else {
+        unreachable!()
+    };
+}
+
+// Records the item where it is an event.
+fn record_item<R: Wait>(rt: &R, recorders: &mut Vec<Recorder>, item: Item)
+    requires can_be_taken { CanBeTaken recorders.old.items item }
+    ensures count { length recorders.new.items ≡ length recorders.old.items }
+    ensures recorded { (s : Seating) (names : NameLists) (told : Trace) → IsOfThreads (length names.threads) item → AreRecorded s told.lists recorders.old.items → AreRecorded s (with_item item names told).lists recorders.new.items }
+{
+    match item.event() {
+        Some((thread, event)) => record_one(rt, recorders, thread, event),
+        None => {}
+    }
+}
+
+// Reads the next item, and records it where it is an event. Whether the text goes on.
+fn record_next<R: Wait, S: Source>(
+    rt: &R,
+    items: &mut Items,
+    input: &mut S,
+    recorders: &mut Vec<Recorder>,
+) -> Result<bool, LinesFault>
+    requires usable { CanBeAsked items.old (S.failed input.old) }
+    requires recording { IsRecording (S.remaining input.old) (S.failed input.old) items.old recorders.old.items }
+    ensures usable { CanBeAsked items.new (S.failed input.new) }
+    ensures count { length recorders.new.items ≡ length recorders.old.items }
+    ensures follows { OnOk result ((s : Seating) (limits : Bounds) (turns : ℕ) (start : Option (List ℕ)) → Follows s limits turns start (S.remaining input.old) (S.failed input.old) items.old recorders.old.items
+        → Follows s limits turns start (S.remaining input.new) (S.failed input.new) items.new recorders.new.items) }
+    ensures done { result ≡ Ok false → IsDone items.new }
+    ensures stops { IfErr result (λ fault. (s : Seating) (limits : Bounds) (turns : ℕ) (start : Option (List ℕ)) → Follows s limits turns start (S.remaining input.old) (S.failed input.old) items.old recorders.old.items
+        → Stops limits turns start (S.remaining input.new) (S.failed input.new) items.new fault) }
+{
+    match items.next(input) {
+        Ok(Item::End) => Ok(false),
+        Ok(item) => {
+            record_item(rt, recorders, item);
+            Ok(true)
+        }
+        Err(fault) => Err(fault),
+    }
+}
+
+// Reads the items one after the other, and records each event before it reads on, up to the end or the
+// first fault.
+fn record_items<R: Wait, S: Source>(
+    rt: &R,
+    items: &mut Items,
+    input: &mut S,
+    recorders: &mut Vec<Recorder>,
+) -> Result<(), LinesFault>
+    requires usable { CanBeAsked items.old (S.failed input.old) }
+    requires recording { IsRecording (S.remaining input.old) (S.failed input.old) items.old recorders.old.items }
+    ensures count { length recorders.new.items ≡ length recorders.old.items }
+    ensures follows { OnOk result ((s : Seating) (limits : Bounds) (turns : ℕ) (start : Option (List ℕ)) → Follows s limits turns start (S.remaining input.old) (S.failed input.old) items.old recorders.old.items
+        → Follows s limits turns start (S.remaining input.new) (S.failed input.new) items.new recorders.new.items) }
+    ensures done { OnOk result (IsDone items.new) }
+    ensures stops { IfErr result (λ fault. (s : Seating) (limits : Bounds) (turns : ℕ) (start : Option (List ℕ)) → Follows s limits turns start (S.remaining input.old) (S.failed input.old) items.old recorders.old.items
+        → Stops limits turns start (S.remaining input.new) (S.failed input.new) items.new fault) }
+{
+    for _ in rt.forever() {
+        match record_next(rt, items, input, recorders) {
+            Ok(true) => {}
+            Ok(false) => return Ok(()),
+            Err(fault) => return Err(fault),
+        }
+    }
+    unreachable!()
+}
+
+// Closes all recorders, and keeps their receipts.
+fn close_all<R: Wait>(rt: &R, recorders: Vec<Recorder>, receipts: &mut Vec<Receipt>)
+    requires room { vec_len receipts.old + length recorders.items ≤ vec_capacity receipts.old }
+    ensures { (s : Seating) (lists : List (List EventOf)) → All (HasTaken s lists) recorders.items → All (IsReceiptOf s lists) receipts.old.items → All (IsReceiptOf s lists) receipts.new.items }
+{
+    for recorder in recorders {
+        if let Some(receipt) = close_wait(rt, recorder) {
+            keep(receipts, receipt);
+        }
+    }
+}
+
+/// A collector's thread leaves what it gathered of its session, with these outlets.
+#[derive(Drop)]
+pub struct GatheredBy {
+    collector: Snapshot<Collector>,
+    outlets: Snapshot<Vec<Outlet>>,
+}
+
+impl Promise<Gathered> for GatheredBy {
+    ghost kept_by = { λ p gathered. HasGathered p.collector.value p.outlets.value.items gathered };
+}
+
+// A collector's thread.
+type Gathering = PromisedHandle<Gathered, GatheredBy>;
+
+// Starts the collector's thread.
+fn start_collector<'s, E, R: Threads + Wait + Sync>(
+    scope: &'s Scope<'s, E>,
+    rt: &'s R,
+    collector: Collector,
+    outlets: Vec<Outlet>,
+) -> Option<Gathering>
+    requires some { 1 ≤ length outlets.items }
+    requires fit { length outlets.items ≤ MAX_SHARDS }
+    requires unsent { All (λ o. o.sent ≡ []) outlets.items }
+    ensures collector { IfSome result (λ h. h.promise.collector.value ≡ collector) }
+    ensures outlets { IfSome result (λ h. h.promise.outlets.value.items ≡ outlets.items) }
+{
+    let promise = GatheredBy {
+        collector: Snapshot::of(&collector),
+        outlets: Snapshot::of(&outlets),
+    };
+    let gathering = scope.spawn_with(
+        promise,
+        move || -> Gathered
+            requires some { 1 ≤ length outlets.items }
+            requires fit { length outlets.items ≤ MAX_SHARDS }
+            requires unsent { All (λ o. o.sent ≡ []) outlets.items }
+            ensures { HasGathered collector outlets.items result }
+        { gather(rt, collector, outlets) },
+    );
+    gathering.ok()
+}
+
+// Runs the collector.
+fn gather<R: Wait>(rt: &R, collector: Collector, outlets: Vec<Outlet>) -> Gathered
+    requires some { 1 ≤ length outlets.items }
+    requires fit { length outlets.items ≤ MAX_SHARDS }
+    requires unsent { All (λ o. o.sent ≡ []) outlets.items }
+    ensures { HasGathered collector outlets.items result }
+{
+    collector.run(rt, outlets)
+}
+
+// Starts the workers and the collector, and then reads and records.
+fn record_text<'s, E, R: Threads + Wait + Sync, S: Source, G: Gate + Sync>(
+    scope: &'s Scope<'s, E>,
+    rt: &'s R,
+    alloc: Global,
+    gate: &'s G,
+    session: ReadSession,
+    items: &mut Items,
+    input: &mut S,
+) -> Result<Ran, StreamFault>
+    requires ready { IsReadyToRead session }
+    requires usable { CanBeAsked items.old (S.failed input.old) }
+    requires unread { IsUnread (length session.recorders.items) (S.remaining input.old) (S.failed input.old) items.old }
+    ensures ours { IfOk result (λ ran. AreReceipts (gathered_from ran.gathered) ran.receipts.items) }
+    ensures run { IfOk result (λ ran. HasRun (length session.outlets.items) ran.gathered ran.served.items) }
+    ensures threads { IfOk result (λ ran. ran.gathered.limits.threads ≡ length session.recorders.items) }
+    ensures streamed { (limits : Bounds) (turns : ℕ) (start : Option (List ℕ)) → HasTold limits turns start (S.remaining input.old) (S.failed input.old) items.old [] nothing
+        → HasStreamed limits turns start (S.remaining input.new) (S.failed input.new) (length session.recorders.items) items.new result }
+    ensures done { OnOk result (IsDone items.new) }
+    ensures in_time { FailsInTime (S.remaining input.old) (S.remaining input.new) items.new result }
+{
+    let ReadSession {
+        collector,
+        mut recorders,
+        outlets,
+        inlets,
+        mut receipts,
+        mut served,
+    } = session;
+    let Ok(mut workers) = Vec::with_capacity(alloc, inlets.len()) else {
+        return Err(StreamFault::Session(LiveFault::Memory));
+    };
+    if !start_workers(scope, rt, alloc, inlets, gate, &mut workers) {
+        return Err(StreamFault::Session(LiveFault::Unconfirmed));
+    }
+    let Some(gathering) = start_collector(scope, rt, collector, outlets) else {
+        return Err(StreamFault::Session(LiveFault::Unconfirmed));
+    };
+    let read = record_items(rt, items, input, &mut recorders);
+    close_all(rt, recorders, &mut receipts);
+    let gathered = gathering.join(rt);
+    join_workers(rt, workers, &mut served);
+    match read {
+        Ok(()) => Ok(Ran {
+            gathered,
+            receipts,
+            served,
+        }),
+        Err(fault) => Err(StreamFault::Text(fault)),
+    }
+}
+
+// As `record_text`, with the items and the source handed back.
+fn lend_text<'s, 'x, E, R: Threads + Wait + Sync, S: Source, G: Gate + Sync>(
+    scope: &'s Scope<'s, E>,
+    rt: &'s R,
+    alloc: Global,
+    gate: &'s G,
+    session: ReadSession,
+    items: Items,
+    input: &'x mut S,
+) -> (Result<Ran, StreamFault>, Items, &'x mut S)
+    requires ready { IsReadyToRead session }
+    requires usable { CanBeAsked items (S.failed input.old) }
+    requires unread { IsUnread (length session.recorders.items) (S.remaining input.old) (S.failed input.old) items }
+    ensures ours { IfOk result.0 (λ ran. AreReceipts (gathered_from ran.gathered) ran.receipts.items) }
+    ensures same { result.2.ghost_name ≡ input.entry.ghost_name }
+    ensures run { IfOk result.0 (λ ran. HasRun (length session.outlets.items) ran.gathered ran.served.items) }
+    ensures threads { IfOk result.0 (λ ran. ran.gathered.limits.threads ≡ length session.recorders.items) }
+    ensures streamed { (limits : Bounds) (turns : ℕ) (start : Option (List ℕ)) → HasTold limits turns start (S.remaining input.old) (S.failed input.old) items [] nothing
+        → HasStreamed limits turns start (S.remaining result.2.now) (S.failed result.2.now) (length session.recorders.items) result.1 result.0 }
+    ensures done { OnOk result.0 (IsDone result.1) }
+    ensures in_time { FailsInTime (S.remaining input.old) (S.remaining result.2.now) result.1 result.0 }
+{
+    let mut items = items;
+    let ran = record_text(scope, rt, alloc, gate, session, &mut items, input);
+    (ran, items, input)
+}
+
+/// Runs the session over the text that the source gives: the calling thread reads and records, each
+/// worker fills a table, and the collector collects in a thread of its own.
+///
+/// It returns once all threads have ended.
+pub fn read_session<R: Threads + Wait + Sync, S: Source, G: Gate + Sync>(
+    rt: &R,
+    alloc: Global,
+    gate: &G,
+    session: ReadSession,
+    items: Items,
+    input: &mut S,
+) -> (Result<Ran, StreamFault>, Items)
+    requires ready { IsReadyToRead session }
+    requires usable { CanBeAsked items (S.failed input.old) }
+    requires unread { IsUnread (length session.recorders.items) (S.remaining input.old) (S.failed input.old) items }
+    ensures ours { IfOk result.0 (λ ran. AreReceipts (gathered_from ran.gathered) ran.receipts.items) }
+    ensures run { IfOk result.0 (λ ran. HasRun (length session.outlets.items) ran.gathered ran.served.items) }
+    ensures threads { IfOk result.0 (λ ran. ran.gathered.limits.threads ≡ length session.recorders.items) }
+    ensures streamed { (limits : Bounds) (turns : ℕ) (start : Option (List ℕ)) → HasTold limits turns start (S.remaining input.old) (S.failed input.old) items [] nothing
+        → HasStreamed limits turns start (S.remaining input.new) (S.failed input.new) (length session.recorders.items) result.1 result.0 }
+    ensures done { OnOk result.0 (IsDone result.1) }
+    ensures in_time { FailsInTime (S.remaining input.old) (S.remaining input.new) result.1 result.0 }
+{
+    let (ran, items, _input) = thread::scope(
+        thread::scope_env(),
+        rt,
+        move |scope| -> (Result<Ran, StreamFault>, Items, &mut S)
+            requires ready { IsReadyToRead session }
+            requires usable { CanBeAsked items (S.failed input.now) }
+            requires unread { IsUnread (length session.recorders.items) (S.remaining input.now) (S.failed input.now) items }
+            ensures ours { IfOk result.0 (λ ran. AreReceipts (gathered_from ran.gathered) ran.receipts.items) }
+            ensures same { result.2.ghost_name ≡ input.entry.ghost_name }
+            ensures run { IfOk result.0 (λ ran. HasRun (length session.outlets.items) ran.gathered ran.served.items) }
+            ensures threads { IfOk result.0 (λ ran. ran.gathered.limits.threads ≡ length session.recorders.items) }
+            ensures streamed { (limits : Bounds) (turns : ℕ) (start : Option (List ℕ)) → HasTold limits turns start (S.remaining input.entry.now) (S.failed input.entry.now) items [] nothing
+                → HasStreamed limits turns start (S.remaining result.2.now) (S.failed result.2.now) (length session.recorders.items) result.1 result.0 }
+            ensures done { OnOk result.0 (IsDone result.1) }
+            ensures in_time { FailsInTime (S.remaining input.entry.now) (S.remaining result.2.now) result.1 result.0 }
+        { lend_text(scope, rt, alloc, gate, session, items, input) },
+    );
+    (ran, items)
+}

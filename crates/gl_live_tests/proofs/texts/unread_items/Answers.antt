@@ -1,0 +1,14 @@
+use Rattle.std.proofs.Common.{ap}
+use Rattle.gl_event.specs.Bounds.{Bounds}
+use Rattle.gl_live_tests.proofs.texts.unread_items.Goals as goal
+
+-- nothing was asked for yet
+pub returns-clause-unread : goal.returns-clause-unread
+returns-clause-unread c = λ now.
+    record {
+      limits = c.in_ok-limits.limits;
+      turns = 1000;
+      start = now;
+      as_many = ap (λ (b : Bounds). b.threads) c.in_ok-limits.ensures.kept;
+      tells = c.in_ok-new.ensures.tells now;
+    }
