@@ -1,15 +1,13 @@
 -- The edges of a list's first events don't depend on what comes after them.
 use Rattle.std.proofs.Common.{◌≡◌, ℕ, zero, suc, ◌+◌, ◌<◌, ◌≤◌, List, [], ◌∷◌, ◌++◌, length, refl, sym, ap, ◌∙◌, arith}
-use Rattle.std.specs.Prelude.{Some, take, slice_get}
+use Rattle.std.specs.Prelude.{take, slice_get}
 use Rattle.std.specs.List.{flat_map, range_with_len}
 use Rattle.std.specs.Option.{option_map_or}
 use Rattle.std.proofs.lemmas.List.{append-nil, take-append-le, length_push}
 use Rattle.std.proofs.lemmas.List.Concat.{flat_map-append}
 use Rattle.gl_event.specs.declared.events.Event.{Event}
-use Rattle.gl_event.proofs.Depths.{slice_get_before, slice_get_last}
+use Rattle.gl_event.proofs.Depths.{slice_get_before}
 use Rattle.gl_edges.specs.Edges.{edges_after, edges_at, edges_below, edges_of_list}
-use Rattle.gl_edges.specs.declared.edge.Edge.{Edge}
-use Rattle.gl_edges.specs.declared.edge.Sample.{Sample}
 use Rattle.gl_edges.proofs.Gathering.{range_push}
 
 -- the edges that an event makes are those that it makes in the list up to it

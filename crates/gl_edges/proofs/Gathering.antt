@@ -1,5 +1,5 @@
 -- A table that grows by the edges of one event after another.
-use Rattle.std.proofs.Common.{◌≡◌, ℕ, zero, suc, ◌+◌, ◌<◌, ◌≤◌, inl, inr, Bool, true, false, cond, eqb, List, [], ◌∷◌, ◌++◌, length, get_or, map, take, Some, None, refl, sym, ap, subst, ◌∙◌, arith}
+use Rattle.std.proofs.Common.{◌≡◌, ◌≢◌, ℕ, zero, suc, ◌+◌, ◌<◌, ◌≤◌, inl, inr, Bool, true, false, cond, eqb, List, [], ◌∷◌, ◌++◌, length, get_or, map, take, Some, None, refl, sym, ap, subst, ◌∙◌, arith}
 use Rattle.std.specs.Prelude.{Contains, slice_get}
 use Rattle.std.specs.BTreeMap.{BTreeMap}
 use Rattle.std.specs.FinMap as table
@@ -13,6 +13,7 @@ use Rattle.std.proofs.lemmas.List.Elements.{Contains-append_left, Contains-appen
 use Rattle.gl_event.specs.Bounds.{greatest}
 use Rattle.gl_event.specs.Lawful.{IsLawful, refusal}
 use Rattle.gl_event.specs.Events.{depth, held, entry_of}
+use Rattle.gl_event.specs.Standing.{StandsFor}
 use Rattle.gl_event.specs.declared.events.Event.{Event}
 use Rattle.gl_event.specs.declared.events.LockMode.{LockMode}
 use Rattle.gl_event.specs.declared.held.HeldEntry.{HeldEntry}
@@ -27,7 +28,7 @@ use Rattle.gl_edges.specs.declared.edge.Sample.{Sample}
 use Rattle.gl_edges.specs.declared.tracker.Tracker.{Tracker}
 use Rattle.gl_edges.specs.Laws.{AreAmong}
 use Rattle.gl_edges.proofs.Least.{same_table}
-use Rattle.gl_edges.proofs.Membership.{contains_map, contains_map_from, held_where_deep, deep_where_held}
+use Rattle.gl_edges.proofs.Membership.{contains_none, contains_map, contains_map_from, held_where_deep, deep_where_held}
 
 -- a table of the same pairs
 pub table_same : (known : BTreeMap Edge Sample) (xs ys : List (Edge × Sample)) → xs ≡ ys → IsTableOf known xs → IsTableOf known ys
@@ -123,6 +124,15 @@ module _ (thread : ℕ) (es : List Event) (tracker : Tracker) (tracked : Tracks 
       (contains_map (pair_for tracker wanted mode loc) (entry_of es lock) tracker.held entry)
 
 -- a lock that the test doesn't find isn't held
+-- an acquire of a lock that isn't held makes an edge where another is held
+pub wanting_some : (thread : ℕ) (es : List Event) (wanted : ℕ) (mode : LockMode) (loc : ℕ) (entries : List HeldEntry) → depth es wanted ≡ 0 → StandsFor es entries → entries ≢ []
+    → edges_wanting thread es wanted mode loc ≢ []
+wanting_some thread es wanted mode loc [] free stands some none = absurd (some refl)
+wanting_some thread es wanted mode loc (h ∷ hs) free stands some none =
+    let deep : 0 < depth es h.lock = All-contains (λ h. 0 < depth es h.lock) (h ∷ hs) h stands.positive (0, omega arith, refl) in
+    let made = contains_map (pair_at thread es wanted mode loc) h.lock (held es) (held_where_deep es h.lock deep) in
+    contains_none _ (subst (λ pairs. Contains pairs (pair_at thread es wanted mode loc h.lock)) (sym (wanting_is thread es wanted mode loc free) ∙ none) made)
+
 pub not_deep : (b : Bool) (d : ℕ) → (0 < d → b ≡ true) → b ≡ false → d ≡ 0
 not_deep b d found missed =
     elim (cases_lt 0 d) [

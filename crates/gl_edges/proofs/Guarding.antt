@@ -1,5 +1,5 @@
 -- Ascending lists under a total order: the ascending list of a list that ascends is itself, and lists with the same members have the same one.
-use Rattle.std.proofs.Common.{◌≡◌, ℕ, Bool, true, false, eqb, List, [], ◌∷◌, map, Option, Some, None, refl, sym, ap, subst, cond, ◌∙◌, arith}
+use Rattle.std.proofs.Common.{◌≡◌, ℕ, Bool, true, false, eqb, List, [], ◌∷◌, map, Option, Some, None, refl, sym, ap, subst, cond, ◌∙◌}
 use Rattle.std.specs.Prelude.{◌||◌, Contains, is_some}
 use Rattle.std.specs.Cmp.{IsTotalOrder, nat_cmp_total, nat_eq_equiv, tied_itself, unsigned_tied}
 use Rattle.std.specs.FinMap as fin

@@ -15,7 +15,7 @@ use Rattle.gl_event.specs.declared.events.Event.{Event}
 use Rattle.gl_event.specs.declared.held.HeldEntry.{HeldEntry}
 use Rattle.gl_event.proofs.HeldLemmas.{entry_of-lock, entry_of-mode}
 use Rattle.gl_edges.specs.Edges.{guards}
-use Rattle.gl_edges.specs.Guards.{guard_cmp, guard_of, guard_total, guards_of, ascending_guards}
+use Rattle.gl_edges.specs.Guards.{guard_cmp, guard_of, guard_total, guards_of}
 use Rattle.gl_edges.specs.declared.guards.Guard.{Guard}
 use Rattle.gl_edges.proofs.Guarding.{ascending_from, same_members, sorted_stays}
 use Rattle.gl_edges.proofs.Membership.{contains_map, contains_map_from, held_where_deep, deep_where_held}

@@ -8,7 +8,7 @@ use Rattle.std.specs.declared.cmp.Ordering.TheVariants.{Less, Equal, Greater}
 use Rattle.std.proofs.lemmas.Bool.{cases_lt, lt-ltb}
 use Rattle.std.proofs.lemmas.List.{take-take, take-append-drop, length-take-le}
 use Rattle.std.proofs.lemmas.Option.{slice_get_within, slice_get-get_or}
-use Rattle.gl_event.specs.Events.{depth, location, lock_mode, segment, held_mode, opened, opens, entry_of}
+use Rattle.gl_event.specs.Events.{depth, location, segment, held_mode, opened, opens, entry_of}
 use Rattle.gl_event.specs.declared.events.Event.{Event}
 use Rattle.gl_event.specs.declared.events.Event.TheVariants.{Acquire, Release}
 use Rattle.gl_event.specs.declared.events.LockMode.{LockMode}

@@ -1,5 +1,5 @@
 -- The orders of edges and of samples are total, and only equal ones tie.
-use Rattle.std.proofs.Common.{◌≡◌, ◌&&◌, true, eqb, List, [], ◌∷◌, refl, rules, arith}
+use Rattle.std.proofs.Common.{◌≡◌, true, eqb, List, [], ◌∷◌, refl, rules, arith}
 use Rattle.std.proofs.lemmas.Bool.{and_parts, eqb-true}
 use Rattle.std.specs.Cmp.{IsTotalOrder, nat_cmp_total, on_total, then_total}
 use Rattle.std.specs.Cmp.Lexicographic.{pointwise, lists_total}

@@ -1,11 +1,11 @@
 -- What one event adds to an ascending list of edges.
-use Rattle.std.proofs.Common.{◌≡◌, ℕ, zero, suc, ◌+◌, ◌-◌, ◌<◌, ◌≤◌, inl, inr, List, [], ◌∷◌, ◌++◌, length, get_or, map, take, Some, refl, sym, ap, subst, ◌∙◌, arith}
-use Rattle.std.specs.Prelude.{Contains, Any, slice_get, IfSome}
+use Rattle.std.proofs.Common.{◌≡◌, ℕ, zero, suc, ◌+◌, ◌-◌, ◌<◌, ◌≤◌, inl, inr, List, [], ◌∷◌, ◌++◌, length, get_or, map, take, Some, Result, Ok, Err, refl, sym, ap, subst, ◌∙◌, arith}
+use Rattle.std.specs.Prelude.{Contains, slice_get, IfSome, OnErr, true, ◌==◌}
 use Rattle.std.specs.List.Sorted.{IsStrictlySortedBy}
 use Rattle.std.specs.Ordering.{nat_cmp, ordering_then}
 use Rattle.std.specs.declared.cmp.Ordering.{Ordering}
 use Rattle.std.specs.declared.cmp.Ordering.TheVariants.{Less, Equal}
-use Rattle.std.proofs.lemmas.Bool.{cases_lt}
+use Rattle.std.proofs.lemmas.Bool.{cases_lt, ne_eqb, false≢true}
 use Rattle.std.proofs.lemmas.List.{length_push, length-map, get_or-map, get_or_append_left, get_or_push, map_push, map_more, take_all, length-take-le, get_or-take}
 use Rattle.std.proofs.lemmas.List.Elements.{All-contains}
 use Rattle.std.proofs.lemmas.Map.Keys.{Less-from_sorted, sorted_from_all_adjacent}
@@ -16,6 +16,7 @@ use Rattle.gl_event.specs.declared.events.Event.TheVariants.{Acquire, Release, T
 use Rattle.gl_event.specs.declared.events.LockMode.{LockMode}
 use Rattle.gl_event.proofs.Depths.{slice_get_last}
 use Rattle.gl_event.specs.Events.{depth, held, entry_of}
+use Rattle.gl_event.specs.Standing.{StandsFor}
 use Rattle.gl_event.specs.declared.events.Event.{Event}
 use Rattle.gl_event.specs.declared.held.HeldEntry.{HeldEntry}
 use Rattle.gl_edges.specs.Edges.{guards, edge_of, pair_at, edges_wanting, edges_after, edges_at}
@@ -24,12 +25,29 @@ use Rattle.gl_edges.specs.Tracking.{Tracks}
 use Rattle.gl_edges.specs.declared.edge.Edge.{Edge}
 use Rattle.gl_edges.specs.declared.edge.Sample.{Sample}
 use Rattle.gl_edges.specs.declared.tracker.Tracker.{Tracker}
+use Rattle.gl_edges.proofs.Membership.{contains_none, deep_where_held}
 use Rattle.gl_edges.proofs.Orders.{edge_cmp_total}
 use Rattle.std.proofs.lemmas.Simd.{map-map}
 use Rattle.gl_edges.specs.Guards.{guards_of}
 use Rattle.gl_edges.specs.declared.guards.Guard.{Guard}
 use Rattle.gl_edges.proofs.Holding.{guards_are, guards-locks, held_ascends, sorted_mapped}
 use Rattle.gl_edges.proofs.Gathering.{pair_for_is, wanting_is, wanting_none, edges_at_is}
+
+-- what holds anyway holds where a call fails
+pub on_err : {X E A : Type 0} (answer : Result X E) → A → OnErr answer A
+on_err (Ok x) a = tt
+on_err (Err e) a = a
+
+-- a list of no elements
+pub nothing_there : {X : Type 0} (xs : List X) → (length xs == 0) ≡ true → xs ≡ []
+nothing_there [] none = refl
+nothing_there (x ∷ xs) none = absurd (false≢true (sym (ne_eqb (length (x ∷ xs)) 0 (λ e. absurd (omega arith))) ∙ none))
+
+-- who has no entry holds no lock
+pub none_held : (es : List Event) (locks : List ℕ) → held es ≡ locks → StandsFor es [] → locks ≡ []
+none_held es [] is stands = refl
+none_held es (lock ∷ locks) is stands =
+    absurd (contains_none _ (stands.whole lock (deep_where_held es lock (subst (λ ls. Contains ls lock) (sym is) (0, omega arith, refl)))))
 
 -- ---- an edge above the last one
 

@@ -1,5 +1,5 @@
 -- Numbers of guard sets.
-use Rattle.std.specs.Prelude.{◌≡◌, ℕ, ◌<◌, List, map, length, take, slice_get, Option, Some, Contains}
+use Rattle.std.specs.Prelude.{◌≡◌, ℕ, ◌<◌, List, map, length, take, slice_get, Some, Contains}
 use Rattle.gl_edges.specs.declared.edge.Edge.{Edge}
 use Rattle.gl_edges.specs.declared.edge.Sample.{Sample}
 use Rattle.gl_edges.specs.declared.guards.Guard.{Guard}

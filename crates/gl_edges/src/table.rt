@@ -24,8 +24,8 @@ fn has_seen(table: &BTreeMap<Edge, Sample>, edge: &Edge, sample: &Sample) -> boo
     }
 }
 
-/// Puts the edge into the table. An edge that is there already keeps the lesser sample, and takes
-/// no memory; only a new edge is copied.
+/// Puts the edge into the table. An edge that is there already keeps the lesser sample. It is copied
+/// where it is new, or where its sample was greater.
 pub(crate) fn keep(
     alloc: Global,
     table: &mut BTreeMap<Edge, Sample>,

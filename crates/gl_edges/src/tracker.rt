@@ -1,5 +1,5 @@
 //! A thread that is followed event by event.
-ghost use Rattle.std.specs.Prelude.{◌≡◌, ℕ, List, [], ◌∷◌, ◌++◌, map, length, Contains, Any, IfOk, OnOk, OnErr};
+ghost use Rattle.std.specs.Prelude.{◌≡◌, ◌≢◌, ℕ, List, [], ◌∷◌, ◌++◌, map, length, Contains, Any, IfOk, OnOk, OnErr};
 ghost use Rattle.gl_event.specs.declared.events.Event.{Event};
 ghost use Rattle.gl_event.specs.Events as events;
 ghost use Rattle.gl_edges.specs.Edges.{edges_at, edges_after, pair_at};
@@ -38,7 +38,7 @@ impl Tracker {
 
     /// Takes the next event, which has to be lawful next under the greatest limits, and answers the
     /// edges that it makes, ascending, each with its sample. Where there is no memory for them the
-    /// event isn't taken.
+    /// event isn't taken; one that makes no edge takes no memory.
     ///
     /// An acquire takes a step for each pair of locks that are held.
     pub fn step(&mut self, alloc: Global, event: Event) -> Result<Vec<(Edge, Sample)>, Memory>
@@ -47,6 +47,7 @@ impl Tracker {
         ensures ascending { IfOk result (λ v. AreAscending v.items) }
         ensures follows { OnOk result ((thread : ℕ) (es : List Event) → Tracks thread es self.old → Tracks thread (es ++ event ∷ []) self.new) }
         ensures unchanged { OnErr result (self.new ≡ self.old) }
+        ensures room { (thread : ℕ) (es : List Event) → Tracks thread es self.old → OnErr result (edges_at thread (es ++ event ∷ []) (length es) ≢ []) }
     {
         let edges = self.next_edges(alloc, &event)?;
         self.advance(event);
@@ -54,9 +55,10 @@ impl Tracker {
     }
 
     /// The edges that the event would make as the next one, ascending: what `step` answers. It isn't
-    /// taken.
+    /// taken. Where it makes none no memory is taken.
     pub fn next_edges(&self, alloc: Global, event: &Event) -> Result<Vec<(Edge, Sample)>, Memory>
-        ensures { (thread : ℕ) (es : List Event) → Tracks thread es self.now → IfOk result (λ v. v.items ≡ edges_after thread es event.now) }
+        ensures edges { (thread : ℕ) (es : List Event) → Tracks thread es self.now → IfOk result (λ v. v.items ≡ edges_after thread es event.now) }
+        ensures room { (thread : ℕ) (es : List Event) → Tracks thread es self.now → OnErr result (edges_after thread es event.now ≢ []) }
     {
         let Event::Acquire { lock, mode, loc } = *event else {
             return Ok(Vec::new(alloc));
@@ -75,14 +77,19 @@ impl Tracker {
         mode: LockMode,
         loc: LocId,
     ) -> Result<Vec<(Edge, Sample)>, Memory>
-        ensures { (thread : ℕ) (es : List Event) → Tracks thread es self.now → IfOk result (λ v. v.items ≡ map (pair_at thread es wanted mode loc) (events.held es)) }
+        ensures edges { (thread : ℕ) (es : List Event) → Tracks thread es self.now → IfOk result (λ v. v.items ≡ map (pair_at thread es wanted mode loc) (events.held es)) }
+        ensures room { OnErr result (self.now.held ≢ []) }
     {
+        let entries = self.held.entries();
+        if entries.is_empty() {
+            return Ok(Vec::new(alloc));
+        }
         let mut guards = Guards::empty(alloc);
-        guards.refill(self.held.entries())?;
+        guards.refill(entries)?;
         let mut pairs = Vec::new(alloc);
         let locks = guards.as_slice();
         for guard in locks {
-            let entry = entry_for(self.held.entries(), guard.lock);
+            let entry = entry_for(entries, guard.lock);
             let edge = Edge {
                 thread: self.thread,
                 held: entry.lock,

@@ -36,12 +36,13 @@ pub fn append_both<X: Copy, Y: Copy>(
 }
 
 /// Makes room for one more element in each of two lists, whose elements stay, so that the next
-/// append to either takes no memory.
+/// append to either takes no memory. Where both have room already no memory is taken.
 pub fn make_room<X: Copy, Y: Copy>(xs: &mut Vec<X>, ys: &mut Vec<Y>) -> Result<(), Memory>
     ensures first { xs.new.items ≡ xs.old.items }
     ensures second { ys.new.items ≡ ys.old.items }
     ensures first_room { OnOk result (vec_len xs.new < vec_capacity xs.new) }
     ensures second_room { OnOk result (vec_len ys.new < vec_capacity ys.new) }
+    ensures room { vec_len xs.old < vec_capacity xs.old → vec_len ys.old < vec_capacity ys.old → IsOk result }
 {
     xs.reserve(1)?;
     ys.reserve(1)?;

@@ -174,7 +174,8 @@ impl Intake {
 
     /// Makes room for the note, where it is its thread's next one, and accepts nothing: an offer of
     /// the note then takes no memory. An end mark has room made for it as an event has. Otherwise
-    /// the answer is the first reason why not, as that of `offer`.
+    /// the answer is the first reason why not, as that of `offer`. Where there is room already it takes
+    /// no memory.
     ///
     /// It looks through the at most 64 locks that the thread holds. Where two lists have to grow, each
     /// is moved.
@@ -182,6 +183,7 @@ impl Intake {
         ensures next { OnOk result (note_refusal self.old.limits self.old.stream note.now ≡ None) }
         ensures reserved { OnOk result (1 ≤ spare_of self.new note.now.thread) }
         ensures refused { IfErr result (λ why. IsRefusedFor self.old.limits self.old.stream note.now why) }
+        ensures room { 1 ≤ spare_of self.old note.now.thread → result ≢ Err Memory }
         ensures limits { self.new.limits ≡ self.old.limits }
         ensures stream { self.new.stream ≡ self.old.stream }
     {
@@ -227,6 +229,7 @@ impl Intake {
     fn reserve(&mut self, thread: ThreadId) -> Result<(), Memory>
         requires { thread < self.old.limits.threads }
         ensures reserved { OnOk result (1 ≤ spare_of self.new thread) }
+        ensures room { 1 ≤ spare_of self.old thread → IsOk result }
         ensures limits { self.new.limits ≡ self.old.limits }
         ensures stream { self.new.stream ≡ self.old.stream }
     {

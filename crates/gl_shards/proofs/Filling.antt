@@ -1,6 +1,6 @@
 -- A table that is filled edge by edge has each edge once, with its least sample.
-use Rattle.std.proofs.Common.{◌≡◌, inl, inr, true, false, List, [], ◌∷◌, ◌++◌, Option, Some, None, refl, sym, ap, ◌∙◌, cond}
-use Rattle.std.specs.Prelude.{Contains}
+use Rattle.std.proofs.Common.{◌≡◌, inl, inr, true, false, List, [], ◌∷◌, ◌++◌, Option, Some, None, Result, Ok, Err, refl, sym, ap, ◌∙◌, cond}
+use Rattle.std.specs.Prelude.{Contains, OnErr}
 use Rattle.std.specs.BTreeMap as tree
 use Rattle.std.specs.BTreeMap.{BTreeMap, IsOrdered, is_at}
 use Rattle.std.specs.Cmp.{eq_by_cmp_equiv}
@@ -35,6 +35,12 @@ found_is_there pairs edge sample is = Contains-from_lookup {eq = eq_by_cmp edge_
 pub there_is_found : (pairs : List (Edge × Sample)) (edge : Edge) (sample : Sample) → AreAscending pairs → Contains pairs (edge, sample) → lookup (is_at (edge_cmp edge)) pairs ≡ Some sample
 there_is_found pairs edge sample ascends at =
     lookup-from_Contains {eq = eq_by_cmp edge_cmp} (eq_by_cmp_equiv edge_cmp_total) edge sample pairs (IsDistinct-from_sorted edge_cmp (keys_of pairs) ascends) at
+
+-- an edge that isn't found isn't there, with whatever sample: what a call may say where it fails
+pub never_there : {X E : Type 0} (answer : Result X E) (pairs : List (Edge × Sample)) (edge : Edge) → AreAscending pairs → lookup (is_at (edge_cmp edge)) pairs ≡ None
+    → OnErr answer ((known : Sample) → ¬ Contains pairs (edge, known))
+never_there (Ok x) pairs edge ascends none = tt
+never_there (Err e) pairs edge ascends none = λ known at. let there = there_is_found pairs edge known ascends at in absurd (cc)
 
 -- what is found in an ascending list is what the table of its pairs answers
 same_found : (pairs : List (Edge × Sample)) → AreAscending pairs → (edge : Edge) (found answer : Option Sample) → lookup (is_at (edge_cmp edge)) pairs ≡ found → Answers pairs edge answer → found ≡ answer

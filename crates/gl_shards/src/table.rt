@@ -53,6 +53,7 @@ impl Table {
     pub fn insert(&mut self, edge: Edge, sample: Sample) -> Result<(), Memory>
         ensures inserted { OnOk result (self.new ≡ once (self.old ++ (edge, sample) ∷ [])) }
         ensures unchanged { OnErr result (self.new ≡ self.old) }
+        ensures absent { OnErr result ((known : Sample) → ¬ Contains self.old (edge, known)) }
     {
         if has_seen(&self.edges, &edge, &sample) {
             return Ok(());

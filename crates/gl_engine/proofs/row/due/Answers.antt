@@ -8,4 +8,4 @@ use Rattle.gl_engine.proofs.row.due.Goals as goal
 pub returns-in-Happened : goal.returns-in-Happened
 returns-in-Happened c = λ thread es before.
     subst (λ body. IfOk c.next_edges.result (λ edges. edges.items ≡ edges_due thread (with_body es body) (length es) body)) (sym c.in-Happened.is)
-    (due_if thread es c.in-Happened.event c.next_edges.result (c.next_edges.ensures thread es before))
+    (due_if thread es c.in-Happened.event c.next_edges.result (c.next_edges.ensures.edges thread es before))

@@ -1,6 +1,5 @@
-use Rattle.std.proofs.Common.{◌≡◌, List, [], ◌∷◌, ◌++◌, sym, subst}
+use Rattle.std.proofs.Common.{[], ◌∷◌, ◌++◌, sym, subst}
 use Rattle.gl_edges.specs.Numbered.{AreNumbered}
-use Rattle.gl_edges.specs.bodies.Numberers.{IsNumbering}
 use Rattle.gl_edges.proofs.Numbering.{known_more}
 use Rattle.gl_edges.proofs.numberer.Numberer.add_known.Goals as goal
 

@@ -1,6 +1,6 @@
-use Rattle.std.proofs.Common.{◌≡◌, List, [], ◌∷◌, ◌++◌, length, sym, ap, subst, ◌∙◌, arith}
+use Rattle.std.proofs.Common.{◌≡◌, [], ◌∷◌, ◌++◌, length, sym, ap, subst, ◌∙◌, arith}
 use Rattle.gl_edges.specs.Numbered.{AreNumbered}
-use Rattle.gl_edges.specs.bodies.Numberers.{IsNumbering, IsMapOf}
+use Rattle.gl_edges.specs.bodies.Numberers.{IsMapOf}
 use Rattle.gl_edges.proofs.Numbering.{new_set, map_more, fresh_set}
 use Rattle.gl_edges.proofs.numberer.Numberer.add_new.Goals as goal
 

@@ -1,7 +1,7 @@
-use Rattle.std.proofs.Common.{◌<◌, length, subst, sym, arith}
-use Rattle.gl_intake.specs.Stream.{Collected}
+use Rattle.std.proofs.Common.{◌<◌, ◌≤◌, length, subst, sym, arith}
+use Rattle.gl_intake.specs.Stream.{Collected, spare_of}
 use Rattle.gl_intake.proofs.Kept.{kept_room}
-use Rattle.gl_intake.proofs.Room.{ok_both, room_made}
+use Rattle.gl_intake.proofs.Room.{has_room, ok_both, room_made}
 use Rattle.gl_intake.proofs.intake.Intake.reserve.Goals as goal
 
 pub invariant_of-self : goal.invariant_of-self
@@ -18,3 +18,12 @@ returns-clause-reserved c =
     rw c.number-index.ensures
     (ok_both c.make_room.result _ _ _ c.make_room.ensures.first_room c.make_room.ensures.second_room
     (λ log_room stream_room. room_made c.make_room.new.ys c.self.inside.logs.items c.args.thread c.make_room.new.xs within stream_room log_room))
+
+pub returns-clause-room : goal.returns-clause-room
+returns-clause-room c = λ some.
+    let known = subst (λ (k : Collected). c.args.thread < k.limits.threads) (sym c.self.view_is) c.requires in
+    let spare = subst (λ (k : Collected). 1 ≤ spare_of k c.args.thread) (sym c.self.view_is) some in
+    let within : c.args.thread < length c.self.inside.logs.items = omega (arith, known, c.self.invariant.logs_are.count) in
+    let here = rw c.number-index.ensures at c.index_mut.ensures.value in
+    let (in_stream, in_log) = has_room c.self.inside.stream c.self.inside.logs.items c.args.thread c.index_mut.result.now within here spare in
+    c.make_room.ensures.room in_log in_stream

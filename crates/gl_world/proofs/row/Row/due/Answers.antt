@@ -9,4 +9,4 @@ pub returns-in-Happened : goal.returns-in-Happened
 returns-in-Happened c =
     let front = subst (λ (k : Keeper). IsFrontOf k.limits k.thread k.lane c.args.note.now) (sym c.self.view_is) c.requires in
     subst (λ (k : Keeper). IfOk c.next_edges.result (λ edges. edges.items ≡ edges_due k.thread (taken_of k.thread k.lane) c.args.note.now.place c.args.note.now.body)) c.self.view_is
-    (due_if _ _ _ _ front c.in-Happened.event c.in-Happened.is c.next_edges.result (c.next_edges.ensures _ _ c.self.invariant.follows))
+    (due_if _ _ _ _ front c.in-Happened.event c.in-Happened.is c.next_edges.result (c.next_edges.ensures.edges _ _ c.self.invariant.follows))
