@@ -96,9 +96,9 @@ def worked_of_lock_modes():
         ("shared, both of one thread", opposite_by("racq", "racq", "acq", "acq"), opposite),
         ("shared, all but one", opposite_by("racq", "racq", "acq", "racq"), NONE),
         ("shared, all", opposite_by("racq", "racq", "racq", "racq"), NONE),
-        ("gate, shared by both", behind_gate("racq", "racq"), gated),
-        ("gate, shared by the first", behind_gate("racq", "acq"), by_gate),
-        ("gate, shared by the second", behind_gate("acq", "racq"), by_gate),
+        ("shared_gate, by both", behind_gate("racq", "racq"), gated),
+        ("shared_gate, by the first", behind_gate("racq", "acq"), by_gate),
+        ("shared_gate, by the second", behind_gate("acq", "racq"), by_gate),
         # What is taken again keeps the mode of its outermost acquire.
         ("upgrade", lines("T0 racq a @1", "T0 acq a @2"), upgrade),
         ("upgrade, tried", lines("T0 racq a @1", "T0 tryacq a @2"), upgrade),

@@ -232,16 +232,26 @@ def text_of(lines):
     return "".join(f"{line}\n" for line in lines).encode()
 
 
+def refused_at(calls, at):
+    """The output of the run in which a growth of the call at this position was refused once."""
+    call = calls[at]
+    again = at if call.again is None else call.again
+    return text_of([*printed(calls[:at]), f"{call.name}: memory", f"  {call.left}", *printed(calls[again:])])
+
+
 def refused_answers(calls):
     """For each output of a run in which a growth was refused: the calls that may have been the refused one."""
     answers = {}
     for at, call in enumerate(calls):
-        if call.left is None:
-            continue
-        again = at if call.again is None else call.again
-        lines = [*printed(calls[:at]), f"{call.name}: memory", f"  {call.left}", *printed(calls[again:])]
-        answers.setdefault(text_of(lines), set()).add(call.name)
+        if call.left is not None:
+            answers.setdefault(refused_at(calls, at), set()).add(call.name)
     return answers
+
+
+def pull_refused_once(outputs):
+    """Whether there is a run in which the first pull was refused, was made again, and all went on as written."""
+    first = next(at for at, call in enumerate(RING_OF_ONE) if call.name == "pull")
+    return refused_at(RING_OF_ONE, first) in outputs
 
 
 # --- Refused runs ---------------------------------------------------------------------------------------
@@ -259,13 +269,15 @@ def sweep(tests, runner, name):
     check(tests, f"{name}", [whole], runner.run(name, b""))
     answers = refused_answers(calls)
     right = [whole, *((answer, b"", 0) for answer in answers)]
-    refused, count = set(), 0
+    outputs, count = set(), 0
     for number, run in runner.sweep(name, b"", "memory", "once"):
         check(tests, f"{name}, memory once call {number}", right, run)
-        refused |= answers.get(run.answer[0], set())
+        outputs.add(run.answer[0])
         count += 1
-    missing = REFUSED[name] - refused
+    missing = REFUSED[name].difference(*(answers.get(output, set()) for output in outputs))
     tests.check_that(f"{name}", not missing, f"never refused: {', '.join(sorted(missing))}")
+    if name == "ring_of_one":
+        tests.check_that("pull_refused_once", pull_refused_once(outputs), "no run has the first pull refused and made again")
     for number, run in runner.sweep(name, b"", "memory", "onwards"):
         status = run.answer[2]
         tests.check_that(f"{name}, memory onwards call {number}", status in (0, 3), f"status {status}")

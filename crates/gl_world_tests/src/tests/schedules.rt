@@ -10,7 +10,7 @@ use gl_cycles::{Report, ReportFault};
 use gl_edges::{Edge, Sample};
 use gl_event::{Event, Limits, Note, Segment};
 use gl_filters::{Mode, Query};
-use gl_intake::Accepted;
+use gl_intake::{Accepted, Refused};
 use gl_world::{Did, Step, World};
 use std::alloc::{AllocError, Global};
 use std::test::Fail;
@@ -148,6 +148,28 @@ fn two_schedules_in_turn(rt: HostRuntime) -> Result<(), Fail> {
     let limits = Limits::new(2, 1, 100, 100)?;
     let mut world = World::new(alloc, &limits, 3, opposite_order(alloc)?)?;
     assert!(rt; goes_in_turn(&mut world));
+    assert!(rt; world.drained());
+    assert!(rt; reports_opposite_order(&world));
+    Ok(())
+}
+
+// Notes that were collected come again, and steps of threads, places and shards that aren't there are made:
+// nothing changes.
+#[test]
+fn foreign_steps(rt: HostRuntime) -> Result<(), Fail> {
+    let alloc = rt.alloc();
+    let limits = Limits::new(2, 1, 100, 100)?;
+    let mut world = World::new(alloc, &limits, 3, opposite_order(alloc)?)?;
+    assert!(rt; goes_in_turn(&mut world));
+    let steps = [
+        (again(0, 0), Did::Refused(Refused::Late)),
+        (again(0, 4), Did::Refused(Refused::Late)),
+        (again(0, 5), Did::Nothing),
+        (again(9, 0), Did::Nothing),
+        (take(9), Did::Nothing),
+        (Step::Work(5), Did::Nothing),
+    ];
+    assert!(rt; does(&mut world, &steps));
     assert!(rt; world.drained());
     assert!(rt; reports_opposite_order(&world));
     Ok(())
