@@ -34,11 +34,11 @@ with_name-front names None name = (name ∷ [], refl)
 with_name-front names (Some i) name = IsFront-itself names
 
 -- the thread's list in these lists goes on from these events
-abbrev GoesOn : List (List Event) → ℕ → List Event → Type 0
-GoesOn lists thread es = (later : List Event) × (slice_get lists thread ≡ Some (es ++ later))
+abbrev ListGoesOn : List (List Event) → ℕ → List Event → Type 0
+ListGoesOn lists thread es = (later : List Event) × (slice_get lists thread ≡ Some (es ++ later))
 
-GoesOn-same : (lists : List (List Event)) (thread : ℕ) (es : List Event) → slice_get lists thread ≡ Some es → GoesOn lists thread es
-GoesOn-same lists thread es h = ([], h ∙ ap (λ l. Some l) (sym (append_nil es)))
+ListGoesOn-same : (lists : List (List Event)) (thread : ℕ) (es : List Event) → slice_get lists thread ≡ Some es → ListGoesOn lists thread es
+ListGoesOn-same lists thread es h = ([], h ∙ ap (λ l. Some l) (sym (append_nil es)))
 
 push_goes_on : (lists : List (List Event)) (new : List Event) (k : ℕ) (es : List Event) → slice_get lists k ≡ Some es → slice_get (lists ++ new ∷ []) k ≡ Some es
 push_goes_on [] new k es h = absurd (none_some h)
@@ -48,18 +48,18 @@ push_goes_on [] new k es h = absurd (none_some h)
 push_goes_on (x ∷ lists) new zero es h = h
 push_goes_on (x ∷ lists) new (suc k) es h = push_goes_on lists new k es h
 
-set_goes_on : (lists : List (List Event)) (i : ℕ) (e : Event) (k : ℕ) (es : List Event) → slice_get lists k ≡ Some es → GoesOn (slice_set lists i (get_or lists i [] ++ e ∷ [])) k es
+set_goes_on : (lists : List (List Event)) (i : ℕ) (e : Event) (k : ℕ) (es : List Event) → slice_get lists k ≡ Some es → ListGoesOn (slice_set lists i (get_or lists i [] ++ e ∷ [])) k es
 set_goes_on [] i e k es h = absurd (none_some h)
   where
     none_some : None ≡ Some es → ⊥
     none_some e = cc
 set_goes_on (x ∷ lists) zero e zero es h = let same : x ≡ es = cc in (e ∷ [], ap (λ l. Some (l ++ e ∷ [])) same)
-set_goes_on (x ∷ lists) zero e (suc k) es h = GoesOn-same lists k es h
+set_goes_on (x ∷ lists) zero e (suc k) es h = ListGoesOn-same lists k es h
 set_goes_on (x ∷ lists) (suc i) e zero es h = ([], h ∙ ap (λ l. Some l) (sym (append_nil es)))
 set_goes_on (x ∷ lists) (suc i) e (suc k) es h = set_goes_on lists i e k es h
 
-with_event-goes_on : (lists : List (List Event)) (number : Option ℕ) (e : Event) (k : ℕ) (es : List Event) → slice_get lists k ≡ Some es → GoesOn (with_event lists number e) k es
-with_event-goes_on lists None e k es h = GoesOn-same (lists ++ (e ∷ []) ∷ []) k es (push_goes_on lists (e ∷ []) k es h)
+with_event-goes_on : (lists : List (List Event)) (number : Option ℕ) (e : Event) (k : ℕ) (es : List Event) → slice_get lists k ≡ Some es → ListGoesOn (with_event lists number e) k es
+with_event-goes_on lists None e k es h = ListGoesOn-same (lists ++ (e ∷ []) ∷ []) k es (push_goes_on lists (e ∷ []) k es h)
 with_event-goes_on lists (Some i) e k es h = set_goes_on lists i e k es h
 
 threads_of-front : (on : Bool) (names : NameLists) (thread operand : List ℕ) → IsFront names.threads (threads_of on names thread operand)
@@ -71,7 +71,7 @@ locks_of-front : (on : Bool) (names : NameLists) (thread operand : List ℕ) →
 locks_of-front true names thread operand = IsFront-itself names.locks
 locks_of-front false names thread operand = with_name-front names.locks (place_of false names thread operand) operand
 
-lists_of-goes_on : (on : Bool) (lists : List (List Event)) (number place : Option ℕ) (e : Event) (k : ℕ) (es : List Event) → slice_get lists k ≡ Some es → GoesOn (lists_of on lists number place e) k es
+lists_of-goes_on : (on : Bool) (lists : List (List Event)) (number place : Option ℕ) (e : Event) (k : ℕ) (es : List Event) → slice_get lists k ≡ Some es → ListGoesOn (lists_of on lists number place e) k es
 lists_of-goes_on false lists number place e k es h = with_event-goes_on lists number e k es h
 lists_of-goes_on true lists number (Some i) e k es h = with_event-goes_on lists number e k es h
 lists_of-goes_on true lists number None e k es h =
@@ -84,7 +84,7 @@ Grows-itself told skipped stray =
       threads = IsFront-itself told.names.threads;
       locks = IsFront-itself told.names.locks;
       locs = IsFront-itself told.names.locs;
-      lists = λ k es h. GoesOn-same told.lists k es h;
+      lists = λ k es h. ListGoesOn-same told.lists k es h;
     }
 
 pub Grows-then : (a b c : Trace) → Grows a b → Grows b c → Grows a c
