@@ -10,11 +10,11 @@ use Rattle.gl_std.specs.Line.{Operation, Shape, shape_of, is_on_thread}
 use Rattle.gl_std.specs.Line.Shape.{Blank, Bad, Other, Call}
 use Rattle.gl_std.specs.Lines.{LF, lines}
 use Rattle.gl_std.specs.Trace.{with_event, after_shape, after_line, and_then, read_from}
-use Rattle.gl_std.specs.bodies.Finding.{found_in, with_name, event_found, after_verdict}
+use Rattle.gl_std.specs.bodies.Finding.{found_in, with_name, event_found, after_ruling}
 use Rattle.gl_std.specs.declared.faults.ReadFault.{ReadFault}
 use Rattle.gl_std.specs.declared.faults.ReadFault.TheVariants.{Line}
-use Rattle.gl_std.specs.declared.standing.Verdict.{Verdict}
-use Rattle.gl_std.specs.declared.standing.Verdict.TheVariants.{Kept, Stray, Fault}
+use Rattle.gl_std.specs.declared.standing.Ruling.{Ruling}
+use Rattle.gl_std.specs.declared.standing.Ruling.TheVariants.{Kept, Stray, Fault}
 use Rattle.gl_std.specs.declared.trace.Trace.{Trace}
 use Rattle.gl_std.proofs.FoundLemmas.{acting, place_of, threads_of, locks_of, with_found, call-found}
 use Rattle.gl_std.proofs.StepLemmas.{IsTrace, lists_of, same_trace, no_trace, trace_of-append}
@@ -110,17 +110,17 @@ call_grows told operation thread operand location =
       lists = λ k es h. lists_of-goes_on on told.lists found.thread found.operand (event_found told.names operation found) k es h;
     }
 
-after_verdict_grows : (line : ℕ) (told kept more : Trace) (v : Verdict) → Grows told kept → IsTrace (after_verdict line told kept v) more → Grows told more
-after_verdict_grows line told kept more Kept new is = subst (Grows told) (same_trace kept more is) new
-after_verdict_grows line told kept more Stray new is = subst (Grows told) (same_trace (record told { stray = told.stray + 1 }) more is) (Grows-itself told told.skipped (told.stray + 1))
-after_verdict_grows line told kept more (Fault kind) new is = absurd (no_trace (Line line kind) more is)
+after_ruling_grows : (line : ℕ) (told kept more : Trace) (v : Ruling) → Grows told kept → IsTrace (after_ruling line told kept v) more → Grows told more
+after_ruling_grows line told kept more Kept new is = subst (Grows told) (same_trace kept more is) new
+after_ruling_grows line told kept more Stray new is = subst (Grows told) (same_trace (record told { stray = told.stray + 1 }) more is) (Grows-itself told told.skipped (told.stray + 1))
+after_ruling_grows line told kept more (Fault kind) new is = absurd (no_trace (Line line kind) more is)
 
 after_shape_grows : (limits : Bounds) (line : ℕ) (told more : Trace) (shape : Shape) → IsTrace (after_shape limits line told shape) more → Grows told more
 after_shape_grows limits line told more Blank is = subst (Grows told) (same_trace told more is) (Grows-itself told told.skipped told.stray)
 after_shape_grows limits line told more (Bad kind) is = absurd (no_trace (Line line kind) more is)
 after_shape_grows limits line told more Other is = subst (Grows told) (same_trace (record told { skipped = told.skipped + 1 }) more is) (Grows-itself told (told.skipped + 1) told.stray)
 after_shape_grows limits line told more (Call operation thread operand location) is =
-    after_verdict_grows line told (with_found told operation thread operand location) more _ (call_grows told operation thread operand location) (sym (call-found limits line told operation thread operand location) ∙ is)
+    after_ruling_grows line told (with_found told operation thread operand location) more _ (call_grows told operation thread operand location) (sym (call-found limits line told operation thread operand location) ∙ is)
 
 read_from_grows : (limits : Bounds) (ls : List (List ℕ)) (number : ℕ) (told more : Trace) → IsTrace (read_from limits number told ls) more → Grows told more
 read_from_grows limits [] number told more is = subst (Grows told) (same_trace told more is) (Grows-itself told told.skipped told.stray)
