@@ -12,7 +12,7 @@ use Rattle.gl_edges.specs.declared.edge.Edge.{Edge}
 use Rattle.gl_edges.specs.declared.edge.Sample.{Sample}
 use Rattle.gl_filters.specs.Asked.{Asked}
 use Rattle.gl_filters.specs.Picked.{edges_of_table, picked}
-use Rattle.gl_filters.specs.Judging.{IsVerdict}
+use Rattle.gl_filters.specs.Verdicts.{IsVerdict}
 use Rattle.gl_filters.specs.declared.verdict.Verdict.TheVariants.{Valid}
 use Rattle.gl_check.specs.Edges.{AreNamed, IsNoEdge}
 use Rattle.gl_check.specs.declared.fields.Format.{Format}

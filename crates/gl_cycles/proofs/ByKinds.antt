@@ -9,7 +9,7 @@ use Rattle.gl_edges.specs.declared.edge.Edge.{Edge}
 use Rattle.gl_edges.specs.declared.edge.Sample.{Sample}
 use Rattle.gl_event.specs.Modes.{conflict}
 use Rattle.gl_filters.specs.Cycle.{asks_guards, IsCycle}
-use Rattle.gl_filters.specs.Judging.{following}
+use Rattle.gl_filters.specs.Verdicts.{following}
 use Rattle.gl_filters.specs.declared.query.Mode.{Mode}
 use Rattle.gl_edges.specs.Clashes.{guards_clash}
 use Rattle.gl_filters.specs.Test.{leads_to, goes_with, kinds_go_together}

@@ -16,7 +16,8 @@ use Rattle.std.proofs.lemmas.List.{get_or-map, length-map, map-append, take_more
 use Rattle.gl_edges.specs.declared.edge.Sample.{Sample}
 use Rattle.gl_filters.specs.Picked.{edges_of_table, picked}
 use Rattle.gl_cycles.specs.AllCycles.{all_cycles}
-use Rattle.gl_cycles.specs.Loops.{IsLoop, IsOffLoops, IsNeverFalling, KeepsLoops, is_level}
+use Rattle.gl_cycles.specs.bodies.Loops.{IsLoop, IsOffLoops, KeepsLoops, is_level}
+use Rattle.gl_cycles.specs.Laws.{IsNeverFalling}
 use Rattle.gl_cycles.proofs.Members.{there_is_cycle}
 
 module _ (rank : ℕ → ℕ) where

@@ -13,7 +13,7 @@ use Rattle.gl_filters.proofs.Cycling.{cycle_from_test, test_from_cycle}
 use Rattle.gl_filters.specs.Picked.{picked}
 use Rattle.gl_cycles.specs.AllCycles.{lists_below}
 use Rattle.gl_cycles.specs.bodies.Blocks.{block}
-use Rattle.gl_cycles.specs.Loops.{KeepsLoops}
+use Rattle.gl_cycles.specs.bodies.Loops.{KeepsLoops}
 use Rattle.gl_cycles.specs.bodies.OffCycles.{IsOffCycles, KeepsCycles}
 use Rattle.gl_cycles.proofs.Blocking.{picked-append, picked-push}
 use Rattle.gl_cycles.proofs.Level.{picked_among, loop_from_cycle}

@@ -7,7 +7,7 @@ use Rattle.std.proofs.lemmas.Option.{slice_get-get_or, slice_get_within, get_or_
 use Rattle.gl_event.specs.declared.events.Segment.{Segment}
 use Rattle.gl_edges.specs.declared.edge.Edge.{Edge}
 use Rattle.gl_edges.proofs.Membership.{contains_here, contains_later, contains_cases, contains_none}
-use Rattle.gl_filters.specs.Judging.{following}
+use Rattle.gl_filters.specs.Verdicts.{following}
 use Rattle.gl_filters.specs.declared.query.Mode.{Mode}
 use Rattle.gl_filters.proofs.Round.{compatible_round}
 use Rattle.gl_filters.specs.Picked.{picked}

@@ -1,7 +1,6 @@
 pub mod AllCycles
 pub mod Faults
 pub mod Laws
-pub mod Loops
 pub mod Reports
 pub mod Trims
 pub mod bodies

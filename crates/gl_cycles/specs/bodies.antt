@@ -3,6 +3,7 @@ pub mod Blocks
 pub mod Followers
 pub mod Gaps
 pub mod Kinds
+pub mod Loops
 pub mod OffCycles
 pub mod Ranks
 pub mod Searching

@@ -1,7 +1,8 @@
 //! Which edges may lie on a loop.
 ghost use Rattle.std.specs.Prelude.{◌≡◌, IfOk, IfSome, IfNone, map};
 ghost use Rattle.gl_filters.specs.Picked.{edges_of_table};
-ghost use Rattle.gl_cycles.specs.Loops.{IsNeverFalling, KeepsLoops, is_level};
+ghost use Rattle.gl_cycles.specs.bodies.Loops.{KeepsLoops, is_level};
+ghost use Rattle.gl_cycles.specs.Laws.{IsNeverFalling};
 ghost use Rattle.gl_cycles.specs.bodies.Ranks.{rank_in};
 
 use crate::ranks::Ranks;

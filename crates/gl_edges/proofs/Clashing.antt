@@ -11,7 +11,8 @@ use Rattle.std.proofs.lemmas.List.{get_or_default}
 use Rattle.std.proofs.lemmas.List.Folds.{Any-from_list_any}
 use Rattle.std.proofs.lemmas.Map.Keys.{Less-from_sorted}
 use Rattle.gl_event.specs.Modes.{conflict, mode_cmp}
-use Rattle.gl_edges.specs.Clashes.{clash_on, guards_clash, AreBelow}
+use Rattle.gl_edges.specs.Clashes.{clash_on, guards_clash}
+use Rattle.gl_edges.specs.bodies.Clashing.{AreBelow}
 use Rattle.gl_edges.specs.Guards.{guard_cmp}
 use Rattle.gl_edges.specs.declared.guards.Guard.{Guard}
 

@@ -21,8 +21,9 @@ use Rattle.gl_event.proofs.HeldLemmas.{entry_of-lock}
 use Rattle.gl_edges.proofs.Holding.{guards_are}
 use Rattle.gl_edges.specs.Guards.{guards_of}
 use Rattle.gl_edges.specs.Edges.{pair_at, edges_wanting, edges_after, edges_at, edges_below, edges_of_list, edges_made}
-use Rattle.gl_edges.specs.Samples.{IsTableOf}
-use Rattle.gl_edges.specs.Tracking.{Tracks, MayFollow, pair_for}
+use Rattle.gl_edges.specs.bodies.Tables.{IsTableOf}
+use Rattle.gl_edges.specs.Tracking.{Tracks, MayFollow}
+use Rattle.gl_edges.specs.bodies.Gatherers.{pair_for}
 use Rattle.gl_edges.specs.declared.edge.Edge.{Edge}
 use Rattle.gl_edges.specs.declared.edge.Sample.{Sample}
 use Rattle.gl_edges.specs.declared.tracker.Tracker.{Tracker}

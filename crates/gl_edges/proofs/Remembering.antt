@@ -13,12 +13,12 @@ use Rattle.gl_event.specs.declared.events.Event.{Event}
 use Rattle.gl_event.specs.declared.events.Event.TheVariants.{Acquire, Release, TryAcquire, Fork, Join}
 use Rattle.gl_event.specs.declared.events.LockMode.{LockMode}
 use Rattle.gl_edges.specs.Edges.{pair_at, edges_wanting, edges_after}
-use Rattle.gl_edges.specs.bodies.Gatherers.{AreBefore, Gathers}
+use Rattle.gl_edges.specs.bodies.Gatherers.{AreBefore, Gathers, pair_for}
 use Rattle.gl_edges.specs.Laws.{AreAmong}
 use Rattle.gl_edges.specs.Order.{sample_cmp}
-use Rattle.gl_edges.specs.Samples.{IsTableOf}
+use Rattle.gl_edges.specs.bodies.Tables.{IsTableOf}
 use Rattle.gl_edges.specs.bodies.Seen.{edges_now}
-use Rattle.gl_edges.specs.Tracking.{Tracks, pair_for}
+use Rattle.gl_edges.specs.Tracking.{Tracks}
 use Rattle.gl_edges.specs.declared.edge.Edge.{Edge}
 use Rattle.gl_edges.specs.declared.edge.Sample.{Sample}
 use Rattle.gl_edges.specs.declared.gather.Gatherer.{Gatherer}

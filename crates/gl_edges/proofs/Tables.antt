@@ -17,7 +17,8 @@ use Rattle.std.proofs.lemmas.Map.Keys.{IsDistinct-from_sorted}
 use Rattle.std.proofs.lemmas.Map.Views.{Contains-from_lookup, lookup-from_Contains}
 use Rattle.gl_edges.specs.Edges.{lesser, least_samples, once}
 use Rattle.gl_edges.specs.Order.{edge_cmp, sample_cmp, AreAscending}
-use Rattle.gl_edges.specs.Samples.{IsTableOf, IsLeastSample}
+use Rattle.gl_edges.specs.Samples.{IsLeastSample}
+use Rattle.gl_edges.specs.bodies.Tables.{IsTableOf}
 use Rattle.gl_edges.specs.declared.edge.Edge.{Edge}
 use Rattle.gl_edges.specs.declared.edge.Sample.{Sample}
 use Rattle.gl_edges.proofs.Orders.{edge_cmp_total, edge_cmp_exact, sample_cmp_total, sample_cmp_exact}

@@ -5,11 +5,6 @@ use Rattle.gl_event.specs.Events.{segment}
 use Rattle.gl_event.specs.Lawful.{refusal}
 use Rattle.gl_event.specs.Standing.{StandsFor}
 use Rattle.gl_event.specs.declared.events.Event.{Event}
-use Rattle.gl_event.specs.declared.events.LockMode.{LockMode}
-use Rattle.gl_event.specs.declared.held.HeldEntry.{HeldEntry}
-use Rattle.gl_edges.specs.Guards.{guards_of}
-use Rattle.gl_edges.specs.declared.edge.Edge.{Edge}
-use Rattle.gl_edges.specs.declared.edge.Sample.{Sample}
 use Rattle.gl_edges.specs.declared.tracker.Tracker.{Tracker}
 
 -- the tracker knows of this thread what it holds after these events, how many they are and in which segment the next one lies
@@ -31,19 +26,3 @@ pub record MayFollow (tracker : Tracker) (event : Event) : Type 0 where
   pub tracked : Tracks tracker.thread es tracker
   -- nothing stands against the next one
   pub allowed : refusal greatest tracker.thread es event ≡ None
-
--- the edge and the sample that a tracked thread makes for a held lock, where it acquires one more
-abbrev pub pair_for : Tracker → ℕ → LockMode → ℕ → HeldEntry → Edge × Sample
-pair_for tracker wanted mode loc h = (
-  record {
-    thread = tracker.thread;
-    held = h.lock;
-    held_mode = h.mode;
-    wanted = wanted;
-    wanted_mode = mode;
-    first = h.seg;
-    second = tracker.segment;
-    guards = guards_of tracker.held;
-  },
-  record { place = tracker.place; held_loc = h.loc; wanted_loc = loc },
-)

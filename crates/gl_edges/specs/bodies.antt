@@ -1,4 +1,6 @@
 -- The words of loops and private functions. No public contract cites them.
+pub mod Clashing
 pub mod Gatherers
 pub mod Numberers
 pub mod Seen
+pub mod Tables

@@ -2,7 +2,8 @@
 ghost use Rattle.std.specs.Prelude.{◌≡◌, ◌≤◌, length};
 ghost use Rattle.std.specs.List.{list_any};
 ghost use Rattle.std.specs.List.Sorted.{IsStrictlySortedBy};
-ghost use Rattle.gl_edges.specs.Clashes.{clash_on, guards_clash, AreBelow};
+ghost use Rattle.gl_edges.specs.Clashes.{clash_on, guards_clash};
+ghost use Rattle.gl_edges.specs.bodies.Clashing.{AreBelow};
 ghost use Rattle.gl_edges.specs.Guards.{guard_cmp};
 
 use crate::guards::{Guard, Guards};

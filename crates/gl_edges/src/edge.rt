@@ -34,16 +34,7 @@ impl Edge {
         ensures { IfOk result (λ e. e ≡ self.now) }
     {
         let guards = self.guards.copy(alloc)?;
-        Ok(Edge {
-            thread: self.thread,
-            held: self.held,
-            held_mode: self.held_mode,
-            wanted: self.wanted,
-            wanted_mode: self.wanted_mode,
-            first: self.first,
-            second: self.second,
-            guards,
-        })
+        Ok(Edge { guards, ..*self })
     }
 }
 

@@ -5,9 +5,9 @@ ghost use Rattle.gl_event.specs.Events.{depth};
 ghost use Rattle.gl_event.specs.Lawful.{IsLawful};
 ghost use Rattle.gl_event.specs.declared.events.Event.{Event};
 ghost use Rattle.gl_edges.specs.Edges.{edges_wanting, edges_after, edges_of_list, edges};
-ghost use Rattle.gl_edges.specs.bodies.Gatherers.{Gathers};
-ghost use Rattle.gl_edges.specs.Samples.{IsTableOf};
-ghost use Rattle.gl_edges.specs.Tracking.{Tracks, MayFollow, pair_for};
+ghost use Rattle.gl_edges.specs.bodies.Gatherers.{Gathers, pair_for};
+ghost use Rattle.gl_edges.specs.bodies.Tables.{IsTableOf};
+ghost use Rattle.gl_edges.specs.Tracking.{Tracks, MayFollow};
 ghost use Rattle.gl_edges.specs.declared.edge.Edge.{Edge};
 ghost use Rattle.gl_edges.specs.declared.edge.Sample.{Sample};
 

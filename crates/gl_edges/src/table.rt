@@ -4,7 +4,7 @@ ghost use Rattle.std.specs.BTreeMap as tree;
 ghost use Rattle.std.specs.Option.{option_map_or};
 ghost use Rattle.std.specs.Ordering.{is_le};
 ghost use Rattle.gl_edges.specs.Order.{edge_cmp, sample_cmp};
-ghost use Rattle.gl_edges.specs.Samples.{IsTableOf};
+ghost use Rattle.gl_edges.specs.bodies.Tables.{IsTableOf};
 ghost use Rattle.gl_edges.specs.declared.edge.Edge.{Edge};
 ghost use Rattle.gl_edges.specs.declared.edge.Sample.{Sample};
 

@@ -28,13 +28,13 @@ use Rattle.gl_world.proofs.Lists.{same_some, get_at, get_of_take, found_within}
 use Rattle.gl_world.proofs.Sound.{told_events, ended_of_notes, front_is_next}
 use Rattle.gl_intake.specs.declared.notes.Refused.{Refused}
 use Rattle.gl_intake.proofs.Next.{none_of_next}
-use Rattle.gl_engine.specs.Breaking.{handed, HandOver, IsBlamed, IsBroken}
+use Rattle.gl_engine.specs.bodies.Breaking.{handed, HandOver, IsBlamed, IsBroken}
 use Rattle.gl_engine.specs.Collecting.{Pulling, as_of}
 use Rattle.gl_engine.specs.Gathering.{Gathering, has_receipt, is_strange, AreOurs, AreOwnBelow, AreThereBelow}
 use Rattle.gl_engine.specs.Keeping.{AreNotesOf, pulling_of}
 use Rattle.gl_engine.specs.Recording.{Closed, recorded_whole}
 use Rattle.gl_engine.specs.Settling.{IsMemoryOrGone, IsSettled, told}
-use Rattle.gl_engine.specs.Whole.{lane_of, IsConfirmed, IsWhole}
+use Rattle.gl_engine.specs.bodies.Whole.{lane_of, IsConfirmed, IsWhole}
 use Rattle.gl_engine.specs.declared.faults.RunFault.{RunFault}
 use Rattle.gl_engine.specs.declared.faults.RunFault.TheVariants as kept
 use Rattle.gl_engine.specs.declared.row.Row.{Row}

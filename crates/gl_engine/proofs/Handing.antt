@@ -8,7 +8,7 @@ use Rattle.gl_event.specs.Bounds.{Bounds}
 use Rattle.gl_event.specs.declared.notes.Note.{Note}
 use Rattle.gl_lane.specs.Lanes.{Popping}
 use Rattle.gl_world.proofs.Lists.{same_some, get_at, get_set_same, get_set_other}
-use Rattle.gl_engine.specs.Breaking.{handed, HandOver, IsBlamed, IsGone}
+use Rattle.gl_engine.specs.bodies.Breaking.{handed, HandOver, IsBlamed, IsGone}
 use Rattle.gl_engine.specs.declared.faults.RunFault.{RunFault}
 use Rattle.gl_engine.specs.declared.faults.RunFault.TheVariants.{Memory, Gone, Broken}
 use Rattle.gl_engine.specs.declared.row.Row.{Row}

@@ -21,10 +21,10 @@ use Rattle.gl_shards.specs.Tables.{of_shard}
 use Rattle.gl_world.proofs.Lists.{same_some, get_at, found_within, get_set_same}
 use Rattle.gl_engine.specs.Collecting.{Pulling, Side, as_of, with_pulled, HasPulled, IsSidePull}
 use Rattle.gl_intake.specs.declared.notes.Refused.{Refused}
-use Rattle.gl_engine.specs.Breaking.{IsBlamed, IsGone, IsKeptFor}
+use Rattle.gl_engine.specs.bodies.Breaking.{IsBlamed, IsGone, IsKeptFor}
 use Rattle.gl_engine.specs.Dealing.{dealt, made_by}
 use Rattle.gl_engine.specs.Keeping.{BreaksForCause, IsCollector, pulling_of}
-use Rattle.gl_engine.specs.Whole.{lane_of, KeepsUp, IsWhole, IsGathered}
+use Rattle.gl_engine.specs.bodies.Whole.{lane_of, KeepsUp, IsWhole, IsGathered}
 use Rattle.std.proofs.lemmas.Simd.{map-map}
 use Rattle.gl_engine.specs.declared.faults.RunFault.{RunFault}
 use Rattle.gl_engine.specs.declared.faults.RunFault.TheVariants as kept

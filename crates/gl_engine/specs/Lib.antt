@@ -4,7 +4,6 @@ pub mod Collecting
 pub mod Keeping
 pub mod Dealing
 pub mod Gathering
-pub mod Breaking
-pub mod Whole
 pub mod Settling
 pub mod Steps
+pub mod bodies

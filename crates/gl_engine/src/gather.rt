@@ -5,10 +5,10 @@ ghost use Rattle.gl_edges.specs.declared.edge.Edge.{Edge};
 ghost use Rattle.gl_edges.specs.declared.edge.Sample.{Sample};
 ghost use Rattle.gl_intake.specs.Stream.{has_ended};
 ghost use Rattle.gl_shards.specs.declared.shard.TheConstants.{MAX_SHARDS};
-ghost use Rattle.gl_engine.specs.Breaking.{IsBlamed, IsGone, IsKeptFor};
+ghost use Rattle.gl_engine.specs.bodies.Breaking.{IsBlamed, IsGone, IsKeptFor};
 ghost use Rattle.gl_engine.specs.Dealing.{dealt, made_by};
 ghost use Rattle.gl_engine.specs.Keeping.{IsCollector};
-ghost use Rattle.gl_engine.specs.Whole.{lane_of, KeepsUp};
+ghost use Rattle.gl_engine.specs.bodies.Whole.{lane_of, KeepsUp};
 
 use crate::faults::RunFault;
 use crate::pulled::{PullFault, Pulled};

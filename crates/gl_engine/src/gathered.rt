@@ -3,8 +3,8 @@ ghost use Rattle.std.specs.Prelude.{◌≡◌, ◌<◌, ℕ, Some, map, length, 
 ghost use Rattle.gl_engine.specs.Recording.{Closed};
 ghost use Rattle.gl_engine.specs.Collecting.{Pulling};
 ghost use Rattle.gl_engine.specs.Keeping.{pulling_of};
-ghost use Rattle.gl_engine.specs.Breaking.{handed, HandOver};
-ghost use Rattle.gl_engine.specs.Whole.{IsConfirmed};
+ghost use Rattle.gl_engine.specs.bodies.Breaking.{handed, HandOver};
+ghost use Rattle.gl_engine.specs.bodies.Whole.{IsConfirmed};
 ghost use Rattle.gl_engine.specs.declared.row.Row.{Row};
 ghost use Rattle.gl_engine.specs.Gathering as gathering;
 ghost use Rattle.gl_engine.specs.Gathering.{AreOwnBelow, AreThereBelow, IsFirstStrange, IsFirstMissing};
@@ -36,7 +36,7 @@ pub struct Gathered {
 impl Model for Gathered {
     ghost use Rattle.std.specs.Prelude.{map};
     ghost use Rattle.gl_engine.specs.Gathering.{Gathering};
-    ghost use Rattle.gl_engine.specs.Whole.{lane_of, IsGathered};
+    ghost use Rattle.gl_engine.specs.bodies.Whole.{lane_of, IsGathered};
 
     ghost Value = { Gathering };
 

@@ -5,7 +5,7 @@ ghost use Rattle.std.specs.Vec.{vec_len, vec_capacity};
 ghost use Rattle.gl_intake.specs.Stream.{has_ended, AreInOrder};
 ghost use Rattle.gl_shards.specs.Feeds.{Sending};
 ghost use Rattle.gl_shards.specs.declared.shard.TheConstants.{MAX_SHARDS};
-ghost use Rattle.gl_engine.specs.Breaking.{IsGone};
+ghost use Rattle.gl_engine.specs.bodies.Breaking.{IsGone};
 ghost use Rattle.gl_engine.specs.Dealing.{dealt, made_by};
 ghost use Rattle.gl_engine.specs.declared.faults.RunFault.TheVariants.{Memory};
 

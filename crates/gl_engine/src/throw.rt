@@ -1,8 +1,8 @@
 //! How a run goes on in which something went wrong: what comes is thrown away.
 ghost use Rattle.std.specs.Prelude.{◌≡◌, ◌<◌, map, length};
 ghost use mathlib.Core.List.{IsPrefix};
-ghost use Rattle.gl_engine.specs.Breaking.{handed, HandOver};
-ghost use Rattle.gl_engine.specs.Whole.{lane_of};
+ghost use Rattle.gl_engine.specs.bodies.Breaking.{handed, HandOver};
+ghost use Rattle.gl_engine.specs.bodies.Whole.{lane_of};
 
 use crate::row::Row;
 use gl_event::{Body, ThreadId};

@@ -11,7 +11,7 @@ use Rattle.gl_event.specs.declared.events.Segment.{Segment}
 use Rattle.gl_edges.specs.declared.edge.Edge.{Edge}
 use Rattle.gl_filters.specs.declared.query.Mode.{Mode}
 use Rattle.gl_filters.specs.Cycle.{asks_guards, first_segment, second_segment, LeadsOn, IsCycle}
-use Rattle.gl_filters.specs.Judging.{following}
+use Rattle.gl_filters.specs.Verdicts.{following}
 use Rattle.gl_edges.specs.Clashes.{guards_clash}
 use Rattle.gl_filters.specs.Test.{is_clear, goes_with, kinds_go_together, is_compatible}
 use Rattle.gl_filters.proofs.Cycling.{AreFit, fit_from, leads_from}

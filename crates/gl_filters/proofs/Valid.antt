@@ -7,7 +7,7 @@ use Rattle.gl_event.specs.declared.events.Segment.{Segment}
 use Rattle.gl_edges.specs.declared.edge.Edge.{Edge}
 use Rattle.gl_filters.specs.Asked.{Asked}
 use Rattle.gl_filters.specs.Cycle.{is_ordered, IsCycle}
-use Rattle.gl_filters.specs.Judging.{hold_one_lock, are_of_one_thread, have_gate_lock, following, NoPair, IsClosedAt, IsNotLesserAt, IsUnordered}
+use Rattle.gl_filters.specs.Verdicts.{hold_one_lock, are_of_one_thread, have_gate_lock, following, NoPair, IsClosedAt, IsNotLesserAt, IsUnordered}
 use Rattle.gl_filters.proofs.Cycling.{apart_tells, apart_from}
 
 pairs_from : (test : Edge → Edge → Bool) (es : List Edge) → NoPair test es → AllPairs (λ e f. test e f ≡ false) es

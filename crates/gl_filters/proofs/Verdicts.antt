@@ -7,7 +7,7 @@ use Rattle.gl_event.specs.declared.events.Segment.{Segment}
 use Rattle.gl_edges.specs.declared.edge.Edge.{Edge}
 use Rattle.gl_filters.specs.Cycle.{is_ordered}
 use Rattle.gl_filters.specs.Asked.{Asked}
-use Rattle.gl_filters.specs.Judging.{hold_one_lock, are_of_one_thread, have_gate_lock, IsFree, IsFirstAfter, IsFirstPair, IsFirstOpen, IsFirstLesser, IsLeastShared, IsVerdict, HasLength, IsClosed, HasLocks, HasThreads, IsLeast, IsApart, IsUnordered}
+use Rattle.gl_filters.specs.Verdicts.{hold_one_lock, are_of_one_thread, have_gate_lock, IsFree, IsFirstAfter, IsFirstPair, IsFirstOpen, IsFirstLesser, IsLeastShared, IsVerdict, HasLength, IsClosed, HasLocks, HasThreads, IsLeast, IsApart, IsUnordered}
 use Rattle.gl_filters.specs.declared.verdict.Verdict.{Verdict}
 use Rattle.gl_filters.specs.declared.verdict.Verdict.TheVariants.{TooShort, TooLong, NotClosed, SameLock, SameThread, NotLeast, SharedGuard, Ordered, Valid}
 

@@ -1,7 +1,7 @@
 pub mod Asked
 pub mod Cycle
 pub mod Faults
-pub mod Judging
+pub mod Verdicts
 pub mod Picked
 pub mod Test
 pub mod bodies

@@ -5,7 +5,7 @@ ghost use Rattle.gl_edges.specs.declared.edge.Edge.{Edge};
 ghost use Rattle.gl_event.specs.declared.events.Segment.{Segment};
 ghost use Rattle.gl_filters.specs.Asked.{Asked};
 ghost use Rattle.gl_filters.specs.Cycle.{IsCycle};
-ghost use Rattle.gl_filters.specs.Judging.{IsVerdict, following};
+ghost use Rattle.gl_filters.specs.Verdicts.{IsVerdict, following};
 ghost use Rattle.gl_filters.specs.declared.verdict.Verdict.{Verdict};
 ghost use Rattle.gl_filters.specs.declared.verdict.Verdict.TheVariants.{Valid};
 ghost use Rattle.gl_filters.specs.Test.{is_cycle, is_compatible, goes_with};

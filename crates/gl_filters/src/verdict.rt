@@ -3,7 +3,7 @@ ghost use Rattle.std.specs.Prelude.{◌≡◌, ◌<◌, ◌≤◌, ℕ, Some, le
 ghost use Rattle.gl_segments.specs.Clocks.{is_before};
 ghost use Rattle.gl_edges.specs.declared.edge.Edge.{Edge};
 ghost use Rattle.gl_filters.specs.Picked.{edges_of_table, picked};
-ghost use Rattle.gl_filters.specs.Judging.{have_gate_lock, IsFree, IsFirstAfter, NoPair, IsFirstPair, following, IsClosedAt, IsFirstOpen, IsNotLesserAt, IsFirstLesser, IsVerdict, IsLeastShared};
+ghost use Rattle.gl_filters.specs.Verdicts.{have_gate_lock, IsFree, IsFirstAfter, NoPair, IsFirstPair, following, IsClosedAt, IsFirstOpen, IsNotLesserAt, IsFirstLesser, IsVerdict, IsLeastShared};
 ghost use Rattle.gl_filters.specs.bodies.Clashing.{clashes};
 ghost use Rattle.gl_filters.specs.Cycle.{HasGate};
 ghost use Rattle.gl_edges.specs.Clashes.{guards_clash};

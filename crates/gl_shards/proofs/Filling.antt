@@ -17,7 +17,7 @@ use Rattle.std.proofs.lemmas.Map.Views.{Contains-from_lookup, lookup-from_Contai
 use Rattle.gl_edges.specs.Edges.{least_samples, once}
 use Rattle.gl_edges.specs.Laws.{AreAmong}
 use Rattle.gl_edges.specs.Order.{edge_cmp, sample_cmp, AreAscending}
-use Rattle.gl_edges.specs.Samples.{IsTableOf}
+use Rattle.gl_edges.specs.bodies.Tables.{IsTableOf}
 use Rattle.gl_edges.specs.declared.edge.Edge.{Edge}
 use Rattle.gl_edges.specs.declared.edge.Sample.{Sample}
 use Rattle.gl_edges.proofs.Least.{tied, same_once, Answers, table_answers}

@@ -13,7 +13,7 @@ use Rattle.gl_event.specs.declared.events.Refusal.TheVariants.{PlaceFull, NoSuch
 use Rattle.gl_std.specs.Line.{Operation, is_on_thread}
 use Rattle.gl_std.specs.Names.{NameLists}
 use Rattle.gl_std.specs.Trace.{mention, number_of, names_after, event_of, event_told, events_of, with_event, with_list, lists_after, with_call, limit_reached, after_event, after_call}
-use Rattle.gl_std.specs.bodies.Finding.{found_in, with_name, if_new, threads_after, locks_after, with_lists, operand_number, event_found, limit_found, limit_fault, verdict_of, with_names, after_verdict, after_found}
+use Rattle.gl_std.specs.bodies.Finding.{found_in, with_name, if_new, threads_after, locks_after, with_lists, operand_number, event_found, limit_found, limit_fault, ruling_of, with_names, after_ruling, after_found}
 use Rattle.gl_std.specs.declared.faults.StdKind.{StdKind}
 use Rattle.gl_std.specs.declared.faults.StdKind.TheVariants.{TooManyThreads, TooManyEvents, TooManyNames}
 use Rattle.gl_std.specs.declared.trace.Trace.{Trace}
@@ -148,16 +148,16 @@ limit-found limits names events operation thread operand location =
     ∙ ap (λ n. limit_by limits events (threads_after names operation found) n (length after.locs)) locks
     ∙ ap (limit_by limits events (threads_after names operation found) (locks_after names operation found)) locs
 
-verdict-found : (line : ℕ) (told kept : Trace) (r : Option Refusal) (limit : Option StdKind) → after_event line told kept r limit ≡ after_verdict line told kept (verdict_of r limit)
-verdict-found line told kept None None = refl
-verdict-found line told kept None (Some kind) = refl
-verdict-found line told kept (Some NoRoom) limit = refl
-verdict-found line told kept (Some TooDeep) limit = refl
-verdict-found line told kept (Some IsUpgrade) limit = refl
-verdict-found line told kept (Some NotHeld) limit = refl
-verdict-found line told kept (Some PlaceFull) limit = refl
-verdict-found line told kept (Some NoSuchThread) limit = refl
-verdict-found line told kept (Some OnItself) limit = refl
+ruling-found : (line : ℕ) (told kept : Trace) (r : Option Refusal) (limit : Option StdKind) → after_event line told kept r limit ≡ after_ruling line told kept (ruling_of r limit)
+ruling-found line told kept None None = refl
+ruling-found line told kept None (Some kind) = refl
+ruling-found line told kept (Some NoRoom) limit = refl
+ruling-found line told kept (Some TooDeep) limit = refl
+ruling-found line told kept (Some IsUpgrade) limit = refl
+ruling-found line told kept (Some NotHeld) limit = refl
+ruling-found line told kept (Some PlaceFull) limit = refl
+ruling-found line told kept (Some NoSuchThread) limit = refl
+ruling-found line told kept (Some OnItself) limit = refl
 
 -- the trace after a line that tells an event is the one that is found
 pub call-found : (limits : Bounds) (line : ℕ) (told : Trace) (operation : Operation) (thread operand location : List ℕ) → after_call limits line told operation thread operand location ≡ after_found limits line told operation thread operand location
@@ -167,7 +167,7 @@ call-found limits line told operation thread operand location =
     let kept = with_call told operation thread operand location in
     let limit = limit_reached limits (names_after told.names operation thread operand location) (length before) in
     let event = event_found told.names operation found in
-    verdict-found line told kept (lock_refusal before (event_told told.names operation thread operand location)) limit
-    ∙ ap (λ e. after_verdict line told kept (verdict_of (lock_refusal before e) limit)) (event-found told.names operation thread operand location)
-    ∙ ap (λ l. after_verdict line told kept (verdict_of (lock_refusal before event) l)) (limit-found limits told.names (length before) operation thread operand location)
-    ∙ ap (λ t. after_verdict line told t (verdict_of (lock_refusal before event) (limit_fault limits told operation found))) (trace-found told operation thread operand location)
+    ruling-found line told kept (lock_refusal before (event_told told.names operation thread operand location)) limit
+    ∙ ap (λ e. after_ruling line told kept (ruling_of (lock_refusal before e) limit)) (event-found told.names operation thread operand location)
+    ∙ ap (λ l. after_ruling line told kept (ruling_of (lock_refusal before event) l)) (limit-found limits told.names (length before) operation thread operand location)
+    ∙ ap (λ t. after_ruling line told t (ruling_of (lock_refusal before event) (limit_fault limits told operation found))) (trace-found told operation thread operand location)

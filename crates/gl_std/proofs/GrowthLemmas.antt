@@ -10,11 +10,11 @@ use Rattle.gl_std.specs.Line.{Operation, Shape, shape_of, is_on_thread}
 use Rattle.gl_std.specs.Line.Shape.{Blank, Bad, Other, Call}
 use Rattle.gl_std.specs.Lines.{LF, lines}
 use Rattle.gl_std.specs.Trace.{with_event, after_shape, after_line, and_then, read_from}
-use Rattle.gl_std.specs.bodies.Finding.{found_in, with_name, event_found, after_verdict}
+use Rattle.gl_std.specs.bodies.Finding.{found_in, with_name, event_found, after_ruling}
 use Rattle.gl_std.specs.declared.faults.ReadFault.{ReadFault}
 use Rattle.gl_std.specs.declared.faults.ReadFault.TheVariants.{Line}
-use Rattle.gl_std.specs.declared.standing.Verdict.{Verdict}
-use Rattle.gl_std.specs.declared.standing.Verdict.TheVariants.{Kept, Stray, Fault}
+use Rattle.gl_std.specs.declared.standing.Ruling.{Ruling}
+use Rattle.gl_std.specs.declared.standing.Ruling.TheVariants.{Kept, Stray, Fault}
 use Rattle.gl_std.specs.declared.trace.Trace.{Trace}
 use Rattle.gl_std.proofs.FoundLemmas.{acting, place_of, threads_of, locks_of, with_found, call-found}
 use Rattle.gl_std.proofs.StepLemmas.{IsTrace, lists_of, same_trace, no_trace, trace_of-append}
@@ -34,11 +34,11 @@ with_name-front names None name = (name ∷ [], refl)
 with_name-front names (Some i) name = IsFront-itself names
 
 -- the thread's list in these lists goes on from these events
-abbrev GoesOn : List (List Event) → ℕ → List Event → Type 0
-GoesOn lists thread es = (later : List Event) × (slice_get lists thread ≡ Some (es ++ later))
+abbrev ListGoesOn : List (List Event) → ℕ → List Event → Type 0
+ListGoesOn lists thread es = (later : List Event) × (slice_get lists thread ≡ Some (es ++ later))
 
-GoesOn-same : (lists : List (List Event)) (thread : ℕ) (es : List Event) → slice_get lists thread ≡ Some es → GoesOn lists thread es
-GoesOn-same lists thread es h = ([], h ∙ ap (λ l. Some l) (sym (append_nil es)))
+ListGoesOn-same : (lists : List (List Event)) (thread : ℕ) (es : List Event) → slice_get lists thread ≡ Some es → ListGoesOn lists thread es
+ListGoesOn-same lists thread es h = ([], h ∙ ap (λ l. Some l) (sym (append_nil es)))
 
 push_goes_on : (lists : List (List Event)) (new : List Event) (k : ℕ) (es : List Event) → slice_get lists k ≡ Some es → slice_get (lists ++ new ∷ []) k ≡ Some es
 push_goes_on [] new k es h = absurd (none_some h)
@@ -48,18 +48,18 @@ push_goes_on [] new k es h = absurd (none_some h)
 push_goes_on (x ∷ lists) new zero es h = h
 push_goes_on (x ∷ lists) new (suc k) es h = push_goes_on lists new k es h
 
-set_goes_on : (lists : List (List Event)) (i : ℕ) (e : Event) (k : ℕ) (es : List Event) → slice_get lists k ≡ Some es → GoesOn (slice_set lists i (get_or lists i [] ++ e ∷ [])) k es
+set_goes_on : (lists : List (List Event)) (i : ℕ) (e : Event) (k : ℕ) (es : List Event) → slice_get lists k ≡ Some es → ListGoesOn (slice_set lists i (get_or lists i [] ++ e ∷ [])) k es
 set_goes_on [] i e k es h = absurd (none_some h)
   where
     none_some : None ≡ Some es → ⊥
     none_some e = cc
 set_goes_on (x ∷ lists) zero e zero es h = let same : x ≡ es = cc in (e ∷ [], ap (λ l. Some (l ++ e ∷ [])) same)
-set_goes_on (x ∷ lists) zero e (suc k) es h = GoesOn-same lists k es h
+set_goes_on (x ∷ lists) zero e (suc k) es h = ListGoesOn-same lists k es h
 set_goes_on (x ∷ lists) (suc i) e zero es h = ([], h ∙ ap (λ l. Some l) (sym (append_nil es)))
 set_goes_on (x ∷ lists) (suc i) e (suc k) es h = set_goes_on lists i e k es h
 
-with_event-goes_on : (lists : List (List Event)) (number : Option ℕ) (e : Event) (k : ℕ) (es : List Event) → slice_get lists k ≡ Some es → GoesOn (with_event lists number e) k es
-with_event-goes_on lists None e k es h = GoesOn-same (lists ++ (e ∷ []) ∷ []) k es (push_goes_on lists (e ∷ []) k es h)
+with_event-goes_on : (lists : List (List Event)) (number : Option ℕ) (e : Event) (k : ℕ) (es : List Event) → slice_get lists k ≡ Some es → ListGoesOn (with_event lists number e) k es
+with_event-goes_on lists None e k es h = ListGoesOn-same (lists ++ (e ∷ []) ∷ []) k es (push_goes_on lists (e ∷ []) k es h)
 with_event-goes_on lists (Some i) e k es h = set_goes_on lists i e k es h
 
 threads_of-front : (on : Bool) (names : NameLists) (thread operand : List ℕ) → IsFront names.threads (threads_of on names thread operand)
@@ -71,7 +71,7 @@ locks_of-front : (on : Bool) (names : NameLists) (thread operand : List ℕ) →
 locks_of-front true names thread operand = IsFront-itself names.locks
 locks_of-front false names thread operand = with_name-front names.locks (place_of false names thread operand) operand
 
-lists_of-goes_on : (on : Bool) (lists : List (List Event)) (number place : Option ℕ) (e : Event) (k : ℕ) (es : List Event) → slice_get lists k ≡ Some es → GoesOn (lists_of on lists number place e) k es
+lists_of-goes_on : (on : Bool) (lists : List (List Event)) (number place : Option ℕ) (e : Event) (k : ℕ) (es : List Event) → slice_get lists k ≡ Some es → ListGoesOn (lists_of on lists number place e) k es
 lists_of-goes_on false lists number place e k es h = with_event-goes_on lists number e k es h
 lists_of-goes_on true lists number (Some i) e k es h = with_event-goes_on lists number e k es h
 lists_of-goes_on true lists number None e k es h =
@@ -84,7 +84,7 @@ Grows-itself told skipped stray =
       threads = IsFront-itself told.names.threads;
       locks = IsFront-itself told.names.locks;
       locs = IsFront-itself told.names.locs;
-      lists = λ k es h. GoesOn-same told.lists k es h;
+      lists = λ k es h. ListGoesOn-same told.lists k es h;
     }
 
 pub Grows-then : (a b c : Trace) → Grows a b → Grows b c → Grows a c
@@ -110,17 +110,17 @@ call_grows told operation thread operand location =
       lists = λ k es h. lists_of-goes_on on told.lists found.thread found.operand (event_found told.names operation found) k es h;
     }
 
-after_verdict_grows : (line : ℕ) (told kept more : Trace) (v : Verdict) → Grows told kept → IsTrace (after_verdict line told kept v) more → Grows told more
-after_verdict_grows line told kept more Kept new is = subst (Grows told) (same_trace kept more is) new
-after_verdict_grows line told kept more Stray new is = subst (Grows told) (same_trace (record told { stray = told.stray + 1 }) more is) (Grows-itself told told.skipped (told.stray + 1))
-after_verdict_grows line told kept more (Fault kind) new is = absurd (no_trace (Line line kind) more is)
+after_ruling_grows : (line : ℕ) (told kept more : Trace) (v : Ruling) → Grows told kept → IsTrace (after_ruling line told kept v) more → Grows told more
+after_ruling_grows line told kept more Kept new is = subst (Grows told) (same_trace kept more is) new
+after_ruling_grows line told kept more Stray new is = subst (Grows told) (same_trace (record told { stray = told.stray + 1 }) more is) (Grows-itself told told.skipped (told.stray + 1))
+after_ruling_grows line told kept more (Fault kind) new is = absurd (no_trace (Line line kind) more is)
 
 after_shape_grows : (limits : Bounds) (line : ℕ) (told more : Trace) (shape : Shape) → IsTrace (after_shape limits line told shape) more → Grows told more
 after_shape_grows limits line told more Blank is = subst (Grows told) (same_trace told more is) (Grows-itself told told.skipped told.stray)
 after_shape_grows limits line told more (Bad kind) is = absurd (no_trace (Line line kind) more is)
 after_shape_grows limits line told more Other is = subst (Grows told) (same_trace (record told { skipped = told.skipped + 1 }) more is) (Grows-itself told (told.skipped + 1) told.stray)
 after_shape_grows limits line told more (Call operation thread operand location) is =
-    after_verdict_grows line told (with_found told operation thread operand location) more _ (call_grows told operation thread operand location) (sym (call-found limits line told operation thread operand location) ∙ is)
+    after_ruling_grows line told (with_found told operation thread operand location) more _ (call_grows told operation thread operand location) (sym (call-found limits line told operation thread operand location) ∙ is)
 
 read_from_grows : (limits : Bounds) (ls : List (List ℕ)) (number : ℕ) (told more : Trace) → IsTrace (read_from limits number told ls) more → Grows told more
 read_from_grows limits [] number told more is = subst (Grows told) (same_trace told more is) (Grows-itself told told.skipped told.stray)

@@ -12,13 +12,13 @@ use Rattle.gl_std.specs.Standings.{State, StandsAfter, AreStanding, count_of}
 use Rattle.gl_std.specs.Line.{Operation, is_on_thread}
 use Rattle.gl_std.specs.Names.{NameLists}
 use Rattle.gl_std.specs.Trace.{events_of, with_event, with_list, after_call, IsTraceOver}
-use Rattle.gl_std.specs.bodies.Finding.{found_in, with_lists, event_found, limit_found, limit_fault, verdict_of, with_names, after_verdict}
+use Rattle.gl_std.specs.bodies.Finding.{found_in, with_lists, event_found, limit_found, limit_fault, ruling_of, with_names, after_ruling}
 use Rattle.gl_std.specs.declared.faults.StdKind.{StdKind}
 use Rattle.gl_std.specs.declared.faults.ReadFault.{ReadFault}
 use Rattle.gl_std.specs.declared.judge.Judged.{Judged}
 use Rattle.gl_std.specs.declared.judge.Judged.TheVariants.{Event as Told}
 use Rattle.gl_std.specs.declared.names.Found.{Found}
-use Rattle.gl_std.specs.declared.standing.Verdict.{Verdict}
+use Rattle.gl_std.specs.declared.standing.Ruling.{Ruling}
 use Rattle.gl_std.specs.declared.trace.Trace.{Trace}
 use Rattle.gl_std.proofs.FoundLemmas.{with_found, length-threads_of, call-found}
 use Rattle.gl_std.proofs.StepLemmas.{found_within}
@@ -177,8 +177,8 @@ sound_of j told judged over in_range few_skipped few_stray =
     }
 
 -- a line that tells an event, by what was found out of it
-pub call_judged : (limits : Bounds) (line : ℕ) (names : NameLists) (states : List State) (told : Trace) (operation : Operation) (thread operand location : List ℕ) (found : Found) (event : Event) (limit : Option StdKind) (verdict : Verdict) → names ≡ told.names → AreStanding told.lists states → found ≡ found_in names operation thread operand location → event ≡ event_found names operation found → limit ≡ limit_found limits names (count_of states found.thread) operation found → verdict ≡ verdict_of (lock_refusal (events_of told.lists found.thread) event) limit → after_call limits line told operation thread operand location ≡ after_verdict line told (with_found told operation thread operand location) verdict
-call_judged limits line names states told operation thread operand location found event limit verdict same are is_found is_event is_limit is_verdict =
+pub call_judged : (limits : Bounds) (line : ℕ) (names : NameLists) (states : List State) (told : Trace) (operation : Operation) (thread operand location : List ℕ) (found : Found) (event : Event) (limit : Option StdKind) (ruling : Ruling) → names ≡ told.names → AreStanding told.lists states → found ≡ found_in names operation thread operand location → event ≡ event_found names operation found → limit ≡ limit_found limits names (count_of states found.thread) operation found → ruling ≡ ruling_of (lock_refusal (events_of told.lists found.thread) event) limit → after_call limits line told operation thread operand location ≡ after_ruling line told (with_found told operation thread operand location) ruling
+call_judged limits line names states told operation thread operand location found event limit ruling same are is_found is_event is_limit is_ruling =
     let found1 = found_in told.names operation thread operand location in
     let event1 = event_found told.names operation found1 in
     let es1 = events_of told.lists found1.thread in
@@ -188,10 +188,10 @@ call_judged limits line names states told operation thread operand location foun
     is_limit ∙ ap (λ ns. limit_found limits ns (count_of states found.thread) operation found) same
     ∙ ap (λ n. limit_found limits told.names n operation found) (standing_count told.lists states found.thread are)
     ∙ ap (limit_fault limits told operation) to_found in
-    let to_verdict : verdict ≡ verdict_of (lock_refusal es1 event1) (limit_fault limits told operation found1) =
-    is_verdict ∙ ap (λ f. verdict_of (lock_refusal (events_of told.lists f.thread) event) limit) to_found
-    ∙ ap (λ e. verdict_of (lock_refusal es1 e) limit) to_event ∙ ap (verdict_of (lock_refusal es1 event1)) to_limit in
-    call-found limits line told operation thread operand location ∙ ap (after_verdict line told (with_found told operation thread operand location)) (sym to_verdict)
+    let to_ruling : ruling ≡ ruling_of (lock_refusal es1 event1) (limit_fault limits told operation found1) =
+    is_ruling ∙ ap (λ f. ruling_of (lock_refusal (events_of told.lists f.thread) event) limit) to_found
+    ∙ ap (λ e. ruling_of (lock_refusal es1 e) limit) to_event ∙ ap (ruling_of (lock_refusal es1 event1)) to_limit in
+    call-found limits line told operation thread operand location ∙ ap (after_ruling line told (with_found told operation thread operand location)) (sym to_ruling)
 
 -- the lists after a line that is kept
 pub call_listed : (names names2 : NameLists) (states : List State) (told : Trace) (operation : Operation) (thread operand location : List ℕ) (found : Found) (event : Event) (own : ℕ) → AreStanding told.lists states → length states ≡ length names.threads → found ≡ found_in names operation thread operand location → names2 ≡ with_names names operation found thread operand location → own ≡ unwrap_or found.thread (length names.threads) → with_lists told.lists operation found event ≡ listed (length names2.threads) told.lists own event

@@ -25,16 +25,16 @@ use Rattle.gl_std.specs.Line.{Operation, Shape, shape_of, is_on_thread}
 use Rattle.gl_std.specs.Line.Shape.{Blank, Bad, Other, Call}
 use Rattle.gl_std.specs.Lines.{lines}
 use Rattle.gl_std.specs.Trace.{mention, operands, with_event, events_of, after_shape, after_line, and_then, read_from, nothing, trace_of, IsTraceOver}
-use Rattle.gl_std.specs.bodies.Finding.{found_in, with_name, operand_number, event_found, limit_fault, verdict_of, after_verdict}
+use Rattle.gl_std.specs.bodies.Finding.{found_in, with_name, operand_number, event_found, limit_fault, ruling_of, after_ruling}
 use Rattle.gl_std.specs.declared.faults.StdKind.{StdKind}
 use Rattle.gl_std.specs.declared.faults.ReadFault.{ReadFault}
 use Rattle.gl_std.specs.declared.faults.ReadFault.TheVariants.{Line}
-use Rattle.gl_std.specs.declared.standing.Verdict.{Verdict}
-use Rattle.gl_std.specs.declared.standing.Verdict.TheVariants.{Kept, Stray, Fault}
+use Rattle.gl_std.specs.declared.standing.Ruling.{Ruling}
+use Rattle.gl_std.specs.declared.standing.Ruling.TheVariants.{Kept, Stray, Fault}
 use Rattle.gl_std.specs.declared.trace.Trace.{Trace}
 use Rattle.gl_std.proofs.GrowthLemmas.{Grows-itself, Grows-then, call_grows}
 use Rattle.gl_std.proofs.FoundLemmas.{with_name-mention, length-with_name, acting, place_of, threads_of, locks_of, with_found, event-found, call-found}
-use Rattle.gl_std.proofs.StepLemmas.{IsTrace, lists_of, length-with_event, same_trace, no_trace, kept_verdict, after_line_over, nothing_over}
+use Rattle.gl_std.proofs.StepLemmas.{IsTrace, lists_of, length-with_event, same_trace, no_trace, kept_ruling, after_line_over, nothing_over}
 use Rattle.gl_std.proofs.PlaceLemmas.{events_named, own, events_named-after, events_named-listed}
 
 -- the trace after more lines, which say this, and of which these are kept
@@ -115,7 +115,7 @@ Tells-then a b c ss ts ms ns one two =
 
 -- ---- which events are strays
 
-acquire_no_stray : (held room deep up : Bool) (limit : Option StdKind) → verdict_of (cond held (cond room (Some NoRoom) None) (cond deep (Some TooDeep) (cond up (Some IsUpgrade) None))) limit ≡ Stray → ⊥
+acquire_no_stray : (held room deep up : Bool) (limit : Option StdKind) → ruling_of (cond held (cond room (Some NoRoom) None) (cond deep (Some TooDeep) (cond up (Some IsUpgrade) None))) limit ≡ Stray → ⊥
 acquire_no_stray true true deep up limit h = cc
 acquire_no_stray true false deep up None h = cc
 acquire_no_stray true false deep up (Some kind) h = cc
@@ -124,19 +124,19 @@ acquire_no_stray false room false true limit h = cc
 acquire_no_stray false room false false None h = cc
 acquire_no_stray false room false false (Some kind) h = cc
 
-closing_no_stray : (limit : Option StdKind) → verdict_of None limit ≡ Stray → ⊥
+closing_no_stray : (limit : Option StdKind) → ruling_of None limit ≡ Stray → ⊥
 closing_no_stray None h = cc
 closing_no_stray (Some kind) h = cc
 
-release_stray : (none : Bool) (limit : Option StdKind) → verdict_of (cond none (Some NotHeld) None) limit ≡ Stray → none ≡ true
+release_stray : (none : Bool) (limit : Option StdKind) → ruling_of (cond none (Some NotHeld) None) limit ≡ Stray → none ≡ true
 release_stray true limit h = refl
 release_stray false limit h = absurd (closing_no_stray limit h)
 
-acquired_stray : (es : List Event) (lock : ℕ) (mode : LockMode) (limit : Option StdKind) → verdict_of (acquire_refusal es lock mode) limit ≡ Stray → ⊥
+acquired_stray : (es : List Event) (lock : ℕ) (mode : LockMode) (limit : Option StdKind) → ruling_of (acquire_refusal es lock mode) limit ≡ Stray → ⊥
 unfolding acquire_refusal
 acquired_stray es lock mode limit h = acquire_no_stray (eqb (depth es lock) 0) (nat_le MAX_HELD (length (held es))) (nat_le MAX_DEPTH (depth es lock)) (is_upgrade (held_mode es lock) mode) limit h
 
-dropped_stray : (es : List Event) (e : Event) (limit : Option StdKind) → verdict_of (lock_refusal es e) limit ≡ Stray → is_stray es e ≡ true
+dropped_stray : (es : List Event) (e : Event) (limit : Option StdKind) → ruling_of (lock_refusal es e) limit ≡ Stray → is_stray es e ≡ true
 unfolding lock_refusal
 dropped_stray es (Acquire lock mode loc) limit h = absurd (acquired_stray es lock mode limit h)
 dropped_stray es (Release lock mode loc) limit h = release_stray (eqb (depth es lock) 0) limit h
@@ -156,12 +156,12 @@ allowed_no_stray es (TryAcquire lock mode loc) h = refl
 allowed_no_stray es (Fork thread loc) h = refl
 allowed_no_stray es (Join thread loc) h = refl
 
-after_verdict-kept : (number : ℕ) (told kept more : Trace) (shapes : List Shape) (line : KeptLine) (v : Verdict) (stray : Bool) → (v ≡ Kept → stray ≡ false) → (v ≡ Stray → stray ≡ true) → Tells told shapes [] (record told { stray = told.stray + 1 }) → Tells told shapes (line ∷ []) kept → IsTrace (after_verdict number told kept v) more → Tells told shapes (cond stray [] (line ∷ [])) more
-after_verdict-kept number told kept more shapes line Kept stray keeps drops none new is =
+after_ruling-kept : (number : ℕ) (told kept more : Trace) (shapes : List Shape) (line : KeptLine) (v : Ruling) (stray : Bool) → (v ≡ Kept → stray ≡ false) → (v ≡ Stray → stray ≡ true) → Tells told shapes [] (record told { stray = told.stray + 1 }) → Tells told shapes (line ∷ []) kept → IsTrace (after_ruling number told kept v) more → Tells told shapes (cond stray [] (line ∷ [])) more
+after_ruling-kept number told kept more shapes line Kept stray keeps drops none new is =
     subst (λ b. Tells told shapes (cond b [] (line ∷ [])) more) (sym (keeps refl)) (subst (Tells told shapes (line ∷ [])) (same_trace kept more is) new)
-after_verdict-kept number told kept more shapes line Stray stray keeps drops none new is =
+after_ruling-kept number told kept more shapes line Stray stray keeps drops none new is =
     subst (λ b. Tells told shapes (cond b [] (line ∷ [])) more) (sym (drops refl)) (subst (Tells told shapes []) (same_trace (record told { stray = told.stray + 1 }) more is) none)
-after_verdict-kept number told kept more shapes line (Fault kind) stray keeps drops none new is = absurd (no_trace (Line number kind) more is)
+after_ruling-kept number told kept more shapes line (Fault kind) stray keeps drops none new is = absurd (no_trace (Line number kind) more is)
 
 own_event : (b : Bool) (line : KeptLine) → own b line.event ≡ map (λ l. l.event) (cond b (line ∷ []) [])
 own_event true line = refl
@@ -240,8 +240,8 @@ after_shape-kept limits number told more (Call operation thread operand location
     let shapes = Call operation thread operand location ∷ [] in
     let keeps : Event → List KeptLine = λ e. cond (is_stray es e) [] (record { operation = operation; thread = thread; operand = operand; loc = location; event = e } ∷ []) in
     subst (λ e. Tells told shapes (keeps e) more) (sym (event-found told.names operation thread operand location))
-    (after_verdict-kept number told (with_found told operation thread operand location) more shapes line (verdict_of (lock_refusal es event) limit) (is_stray es event)
-    (λ kept. allowed_no_stray es event (kept_verdict (lock_refusal es event) limit kept).0)
+    (after_ruling-kept number told (with_found told operation thread operand location) more shapes line (ruling_of (lock_refusal es event) limit) (is_stray es event)
+    (λ kept. allowed_no_stray es event (kept_ruling (lock_refusal es event) limit kept).0)
     (λ dropped. dropped_stray es event limit dropped)
     (Tells-none told shapes told.skipped (told.stray + 1) (omega arith) (omega arith))
     (call_told told operation thread operand location each)

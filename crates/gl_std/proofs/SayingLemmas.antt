@@ -73,12 +73,12 @@ field_without_bar names e none =
 
 pub line_says : (names : NameLists) (thread : List ℕ) (e : Event) → CanBeTold names thread e → shape_of (event_line names thread e) ≡ said names thread e
 line_says names thread e can =
-    let place = name_at names.locs (location e) in
+    let location_name = name_at names.locs (location e) in
     let parts = line_parts names thread e in
-    let long : length (thread ++ BAR ∷ (field_of names e ++ BAR ∷ place)) ≤ MAX_LINE = subst (λ l. length l ≤ MAX_LINE) (sym parts) can.fits in
-    let says = call thread (word_of e) (operand_name names e) place (operation_in e) can.some_thread (free_of OPEN (word_of e) (word_without_open e)) (word_read e) can.some_operand can.apart in
+    let long : length (thread ++ BAR ∷ (field_of names e ++ BAR ∷ location_name)) ≤ MAX_LINE = subst (λ l. length l ≤ MAX_LINE) (sym parts) can.fits in
+    let says = call thread (word_of e) (operand_name names e) location_name (operation_in e) can.some_thread (free_of OPEN (word_of e) (word_without_open e)) (word_read e) can.some_operand can.apart in
     ap shape_of (sym parts)
-    ∙ sym (says_shape (thread ++ BAR ∷ (field_of names e ++ BAR ∷ place)) (Call (operation_in e) thread (operand_name names e) place) (fields thread (field_of names e) place (Call (operation_in e) thread (operand_name names e) place) long can.no_bar (field_without_bar names e can.no_bar_in_operand) says))
+    ∙ sym (says_shape (thread ++ BAR ∷ (field_of names e ++ BAR ∷ location_name)) (Call (operation_in e) thread (operand_name names e) location_name) (fields thread (field_of names e) location_name (Call (operation_in e) thread (operand_name names e) location_name) long can.no_bar (field_without_bar names e can.no_bar_in_operand) says))
 
 -- ---- what ends the line
 
@@ -95,17 +95,17 @@ without_cr-after (x ∷ xs) b ys =
     ap (λ v. cond v [] (x ∷ without_cr (xs ++ b ∷ ys))) test ∙ ap (λ l. x ∷ l) (without_cr-after xs b ys)
 
 -- the line up to its second bar
-abbrev before_place : NameLists → List ℕ → Event → List ℕ
-before_place names thread e = thread ++ BAR ∷ field_of names e
+abbrev before_location : NameLists → List ℕ → Event → List ℕ
+before_location names thread e = thread ++ BAR ∷ field_of names e
 
-place_last : (names : NameLists) (thread : List ℕ) (e : Event) → event_line names thread e ≡ before_place names thread e ++ BAR ∷ name_at names.locs (location e)
-place_last names thread e = sym (line_parts names thread e) ∙ sym (append_assoc thread (BAR ∷ field_of names e) (BAR ∷ name_at names.locs (location e)))
+location_last : (names : NameLists) (thread : List ℕ) (e : Event) → event_line names thread e ≡ before_location names thread e ++ BAR ∷ name_at names.locs (location e)
+location_last names thread e = sym (line_parts names thread e) ∙ sym (append_assoc thread (BAR ∷ field_of names e) (BAR ∷ name_at names.locs (location e)))
 
 -- where the location doesn't end with CR, nor does the line
 line_without_cr : (names : NameLists) (thread : List ℕ) (e : Event) → without_cr (name_at names.locs (location e)) ≡ name_at names.locs (location e) → without_cr (event_line names thread e) ≡ event_line names thread e
 line_without_cr names thread e same =
-    let place = name_at names.locs (location e) in
-    ap without_cr (place_last names thread e) ∙ without_cr-after (before_place names thread e) BAR place ∙ ap (λ l. before_place names thread e ++ BAR ∷ l) same ∙ sym (place_last names thread e)
+    let location_name = name_at names.locs (location e) in
+    ap without_cr (location_last names thread e) ∙ without_cr-after (before_location names thread e) BAR location_name ∙ ap (λ l. before_location names thread e ++ BAR ∷ l) same ∙ sym (location_last names thread e)
 
 -- a line with what ends it, by whether its location ends with CR
 line_ended : (line rest : List ℕ) → ¬ Contains line LF → (same : Bool) → (same ≡ true → without_cr line ≡ line) → lines ((line ++ cond same (LF ∷ []) (CR ∷ LF ∷ [])) ++ rest) ≡ line ∷ lines rest
@@ -116,8 +116,8 @@ line_ended line rest one false same =
 
 pub line_read : (names : NameLists) (thread : List ℕ) (e : Event) (rest : List ℕ) → CanBeTold names thread e → lines (written_event names thread e ++ rest) ≡ event_line names thread e ∷ lines rest
 line_read names thread e rest can =
-    let place = name_at names.locs (location e) in
-    line_ended (event_line names thread e) rest can.one_line (bytes_eq (without_cr place) place) (λ is. line_without_cr names thread e ((bytes_eq-Decides (without_cr place) place).0 is))
+    let location_name = name_at names.locs (location e) in
+    line_ended (event_line names thread e) rest can.one_line (bytes_eq (without_cr location_name) location_name) (λ is. line_without_cr names thread e ((bytes_eq-Decides (without_cr location_name) location_name).0 is))
 
 pub written_says : WrittenLinesSayEvents
 written_says names thread event rest can = (line_read names thread event rest can, line_says names thread event can)

@@ -25,14 +25,14 @@ use Rattle.gl_std.specs.Lines.{LF, lines}
 use Rattle.gl_std.proofs.LinesLemmas.{lines-after_line}
 use Rattle.gl_std.specs.Names.{NameLists}
 use Rattle.gl_std.specs.Trace.{events_of, with_event, with_list, event_of, after_call, after_shape, after_line, and_then, read_from, nothing, trace_of, IsNamed, IsTraceOver}
-use Rattle.gl_std.specs.bodies.Finding.{found_in, with_name, if_new, threads_after, locks_after, event_found, limit_fault, verdict_of, with_names, after_verdict}
+use Rattle.gl_std.specs.bodies.Finding.{found_in, with_name, if_new, threads_after, locks_after, event_found, limit_fault, ruling_of, with_names, after_ruling}
 use Rattle.gl_std.specs.declared.faults.StdKind.{StdKind}
 use Rattle.gl_std.specs.declared.faults.ReadFault.{ReadFault}
 use Rattle.gl_std.specs.declared.faults.ReadFault.TheVariants.{Line}
 use Rattle.gl_std.specs.Line.Operation.{Acquire as AcquireOf, Release as ReleaseOf, TryAcquire as TryAcquireOf, Fork as ForkOf, Join as JoinOf}
 use Rattle.gl_std.specs.declared.names.Found.{Found}
-use Rattle.gl_std.specs.declared.standing.Verdict.{Verdict}
-use Rattle.gl_std.specs.declared.standing.Verdict.TheVariants.{Kept, Stray, Fault}
+use Rattle.gl_std.specs.declared.standing.Ruling.{Ruling}
+use Rattle.gl_std.specs.declared.standing.Ruling.TheVariants.{Kept, Stray, Fault}
 use Rattle.gl_std.specs.declared.trace.Trace.{Trace}
 use Rattle.gl_std.proofs.FoundLemmas.{length-with_name, acting, place_of, threads_of, locks_of, length-threads_of, length-locks_of, with_found, call-found}
 use Rattle.gl_std.proofs.NameLemmas.{list_any-absent}
@@ -314,16 +314,16 @@ same_trace a b h = ap (trace_or a) h
 pub no_trace : (fault : ReadFault) (b : Trace) → IsTrace (Err fault) b → ⊥
 no_trace fault b h = cc
 
-pub kept_verdict : (r : Option Refusal) (limit : Option StdKind) → verdict_of r limit ≡ Kept → (r ≡ None) × (limit ≡ None)
-kept_verdict None None h = (refl, refl)
-kept_verdict None (Some kind) h = absurd cc
-kept_verdict (Some NotHeld) limit h = absurd cc
-kept_verdict (Some NoRoom) limit h = absurd cc
-kept_verdict (Some TooDeep) limit h = absurd cc
-kept_verdict (Some IsUpgrade) limit h = absurd cc
-kept_verdict (Some PlaceFull) limit h = absurd cc
-kept_verdict (Some NoSuchThread) limit h = absurd cc
-kept_verdict (Some OnItself) limit h = absurd cc
+pub kept_ruling : (r : Option Refusal) (limit : Option StdKind) → ruling_of r limit ≡ Kept → (r ≡ None) × (limit ≡ None)
+kept_ruling None None h = (refl, refl)
+kept_ruling None (Some kind) h = absurd cc
+kept_ruling (Some NotHeld) limit h = absurd cc
+kept_ruling (Some NoRoom) limit h = absurd cc
+kept_ruling (Some TooDeep) limit h = absurd cc
+kept_ruling (Some IsUpgrade) limit h = absurd cc
+kept_ruling (Some PlaceFull) limit h = absurd cc
+kept_ruling (Some NoSuchThread) limit h = absurd cc
+kept_ruling (Some OnItself) limit h = absurd cc
 
 -- where no limit is named, none forbids
 no_limit : (k1 k2 k3 k4 : StdKind) (a b c d : Bool) → cond a (Some k1) (cond b (Some k2) (cond c (Some k3) (cond d (Some k4) None))) ≡ None → (a ≡ false) × (b ≡ false) × (c ≡ false) × (d ≡ false)
@@ -338,10 +338,10 @@ allowed limits told operation found h =
     let all = no_limit _ _ _ _ (nat_lt limits.threads (threads_after told.names operation found)) (nat_le limits.events (length (events_of told.lists found.thread))) (nat_lt limits.names (locks_after told.names operation found)) (nat_lt limits.names (length told.names.locs + if_new found.loc)) h in
     record { threads = all.0; events = all.1; locks = all.2; locs = all.3 }
 
-after_verdict_over : (limits : Bounds) (line : ℕ) (told kept more : Trace) (v : Verdict) → IsTraceOver limits told → (v ≡ Kept → IsTraceOver limits kept) → IsTrace (after_verdict line told kept v) more → IsTraceOver limits more
-after_verdict_over limits line told kept more Kept over new is = subst (IsTraceOver limits) (same_trace kept more is) (new refl)
-after_verdict_over limits line told kept more Stray over new is = subst (IsTraceOver limits) (same_trace (record told { stray = told.stray + 1 }) more is) (counted_over limits told told.skipped (told.stray + 1) over)
-after_verdict_over limits line told kept more (Fault kind) over new is = absurd (no_trace (Line line kind) more is)
+after_ruling_over : (limits : Bounds) (line : ℕ) (told kept more : Trace) (v : Ruling) → IsTraceOver limits told → (v ≡ Kept → IsTraceOver limits kept) → IsTrace (after_ruling line told kept v) more → IsTraceOver limits more
+after_ruling_over limits line told kept more Kept over new is = subst (IsTraceOver limits) (same_trace kept more is) (new refl)
+after_ruling_over limits line told kept more Stray over new is = subst (IsTraceOver limits) (same_trace (record told { stray = told.stray + 1 }) more is) (counted_over limits told told.skipped (told.stray + 1) over)
+after_ruling_over limits line told kept more (Fault kind) over new is = absurd (no_trace (Line line kind) more is)
 
 after_call_over : (limits : Bounds) (line : ℕ) (told more : Trace) (operation : Operation) (thread operand location : List ℕ) → IsTraceOver limits told → is_on_itself operation thread operand ≡ false → IsTrace (after_call limits line told operation thread operand location) more → IsTraceOver limits more
 after_call_over limits line told more operation thread operand location over apart is =
@@ -350,8 +350,8 @@ after_call_over limits line told more operation thread operand location over apa
     let by_found = sym (call-found limits line told operation thread operand location) ∙ is in
     let refused = lock_refusal (events_of told.lists found.thread) event in
     let limit = limit_fault limits told operation found in
-    after_verdict_over limits line told (with_found told operation thread operand location) more (verdict_of refused limit) over
-    (λ keeps. let none = kept_verdict refused limit keeps in kept_over limits told operation thread operand location over apart (allowed limits told operation found none.1) none.0)
+    after_ruling_over limits line told (with_found told operation thread operand location) more (ruling_of refused limit) over
+    (λ keeps. let none = kept_ruling refused limit keeps in kept_over limits told operation thread operand location over apart (allowed limits told operation found none.1) none.0)
     by_found
 
 after_shape_over : (limits : Bounds) (line : ℕ) (told more : Trace) (shape : Shape) → AreApart shape → IsTraceOver limits told → IsTrace (after_shape limits line told shape) more → IsTraceOver limits more

@@ -41,7 +41,7 @@ operand_name names (Join thread loc) = name_at names.threads thread
 
 -- what ends a line at this location: a CR just before LF isn't read, so one that the location ends with needs another
 abbrev pub line_end : List ℕ → List ℕ
-line_end place = if bytes_eq (without_cr place) place then LF ∷ [] else CR ∷ LF ∷ []
+line_end location_name = if bytes_eq (without_cr location_name) location_name then LF ∷ [] else CR ∷ LF ∷ []
 
 -- the event as a line of its thread
 abbrev pub event_line : NameLists → List ℕ → Event → List ℕ

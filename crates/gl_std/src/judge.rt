@@ -5,16 +5,16 @@ ghost use Rattle.gl_event.specs.declared.events.Event.{Event};
 ghost use Rattle.gl_std.specs.Standings.{AreStanding};
 ghost use Rattle.gl_std.specs.Line.{is_on_thread};
 ghost use Rattle.gl_std.specs.Trace.{event_of, events_of, with_event, with_list};
-ghost use Rattle.gl_std.specs.bodies.Finding.{verdict_of, with_lists};
+ghost use Rattle.gl_std.specs.bodies.Finding.{ruling_of, with_lists};
 ghost use Rattle.gl_std.specs.bodies.Shown.{shown_operation};
 ghost use Rattle.gl_std.specs.declared.judge.Judged.TheVariants.{Event as Told};
-ghost use Rattle.gl_std.specs.declared.standing.Verdict.TheVariants.{Kept, Stray};
+ghost use Rattle.gl_std.specs.declared.standing.Ruling.TheVariants.{Kept, Stray};
 
 use crate::faults::{ReadFault, StdKind};
 use crate::line::{Operation, Shape, shape_of};
 use crate::names::{Found, Names};
 use crate::seed::Seed;
-use crate::standing::{Standing, Verdict};
+use crate::standing::{Ruling, Standing};
 use gl_event::{Event, Limits, LocId, LockId, ThreadId};
 use std::alloc::{AllocError, Global};
 
@@ -188,16 +188,16 @@ impl Judge {
         let own = self.names.thread_or_next(found);
         let event = event_of(operation, number, loc);
         match stand(&mut self.standings, operation, found, event, limit)? {
-            Verdict::Kept => {
+            Ruling::Kept => {
                 self.names
                     .tell(alloc, operation, found, thread, operand, location)?;
                 Ok(kept_event(&own, &event))
             }
-            Verdict::Stray => {
+            Ruling::Stray => {
                 self.stray += 1;
                 Ok(Judged::Stray)
             }
-            Verdict::Fault(kind) => Err(ReadFault::Line {
+            Ruling::Fault(kind) => Err(ReadFault::Line {
                 line: self.line,
                 kind,
             }),
@@ -346,20 +346,20 @@ fn stand(
     found: &Found,
     event: Event,
     limit: Option<StdKind>,
-) -> Result<Verdict, AllocError>
+) -> Result<Ruling, AllocError>
     requires known { IfSome found.now.thread (λ i. i < vec_len standings.old) }
     requires fits { All (λ s. s.events + 1 < 2 ^ 32) standings.old.items }
-    ensures verdict { IfOk result (λ v. (lists : List (List Event)) → AreStanding lists standings.old.items → v ≡ verdict_of (lock_refusal (events_of lists found.now.thread) event) limit) }
+    ensures ruling { IfOk result (λ v. (lists : List (List Event)) → AreStanding lists standings.old.items → v ≡ ruling_of (lock_refusal (events_of lists found.now.thread) event) limit) }
     ensures kept { result ≡ Ok Kept → (lists : List (List Event)) → AreStanding lists standings.old.items → AreStanding (with_lists lists (shown_operation operation) found.now event) standings.new.items }
     ensures stray { result ≡ Ok Stray → standings.new.items ≡ standings.old.items }
 {
     match stand_own(standings, found, event, limit)? {
-        Verdict::Kept => {
+        Ruling::Kept => {
             add_partner(standings, operation, found)?;
-            Ok(Verdict::Kept)
+            Ok(Ruling::Kept)
         }
-        Verdict::Stray => Ok(Verdict::Stray),
-        Verdict::Fault(kind) => Ok(Verdict::Fault(kind)),
+        Ruling::Stray => Ok(Ruling::Stray),
+        Ruling::Fault(kind) => Ok(Ruling::Fault(kind)),
     }
 }
 
@@ -369,10 +369,10 @@ fn stand_own(
     found: &Found,
     event: Event,
     limit: Option<StdKind>,
-) -> Result<Verdict, AllocError>
+) -> Result<Ruling, AllocError>
     requires known { IfSome found.now.thread (λ i. i < vec_len standings.old) }
     requires fits { All (λ s. s.events + 1 < 2 ^ 32) standings.old.items }
-    ensures verdict { IfOk result (λ v. (lists : List (List Event)) → AreStanding lists standings.old.items → v ≡ verdict_of (lock_refusal (events_of lists found.now.thread) event) limit) }
+    ensures ruling { IfOk result (λ v. (lists : List (List Event)) → AreStanding lists standings.old.items → v ≡ ruling_of (lock_refusal (events_of lists found.now.thread) event) limit) }
     ensures kept { result ≡ Ok Kept → (lists : List (List Event)) → AreStanding lists standings.old.items → AreStanding (with_event lists found.now.thread event) standings.new.items }
     ensures stray { result ≡ Ok Stray → standings.new.items ≡ standings.old.items }
 {
@@ -410,18 +410,18 @@ fn stand_first(
     standings: &mut Vec<Standing>,
     event: Event,
     limit: Option<StdKind>,
-) -> Result<Verdict, AllocError>
-    ensures verdict { IfOk result (λ v. v ≡ verdict_of (lock_refusal [] event) limit) }
+) -> Result<Ruling, AllocError>
+    ensures ruling { IfOk result (λ v. v ≡ ruling_of (lock_refusal [] event) limit) }
     ensures kept { result ≡ Ok Kept → (lists : List (List Event)) → AreStanding lists standings.old.items → AreStanding (lists ++ (event ∷ []) ∷ []) standings.new.items }
     ensures stray { result ≡ Ok Stray → standings.new.items ≡ standings.old.items }
 {
     let mut standing = Standing::new();
     match standing.take(event, limit) {
-        Verdict::Kept => {
+        Ruling::Kept => {
             standings.push(standing)?;
-            Ok(Verdict::Kept)
+            Ok(Ruling::Kept)
         }
-        Verdict::Stray => Ok(Verdict::Stray),
-        Verdict::Fault(kind) => Ok(Verdict::Fault(kind)),
+        Ruling::Stray => Ok(Ruling::Stray),
+        Ruling::Fault(kind) => Ok(Ruling::Fault(kind)),
     }
 }

@@ -9,7 +9,7 @@ use std::marker::Model;
 
 /// What becomes of an event that a line tells.
 #[derive(Clone, Copy, Debug, PartialEq, Eq)]
-pub(crate) enum Verdict {
+pub(crate) enum Ruling {
     /// It is in the trace.
     Kept,
     /// It is dropped: a release of a lock that its thread doesn't hold.
@@ -43,8 +43,8 @@ impl Standing {
     ghost use Rattle.gl_event.specs.Events.{closes, location};
     ghost use Rattle.gl_event.specs.Standing.{IsAcquireOf};
     ghost use Rattle.gl_std.specs.Standings.{StandsAfter};
-    ghost use Rattle.gl_std.specs.bodies.Finding.{verdict_of};
-    ghost use Rattle.gl_std.specs.declared.standing.Verdict.TheVariants.{Kept, Stray};
+    ghost use Rattle.gl_std.specs.bodies.Finding.{ruling_of};
+    ghost use Rattle.gl_std.specs.declared.standing.Ruling.TheVariants.{Kept, Stray};
     ghost use Rattle.gl_event.specs.declared.events.Event.TheVariants.{Release};
 
     /// There are no events.
@@ -73,9 +73,9 @@ impl Standing {
 
     /// Takes the event as the next one, where neither the held locks nor `limit` refuse it. A stray
     /// changes nothing. After a fault the standing is of no use.
-    pub(crate) fn take(&mut self, event: Event, limit: Option<StdKind>) -> Verdict
+    pub(crate) fn take(&mut self, event: Event, limit: Option<StdKind>) -> Ruling
         requires fits { self.old.events + 1 < 2 ^ 32 }
-        ensures verdict { (es : List Event) → StandsAfter es self.old → result ≡ verdict_of (lock_refusal es event) limit }
+        ensures ruling { (es : List Event) → StandsAfter es self.old → result ≡ ruling_of (lock_refusal es event) limit }
         ensures kept { result ≡ Kept → (es : List Event) → StandsAfter es self.old → StandsAfter (es ++ event ∷ []) self.new }
         ensures stray { result ≡ Stray → self.new ≡ self.old }
     {
@@ -89,19 +89,19 @@ impl Standing {
     }
 
     // `take`, for a fork or a join.
-    fn close(&mut self, event: Event, limit: Option<StdKind>) -> Verdict
+    fn close(&mut self, event: Event, limit: Option<StdKind>) -> Ruling
         requires fits { self.old.events + 1 < 2 ^ 32 }
         requires closes { closes event ≡ true }
-        ensures verdict { (es : List Event) → StandsAfter es self.old → result ≡ verdict_of (lock_refusal es event) limit }
+        ensures ruling { (es : List Event) → StandsAfter es self.old → result ≡ ruling_of (lock_refusal es event) limit }
         ensures kept { result ≡ Kept → (es : List Event) → StandsAfter es self.old → StandsAfter (es ++ event ∷ []) self.new }
         ensures stray { result ≡ Stray → self.new ≡ self.old }
     {
         if let Some(kind) = limit {
-            return Verdict::Fault(kind);
+            return Ruling::Fault(kind);
         }
         self.events += 1;
         self.closed += 1;
-        Verdict::Kept
+        Ruling::Kept
     }
 
     // `take`, for an acquire of this lock in this mode, tried or not.
@@ -112,25 +112,25 @@ impl Standing {
         mode: LockMode,
         loc: LocId,
         limit: Option<StdKind>,
-    ) -> Verdict
+    ) -> Ruling
         requires fits { self.old.events + 1 < 2 ^ 32 }
         requires acquires { IsAcquireOf lock mode event }
         requires located { loc ≡ location event }
-        ensures verdict { (es : List Event) → StandsAfter es self.old → result ≡ verdict_of (lock_refusal es event) limit }
+        ensures ruling { (es : List Event) → StandsAfter es self.old → result ≡ ruling_of (lock_refusal es event) limit }
         ensures kept { result ≡ Kept → (es : List Event) → StandsAfter es self.old → StandsAfter (es ++ event ∷ []) self.new }
         ensures stray { result ≡ Stray → self.new ≡ self.old }
     {
         match self.held.acquire(lock, mode, loc, self.events, self.closed) {
             Ok(_) => {}
-            Err(HeldFault::HeldFull) => return Verdict::Fault(StdKind::HeldFull),
-            Err(HeldFault::DepthFull) => return Verdict::Fault(StdKind::DepthFull),
-            Err(HeldFault::Upgrade) => return Verdict::Fault(StdKind::Upgrade),
+            Err(HeldFault::HeldFull) => return Ruling::Fault(StdKind::HeldFull),
+            Err(HeldFault::DepthFull) => return Ruling::Fault(StdKind::DepthFull),
+            Err(HeldFault::Upgrade) => return Ruling::Fault(StdKind::Upgrade),
         }
         if let Some(kind) = limit {
-            return Verdict::Fault(kind);
+            return Ruling::Fault(kind);
         }
         self.events += 1;
-        Verdict::Kept
+        Ruling::Kept
     }
 
     // `take`, for a release.
@@ -140,20 +140,20 @@ impl Standing {
         mode: LockMode,
         loc: LocId,
         limit: Option<StdKind>,
-    ) -> Verdict
+    ) -> Ruling
         requires fits { self.old.events + 1 < 2 ^ 32 }
-        ensures verdict { (es : List Event) → StandsAfter es self.old → result ≡ verdict_of (lock_refusal es (Release lock mode loc)) limit }
+        ensures ruling { (es : List Event) → StandsAfter es self.old → result ≡ ruling_of (lock_refusal es (Release lock mode loc)) limit }
         ensures kept { result ≡ Kept → (es : List Event) → StandsAfter es self.old → StandsAfter (es ++ Release lock mode loc ∷ []) self.new }
         ensures stray { result ≡ Stray → self.new ≡ self.old }
     {
         match self.held.release(lock) {
             Ok(_) => {}
-            Err(_) => return Verdict::Stray,
+            Err(_) => return Ruling::Stray,
         }
         if let Some(kind) = limit {
-            return Verdict::Fault(kind);
+            return Ruling::Fault(kind);
         }
         self.events += 1;
-        Verdict::Kept
+        Ruling::Kept
     }
 }

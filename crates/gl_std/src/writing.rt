@@ -62,10 +62,10 @@ fn location_name<'a>(names: &'a Names, event: &Event) -> &'a [u8]
 }
 
 // What ends a line at this location.
-fn line_end(place: &[u8]) -> &'static [u8]
-    ensures { result.now ≡ line_end place.now }
+fn line_end(location: &[u8]) -> &'static [u8]
+    ensures { result.now ≡ line_end location.now }
 {
-    if without_cr(place) == place {
+    if without_cr(location) == location {
         return b"\n".as_slice();
     }
     b"\r\n".as_slice()
@@ -81,15 +81,15 @@ fn put_event(
     requires { IsNamed names.now event.now }
     ensures { OnOk result (text.new.items ≡ text.old.items ++ written_event names.now thread.now event.now) }
 {
-    let place = location_name(names, event);
+    let location = location_name(names, event);
     text.extend_from_slice(thread)?;
     text.extend_from_slice(b"|")?;
     text.extend_from_slice(word_of(event))?;
     text.extend_from_slice(b"(")?;
     text.extend_from_slice(operand_name(names, event))?;
     text.extend_from_slice(b")|")?;
-    text.extend_from_slice(place)?;
-    text.extend_from_slice(line_end(place))?;
+    text.extend_from_slice(location)?;
+    text.extend_from_slice(line_end(location))?;
     Ok(())
 }
 

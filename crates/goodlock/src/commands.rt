@@ -8,7 +8,8 @@ ghost use Rattle.gl_std.specs.Lines.{ended_lines};
 ghost use Rattle.gl_std.specs.Trace.{trace_of, IsTraceOver};
 ghost use Rattle.goodlock.specs.Answer.{IsAnswer, IsPlainAnswer, counts, prediction, replay};
 ghost use Rattle.goodlock.specs.Checking.{HasChecked};
-ghost use Rattle.goodlock.specs.Ending.{EndsEarlyAs, EndsWith, HasEnded, HasEndedEarly, HasHeardAll, HasWrittenText, used};
+ghost use Rattle.goodlock.specs.Ending.{EndsEarlyAs, HasEnded, HasEndedEarly, used};
+ghost use Rattle.goodlock.specs.bodies.Halves.{EndsWith, HasHeardAll, HasWrittenText};
 ghost use Rattle.goodlock.specs.Performed.{HasPerformed};
 ghost use Rattle.goodlock.specs.Sessions.{AreOfSession, CanRun, HasEndedSession};
 

@@ -1,9 +1,13 @@
 -- What is known while the edges of a thread's list are gathered.
 use Rattle.std.specs.Prelude.{ℕ, ◌<◌, List, Contains}
-use Rattle.gl_edges.specs.Samples.{IsTableOf}
+use Rattle.gl_event.specs.declared.events.LockMode.{LockMode}
+use Rattle.gl_event.specs.declared.held.HeldEntry.{HeldEntry}
+use Rattle.gl_edges.specs.Guards.{guards_of}
+use Rattle.gl_edges.specs.bodies.Tables.{IsTableOf}
 use Rattle.gl_edges.specs.declared.edge.Edge.{Edge}
 use Rattle.gl_edges.specs.declared.edge.Sample.{Sample}
 use Rattle.gl_edges.specs.declared.gather.Gatherer.{Gatherer}
+use Rattle.gl_edges.specs.declared.tracker.Tracker.{Tracker}
 
 -- each of these edges stands among the pairs, with a sample before this place
 abbrev pub AreBefore : List Edge → List (Edge × Sample) → ℕ → Type 0
@@ -15,3 +19,19 @@ pub record Gathers (pairs : List (Edge × Sample)) (place : ℕ) (gatherer : Gat
   pub table : IsTableOf gatherer.table pairs
   -- and acquires whose edges are there already
   pub seen : AreBefore gatherer.seen pairs place
+
+-- the edge and the sample that a tracked thread makes for a held lock, where it acquires one more
+abbrev pub pair_for : Tracker → ℕ → LockMode → ℕ → HeldEntry → Edge × Sample
+pair_for tracker wanted mode loc h = (
+  record {
+    thread = tracker.thread;
+    held = h.lock;
+    held_mode = h.mode;
+    wanted = wanted;
+    wanted_mode = mode;
+    first = h.seg;
+    second = tracker.segment;
+    guards = guards_of tracker.held;
+  },
+  record { place = tracker.place; held_loc = h.loc; wanted_loc = loc },
+)

@@ -15,8 +15,8 @@ use Rattle.gl_std.specs.declared.faults.StdKind.TheVariants.{HeldFull, DepthFull
 use Rattle.gl_std.specs.declared.faults.ReadFault.{ReadFault}
 use Rattle.gl_std.specs.declared.faults.ReadFault.TheVariants.{Line}
 use Rattle.gl_std.specs.declared.names.Found.{Found}
-use Rattle.gl_std.specs.declared.standing.Verdict.{Verdict}
-use Rattle.gl_std.specs.declared.standing.Verdict.TheVariants.{Kept, Stray, Fault}
+use Rattle.gl_std.specs.declared.standing.Ruling.{Ruling}
+use Rattle.gl_std.specs.declared.standing.Ruling.TheVariants.{Kept, Stray, Fault}
 use Rattle.gl_std.specs.declared.trace.Trace.{Trace}
 
 -- the names, with this one at the end if it has no number
@@ -77,13 +77,13 @@ limit_fault limits told operation found = limit_found limits told.names (length 
 
 -- what becomes of an event: the locks' reasons come before the limits', and the last one is that a lock that is
 -- released isn't held
-abbrev pub verdict_of : Option Refusal → Option StdKind → Verdict
-verdict_of None None = Kept
-verdict_of None (Some kind) = Fault kind
-verdict_of (Some NoRoom) limit = Fault HeldFull
-verdict_of (Some TooDeep) limit = Fault DepthFull
-verdict_of (Some IsUpgrade) limit = Fault Upgrade
-verdict_of (Some other) limit = Stray
+abbrev pub ruling_of : Option Refusal → Option StdKind → Ruling
+ruling_of None None = Kept
+ruling_of None (Some kind) = Fault kind
+ruling_of (Some NoRoom) limit = Fault HeldFull
+ruling_of (Some TooDeep) limit = Fault DepthFull
+ruling_of (Some IsUpgrade) limit = Fault Upgrade
+ruling_of (Some other) limit = Stray
 
 -- the names, with those of the three that are new
 abbrev pub with_names : NameLists → Operation → Found → List ℕ → List ℕ → List ℕ → NameLists
@@ -95,17 +95,17 @@ with_names names operation found thread operand location =
       locs = with_name names.locs found.loc location;
     }
 
--- the trace after a line with this verdict
-abbrev pub after_verdict : ℕ → Trace → Trace → Verdict → Result Trace ReadFault
-after_verdict line told kept Kept = Ok kept
-after_verdict line told kept Stray = Ok (record told { stray = told.stray + 1 })
-after_verdict line told kept (Fault kind) = Err (Line line kind)
+-- the trace after a line with this ruling
+abbrev pub after_ruling : ℕ → Trace → Trace → Ruling → Result Trace ReadFault
+after_ruling line told kept Kept = Ok kept
+after_ruling line told kept Stray = Ok (record told { stray = told.stray + 1 })
+after_ruling line told kept (Fault kind) = Err (Line line kind)
 
 -- the trace after an event, by what is found
 abbrev pub after_found : Bounds → ℕ → Trace → Operation → List ℕ → List ℕ → List ℕ → Result Trace ReadFault
 after_found limits line told operation thread operand location =
     let found = found_in told.names operation thread operand location in
     let event = event_found told.names operation found in
-    after_verdict line told
+    after_ruling line told
     (record told { names = with_names told.names operation found thread operand location; lists = with_lists told.lists operation found event })
-    (verdict_of (lock_refusal (events_of told.lists found.thread) event) (limit_fault limits told operation found))
+    (ruling_of (lock_refusal (events_of told.lists found.thread) event) (limit_fault limits told operation found))

@@ -1,6 +1,7 @@
 use Rattle.std.proofs.Common.{◌≡◌, map, take}
 use Rattle.gl_filters.specs.Picked.{edges_of_table}
-use Rattle.gl_cycles.specs.Loops.{IsNeverFalling, is_level}
+use Rattle.gl_cycles.specs.bodies.Loops.{is_level}
+use Rattle.gl_cycles.specs.Laws.{IsNeverFalling}
 use Rattle.gl_cycles.specs.bodies.Ranks.{rank_in}
 use Rattle.gl_cycles.proofs.loops.level_edges.Given as goal
 

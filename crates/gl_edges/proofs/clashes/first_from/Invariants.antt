@@ -1,4 +1,4 @@
-use Rattle.gl_edges.specs.Clashes.{AreBelow}
+use Rattle.gl_edges.specs.bodies.Clashing.{AreBelow}
 use Rattle.gl_edges.proofs.clashes.first_from.Given as goal
 
 -- the guards so far have lesser locks

@@ -1,6 +1,6 @@
 use Rattle.std.proofs.Common.{map, take}
 use Rattle.gl_edges.specs.Edges.{edges_made}
-use Rattle.gl_edges.specs.Samples.{IsTableOf}
+use Rattle.gl_edges.specs.bodies.Tables.{IsTableOf}
 use Rattle.gl_edges.proofs.gather.edges_of.Given as goal
 
 abbrev pub invariant-loop-number : goal.invariant-loop-number

@@ -1,7 +1,7 @@
 use Rattle.std.proofs.Common.{◌<◌, length, arith}
 use Rattle.std.proofs.lemmas.Result.{IfErr-weaker}
 use Rattle.gl_world.proofs.Lists.{get_at}
-use Rattle.gl_engine.specs.Breaking.{IsBlamed, IsKeptFor}
+use Rattle.gl_engine.specs.bodies.Breaking.{IsBlamed, IsKeptFor}
 use Rattle.gl_engine.proofs.Running.{due_later, kept_later, lanes_later, grown_later, blamed_now}
 use Rattle.gl_engine.proofs.gather.pull_at.Goals as goal
 

@@ -2,7 +2,7 @@ use Rattle.std.proofs.Common.{◌≡◌, ◌++◌, map}
 use mathlib.Core.List.{IsPrefix}
 use Rattle.gl_engine.specs.Dealing.{made_by}
 use Rattle.gl_engine.specs.Keeping.{IsCollector}
-use Rattle.gl_engine.specs.Whole.{lane_of}
+use Rattle.gl_engine.specs.bodies.Whole.{lane_of}
 use Rattle.gl_engine.proofs.gather.pull_some.Given as goal
 
 -- the edges of the notes so far are made

@@ -1,6 +1,6 @@
 use Rattle.std.proofs.Common.{◌≡◌, map}
 use mathlib.Core.List.{IsPrefix}
-use Rattle.gl_engine.specs.Whole.{lane_of, KeepsUp}
+use Rattle.gl_engine.specs.bodies.Whole.{lane_of, KeepsUp}
 use Rattle.gl_engine.proofs.gather.round.Given as goal
 
 -- the run has kept up, and lanes and feeds stay

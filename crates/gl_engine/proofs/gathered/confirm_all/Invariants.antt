@@ -1,9 +1,9 @@
 use Rattle.std.proofs.Common.{◌≡◌, ℕ, ◌<◌, map, Some}
 use Rattle.std.specs.Prelude.{slice_get}
-use Rattle.gl_engine.specs.Breaking.{handed, HandOver}
+use Rattle.gl_engine.specs.bodies.Breaking.{handed, HandOver}
 use Rattle.gl_engine.specs.Keeping.{pulling_of}
 use Rattle.gl_engine.specs.Recording.{Closed}
-use Rattle.gl_engine.specs.Whole.{IsConfirmed}
+use Rattle.gl_engine.specs.bodies.Whole.{IsConfirmed}
 use Rattle.gl_engine.specs.declared.row.Row.{Row}
 use Rattle.gl_engine.proofs.gathered.confirm_all.Given as goal
 

@@ -1,9 +1,9 @@
 use Rattle.std.proofs.Common.{◌≡◌, Some, map, sym, ap, ◌∙◌, subst, arith}
 use Rattle.std.specs.Prelude.{slice_get}
-use Rattle.gl_engine.specs.Breaking.{handed}
+use Rattle.gl_engine.specs.bodies.Breaking.{handed}
 use Rattle.gl_engine.specs.Keeping.{pulling_of}
 use Rattle.gl_engine.specs.Recording.{Closed}
-use Rattle.gl_engine.specs.Whole.{IsConfirmed}
+use Rattle.gl_engine.specs.bodies.Whole.{IsConfirmed}
 use Rattle.gl_engine.proofs.Confirming.{row_at, rows_same, confirmed_row}
 use Rattle.gl_engine.specs.declared.row.Row.{Row}
 use Rattle.gl_engine.proofs.Handing.{hand_over_one, handed_seen}

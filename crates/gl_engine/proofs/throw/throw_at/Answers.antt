@@ -1,6 +1,6 @@
 use Rattle.std.proofs.Common.{ap, ◌∙◌}
 use Rattle.std.proofs.Math.Seq.{map-set_same}
-use Rattle.gl_engine.specs.Whole.{lane_of}
+use Rattle.gl_engine.specs.bodies.Whole.{lane_of}
 use Rattle.gl_engine.proofs.Handing.{hand_over_one}
 use Rattle.gl_engine.proofs.throw.throw_at.Goals as goal
 

@@ -1,5 +1,5 @@
 use Rattle.std.proofs.Common.{◌∙◌}
-use Rattle.gl_engine.specs.Whole.{lane_of}
+use Rattle.gl_engine.specs.bodies.Whole.{lane_of}
 use Rattle.gl_engine.proofs.Handing.{hand_over_then}
 use Rattle.gl_engine.proofs.Running.{as_long}
 use Rattle.gl_engine.proofs.throw.throw_round.Goals as goal

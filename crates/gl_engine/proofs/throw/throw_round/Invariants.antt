@@ -1,6 +1,6 @@
 use Rattle.std.proofs.Common.{◌≡◌, map, length}
-use Rattle.gl_engine.specs.Breaking.{HandOver}
-use Rattle.gl_engine.specs.Whole.{lane_of}
+use Rattle.gl_engine.specs.bodies.Breaking.{HandOver}
+use Rattle.gl_engine.specs.bodies.Whole.{lane_of}
 use Rattle.gl_engine.proofs.throw.throw_round.Given as goal
 
 -- the lanes stay where they are, and hand over more at most

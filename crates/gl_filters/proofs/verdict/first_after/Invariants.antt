@@ -1,6 +1,6 @@
 use Rattle.gl_segments.specs.Clocks.{is_before}
 use Rattle.gl_filters.specs.Picked.{edges_of_table, picked}
-use Rattle.gl_filters.specs.Judging.{IsFree}
+use Rattle.gl_filters.specs.Verdicts.{IsFree}
 use Rattle.gl_filters.specs.bodies.Clashing.{clashes}
 use Rattle.gl_filters.proofs.verdict.first_after.Given as goal
 

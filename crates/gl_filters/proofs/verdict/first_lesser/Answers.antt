@@ -1,7 +1,7 @@
 use Rattle.std.proofs.Common.{◌≤◌, below_more, arith, rules, sym, subst, ◌∙◌}
 use Rattle.std.proofs.lemmas.Option.{same_Some}
 use Rattle.gl_filters.specs.Picked.{edges_of_table, picked}
-use Rattle.gl_filters.specs.Judging.{IsNotLesserAt}
+use Rattle.gl_filters.specs.Verdicts.{IsNotLesserAt}
 use Rattle.gl_edges.specs.declared.edge.Edge.{Edge}
 use Rattle.gl_filters.proofs.Judged.{picked_length}
 use Rattle.gl_filters.proofs.verdict.first_lesser.Goals as goal

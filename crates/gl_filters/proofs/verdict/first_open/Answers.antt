@@ -2,7 +2,7 @@ use Rattle.std.proofs.Common.{◌≡◌, Some, below_more, arith, ap, sym, subst
 use Rattle.std.specs.Prelude.{slice_get}
 use Rattle.std.proofs.lemmas.Option.{same_Some}
 use Rattle.gl_filters.specs.Picked.{edges_of_table, picked}
-use Rattle.gl_filters.specs.Judging.{following, IsClosedAt}
+use Rattle.gl_filters.specs.Verdicts.{following, IsClosedAt}
 use Rattle.std.proofs.lemmas.Bool.{false≢true}
 use Rattle.gl_filters.specs.Cycle.{LeadsOn}
 use Rattle.gl_filters.proofs.Cycling.{leads_tells, leads_from}

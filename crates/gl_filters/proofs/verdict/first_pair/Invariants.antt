@@ -1,7 +1,7 @@
 use Rattle.std.proofs.Common.{ℕ, ◌<◌, length}
 use Rattle.gl_segments.specs.Clocks.{is_before}
 use Rattle.gl_filters.specs.Picked.{edges_of_table, picked}
-use Rattle.gl_filters.specs.Judging.{IsFree}
+use Rattle.gl_filters.specs.Verdicts.{IsFree}
 use Rattle.gl_filters.specs.bodies.Clashing.{clashes}
 use Rattle.gl_filters.proofs.verdict.first_pair.Given as goal
 

@@ -3,7 +3,7 @@ use Rattle.gl_segments.specs.Clocks.{is_before}
 use Rattle.gl_edges.specs.declared.edge.Edge.{Edge}
 use Rattle.gl_edges.specs.declared.edge.Sample.{Sample}
 use Rattle.gl_filters.specs.Picked.{edges_of_table, picked}
-use Rattle.gl_filters.specs.Judging.{IsVerdict}
+use Rattle.gl_filters.specs.Verdicts.{IsVerdict}
 use Rattle.gl_filters.proofs.verdict.judge.Goals as goal
 
 pub returns : goal.returns

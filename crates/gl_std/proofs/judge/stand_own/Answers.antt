@@ -1,14 +1,14 @@
 use Rattle.std.proofs.Common.{◌≡◌, Some, vec_len, ap, sym, ◌∙◌, arith}
 use Rattle.std.proofs.lemmas.Grind.{common_steps}
 use Rattle.gl_std.specs.Trace.{events_of}
-use Rattle.gl_std.specs.declared.standing.Verdict.TheVariants.{Kept}
+use Rattle.gl_std.specs.declared.standing.Ruling.TheVariants.{Kept}
 use Rattle.gl_std.proofs.JudgingLemmas.{standing_own, standing_event}
 use Rattle.gl_std.proofs.judge.stand_own.Goals as goal
 
-pub returns-in-Some-clause-verdict : goal.returns-in-Some-clause-verdict
-returns-in-Some-clause-verdict c = λ lists are.
+pub returns-in-Some-clause-ruling : goal.returns-in-Some-clause-ruling
+returns-in-Some-clause-ruling c = λ lists are.
     let is : c.args.found.now.thread ≡ Some c.number.result = c.in-Some.is ∙ ap (λ n. Some n) (sym c.number.ensures) in
-    c.take.ensures.verdict (events_of lists c.args.found.now.thread) (standing_own lists c.args.standings.now.items c.args.found.now.thread c.number.result (vec_len c.args.standings.now) c.index_mut-standing.result.now are is c.requires.known c.args.standings.now.ok.0 c.index_mut-standing.ensures.value)
+    c.take.ensures.ruling (events_of lists c.args.found.now.thread) (standing_own lists c.args.standings.now.items c.args.found.now.thread c.number.result (vec_len c.args.standings.now) c.index_mut-standing.result.now are is c.requires.known c.args.standings.now.ok.0 c.index_mut-standing.ensures.value)
 
 pub returns-in-Some-clause-kept : goal.returns-in-Some-clause-kept
 returns-in-Some-clause-kept c = λ kept lists are.

@@ -3,7 +3,7 @@ use Rattle.std.specs.Prelude.{All}
 use Rattle.std.proofs.lemmas.Bool.{false≢true}
 use Rattle.serde_json.specs.View.{view}
 use Rattle.gl_filters.specs.Picked.{edges_of_table, picked}
-use Rattle.gl_filters.specs.Judging.{IsVerdict}
+use Rattle.gl_filters.specs.Verdicts.{IsVerdict}
 use Rattle.gl_segments.specs.Clocks.{is_before}
 use Rattle.gl_check.specs.Cycles.{IsAbove}
 use Rattle.gl_check.specs.Edges.{AreNamed}

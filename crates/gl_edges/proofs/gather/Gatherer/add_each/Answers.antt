@@ -1,6 +1,6 @@
 use Rattle.std.proofs.Common.{◌++◌, map, take, refl, ap, ◌∙◌}
 use Rattle.gl_edges.specs.Guards.{guards_of}
-use Rattle.gl_edges.specs.Tracking.{pair_for}
+use Rattle.gl_edges.specs.bodies.Gatherers.{pair_for}
 use Rattle.gl_edges.proofs.Gathering.{table_nil, pair_is, table_more, table_all}
 use Rattle.gl_edges.proofs.gather.Gatherer.add_each.Goals as goal
 

@@ -1,7 +1,7 @@
 use Rattle.std.proofs.Common.{◌≡◌, List, ◌++◌, map, take}
 use Rattle.gl_edges.specs.Guards.{guards_of}
-use Rattle.gl_edges.specs.Samples.{IsTableOf}
-use Rattle.gl_edges.specs.Tracking.{pair_for}
+use Rattle.gl_edges.specs.bodies.Tables.{IsTableOf}
+use Rattle.gl_edges.specs.bodies.Gatherers.{pair_for}
 use Rattle.gl_edges.specs.declared.edge.Edge.{Edge}
 use Rattle.gl_edges.specs.declared.edge.Sample.{Sample}
 use Rattle.gl_edges.proofs.gather.Gatherer.add_each.Given as goal

@@ -1,7 +1,7 @@
 use Rattle.std.proofs.Common.{List, ◌++◌, take}
 use Rattle.gl_edges.specs.Edges.{edges_below}
 use Rattle.gl_edges.specs.bodies.Gatherers.{Gathers}
-use Rattle.gl_edges.specs.Samples.{IsTableOf}
+use Rattle.gl_edges.specs.bodies.Tables.{IsTableOf}
 use Rattle.gl_edges.specs.Tracking.{Tracks}
 use Rattle.gl_edges.specs.declared.edge.Edge.{Edge}
 use Rattle.gl_edges.specs.declared.edge.Sample.{Sample}

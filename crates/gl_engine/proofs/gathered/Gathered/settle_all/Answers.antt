@@ -1,6 +1,6 @@
 use Rattle.std.proofs.Common.{sym, subst}
 use Rattle.std.specs.Prelude.{IfSome}
-use Rattle.gl_engine.specs.Breaking.{IsBlamed}
+use Rattle.gl_engine.specs.bodies.Breaking.{IsBlamed}
 use Rattle.gl_engine.specs.Settling.{IsMemoryOrGone}
 use Rattle.gl_engine.proofs.Confirming.{rows_known, rows_ours, rows_settled, memory_or_gone}
 use Rattle.gl_engine.proofs.gathered.Gathered.settle_all.Goals as goal

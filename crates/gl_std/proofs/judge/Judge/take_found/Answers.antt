@@ -4,7 +4,7 @@ use Rattle.gl_std.specs.Trace.{event_of}
 use Rattle.gl_std.specs.bodies.Finding.{event_found, operand_number}
 use Rattle.gl_std.specs.bodies.Shown.{shown_operation}
 use Rattle.gl_std.specs.declared.faults.ReadFault.TheVariants.{Line}
-use Rattle.gl_std.specs.declared.standing.Verdict.TheVariants.{Kept, Stray, Fault}
+use Rattle.gl_std.specs.declared.standing.Ruling.TheVariants.{Kept, Stray, Fault}
 use Rattle.gl_std.proofs.JudgingLemmas.{call_judged, call_kept, call_listed, call_known, kept_has, same_fault}
 use Rattle.gl_std.proofs.judge.Judge.take_found.Goals as goal
 
@@ -16,7 +16,7 @@ returns-in_ok-tell-in-Kept-clause-ok c = λ told judged.
     let names = c.tell.new.self in
     let is_event : event ≡ event_found old.names (shown_operation c.args.operation) found =
     c.event_of-event.ensures ∙ ap (λ n. event_of (shown_operation c.args.operation) n c.loc_or_next-loc.result) c.operand_or_next-number.ensures ∙ ap (event_of (shown_operation c.args.operation) (operand_number old.names (shown_operation c.args.operation) found)) c.loc_or_next-loc.ensures in
-    let kept = sym c.in-Kept.is ∙ c.in_ok-stand.ensures.verdict told.lists judged.states in
+    let kept = sym c.in-Kept.is ∙ c.in_ok-stand.ensures.ruling told.lists judged.states in
     call_judged old.limits old.line old.names old.standings.items told (shown_operation c.args.operation) c.args.thread.now c.args.operand.now c.args.location.now found event c.limit_reached-limit.result Kept judged.names judged.states c.requires.found is_event c.limit_reached-limit.ensures.fault kept
     ∙ ap (λ t. Ok t) (call_kept old.names names old.standings.items told (shown_operation c.args.operation) c.args.thread.now c.args.operand.now c.args.location.now found event c.thread_or_next-own.result judged.names judged.states c.requires.sound.one_standing_each c.requires.found is_event c.in_ok-tell-in-Kept.ensures c.thread_or_next-own.ensures)
     ∙ ap (λ j. Ok (with_judged j names told)) (sym c.kept_event.ensures)
@@ -43,7 +43,7 @@ returns-in-Fault-clause-fault c = λ number kind is told judged.
     let event = c.event_of-event.result in
     let is_event : event ≡ event_found old.names (shown_operation c.args.operation) found =
     c.event_of-event.ensures ∙ ap (λ n. event_of (shown_operation c.args.operation) n c.loc_or_next-loc.result) c.operand_or_next-number.ensures ∙ ap (event_of (shown_operation c.args.operation) (operand_number old.names (shown_operation c.args.operation) found)) c.loc_or_next-loc.ensures in
-    let bad = sym c.in-Fault.is ∙ c.in_ok-stand.ensures.verdict told.lists judged.states in
+    let bad = sym c.in-Fault.is ∙ c.in_ok-stand.ensures.ruling told.lists judged.states in
     call_judged old.limits old.line old.names old.standings.items told (shown_operation c.args.operation) c.args.thread.now c.args.operand.now c.args.location.now found event c.limit_reached-limit.result (Fault c.in-Fault.kind) judged.names judged.states c.requires.found is_event c.limit_reached-limit.ensures.fault bad
     ∙ same_fault (Line old.line c.in-Fault.kind) (Line number kind) is
 
@@ -54,5 +54,5 @@ returns-in-Stray-clause-ok c = λ told judged.
     let event = c.event_of-event.result in
     let is_event : event ≡ event_found old.names (shown_operation c.args.operation) found =
     c.event_of-event.ensures ∙ ap (λ n. event_of (shown_operation c.args.operation) n c.loc_or_next-loc.result) c.operand_or_next-number.ensures ∙ ap (event_of (shown_operation c.args.operation) (operand_number old.names (shown_operation c.args.operation) found)) c.loc_or_next-loc.ensures in
-    let stray = sym c.in-Stray.is ∙ c.in_ok-stand.ensures.verdict told.lists judged.states in
+    let stray = sym c.in-Stray.is ∙ c.in_ok-stand.ensures.ruling told.lists judged.states in
     call_judged old.limits old.line old.names old.standings.items told (shown_operation c.args.operation) c.args.thread.now c.args.operand.now c.args.location.now found event c.limit_reached-limit.result Stray judged.names judged.states c.requires.found is_event c.limit_reached-limit.ensures.fault stray

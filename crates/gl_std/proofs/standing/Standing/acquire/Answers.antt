@@ -10,32 +10,32 @@ use Rattle.gl_std.specs.Standings.{StandsAfter}
 use Rattle.gl_std.proofs.StandingLemmas.{segment_kept}
 use Rattle.gl_std.proofs.standing.Standing.acquire.Goals as goal
 
-pub returns-in-Err-HeldFull-clause-verdict : goal.returns-in-Err-HeldFull-clause-verdict
-returns-in-Err-HeldFull-clause-verdict c = λ es stands.
+pub returns-in-Err-HeldFull-clause-ruling : goal.returns-in-Err-HeldFull-clause-ruling
+returns-in-Err-HeldFull-clause-ruling c = λ es stands.
     let own : StandsAfter es (record { held = c.self.inside.held; events = c.self.inside.events; closed = c.self.inside.closed }) = subst (StandsAfter es) (sym c.self.view_is) stands in
     let refused : lock_refusal es c.args.event ≡ Some HeldFull = lock_refusal-of c.args.lock c.args.mode es c.args.event c.requires.acquires ∙ (c.in-Err-HeldFull.ensures.answers es own.held).full.0 (cc) in
     grind (arith, common_steps, refused)
 
-pub returns-in-Err-DepthFull-clause-verdict : goal.returns-in-Err-DepthFull-clause-verdict
-returns-in-Err-DepthFull-clause-verdict c = λ es stands.
+pub returns-in-Err-DepthFull-clause-ruling : goal.returns-in-Err-DepthFull-clause-ruling
+returns-in-Err-DepthFull-clause-ruling c = λ es stands.
     let own : StandsAfter es (record { held = c.self.inside.held; events = c.self.inside.events; closed = c.self.inside.closed }) = subst (StandsAfter es) (sym c.self.view_is) stands in
     let refused : lock_refusal es c.args.event ≡ Some DepthFull = lock_refusal-of c.args.lock c.args.mode es c.args.event c.requires.acquires ∙ (c.in-Err-DepthFull.ensures.answers es own.held).deep.0 (cc) in
     grind (arith, common_steps, refused)
 
-pub returns-in-Err-Upgrade-clause-verdict : goal.returns-in-Err-Upgrade-clause-verdict
-returns-in-Err-Upgrade-clause-verdict c = λ es stands.
+pub returns-in-Err-Upgrade-clause-ruling : goal.returns-in-Err-Upgrade-clause-ruling
+returns-in-Err-Upgrade-clause-ruling c = λ es stands.
     let own : StandsAfter es (record { held = c.self.inside.held; events = c.self.inside.events; closed = c.self.inside.closed }) = subst (StandsAfter es) (sym c.self.view_is) stands in
     let refused : lock_refusal es c.args.event ≡ Some Upgrade = lock_refusal-of c.args.lock c.args.mode es c.args.event c.requires.acquires ∙ (c.in-Err-Upgrade.ensures.answers es own.held).upgrade.0 (cc) in
     grind (arith, common_steps, refused)
 
-pub returns-in-Some-clause-verdict : goal.returns-in-Some-clause-verdict
-returns-in-Some-clause-verdict c = λ es stands.
+pub returns-in-Some-clause-ruling : goal.returns-in-Some-clause-ruling
+returns-in-Some-clause-ruling c = λ es stands.
     let own : StandsAfter es (record { held = c.self.inside.held; events = c.self.inside.events; closed = c.self.inside.closed }) = subst (StandsAfter es) (sym c.self.view_is) stands in
     let allowed : lock_refusal es c.args.event ≡ None = lock_refusal-of c.args.lock c.args.mode es c.args.event c.requires.acquires ∙ (c.in-Ok.ensures.answers es own.held).accepted.0 refl in
     grind (arith, common_steps, allowed)
 
-pub returns-clause-verdict : goal.returns-clause-verdict
-returns-clause-verdict c = λ es stands.
+pub returns-clause-ruling : goal.returns-clause-ruling
+returns-clause-ruling c = λ es stands.
     let own : StandsAfter es (record { held = c.self.inside.held; events = c.self.inside.events; closed = c.self.inside.closed }) = subst (StandsAfter es) (sym c.self.view_is) stands in
     let allowed : lock_refusal es c.args.event ≡ None = lock_refusal-of c.args.lock c.args.mode es c.args.event c.requires.acquires ∙ (c.in-Ok.ensures.answers es own.held).accepted.0 refl in
     grind (arith, common_steps, allowed)

@@ -5,13 +5,13 @@ use Rattle.gl_std.specs.Standings.{StandsAfter}
 use Rattle.gl_std.proofs.StandingLemmas.{segment_closed, closing_allowed, stands_after_closing}
 use Rattle.gl_std.proofs.standing.Standing.close.Goals as goal
 
-pub returns-in-Some-clause-verdict : goal.returns-in-Some-clause-verdict
-returns-in-Some-clause-verdict c = λ es stands.
+pub returns-in-Some-clause-ruling : goal.returns-in-Some-clause-ruling
+returns-in-Some-clause-ruling c = λ es stands.
     let none = closing_allowed es c.args.event c.requires.closes in
     grind (arith, common_steps, none)
 
-pub returns-clause-verdict : goal.returns-clause-verdict
-returns-clause-verdict c = λ es stands.
+pub returns-clause-ruling : goal.returns-clause-ruling
+returns-clause-ruling c = λ es stands.
     let none = closing_allowed es c.args.event c.requires.closes in
     grind (arith, common_steps, none)
 

@@ -6,20 +6,20 @@ use Rattle.gl_std.specs.Standings.{StandsAfter}
 use Rattle.gl_std.proofs.StandingLemmas.{segment_kept, refused_release, allowed_release}
 use Rattle.gl_std.proofs.standing.Standing.release.Goals as goal
 
-pub returns-in-Err-clause-verdict : goal.returns-in-Err-clause-verdict
-returns-in-Err-clause-verdict c = λ es stands.
+pub returns-in-Err-clause-ruling : goal.returns-in-Err-clause-ruling
+returns-in-Err-clause-ruling c = λ es stands.
     let own : StandsAfter es (record { held = c.self.inside.held; events = c.self.inside.events; closed = c.self.inside.closed }) = subst (StandsAfter es) (sym c.self.view_is) stands in
     let refused = refused_release es c.args.lock c.args.mode c.args.loc c.in-Err.field-0 (c.in-Err.ensures.answers es own.held).accepted in
     grind (arith, common_steps, refused)
 
-pub returns-in-Some-clause-verdict : goal.returns-in-Some-clause-verdict
-returns-in-Some-clause-verdict c = λ es stands.
+pub returns-in-Some-clause-ruling : goal.returns-in-Some-clause-ruling
+returns-in-Some-clause-ruling c = λ es stands.
     let own : StandsAfter es (record { held = c.self.inside.held; events = c.self.inside.events; closed = c.self.inside.closed }) = subst (StandsAfter es) (sym c.self.view_is) stands in
     let allowed = allowed_release es c.args.lock c.args.mode c.args.loc c.in-Ok.field-0 (c.in-Ok.ensures.answers es own.held).accepted in
     grind (arith, common_steps, allowed)
 
-pub returns-clause-verdict : goal.returns-clause-verdict
-returns-clause-verdict c = λ es stands.
+pub returns-clause-ruling : goal.returns-clause-ruling
+returns-clause-ruling c = λ es stands.
     let own : StandsAfter es (record { held = c.self.inside.held; events = c.self.inside.events; closed = c.self.inside.closed }) = subst (StandsAfter es) (sym c.self.view_is) stands in
     let allowed = allowed_release es c.args.lock c.args.mode c.args.loc c.in-Ok.field-0 (c.in-Ok.ensures.answers es own.held).accepted in
     grind (arith, common_steps, allowed)

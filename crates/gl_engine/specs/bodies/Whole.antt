@@ -7,7 +7,7 @@ use Rattle.gl_intake.specs.Stream.{has_ended, AreInOrder}
 use Rattle.gl_lane.specs.Lanes.{LaneId}
 use Rattle.gl_shards.specs.Feeds.{AllSent, Sending}
 use Rattle.gl_world.specs.Keeping.{notes_of, AreMade}
-use Rattle.gl_engine.specs.Breaking.{IsBlamed}
+use Rattle.gl_engine.specs.bodies.Breaking.{IsBlamed}
 use Rattle.gl_engine.specs.Collecting.{Pulling, as_of}
 use Rattle.gl_engine.specs.Keeping.{AreNotesOf, IsCollector, pulling_of}
 use Rattle.gl_engine.specs.Recording.{Closed}

@@ -1,5 +1,5 @@
--- Loops of edges, and ranks of locks, which show that an edge lies on none.
-use Rattle.std.specs.Prelude.{◌≡◌, ℕ, ◌≤◌, Bool, true, false, List, length, slice_get, Some, All, Contains, ◌==◌}
+-- Loops of edges, and edges that lie on none.
+use Rattle.std.specs.Prelude.{◌≡◌, ℕ, Bool, true, false, List, length, slice_get, Some, All, Contains, ◌==◌}
 use Rattle.gl_edges.specs.declared.edge.Edge.{Edge}
 use Rattle.gl_filters.specs.Test.{lead_on, leads_back}
 
@@ -12,10 +12,6 @@ pub record IsLoop (edges : List Edge) (loop : List Edge) : Type 0 where
 -- the edge lies on no loop of these edges
 abbrev pub IsOffLoops : List Edge → Edge → Type 0
 IsOffLoops edges e = (loop : List Edge) → IsLoop edges loop → ¬ Contains loop e
-
--- a certificate: ranks of locks that never fall along an edge
-abbrev pub IsNeverFalling : (ℕ → ℕ) → List Edge → Type 0
-IsNeverFalling rank edges = All (λ e. rank e.held ≤ rank e.wanted) edges
 
 -- the edge leads from a lock to one of the same rank
 abbrev pub is_level : (ℕ → ℕ) → Edge → Bool

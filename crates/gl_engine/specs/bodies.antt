@@ -1,0 +1,3 @@
+-- The words of loops, private functions and private fields. No public contract cites them.
+pub mod Breaking
+pub mod Whole
