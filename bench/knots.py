@@ -52,10 +52,15 @@ SHAPES = {
             "--threads 7 --sections 14 --segments 20 ask --len 16",
         ],
     },
-    # Two locks in any order each time: an edge leads to ten others, and there are thousands of cycles.
+    # Two locks in any order each time: an edge leads to ten others, and there are thousands of cycles. Asked for one cycle
+    # of two edges, nearly all the time is reading and making edges: what the others take longer is their search.
     "many-locks": {
-        "small": ["--locks 1000 --sections 10000 --events 80000 --depth 2 --disorder 1 --others 0 ask --len 4 --max 100000"],
+        "small": [
+            "--locks 1000 --sections 10000 --events 80000 --depth 2 --disorder 1 --others 0 ask --mode basic --len 2 --max 1",
+            "--locks 1000 --sections 10000 --events 80000 --depth 2 --disorder 1 --others 0 ask --len 4 --max 100000",
+        ],
         "large": [
+            "--locks 10000 --sections 100000 --events 800000 --depth 2 --disorder 1 --others 0 ask --mode basic --len 2 --max 1",
             "--locks 10000 --sections 100000 --events 800000 --depth 2 --disorder 1 --others 0 ask --len 4 --max 100000",
             "--locks 10000 --sections 100000 --events 800000 --depth 2 --disorder 1 --others 0 ask --len 5 --max 100000",
         ],
