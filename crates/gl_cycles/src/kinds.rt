@@ -17,9 +17,9 @@ ghost use Rattle.gl_filters.specs.Test.{leads_to};
 ghost use Rattle.gl_cycles.specs.declared.paths.TheConstants.{PATH};
 ghost use Rattle.gl_filters.specs.Picked.{edges_of_table, picked};
 ghost use Rattle.gl_cycles.specs.bodies.Followers.{IsIndexOf};
-ghost use Rattle.gl_cycles.specs.bodies.Kinds.{AreAlike, AreMadeAlike, may_meet, HasModel, AreModels, HasModels, LastLeadsTo, MayMeetAll, NoCycleThrough, AreDead};
-ghost use Rattle.gl_cycles.specs.bodies.Gaps.{HasFlagged, AreHopeless};
-ghost use Rattle.gl_cycles.specs.bodies.OffCycles.{KeepsCycles};
+ghost use Rattle.gl_cycles.specs.bodies.Kinds.{AreAlike, AreMadeAlike, may_meet, HasModel, AreModels, HasModels, LastLeadsTo, MayMeetAll, AreDead, AreWithin, NoneThrough};
+ghost use Rattle.gl_cycles.specs.bodies.Gaps.{AreDeadEnds, KnowsModels};
+ghost use Rattle.gl_cycles.specs.bodies.OffCycles.{KeepsSought};
 ghost use Rattle.gl_edges.specs.declared.edge.Edge.{Edge};
 
 use crate::dead_ends::{DeadEnds, ROOM};
@@ -139,8 +139,8 @@ impl Sought<'_> {
         part: Part,
         kept: &mut Vec<bool>,
     ) -> Result<(), Memory>
-        requires { KeepsCycles (is_before self.now.order.now) self.now.mode self.now.len (edges_of_table self.now.table.now) kept.old.items }
-        ensures { OnOk result (KeepsCycles (is_before self.now.order.now) self.now.mode self.now.len (edges_of_table self.now.table.now) kept.new.items) }
+        requires { KeepsSought self.now kept.old.items }
+        ensures { OnOk result (KeepsSought self.now kept.new.items) }
     {
         if !has_any(kept) {
             return Ok(());
@@ -163,7 +163,7 @@ impl Sought<'_> {
         model_of_each: &[usize],
         kept: &[bool],
     ) -> Result<Vec<bool>, Memory>
-        requires { KeepsCycles (is_before self.now.order.now) self.now.mode self.now.len (edges_of_table self.now.table.now) kept.now }
+        requires { KeepsSought self.now kept.now }
         ensures { IfOk result (λ dead. AreDead (is_before self.now.order.now) self.now.mode grain self.now.len (edges_of_table self.now.table.now) dead.items) }
     {
         let flags = self.flags_of(alloc, grain, kept, model_of_each)?;
@@ -187,9 +187,9 @@ impl Sought<'_> {
         i: usize,
     )
         requires there { i < length self.now.table.now }
-        requires kept { KeepsCycles (is_before self.now.order.now) self.now.mode self.now.len (edges_of_table self.now.table.now) kept.old.items }
+        requires kept { KeepsSought self.now kept.old.items }
         requires dead { AreDead (is_before self.now.order.now) self.now.mode grain self.now.len (edges_of_table self.now.table.now) dead.now }
-        ensures { KeepsCycles (is_before self.now.order.now) self.now.mode self.now.len (edges_of_table self.now.table.now) kept.new.items }
+        ensures { KeepsSought self.now kept.new.items }
     {
         let model = self.model_of(grain, model_of_each, i);
         if dead[model] {
@@ -246,7 +246,7 @@ impl Rounds<'_> {
     // Whether the last edge of a path of two or more leads back to its first.
     fn is_closed(&self, path: &[usize]) -> bool
         requires some { 0 < length path.now }
-        requires within { All (λ i. i < length self.now.sought.table.now) path.now }
+        requires within { AreWithin self.now path.now }
         ensures { result ≡ false → 2 ≤ length path.now → (i : ℕ) (f : Edge) → slice_get path.now 0 ≡ Some i → slice_get (edges_of_table self.now.sought.table.now) i ≡ Some f → ¬ LastLeadsTo (edges_of_table self.now.sought.table.now) path.now f }
     {
         if path.len() < 2 {
@@ -270,7 +270,7 @@ impl Rounds<'_> {
 
     // Whether edges alike to those of the path may stand in one cycle with some alike to this one.
     fn goes_with_all(&self, path: &[usize], edge: &Edge) -> bool
-        requires within { All (λ i. i < length self.now.sought.table.now) path.now }
+        requires within { AreWithin self.now path.now }
         ensures { result ≡ false → ¬ MayMeetAll (is_before self.now.sought.order.now) self.now.sought.mode self.now.grain (edges_of_table self.now.sought.table.now) path.now edge.now }
     {
         for place in 0..path.len() {
@@ -285,7 +285,7 @@ impl Rounds<'_> {
     // Whether the model at a position may come next in a path.
     fn can_join(&self, path: &[usize], next: usize) -> bool
         requires some { 0 < length path.now }
-        requires within { All (λ i. i < length self.now.sought.table.now) path.now }
+        requires within { AreWithin self.now path.now }
         requires there { next < length self.now.sought.table.now }
         ensures { result ≡ false → (f : Edge) → slice_get (edges_of_table self.now.sought.table.now) next ≡ Some f
             → LastLeadsTo (edges_of_table self.now.sought.table.now) path.now f → ¬ MayMeetAll (is_before self.now.sought.order.now) self.now.sought.mode self.now.grain (edges_of_table self.now.sought.table.now) path.now f }
@@ -302,9 +302,9 @@ impl Rounds<'_> {
     #[cycle(rounds)]
     fn may_close(&self, path: &[usize], tries: &mut usize) -> bool
         requires some { 0 < length path.now }
-        requires within { All (λ i. i < length self.now.sought.table.now) path.now }
+        requires within { AreWithin self.now path.now }
         requires models { HasModels self.now }
-        ensures { result ≡ false → NoCycleThrough (is_before self.now.sought.order.now) self.now.sought.mode self.now.grain self.now.sought.len (edges_of_table self.now.sought.table.now) path.now }
+        ensures { result ≡ false → NoneThrough self.now path.now }
     {
         if self.is_closed(path) {
             return true;
@@ -331,10 +331,10 @@ impl Rounds<'_> {
     fn may_close_by(&self, path: &[usize], next: usize, tries: &mut usize) -> bool
         requires some { 0 < length path.now }
         requires short { length path.now < PATH }
-        requires within { All (λ i. i < length self.now.sought.table.now) path.now }
+        requires within { AreWithin self.now path.now }
         requires there { next < length self.now.sought.table.now }
         requires models { HasModels self.now }
-        ensures { result ≡ false → NoCycleThrough (is_before self.now.sought.order.now) self.now.sought.mode self.now.grain self.now.sought.len (edges_of_table self.now.sought.table.now) (path.now ++ next ∷ []) }
+        ensures { result ≡ false → NoneThrough self.now (path.now ++ next ∷ []) }
     {
         if *tries == 0 {
             return true;
@@ -380,13 +380,10 @@ impl Rounds<'_> {
         effort: &mut Effort,
     ) -> Result<bool, Memory>
         requires there { i < length self.now.sought.table.now }
-        requires lawful { HasModels self.now }
-        requires within { All (λ j. j < length self.now.sought.table.now) models.now }
-        requires all { HasFlagged self.now.flags.items models.now }
-        requires dead { (j : ℕ) → slice_get dead.now j ≡ Some true → NoCycleThrough (is_before self.now.sought.order.now) self.now.sought.mode self.now.grain self.now.sought.len (edges_of_table self.now.sought.table.now) (j ∷ []) }
-        requires ends { AreHopeless (is_before self.now.sought.order.now) self.now.sought.mode self.now.grain self.now.sought.len (edges_of_table self.now.sought.table.now) self.now.flags.items ends.old.known.items }
-        ensures none { IfOk result (λ is. is ≡ true → NoCycleThrough (is_before self.now.sought.order.now) self.now.sought.mode self.now.grain self.now.sought.len (edges_of_table self.now.sought.table.now) (i ∷ [])) }
-        ensures ends { OnOk result (AreHopeless (is_before self.now.sought.order.now) self.now.sought.mode self.now.grain self.now.sought.len (edges_of_table self.now.sought.table.now) self.now.flags.items ends.new.known.items) }
+        requires known { KnowsModels self.now models.now dead.now }
+        requires ends { AreDeadEnds self.now ends.old.known.items }
+        ensures none { IfOk result (λ is. is ≡ true → NoneThrough self.now (i ∷ [])) }
+        ensures ends { OnOk result (AreDeadEnds self.now ends.new.known.items) }
     {
         if !part.has(i) {
             return Ok(false);

@@ -5,7 +5,7 @@
 ghost use Rattle.std.specs.Prelude.{◌<◌, length, All, IfOk, OnOk};
 ghost use Rattle.gl_segments.specs.Clocks.{is_before};
 ghost use Rattle.gl_filters.specs.Picked.{edges_of_table};
-ghost use Rattle.gl_cycles.specs.bodies.OffCycles.{KeepsCycles};
+ghost use Rattle.gl_cycles.specs.bodies.OffCycles.{KeepsSought};
 
 use crate::grains::Grain;
 use crate::neighbours::Sought;
@@ -43,8 +43,8 @@ impl Sought<'_> {
         part: Part,
         kept: &mut Vec<bool>,
     ) -> Result<(), Memory>
-        requires { KeepsCycles (is_before self.now.order.now) self.now.mode self.now.len (edges_of_table self.now.table.now) kept.old.items }
-        ensures { OnOk result (KeepsCycles (is_before self.now.order.now) self.now.mode self.now.len (edges_of_table self.now.table.now) kept.new.items) }
+        requires { KeepsSought self.now kept.old.items }
+        ensures { OnOk result (KeepsSought self.now kept.new.items) }
     {
         match reason {
             Reason::Alike(grain) => self.leave_out_alike(alloc, grain, part, kept),
@@ -60,8 +60,8 @@ impl Sought<'_> {
         part: Part,
         kept: &[bool],
     ) -> Result<Vec<bool>, Memory>
-        requires { KeepsCycles (is_before self.now.order.now) self.now.mode self.now.len (edges_of_table self.now.table.now) kept.now }
-        ensures { IfOk result (λ stay. KeepsCycles (is_before self.now.order.now) self.now.mode self.now.len (edges_of_table self.now.table.now) stay.items) }
+        requires { KeepsSought self.now kept.now }
+        ensures { IfOk result (λ stay. KeepsSought self.now stay.items) }
     {
         let mut stay = Vec::from_slice(alloc, kept)?;
         self.leave_out(alloc, reason, part, &mut stay)?;
@@ -71,9 +71,9 @@ impl Sought<'_> {
     // Leaves out the edge at a position, if it isn't one that stays.
     fn leave_out_unless(&self, stay: &[bool], kept: &mut Vec<bool>, i: usize)
         requires there { i < length self.now.table.now }
-        requires stay { KeepsCycles (is_before self.now.order.now) self.now.mode self.now.len (edges_of_table self.now.table.now) stay.now }
-        requires kept { KeepsCycles (is_before self.now.order.now) self.now.mode self.now.len (edges_of_table self.now.table.now) kept.old.items }
-        ensures { KeepsCycles (is_before self.now.order.now) self.now.mode self.now.len (edges_of_table self.now.table.now) kept.new.items }
+        requires stay { KeepsSought self.now stay.now }
+        requires kept { KeepsSought self.now kept.old.items }
+        ensures { KeepsSought self.now kept.new.items }
     {
         if !stay[i] {
             kept[i] = false;
@@ -82,9 +82,9 @@ impl Sought<'_> {
 
     // Leaves out all but those that stay.
     fn leave_out_others(&self, stay: &[bool], kept: &mut Vec<bool>)
-        requires stay { KeepsCycles (is_before self.now.order.now) self.now.mode self.now.len (edges_of_table self.now.table.now) stay.now }
-        requires kept { KeepsCycles (is_before self.now.order.now) self.now.mode self.now.len (edges_of_table self.now.table.now) kept.old.items }
-        ensures { KeepsCycles (is_before self.now.order.now) self.now.mode self.now.len (edges_of_table self.now.table.now) kept.new.items }
+        requires stay { KeepsSought self.now stay.now }
+        requires kept { KeepsSought self.now kept.old.items }
+        ensures { KeepsSought self.now kept.new.items }
     {
         for i in 0..self.table.len() {
             self.leave_out_unless(stay, kept, i);
@@ -105,15 +105,15 @@ fn kept_by_each(
     reason: Reason,
     kept: &[bool],
 ) -> Result<Vec<Vec<bool>>, Memory>
-    requires { KeepsCycles (is_before sought.now.order.now) sought.now.mode sought.now.len (edges_of_table sought.now.table.now) kept.now }
-    ensures { IfOk result (λ parts. All (λ stay. KeepsCycles (is_before sought.now.order.now) sought.now.mode sought.now.len (edges_of_table sought.now.table.now) stay.items) parts.items) }
+    requires { KeepsSought sought.now kept.now }
+    ensures { IfOk result (λ parts. All (λ stay. KeepsSought sought.now stay.items) parts.items) }
 {
     let found: Result<Vec<Vec<bool>>, Memory> = (0..PARTS)
         .into_par_iter()
         .map(
             |number: usize| -> Result<Vec<bool>, Memory>
-                requires { KeepsCycles (is_before sought.now.order.now) sought.now.mode sought.now.len (edges_of_table sought.now.table.now) kept.now }
-                ensures { IfOk result (λ stay. KeepsCycles (is_before sought.entry.now.order.now) sought.entry.now.mode sought.entry.now.len (edges_of_table sought.entry.now.table.now) stay.items) }
+                requires { KeepsSought sought.now kept.now }
+                ensures { IfOk result (λ stay. KeepsSought sought.entry.now stay.items) }
             { sought.kept_by_part(alloc, reason, Part::one(number, PARTS), kept) },
         )
         .with_min_len(1)
@@ -129,8 +129,8 @@ pub(crate) fn leave_out_by_parts(
     reason: Reason,
     kept: &mut Vec<bool>,
 ) -> Result<(), Memory>
-    requires kept { KeepsCycles (is_before sought.now.order.now) sought.now.mode sought.now.len (edges_of_table sought.now.table.now) kept.old.items }
-    ensures { OnOk result (KeepsCycles (is_before sought.now.order.now) sought.now.mode sought.now.len (edges_of_table sought.now.table.now) kept.new.items) }
+    requires kept { KeepsSought sought.now kept.old.items }
+    ensures { OnOk result (KeepsSought sought.now kept.new.items) }
 {
     if count_set(kept) <= FEW {
         return sought.leave_out(alloc, reason, Part::whole(), kept);
@@ -149,8 +149,8 @@ fn narrow(
     sought: &Sought<'_>,
     kept: &mut Vec<bool>,
 ) -> Result<(), Memory>
-    requires kept { KeepsCycles (is_before sought.now.order.now) sought.now.mode sought.now.len (edges_of_table sought.now.table.now) kept.old.items }
-    ensures { OnOk result (KeepsCycles (is_before sought.now.order.now) sought.now.mode sought.now.len (edges_of_table sought.now.table.now) kept.new.items) }
+    requires kept { KeepsSought sought.now kept.old.items }
+    ensures { OnOk result (KeepsSought sought.now kept.new.items) }
 {
     for _ in 0..PASSES {
         let before = count_set(kept);
@@ -168,7 +168,7 @@ pub(crate) fn kept_edges_parallel(
     alloc: Global,
     sought: &Sought<'_>,
 ) -> Result<Vec<bool>, Memory>
-    ensures { IfOk result (λ kept. KeepsCycles (is_before sought.now.order.now) sought.now.mode sought.now.len (edges_of_table sought.now.table.now) kept.items) }
+    ensures { IfOk result (λ kept. KeepsSought sought.now kept.items) }
 {
     let mut kept = sought.on_loops(alloc)?;
     leave_out_by_parts(rt, alloc, sought, Reason::Alike(Grain::ByKind), &mut kept)?;

@@ -10,7 +10,7 @@ ghost use Rattle.std.specs.Prelude.{◌≡◌, ◌+◌, ◌<◌, ◌≤◌, ℕ,
 ghost use Rattle.gl_segments.specs.Clocks.{is_before};
 ghost use Rattle.gl_filters.specs.Test.{goes_with};
 ghost use Rattle.gl_filters.specs.Picked.{edges_of_table};
-ghost use Rattle.gl_cycles.specs.bodies.OffCycles.{KeepsCycles};
+ghost use Rattle.gl_cycles.specs.bodies.OffCycles.{KeepsSought};
 ghost use Rattle.gl_cycles.specs.bodies.Walks.{IsNumbered, label_at, ShowsNoWay};
 
 use crate::grains::Grain;
@@ -127,10 +127,10 @@ impl Sought<'_> {
         x: usize,
     ) -> Result<bool, Memory>
         requires there { x < length self.now.table.now }
-        requires kept { KeepsCycles (is_before self.now.order.now) self.now.mode self.now.len (edges_of_table self.now.table.now) kept.old.items }
+        requires kept { KeepsSought self.now kept.old.items }
         requires ended { length ends.now ≡ length self.now.table.now }
         requires numbered { IsNumbered (edges_of_table self.now.table.now) ends.now }
-        ensures { OnOk result (KeepsCycles (is_before self.now.order.now) self.now.mode self.now.len (edges_of_table self.now.table.now) kept.new.items) }
+        ensures { OnOk result (KeepsSought self.now kept.new.items) }
     {
         if !part.has(x) {
             return Ok(false);
@@ -154,10 +154,10 @@ impl Sought<'_> {
         ends: &[Ends],
         kept: &mut Vec<bool>,
     ) -> Result<bool, Memory>
-        requires kept { KeepsCycles (is_before self.now.order.now) self.now.mode self.now.len (edges_of_table self.now.table.now) kept.old.items }
+        requires kept { KeepsSought self.now kept.old.items }
         requires ended { length ends.now ≡ length self.now.table.now }
         requires numbered { IsNumbered (edges_of_table self.now.table.now) ends.now }
-        ensures { OnOk result (KeepsCycles (is_before self.now.order.now) self.now.mode self.now.len (edges_of_table self.now.table.now) kept.new.items) }
+        ensures { OnOk result (KeepsSought self.now kept.new.items) }
     {
         let mut has_changed = false;
         for x in 0..self.table.len() {
@@ -170,7 +170,7 @@ impl Sought<'_> {
 
     /// Which edges lie on a loop, as far as ranks of locks tell: for each a flag.
     pub(crate) fn on_loops(&self, alloc: Global) -> Result<Vec<bool>, Memory>
-        ensures { IfOk result (λ kept. KeepsCycles (is_before self.now.order.now) self.now.mode self.now.len (edges_of_table self.now.table.now) kept.items) }
+        ensures { IfOk result (λ kept. KeepsSought self.now kept.items) }
     {
         let kept = edges_on_loops(alloc, self.table)?;
         Ok(kept)
@@ -180,7 +180,7 @@ impl Sought<'_> {
     /// those that have no way back, and before and after that those to which none of a cycle is
     /// alike: by kind first, since there may be many edges of each kind.
     pub(crate) fn kept_edges(&self, alloc: Global) -> Result<Vec<bool>, Memory>
-        ensures { IfOk result (λ kept. KeepsCycles (is_before self.now.order.now) self.now.mode self.now.len (edges_of_table self.now.table.now) kept.items) }
+        ensures { IfOk result (λ kept. KeepsSought self.now kept.items) }
     {
         let whole = Part::whole();
         let mut kept = self.on_loops(alloc)?;
@@ -199,8 +199,8 @@ impl Sought<'_> {
         part: Part,
         kept: &mut Vec<bool>,
     ) -> Result<(), Memory>
-        requires { KeepsCycles (is_before self.now.order.now) self.now.mode self.now.len (edges_of_table self.now.table.now) kept.old.items }
-        ensures { OnOk result (KeepsCycles (is_before self.now.order.now) self.now.mode self.now.len (edges_of_table self.now.table.now) kept.new.items) }
+        requires { KeepsSought self.now kept.old.items }
+        ensures { OnOk result (KeepsSought self.now kept.new.items) }
     {
         let numbers = Numbers::of(alloc, self.table)?;
         let ends = numbers.of_edges(alloc, self.table)?;

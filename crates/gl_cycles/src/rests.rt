@@ -7,8 +7,8 @@
 ghost use Rattle.std.specs.Prelude.{◌≡◌, ◌<◌, ◌∷◌, [], ℕ, Some, true, false, length, slice_get, OnOk, IfOk, All, Contains};
 ghost use Rattle.gl_segments.specs.Clocks.{is_before};
 ghost use Rattle.gl_filters.specs.Picked.{edges_of_table};
-ghost use Rattle.gl_cycles.specs.bodies.Kinds.{may_meet, HasModels, NoCycleThrough};
-ghost use Rattle.gl_cycles.specs.bodies.Gaps.{HasFlagged, IsNarrowed, IsHopeless, NoneBy, AreHopeless};
+ghost use Rattle.gl_cycles.specs.bodies.Kinds.{may_meet, AreWithin, HasModels, NoneThrough};
+ghost use Rattle.gl_cycles.specs.bodies.Gaps.{HasFlagged, IsNarrowed, NoneBy, AreDeadEnds, IsDeadEnd, KnowsModels};
 ghost use Rattle.gl_edges.specs.declared.edge.Edge.{Edge};
 
 use crate::dead_ends::{DeadEnds, Gap};
@@ -21,7 +21,7 @@ impl Rounds<'_> {
     /// The positions of the models.
     pub(crate) fn models(&self, alloc: Global) -> Result<Vec<usize>, Memory>
         requires long { length self.now.flags.items ≡ length self.now.sought.table.now }
-        ensures within { IfOk result (λ models. All (λ i. i < length self.now.sought.table.now) models.items) }
+        ensures within { IfOk result (λ models. AreWithin self.now models.items) }
         ensures all { IfOk result (λ models. HasFlagged self.now.flags.items models.items) }
     {
         let mut models = Vec::new(alloc);
@@ -33,8 +33,8 @@ impl Rounds<'_> {
 
     // Those of the models that aren't flagged as dead.
     fn alive(&self, alloc: Global, models: &[usize], dead: &[bool]) -> Result<Vec<usize>, Memory>
-        requires { All (λ i. i < length self.now.sought.table.now) models.now }
-        ensures within { IfOk result (λ alive. All (λ i. i < length self.now.sought.table.now) alive.items) }
+        requires { AreWithin self.now models.now }
+        ensures within { IfOk result (λ alive. AreWithin self.now alive.items) }
         ensures all { IfOk result (λ alive. (i : ℕ) → Contains models.now i → ¬ (slice_get dead.now i ≡ Some true) → Contains alive.items i) }
     {
         let mut alive = Vec::new(alloc);
@@ -57,13 +57,10 @@ impl Rounds<'_> {
         tests: &mut usize,
     ) -> Result<bool, Memory>
         requires there { root < length self.now.sought.table.now }
-        requires lawful { HasModels self.now }
-        requires within { All (λ i. i < length self.now.sought.table.now) models.now }
-        requires all { HasFlagged self.now.flags.items models.now }
-        requires dead { (j : ℕ) → slice_get dead.now j ≡ Some true → NoCycleThrough (is_before self.now.sought.order.now) self.now.sought.mode self.now.grain self.now.sought.len (edges_of_table self.now.sought.table.now) (j ∷ []) }
-        requires ends { AreHopeless (is_before self.now.sought.order.now) self.now.sought.mode self.now.grain self.now.sought.len (edges_of_table self.now.sought.table.now) self.now.flags.items ends.old.known.items }
-        ensures none { IfOk result (λ is. is ≡ true → NoCycleThrough (is_before self.now.sought.order.now) self.now.sought.mode self.now.grain self.now.sought.len (edges_of_table self.now.sought.table.now) (root ∷ [])) }
-        ensures ends { OnOk result (AreHopeless (is_before self.now.sought.order.now) self.now.sought.mode self.now.grain self.now.sought.len (edges_of_table self.now.sought.table.now) self.now.flags.items ends.new.known.items) }
+        requires known { KnowsModels self.now models.now dead.now }
+        requires ends { AreDeadEnds self.now ends.old.known.items }
+        ensures none { IfOk result (λ is. is ≡ true → NoneThrough self.now (root ∷ [])) }
+        ensures ends { OnOk result (AreDeadEnds self.now ends.new.known.items) }
     {
         if !take_tests(tests, models.len()) {
             return Ok(false);
@@ -78,8 +75,8 @@ impl Rounds<'_> {
     // Adds the model at a position, if it may meet the edge.
     fn add_met(&self, some: &mut Vec<usize>, edge: &Edge, i: usize) -> Result<(), Memory>
         requires there { i < length self.now.sought.table.now }
-        requires within { All (λ j. j < length self.now.sought.table.now) some.old.items }
-        ensures within { OnOk result (All (λ j. j < length self.now.sought.table.now) some.new.items) }
+        requires within { AreWithin self.now some.old.items }
+        ensures within { OnOk result (AreWithin self.now some.new.items) }
         ensures stay { OnOk result ((j : ℕ) → Contains some.old.items j → Contains some.new.items j) }
         ensures met { OnOk result ((d : Edge) → slice_get (edges_of_table self.now.sought.table.now) i ≡ Some d
             → may_meet (is_before self.now.sought.order.now) self.now.sought.mode self.now.grain edge.now d ≡ true → Contains some.new.items i) }
@@ -93,9 +90,9 @@ impl Rounds<'_> {
 
     // Those of the rest that may meet the edge at a position.
     fn narrowed(&self, alloc: Global, rest: &[usize], next: usize) -> Result<Vec<usize>, Memory>
-        requires within { All (λ i. i < length self.now.sought.table.now) rest.now }
+        requires within { AreWithin self.now rest.now }
         requires there { next < length self.now.sought.table.now }
-        ensures within { IfOk result (λ some. All (λ i. i < length self.now.sought.table.now) some.items) }
+        ensures within { IfOk result (λ some. AreWithin self.now some.items) }
         ensures narrowed { IfOk result (λ some. IsNarrowed (is_before self.now.sought.order.now) self.now.sought.mode self.now.grain (edges_of_table self.now.sought.table.now) rest.now next some.items) }
     {
         let edge = &self.sought.table[next].0;
@@ -117,11 +114,11 @@ impl Rounds<'_> {
         ends: &mut DeadEnds,
         tests: &mut usize,
     ) -> Result<bool, Memory>
-        requires within { All (λ i. i < length self.now.sought.table.now) rest.now }
+        requires within { AreWithin self.now rest.now }
         requires models { HasModels self.now }
-        requires ends { AreHopeless (is_before self.now.sought.order.now) self.now.sought.mode self.now.grain self.now.sought.len (edges_of_table self.now.sought.table.now) self.now.flags.items ends.old.known.items }
-        ensures none { IfOk result (λ may. may ≡ false → IsHopeless (is_before self.now.sought.order.now) self.now.sought.mode self.now.grain self.now.sought.len (edges_of_table self.now.sought.table.now) self.now.flags.items gap.now rest.now) }
-        ensures ends { OnOk result (AreHopeless (is_before self.now.sought.order.now) self.now.sought.mode self.now.grain self.now.sought.len (edges_of_table self.now.sought.table.now) self.now.flags.items ends.new.known.items) }
+        requires ends { AreDeadEnds self.now ends.old.known.items }
+        ensures none { IfOk result (λ may. may ≡ false → IsDeadEnd self.now gap.now rest.now) }
+        ensures ends { OnOk result (AreDeadEnds self.now ends.new.known.items) }
     {
         if gap.is_closed() {
             return Ok(true);
@@ -159,12 +156,12 @@ impl Rounds<'_> {
         tests: &mut usize,
     ) -> Result<bool, Memory>
         requires left { 0 < gap.now.left }
-        requires within { All (λ i. i < length self.now.sought.table.now) rest.now }
+        requires within { AreWithin self.now rest.now }
         requires there { next < length self.now.sought.table.now }
         requires models { HasModels self.now }
-        requires ends { AreHopeless (is_before self.now.sought.order.now) self.now.sought.mode self.now.grain self.now.sought.len (edges_of_table self.now.sought.table.now) self.now.flags.items ends.old.known.items }
+        requires ends { AreDeadEnds self.now ends.old.known.items }
         ensures none { IfOk result (λ may. may ≡ false → NoneBy (is_before self.now.sought.order.now) self.now.sought.mode self.now.grain self.now.sought.len (edges_of_table self.now.sought.table.now) self.now.flags.items gap.now rest.now next) }
-        ensures ends { OnOk result (AreHopeless (is_before self.now.sought.order.now) self.now.sought.mode self.now.grain self.now.sought.len (edges_of_table self.now.sought.table.now) self.now.flags.items ends.new.known.items) }
+        ensures ends { OnOk result (AreDeadEnds self.now ends.new.known.items) }
     {
         let edge = &self.sought.table[next].0;
         if !gap.leads_to(edge) {

@@ -1,14 +1,17 @@
 -- Gaps of rounds: what is missing from the lock that the last edge of a path wants back to the one that its first edge holds.
-use Rattle.std.specs.Prelude.{◌≡◌, ℕ, ◌+◌, ◌-◌, ◌<◌, ◌≤◌, Bool, true, ◌&&◌, ◌==◌, List, length, slice_get, Some, All, Contains}
+use Rattle.std.specs.Prelude.{◌≡◌, ℕ, ◌+◌, ◌-◌, ◌<◌, ◌≤◌, Bool, true, ◌&&◌, ◌==◌, List, [], ◌∷◌, length, slice_get, Some, All, Contains}
 use Rattle.gl_event.specs.declared.events.Segment.{Segment}
 use Rattle.gl_event.specs.Modes.{conflict}
 use Rattle.gl_edges.specs.declared.edge.Edge.{Edge}
 use Rattle.gl_filters.specs.declared.query.Mode.{Mode}
 use Rattle.gl_filters.specs.Cycle.{IsCycle}
-use Rattle.gl_cycles.specs.bodies.Kinds.{AreAlike, may_meet, place_after}
+use Rattle.gl_filters.specs.Picked.{edges_of_table}
+use Rattle.gl_segments.specs.Clocks.{is_before}
+use Rattle.gl_cycles.specs.bodies.Kinds.{AreAlike, may_meet, place_after, AreWithin, HasModels, NoneThrough}
 use Rattle.gl_cycles.specs.declared.dead_ends.DeadEnd.{DeadEnd}
 use Rattle.gl_cycles.specs.declared.dead_ends.Gap.{Gap}
 use Rattle.gl_cycles.specs.declared.grains.Grain.{Grain}
+use Rattle.gl_cycles.specs.declared.kinds.Rounds.{Rounds}
 
 -- what is missing after this edge alone
 abbrev pub gap_of : Edge → ℕ → Gap
@@ -67,3 +70,18 @@ module _ (before : Segment → Segment → Bool) (mode : Mode) (grain : Grain) (
   -- each of these is so
   abbrev pub AreHopeless : List DeadEnd → Type 0
   AreHopeless ends = (i : ℕ) (end : DeadEnd) → slice_get ends i ≡ Some end → IsHopeless end.gap end.rest.items
+
+-- no cycle that is sought closes the gap by these models
+abbrev pub IsDeadEnd : Rounds → Gap → List ℕ → Type 0
+IsDeadEnd r gap rest = IsHopeless (is_before r.sought.order.now) r.sought.mode r.grain r.sought.len (edges_of_table r.sought.table.now) r.flags.items gap rest
+
+-- none closes one of these gaps by its rest
+abbrev pub AreDeadEnds : Rounds → List DeadEnd → Type 0
+AreDeadEnds r ends = AreHopeless (is_before r.sought.order.now) r.sought.mode r.grain r.sought.len (edges_of_table r.sought.table.now) r.flags.items ends
+
+-- rounds can be looked for, all models stand at these positions, and to those that are flagged as dead no edge of a cycle that is sought is alike
+pub record KnowsModels (r : Rounds) (models : List ℕ) (dead : List Bool) : Type 0 where
+  pub lawful : HasModels r
+  pub within : AreWithin r models
+  pub all : HasFlagged r.flags.items models
+  pub none_through : (j : ℕ) → slice_get dead j ≡ Some true → NoneThrough r (j ∷ [])

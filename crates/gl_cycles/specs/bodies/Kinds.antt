@@ -83,6 +83,14 @@ module _ (before : Segment → Segment → Bool) (mode : Mode) (grain : Grain) (
     pub holds : IfSome next (λ i. (i < length edges) × ((e : Edge) → slice_get edges i ≡ Some e → e.held ≡ lock))
     pub tried : (i : ℕ) (e : Edge) → i < unwrap_or next (length edges) → slice_get edges i ≡ Some e → slice_get flags i ≡ Some true → e.held ≡ lock → NoCycleThrough (path ++ i ∷ [])
 
+-- no cycle that is sought goes through edges that are alike to these
+abbrev pub NoneThrough : Rounds → List ℕ → Type 0
+NoneThrough r path = NoCycleThrough (is_before r.sought.order.now) r.sought.mode r.grain r.sought.len (edges_of_table r.sought.table.now) path
+
+-- the edges stand at positions of the table
+abbrev pub AreWithin : Rounds → List ℕ → Type 0
+AreWithin r path = All (λ i. i < length r.sought.table.now) path
+
 -- rounds can be looked for
 pub record HasModels (r : Rounds) : Type 0 where
   pub long : length r.flags.items ≡ length r.sought.table.now

@@ -4,6 +4,9 @@ use Rattle.gl_event.specs.declared.events.Segment.{Segment}
 use Rattle.gl_edges.specs.declared.edge.Edge.{Edge}
 use Rattle.gl_filters.specs.declared.query.Mode.{Mode}
 use Rattle.gl_filters.specs.Cycle.{IsCycle}
+use Rattle.gl_filters.specs.Picked.{edges_of_table}
+use Rattle.gl_segments.specs.Clocks.{is_before}
+use Rattle.gl_cycles.specs.declared.neighbours.Sought.{Sought}
 
 module _ (before : Segment → Segment → Bool) (mode : Mode) (len : ℕ) (edges : List Edge) where
   -- the edge is in no cycle of this mode, of at most len of these edges
@@ -16,3 +19,7 @@ module _ (before : Segment → Segment → Bool) (mode : Mode) (len : ℕ) (edge
     pub long : length kept ≡ length edges
     -- and what it leaves out is in no cycle
     pub left_out : (i : ℕ) (e : Edge) → slice_get edges i ≡ Some e → slice_get kept i ≡ Some false → IsOffCycles e
+
+-- they leave out only edges that are in no cycle that is sought
+abbrev pub KeepsSought : Sought → List Bool → Type 0
+KeepsSought sought kept = KeepsCycles (is_before sought.order.now) sought.mode sought.len (edges_of_table sought.table.now) kept

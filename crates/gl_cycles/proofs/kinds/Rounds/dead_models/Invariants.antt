@@ -2,7 +2,7 @@ use Rattle.std.proofs.Common.{◌≡◌, ℕ, [], ◌∷◌, true, Some, length}
 use Rattle.std.specs.Prelude.{slice_get}
 use Rattle.gl_segments.specs.Clocks.{is_before}
 use Rattle.gl_filters.specs.Picked.{edges_of_table}
-use Rattle.gl_cycles.specs.bodies.Gaps.{AreHopeless}
+use Rattle.gl_cycles.specs.bodies.Gaps.{AreDeadEnds}
 use Rattle.gl_cycles.specs.bodies.Kinds.{NoCycleThrough}
 use Rattle.gl_cycles.proofs.kinds.Rounds.dead_models.Given as goal
 
@@ -10,4 +10,4 @@ use Rattle.gl_cycles.proofs.kinds.Rounds.dead_models.Given as goal
 abbrev pub invariant-loop-i : goal.invariant-loop-i
 invariant-loop-i l = (length l.dead.items ≡ l.i)
     × ((j : ℕ) → slice_get l.dead.items j ≡ Some true → NoCycleThrough (is_before l.self.sought.order.now) l.self.sought.mode l.self.grain l.self.sought.len (edges_of_table l.self.sought.table.now) (j ∷ []))
-    × AreHopeless (is_before l.self.sought.order.now) l.self.sought.mode l.self.grain l.self.sought.len (edges_of_table l.self.sought.table.now) l.self.flags.items l.ends.known.items
+    × AreDeadEnds l.self l.ends.known.items
