@@ -1,3 +1,4 @@
 pub mod Reads
+pub mod Uses
 pub mod Wrapped
 pub mod bodies

@@ -10,6 +10,7 @@ use Rattle.gl_event.specs.declared.events.Event.{Event}
 use Rattle.gl_event.specs.declared.events.Refusal.{Refusal}
 use Rattle.gl_event.specs.declared.events.Refusal.TheVariants.{PlaceFull, NoSuchThread, OnItself}
 use Rattle.gl_event.proofs.Lawfulness.{IsLawful-last}
+use Rattle.gl_io.specs.Uses.{Use, used}
 use Rattle.gl_std.specs.Lines.{ended_lines}
 use Rattle.gl_std.specs.Listed.{listed}
 use Rattle.gl_std.specs.Streaming.{names_of, with_item, CanBeAsked, CanReadOn, GoesOn, HasFault, HasNoFault, HasTold, HasToldAt, IsDone, Stage, Stream}
@@ -50,10 +51,10 @@ refuses_no_more limits more thread es e few same none =
 -- ---- what a text tells
 
 -- the items so far told a trace that obeys the limits
-told_over : (limits : Bounds) (turns : ℕ) (start now : Option (List ℕ)) (failed : Bool) (items : Stream) (text : List ℕ) (told : Trace) → HasNoFault items → HasTold limits turns start now failed items text told → IsTraceOver limits told
-told_over limits turns start now failed items text told none tells = by items.stage refl tells
+told_over : (limits : Bounds) (turns : ℕ) (input : Use) (items : Stream) (text : List ℕ) (told : Trace) → HasNoFault items → HasTold limits turns input items text told → IsTraceOver limits told
+told_over limits turns input items text told none tells = by items.stage refl tells
   where
-    by : (stage : Stage) → items.stage ≡ stage → HasToldAt stage limits turns start now failed items.feed text told → IsTraceOver limits told
+    by : (stage : Stage) → items.stage ≡ stage → HasToldAt stage limits turns input items.feed text told → IsTraceOver limits told
     by Reading is on =
         let judge = items.feed.judge in
         let reaches = on.at.reaches in
@@ -62,12 +63,12 @@ told_over limits turns start now failed items text told none tells = by items.st
     by (Faulty fault) is over = absurd (none fault is)
 
 -- the limits are in range while items come
-in_range : (limits : Bounds) (turns : ℕ) (start now : Option (List ℕ)) (failed : Bool) (items : Stream) (text : List ℕ) (told : Trace) (result : Result Item LinesFault) (thread : ℕ) (event : Event) → result ≡ Ok (Told thread event)
+in_range : (limits : Bounds) (turns : ℕ) (input : Use) (items : Stream) (text : List ℕ) (told : Trace) (result : Result Item LinesFault) (thread : ℕ) (event : Event) → result ≡ Ok (Told thread event)
     → (IsDone items → result ≡ Ok End) → ((fault : LinesFault) → HasFault items fault → result ≡ Err fault)
-    → CanBeAsked items failed → HasTold limits turns start now failed items text told → AreWithinRange limits
-in_range limits turns start now failed items text told result thread event is ends fails usable tells = by items.stage refl usable tells
+    → CanBeAsked items input.failed → HasTold limits turns input items text told → AreWithinRange limits
+in_range limits turns input items text told result thread event is ends fails usable tells = by items.stage refl usable tells
   where
-    by : (stage : Stage) → items.stage ≡ stage → CanReadOn stage failed items.feed → HasToldAt stage limits turns start now failed items.feed text told → AreWithinRange limits
+    by : (stage : Stage) → items.stage ≡ stage → CanReadOn stage input.failed items.feed → HasToldAt stage limits turns input items.feed text told → AreWithinRange limits
     by Reading at fit on = subst AreWithinRange on.same fit.1.sound.in_range
     by Done at fit on = let wrong = sym is ∙ ends at in cc
     by (Faulty fault) at fit on = let wrong = sym is ∙ fails fault at in cc
@@ -99,16 +100,16 @@ pub can_be_taken : (now later : Option (List ℕ)) (failed failed2 : Bool) (item
     → (recording : IsRecording now failed items recorders) → CanBeAsked items failed → HasNoFault more
     → (IsDone items → result ≡ Ok End) → ((fault : LinesFault) → HasFault items fault → result ≡ Err fault)
     → ((thread : ℕ) (event : Event) → result ≡ Ok (Told thread event) → thread < length (names_of more).threads)
-    → GoesOn recording.limits recording.turns recording.start later failed2 more recording.follows.text recording.follows.told result
+    → GoesOn recording.limits recording.turns (used recording.start later failed2) more recording.follows.text recording.follows.told result
     → CanBeTaken recorders item
 can_be_taken now later failed failed2 items more recorders item result answer recording usable none ends fails known on = λ thread event its.
     let is : result ≡ Ok (Told thread event) = answer ∙ ap (λ x. Ok x) (is_told item thread event its) in
     let limits = recording.limits in
     let told = recording.follows.told in
     let names = names_of more in
-    let tells = subst (λ r. GoesOn limits recording.turns recording.start later failed2 more recording.follows.text told r) is on in
-    let over = told_over limits recording.turns recording.start later failed2 more (recording.follows.text ++ tells.piece) (with_item (Told thread event) names told) none tells.tells in
-    let range = in_range limits recording.turns recording.start now failed items recording.follows.text told result thread event is ends fails usable recording.follows.tells in
+    let tells = subst (λ r. GoesOn limits recording.turns (used recording.start later failed2) more recording.follows.text told r) is on in
+    let over = told_over limits recording.turns (used recording.start later failed2) more (recording.follows.text ++ tells.piece) (with_item (Told thread event) names told) none tells.tells in
+    let range = in_range limits recording.turns (used recording.start now failed) items recording.follows.text told result thread event is ends fails usable recording.follows.tells in
     let s = recording.s.limits in
     let are = recording.follows.recorded in
     takes_next limits s (length names.threads) told.lists recorders thread event (known thread event is)
@@ -120,7 +121,7 @@ can_be_taken now later failed failed2 items more recorders item result answer re
 
 -- recorders go on after items were recorded
 pub still_recording : (now later : Option (List ℕ)) (failed failed2 : Bool) (items more : Stream) (old new : List Recording) → length new ≡ length old → (recording : IsRecording now failed items old)
-    → (Follows recording.s recording.limits recording.turns recording.start now failed items old → Follows recording.s recording.limits recording.turns recording.start later failed2 more new) → IsRecording later failed2 more new
+    → (Follows recording.s recording.limits recording.turns (used recording.start now failed) items old → Follows recording.s recording.limits recording.turns (used recording.start later failed2) more new) → IsRecording later failed2 more new
 still_recording now later failed failed2 items more old new count recording follows = record {
   s = recording.s;
   limits = recording.limits;

@@ -5,6 +5,7 @@ use Rattle.std.proofs.lemmas.List.Elements.{All-nil}
 use Rattle.gl_event.specs.Bounds.{Bounds}
 use Rattle.gl_event.specs.declared.events.Event.{Event}
 use Rattle.gl_event.specs.declared.events.Event.TheVariants.{Fork, Join}
+use Rattle.gl_io.specs.Uses.{Use}
 use Rattle.gl_filters.specs.Asked.{Asked}
 use Rattle.gl_cycles.specs.Reports.{IsGoodlockReport}
 use Rattle.gl_cycles.specs.declared.found.Report.{Report}
@@ -33,19 +34,19 @@ use Rattle.gl_live.proofs.Padding.{least_only, report_only}
 use Rattle.gl_live.proofs.Seated.{all_same}
 
 -- nothing was read
-pub begins : (c : Collecting) (limits : Bounds) (turns : ℕ) (start now : Option (List ℕ)) (failed : Bool) (items : Stream) (recorders : List Recording) → AreRecorded (seating_of c) [] recorders → HasTold limits turns start now failed items [] nothing → Follows (seating_of c) limits turns start now failed items recorders
-begins c limits turns start now failed items recorders unused told = record { text = []; told = nothing; tells = told; recorded = unused }
+pub begins : (c : Collecting) (limits : Bounds) (turns : ℕ) (input : Use) (items : Stream) (recorders : List Recording) → AreRecorded (seating_of c) [] recorders → HasTold limits turns input items [] nothing → Follows (seating_of c) limits turns input items recorders
+begins c limits turns input items recorders unused told = record { text = []; told = nothing; tells = told; recorded = unused }
 
 -- what was gathered of the session that its collector's thread was given
 pub has_gathered : (own c : Collecting) (its outlets : List Sending) (g : Gathering) → own ≡ c → its ≡ outlets → HasGathered own its g → HasGathered c outlets g
 has_gathered own c its outlets g same alike is = subst (λ os. HasGathered c os g) alike (subst (λ (x : Collecting). HasGathered x its g) same is)
 
 -- all was recorded
-pub streamed : (limits : Bounds) (turns : ℕ) (start now : Option (List ℕ)) (failed : Bool) (threads : ℕ) (items : Stream) (c : Collecting) (outlets : List Sending) (recorders : List Recording) (before : List Closed) (ran : Ran)
+pub streamed : (limits : Bounds) (turns : ℕ) (input : Use) (threads : ℕ) (items : Stream) (c : Collecting) (outlets : List Sending) (recorders : List Recording) (before : List Closed) (ran : Ran)
     → HasGathered c outlets ran.gathered → before ≡ [] → length recorders ≡ threads → IsDone items
     → ((s : Seating) (lists : List (List Event)) → All (HasTaken s lists) recorders → All (IsReceiptOf s lists) before → All (IsReceiptOf s lists) ran.receipts.items)
-    → Follows (seating_of c) limits turns start now failed items recorders → HasStreamed limits turns start now failed threads items (Ok ran)
-streamed limits turns start now failed threads items c outlets recorders before ran gathered none count done closed follows =
+    → Follows (seating_of c) limits turns input items recorders → HasStreamed limits turns input threads items (Ok ran)
+streamed limits turns input threads items c outlets recorders before ran gathered none count done closed follows =
     let lists = follows.told.lists in record {
       text = follows.text;
       told = follows.told;
@@ -59,15 +60,15 @@ streamed limits turns start now failed threads items c outlets recorders before 
     }
 
 -- not all was
-pub unstreamed : (limits : Bounds) (turns : ℕ) (start now : Option (List ℕ)) (failed : Bool) (threads : ℕ) (items : Stream) (fault : LinesFault) → Stops limits turns start now failed items fault → HasStreamed limits turns start now failed threads items (Err (Text fault))
-unstreamed limits turns start now failed threads items fault stops = record { text = stops.text; told = stops.told; tells = stops.tells; leaves = stops.why }
+pub unstreamed : (limits : Bounds) (turns : ℕ) (input : Use) (threads : ℕ) (items : Stream) (fault : LinesFault) → Stops limits turns input items fault → HasStreamed limits turns input threads items (Err (Text fault))
+unstreamed limits turns input threads items fault stops = record { text = stops.text; told = stops.told; tells = stops.tells; leaves = stops.why }
 
 -- ---- the report
 
 -- what holds of the trace where the end was answered
-over : (limits : Bounds) (turns : ℕ) (start now : Option (List ℕ)) (failed : Bool) (items : Stream) (text : List ℕ) (told : Trace) → IsDone items → HasTold limits turns start now failed items text told → IsTraceOver limits told
-over limits turns start now failed items text told done tells =
-    let at = subst (λ stage. HasToldAt stage limits turns start now failed items.feed text told) done tells in
+over : (limits : Bounds) (turns : ℕ) (input : Use) (items : Stream) (text : List ℕ) (told : Trace) → IsDone items → HasTold limits turns input items text told → IsTraceOver limits told
+over limits turns input items text told done tells =
+    let at = subst (λ stage. HasToldAt stage limits turns input items.feed text told) done tells in
     trace_of_over limits text told at.1
 
 have_all : (limits : Bounds) (told : Trace) → IsTraceOver limits told → HaveAll told.lists
@@ -82,16 +83,16 @@ have_all limits told is =
     }
 
 -- so the receipts are of the session
-pub ours_streamed : (limits : Bounds) (turns : ℕ) (start now : Option (List ℕ)) (failed : Bool) (threads : ℕ) (items : Stream) (ran : Ran) → limits.threads ≡ threads → HasStreamed limits turns start now failed threads items (Ok ran) → AreReceipts (gathered_from ran.gathered) ran.receipts.items
-ours_streamed limits turns start now failed threads items ran many of =
-    let its = over limits turns start now failed items of.text of.told of.leaves.0 of.tells in
+pub ours_streamed : (limits : Bounds) (turns : ℕ) (input : Use) (threads : ℕ) (items : Stream) (ran : Ran) → limits.threads ≡ threads → HasStreamed limits turns input threads items (Ok ran) → AreReceipts (gathered_from ran.gathered) ran.receipts.items
+ours_streamed limits turns input threads items ran many of =
+    let its = over limits turns input items of.text of.told of.leaves.0 of.tells in
     let more = threads - length of.told.lists in
     record { lists = padded more of.told.lists; each = of.leaves.1 more (omega (arith, many, its.one_list_each, its.threads_fit)) }
 
-module _ (limits : Bounds) (turns : ℕ) (start now : Option (List ℕ)) (failed : Bool) (items : Stream) where
-  module _ (ran : Ran) (threads : ran.gathered.limits.threads ≡ limits.threads) (of : HasStreamed limits turns start now failed limits.threads items (Ok ran)) where
+module _ (limits : Bounds) (turns : ℕ) (input : Use) (items : Stream) where
+  module _ (ran : Ran) (threads : ran.gathered.limits.threads ≡ limits.threads) (of : HasStreamed limits turns input limits.threads items (Ok ran)) where
     its : IsTraceOver limits of.told
-    its = over limits turns start now failed items of.text of.told of.leaves.0 of.tells
+    its = over limits turns input items of.text of.told of.leaves.0 of.tells
 
     abbrev more : ℕ
     more = limits.threads - length of.told.lists
@@ -103,7 +104,7 @@ module _ (limits : Bounds) (turns : ℕ) (start now : Option (List ℕ)) (failed
     concluded : (P : List (List Event) → Type 0) → ((lists : List (List Event)) → ran.gathered.limits.threads ≡ length lists → All (IsReceiptOf (gathered_from ran.gathered) lists) ran.receipts.items → P lists) → P (padded more of.told.lists)
     concluded P each = each (padded more of.told.lists) (threads ∙ fits ∙ sym (long more of.told.lists)) (of.leaves.1 more fits)
 
-    pub becomes_report : (asked : Asked) (report : Report) → ((lists : List (List Event)) → ran.gathered.limits.threads ≡ length lists → All (IsReceiptOf (gathered_from ran.gathered) lists) ran.receipts.items → IsGoodlockReport asked lists report) → Becomes asked limits turns start now failed items (Ok report)
+    pub becomes_report : (asked : Asked) (report : Report) → ((lists : List (List Event)) → ran.gathered.limits.threads ≡ length lists → All (IsReceiptOf (gathered_from ran.gathered) lists) ran.receipts.items → IsGoodlockReport asked lists report) → Becomes asked limits turns input items (Ok report)
     becomes_report asked report each =
         record {
           text = of.text;
@@ -123,11 +124,11 @@ module _ (limits : Bounds) (turns : ℕ) (start now : Option (List ℕ)) (failed
     session_fault Unconfirmed is = tt
 
     pub becomes_fault : (asked : Asked) (fault : LiveFault)
-        → ((lists : List (List Event)) → ran.gathered.limits.threads ≡ length lists → All (IsReceiptOf (gathered_from ran.gathered) lists) ran.receipts.items → IsLiveFault lists fault) → Becomes asked limits turns start now failed items (Err (Session fault))
+        → ((lists : List (List Event)) → ran.gathered.limits.threads ≡ length lists → All (IsReceiptOf (gathered_from ran.gathered) lists) ran.receipts.items → IsLiveFault lists fault) → Becomes asked limits turns input items (Err (Session fault))
     becomes_fault asked fault each =
         record { text = of.text; told = of.told; tells = of.tells; reports = session_fault fault (fault_only fault (concluded (λ lists. IsLiveFault lists fault) each)) }
 
-  pub becomes_stopped : (asked : Asked) (threads : ℕ) (fault : StreamFault) → HasStreamed limits turns start now failed threads items (Err fault) → Becomes asked limits turns start now failed items (Err fault)
+  pub becomes_stopped : (asked : Asked) (threads : ℕ) (fault : StreamFault) → HasStreamed limits turns input threads items (Err fault) → Becomes asked limits turns input items (Err fault)
   becomes_stopped asked threads fault of = record { text = of.text; told = of.told; tells = of.tells; reports = of.leaves }
 
 -- ---- when it fails

@@ -1,6 +1,7 @@
 -- What becomes of a text that a session records as it is read.
 use Rattle.std.specs.Prelude.{◌≡◌, ◌⊎◌, ℕ, Bool, List, [], Option, Result, Ok, Err}
 use Rattle.gl_event.specs.Bounds.{Bounds}
+use Rattle.gl_io.specs.Uses.{Use, used}
 use Rattle.gl_segments.specs.Segments.{IsLeastInRing}
 use Rattle.gl_filters.specs.Asked.{Asked}
 use Rattle.gl_cycles.specs.Reports.{IsGoodlockReport}
@@ -18,7 +19,7 @@ pub record IsUnread (threads : ℕ) (now : Option (List ℕ)) (failed : Bool) (i
   pub turns : ℕ
   pub start : Option (List ℕ)
   pub as_many : limits.threads ≡ threads
-  pub tells : HasTold limits turns start now failed items [] nothing
+  pub tells : HasTold limits turns (used start now failed) items [] nothing
 
 -- why there is no report where the items told this trace: the fault that they answered; or all was told, and a segment is before itself; or
 -- memory was refused, or the session isn't confirmed
@@ -41,8 +42,8 @@ IsReportOf asked items told (Ok report) = IsDone items × IsGoodlockReport asked
 IsReportOf asked items told (Err fault) = IsStreamFault items told fault
 
 -- the reads gave a text, and the items told a trace of it, of which this is the report
-pub record Becomes (asked : Asked) (limits : Bounds) (turns : ℕ) (start now : Option (List ℕ)) (failed : Bool) (items : Stream) (result : Result Report StreamFault) : Type 0 where
+pub record Becomes (asked : Asked) (limits : Bounds) (turns : ℕ) (input : Use) (items : Stream) (result : Result Report StreamFault) : Type 0 where
   pub text : List ℕ
   pub told : Trace
-  pub tells : HasTold limits turns start now failed items text told
+  pub tells : HasTold limits turns input items text told
   pub reports : IsReportOf asked items told result

@@ -3,6 +3,7 @@ ghost use Rattle.std.specs.Prelude.{◌≡◌, ◌≤◌, ℕ, Bool, [], List, O
 ghost use Rattle.std.specs.Vec.{vec_len, vec_capacity};
 ghost use Rattle.gl_event.specs.Bounds.{Bounds};
 ghost use Rattle.gl_event.specs.declared.limits.TheConstants.{MAX_THREADS, MAX_RING};
+ghost use Rattle.gl_io.specs.Uses.{Use, used};
 ghost use Rattle.gl_shards.specs.declared.shard.TheConstants.{MAX_SHARDS};
 ghost use Rattle.gl_std.specs.Streaming.{CanBeAsked, HasTold, IsDone};
 ghost use Rattle.gl_std.specs.Trace.{nothing};
@@ -34,8 +35,8 @@ fn report_streamed(
     requires ours { IfOk ran (λ r. AreReceipts (gathered_from r.gathered) r.receipts.items) }
     requires empty { tables.items ≡ [] }
     requires none { vec_len tables ≡ 0 }
-    ensures becomes { (limits : Bounds) (turns : ℕ) (start now : Option (List ℕ)) (failed : Bool) (items : Items) → IfOk ran (λ r. r.gathered.limits.threads ≡ limits.threads) → HasStreamed limits turns start now failed limits.threads items ran
-        → Becomes query.now limits turns start now failed items result }
+    ensures becomes { (limits : Bounds) (turns : ℕ) (input : Use) (items : Items) → IfOk ran (λ r. r.gathered.limits.threads ≡ limits.threads) → HasStreamed limits turns input limits.threads items ran
+        → Becomes query.now limits turns input items result }
     ensures in_time { (old new : Option (List ℕ)) (items : Items) → OnOk ran (IsDone items) → FailsInTime old new items ran → FailsInTime old new items result }
 {
     match ran {
@@ -80,8 +81,8 @@ pub fn stream_report<R: Threads + Wait + Sync, S: Source, G: Gate + Sync>(
     requires shards_fit { options.now.shards ≤ MAX_SHARDS }
     requires some_ring { 1 ≤ options.now.ring }
     requires ring_fits { options.now.ring ≤ MAX_RING }
-    ensures becomes { (limits : Bounds) (turns : ℕ) (start : Option (List ℕ)) → limits.threads ≡ options.now.threads → HasTold limits turns start (S.remaining input.old) (S.failed input.old) items [] nothing
-        → Becomes query.now limits turns start (S.remaining input.new) (S.failed input.new) result.1 result.0 }
+    ensures becomes { (limits : Bounds) (turns : ℕ) (start : Option (List ℕ)) → limits.threads ≡ options.now.threads → HasTold limits turns (used start (S.remaining input.old) (S.failed input.old)) items [] nothing
+        → Becomes query.now limits turns (used start (S.remaining input.new) (S.failed input.new)) result.1 result.0 }
     ensures in_time { FailsInTime (S.remaining input.old) (S.remaining input.new) result.1 result.0 }
 {
     let Ok(session) = prepare_to_read(alloc, options) else {

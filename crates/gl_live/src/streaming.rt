@@ -5,6 +5,7 @@ ghost use Rattle.std.specs.Vec.{vec_len, vec_capacity};
 ghost use Rattle.gl_event.specs.Bounds.{Bounds};
 ghost use Rattle.gl_event.specs.declared.events.Event.{Event as EventOf};
 ghost use Rattle.gl_event.specs.declared.limits.TheConstants.{MAX_THREADS, MAX_RING};
+ghost use Rattle.gl_io.specs.Uses.{used};
 ghost use Rattle.gl_shards.specs.declared.shard.TheConstants.{MAX_SHARDS};
 ghost use Rattle.gl_std.specs.Listed.{listed};
 ghost use Rattle.gl_std.specs.Names.{NameLists};
@@ -117,11 +118,11 @@ fn record_next<R: Wait, S: Source>(
     requires recording { IsRecording (S.remaining input.old) (S.failed input.old) items.old recorders.old.items }
     ensures usable { CanBeAsked items.new (S.failed input.new) }
     ensures count { length recorders.new.items ≡ length recorders.old.items }
-    ensures follows { OnOk result ((s : Seating) (limits : Bounds) (turns : ℕ) (start : Option (List ℕ)) → Follows s limits turns start (S.remaining input.old) (S.failed input.old) items.old recorders.old.items
-        → Follows s limits turns start (S.remaining input.new) (S.failed input.new) items.new recorders.new.items) }
+    ensures follows { OnOk result ((s : Seating) (limits : Bounds) (turns : ℕ) (start : Option (List ℕ)) → Follows s limits turns (used start (S.remaining input.old) (S.failed input.old)) items.old recorders.old.items
+        → Follows s limits turns (used start (S.remaining input.new) (S.failed input.new)) items.new recorders.new.items) }
     ensures done { result ≡ Ok false → IsDone items.new }
-    ensures stops { IfErr result (λ fault. (s : Seating) (limits : Bounds) (turns : ℕ) (start : Option (List ℕ)) → Follows s limits turns start (S.remaining input.old) (S.failed input.old) items.old recorders.old.items
-        → Stops limits turns start (S.remaining input.new) (S.failed input.new) items.new fault) }
+    ensures stops { IfErr result (λ fault. (s : Seating) (limits : Bounds) (turns : ℕ) (start : Option (List ℕ)) → Follows s limits turns (used start (S.remaining input.old) (S.failed input.old)) items.old recorders.old.items
+        → Stops limits turns (used start (S.remaining input.new) (S.failed input.new)) items.new fault) }
 {
     match items.next(input) {
         Ok(Item::End) => Ok(false),
@@ -144,11 +145,11 @@ fn record_items<R: Wait, S: Source>(
     requires usable { CanBeAsked items.old (S.failed input.old) }
     requires recording { IsRecording (S.remaining input.old) (S.failed input.old) items.old recorders.old.items }
     ensures count { length recorders.new.items ≡ length recorders.old.items }
-    ensures follows { OnOk result ((s : Seating) (limits : Bounds) (turns : ℕ) (start : Option (List ℕ)) → Follows s limits turns start (S.remaining input.old) (S.failed input.old) items.old recorders.old.items
-        → Follows s limits turns start (S.remaining input.new) (S.failed input.new) items.new recorders.new.items) }
+    ensures follows { OnOk result ((s : Seating) (limits : Bounds) (turns : ℕ) (start : Option (List ℕ)) → Follows s limits turns (used start (S.remaining input.old) (S.failed input.old)) items.old recorders.old.items
+        → Follows s limits turns (used start (S.remaining input.new) (S.failed input.new)) items.new recorders.new.items) }
     ensures done { OnOk result (IsDone items.new) }
-    ensures stops { IfErr result (λ fault. (s : Seating) (limits : Bounds) (turns : ℕ) (start : Option (List ℕ)) → Follows s limits turns start (S.remaining input.old) (S.failed input.old) items.old recorders.old.items
-        → Stops limits turns start (S.remaining input.new) (S.failed input.new) items.new fault) }
+    ensures stops { IfErr result (λ fault. (s : Seating) (limits : Bounds) (turns : ℕ) (start : Option (List ℕ)) → Follows s limits turns (used start (S.remaining input.old) (S.failed input.old)) items.old recorders.old.items
+        → Stops limits turns (used start (S.remaining input.new) (S.failed input.new)) items.new fault) }
 {
     for _ in rt.forever() {
         match record_next(rt, items, input, recorders) {
@@ -241,8 +242,8 @@ fn record_text<'s, E, R: Threads + Wait + Sync, S: Source, G: Gate + Sync>(
     ensures ours { IfOk result (λ ran. AreReceipts (gathered_from ran.gathered) ran.receipts.items) }
     ensures run { IfOk result (λ ran. HasRun (length session.outlets.items) ran.gathered ran.served.items) }
     ensures threads { IfOk result (λ ran. ran.gathered.limits.threads ≡ length session.recorders.items) }
-    ensures streamed { (limits : Bounds) (turns : ℕ) (start : Option (List ℕ)) → HasTold limits turns start (S.remaining input.old) (S.failed input.old) items.old [] nothing
-        → HasStreamed limits turns start (S.remaining input.new) (S.failed input.new) (length session.recorders.items) items.new result }
+    ensures streamed { (limits : Bounds) (turns : ℕ) (start : Option (List ℕ)) → HasTold limits turns (used start (S.remaining input.old) (S.failed input.old)) items.old [] nothing
+        → HasStreamed limits turns (used start (S.remaining input.new) (S.failed input.new)) (length session.recorders.items) items.new result }
     ensures done { OnOk result (IsDone items.new) }
     ensures in_time { FailsInTime (S.remaining input.old) (S.remaining input.new) items.new result }
 {
@@ -294,8 +295,8 @@ fn lend_text<'s, 'x, E, R: Threads + Wait + Sync, S: Source, G: Gate + Sync>(
     ensures same { result.2.ghost_name ≡ input.entry.ghost_name }
     ensures run { IfOk result.0 (λ ran. HasRun (length session.outlets.items) ran.gathered ran.served.items) }
     ensures threads { IfOk result.0 (λ ran. ran.gathered.limits.threads ≡ length session.recorders.items) }
-    ensures streamed { (limits : Bounds) (turns : ℕ) (start : Option (List ℕ)) → HasTold limits turns start (S.remaining input.old) (S.failed input.old) items [] nothing
-        → HasStreamed limits turns start (S.remaining result.2.now) (S.failed result.2.now) (length session.recorders.items) result.1 result.0 }
+    ensures streamed { (limits : Bounds) (turns : ℕ) (start : Option (List ℕ)) → HasTold limits turns (used start (S.remaining input.old) (S.failed input.old)) items [] nothing
+        → HasStreamed limits turns (used start (S.remaining result.2.now) (S.failed result.2.now)) (length session.recorders.items) result.1 result.0 }
     ensures done { OnOk result.0 (IsDone result.1) }
     ensures in_time { FailsInTime (S.remaining input.old) (S.remaining result.2.now) result.1 result.0 }
 {
@@ -322,8 +323,8 @@ pub fn read_session<R: Threads + Wait + Sync, S: Source, G: Gate + Sync>(
     ensures ours { IfOk result.0 (λ ran. AreReceipts (gathered_from ran.gathered) ran.receipts.items) }
     ensures run { IfOk result.0 (λ ran. HasRun (length session.outlets.items) ran.gathered ran.served.items) }
     ensures threads { IfOk result.0 (λ ran. ran.gathered.limits.threads ≡ length session.recorders.items) }
-    ensures streamed { (limits : Bounds) (turns : ℕ) (start : Option (List ℕ)) → HasTold limits turns start (S.remaining input.old) (S.failed input.old) items [] nothing
-        → HasStreamed limits turns start (S.remaining input.new) (S.failed input.new) (length session.recorders.items) result.1 result.0 }
+    ensures streamed { (limits : Bounds) (turns : ℕ) (start : Option (List ℕ)) → HasTold limits turns (used start (S.remaining input.old) (S.failed input.old)) items [] nothing
+        → HasStreamed limits turns (used start (S.remaining input.new) (S.failed input.new)) (length session.recorders.items) result.1 result.0 }
     ensures done { OnOk result.0 (IsDone result.1) }
     ensures in_time { FailsInTime (S.remaining input.old) (S.remaining input.new) result.1 result.0 }
 {
@@ -338,8 +339,8 @@ pub fn read_session<R: Threads + Wait + Sync, S: Source, G: Gate + Sync>(
             ensures same { result.2.ghost_name ≡ input.entry.ghost_name }
             ensures run { IfOk result.0 (λ ran. HasRun (length session.outlets.items) ran.gathered ran.served.items) }
             ensures threads { IfOk result.0 (λ ran. ran.gathered.limits.threads ≡ length session.recorders.items) }
-            ensures streamed { (limits : Bounds) (turns : ℕ) (start : Option (List ℕ)) → HasTold limits turns start (S.remaining input.entry.now) (S.failed input.entry.now) items [] nothing
-                → HasStreamed limits turns start (S.remaining result.2.now) (S.failed result.2.now) (length session.recorders.items) result.1 result.0 }
+            ensures streamed { (limits : Bounds) (turns : ℕ) (start : Option (List ℕ)) → HasTold limits turns (used start (S.remaining input.entry.now) (S.failed input.entry.now)) items [] nothing
+                → HasStreamed limits turns (used start (S.remaining result.2.now) (S.failed result.2.now)) (length session.recorders.items) result.1 result.0 }
             ensures done { OnOk result.0 (IsDone result.1) }
             ensures in_time { FailsInTime (S.remaining input.entry.now) (S.remaining result.2.now) result.1 result.0 }
         { lend_text(scope, rt, alloc, gate, session, items, input) },

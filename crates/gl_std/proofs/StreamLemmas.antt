@@ -4,6 +4,7 @@ use Rattle.std.proofs.lemmas.List.{length-drop, length-take-le}
 use Rattle.gl_event.specs.Bounds.{Bounds}
 use Rattle.gl_event.specs.declared.events.Event.{Event as EventOf}
 use Rattle.gl_io.specs.Reads.{HasRead}
+use Rattle.gl_io.specs.Uses.{used}
 use Rattle.gl_std.specs.Feeding as feeding
 use Rattle.gl_std.specs.Streaming.{with_item, GoesOn, HasToldAt, Stream}
 use Rattle.gl_std.specs.Streaming.Stage.{Reading, Done, Faulty}
@@ -80,24 +81,24 @@ over_shown stage f i text told is over = subst (λ (s : Stream). feeding.IsOver 
 -- ---- items
 
 -- the last line, which isn't at fault
-pub last_told : (limits : Bounds) (turns : ℕ) (start now : Option (List ℕ)) (failed : Bool) (old f : Feed) (text : List ℕ) (told : Trace) (judged : Judged) (item : Item) → item ≡ item_in judged → old.judge.limits ≡ limits → HasRead turns start now failed text true → trace_of old.judge.limits text ≡ Ok (with_judged judged f.judge.names told) → HasJudged f.judge (with_judged judged f.judge.names told) → HasToldAt Done limits turns start now failed (feed_of f) text (with_item item f.judge.names told)
+pub last_told : (limits : Bounds) (turns : ℕ) (start now : Option (List ℕ)) (failed : Bool) (old f : Feed) (text : List ℕ) (told : Trace) (judged : Judged) (item : Item) → item ≡ item_in judged → old.judge.limits ≡ limits → HasRead turns start now failed text true → trace_of old.judge.limits text ≡ Ok (with_judged judged f.judge.names told) → HasJudged f.judge (with_judged judged f.judge.names told) → HasToldAt Done limits turns (used start now failed) (feed_of f) text (with_item item f.judge.names told)
 last_told limits turns start now failed old f text told judged item is same read trace has =
-    subst (λ x. HasToldAt Done limits turns start now failed (feed_of f) text (with_item x f.judge.names told)) (sym is)
+    subst (λ x. HasToldAt Done limits turns (used start now failed) (feed_of f) text (with_item x f.judge.names told)) (sym is)
     (read, ap (λ l. trace_of l text) (sym same) ∙ trace, has)
 
 -- a line that LF ended
-pub told_item : (limits : Bounds) (turns : ℕ) (start now : Option (List ℕ)) (failed : Bool) (stage : Stage) (f : Feed) (text : List ℕ) (told : Trace) (step : Step) (judged : Judged) (item : Item) → stage_of stage ≡ Reading → step ≡ Told judged → item ≡ item_in judged → Steps limits turns start now failed f text told (Ok step) → GoesOn limits turns start now failed (stream_of stage f) text told (Ok item)
+pub told_item : (limits : Bounds) (turns : ℕ) (start now : Option (List ℕ)) (failed : Bool) (stage : Stage) (f : Feed) (text : List ℕ) (told : Trace) (step : Step) (judged : Judged) (item : Item) → stage_of stage ≡ Reading → step ≡ Told judged → item ≡ item_in judged → Steps limits turns start now failed f text told (Ok step) → GoesOn limits turns (used start now failed) (stream_of stage f) text told (Ok item)
 told_item limits turns start now failed stage f text told step judged item reading is line steps =
     record {
       piece = steps.piece;
       tells =
           let stepped = subst (λ s. HasStepped limits turns start now failed f (text ++ steps.piece) told (Ok s)) is steps.stepped in
-          subst (λ at. HasToldAt at limits turns start now failed (feed_of f) (text ++ steps.piece) (with_item item f.judge.names told)) (sym reading)
-          (subst (λ x. HasToldAt Reading limits turns start now failed (feed_of f) (text ++ steps.piece) (with_item x f.judge.names told)) (sym line) stepped);
+          subst (λ at. HasToldAt at limits turns (used start now failed) (feed_of f) (text ++ steps.piece) (with_item item f.judge.names told)) (sym reading)
+          (subst (λ x. HasToldAt Reading limits turns (used start now failed) (feed_of f) (text ++ steps.piece) (with_item x f.judge.names told)) (sym line) stepped);
     }
 
 -- a fault
-pub stopped : (limits : Bounds) (turns : ℕ) (start now : Option (List ℕ)) (failed : Bool) (f : Feed) (text : List ℕ) (told : Trace) (fault : LinesFault) → HasStepped limits turns start now failed f text told (Err fault) → HasToldAt (Faulty fault) limits turns start now failed (feed_of f) text told
+pub stopped : (limits : Bounds) (turns : ℕ) (start now : Option (List ℕ)) (failed : Bool) (f : Feed) (text : List ℕ) (told : Trace) (fault : LinesFault) → HasStepped limits turns start now failed f text told (Err fault) → HasToldAt (Faulty fault) limits turns (used start now failed) (feed_of f) text told
 stopped limits turns start now failed f text told (Line number kind) is = inl is
 stopped limits turns start now failed f text told Read is = is
 stopped limits turns start now failed f text told Memory is = tt

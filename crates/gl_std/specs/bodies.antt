@@ -1,6 +1,7 @@
 -- The words of loops and private functions. No public contract cites them.
 pub mod Finding
 pub mod Hearing
+pub mod Judgements
 pub mod Reading
 pub mod Shown
 pub mod States

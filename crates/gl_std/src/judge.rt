@@ -52,7 +52,8 @@ impl Judge {
     ghost use Rattle.gl_std.specs.Line.{is_on_itself};
     ghost use Rattle.gl_std.specs.Standings.{count_of};
     ghost use Rattle.gl_std.specs.bodies.States.{HasJudged, IsSound};
-    ghost use Rattle.gl_std.specs.bodies.Telling.{with_judged, IsKnown};
+    ghost use Rattle.gl_std.specs.bodies.Judgements.{FailsAs, HasJudgedMore, TellsAs};
+    ghost use Rattle.gl_std.specs.bodies.Telling.{IsKnown};
     ghost use Rattle.gl_std.specs.bodies.Finding.{found_in, limit_found};
     ghost use Rattle.gl_std.specs.bodies.Reading.{AreApart};
     ghost use Rattle.gl_std.specs.bodies.Shown.{shown};
@@ -85,11 +86,10 @@ impl Judge {
     pub(crate) fn take(&mut self, line: &[u8]) -> Result<Judged, ReadFault>
         requires sound { IsSound self.old }
         requires countable { self.old.line + 1 < 2 ^ 64 }
-        ensures ok { IfOk result (λ judged. (told : Trace) → HasJudged self.old told → after_line self.old.limits self.old.line told line.now ≡ Ok (with_judged judged self.new.names told)) }
-        ensures judged { IfOk result (λ judged. (told : Trace) → HasJudged self.old told → HasJudged self.new (with_judged judged self.new.names told)) }
+        ensures ok { IfOk result (TellsAs self.old self.new (λ told. after_line self.old.limits self.old.line told line.now)) }
+        ensures judged { IfOk result (HasJudgedMore self.old self.new) }
         ensures known { IfOk result (λ judged. IsKnown judged (length self.new.names.threads)) }
-        ensures fault { (number : ℕ) (kind : StdKind) → result ≡ Err (ReadFault.Line number kind) → (told : Trace) → HasJudged self.old told
-            → after_line self.old.limits self.old.line told line.now ≡ Err (ReadFault.Line number kind) }
+        ensures fault { FailsAs self.old (λ told. after_line self.old.limits self.old.line told line.now) result }
         ensures sound { OnOk result (IsSound self.new) }
         ensures limits { self.new.limits ≡ self.old.limits }
         ensures line { OnOk result (self.new.line ≡ self.old.line + 1) }
@@ -104,11 +104,10 @@ impl Judge {
         requires sound { IsSound self.old }
         requires apart { AreApart (shown shape) }
         requires countable { self.old.line + 1 < 2 ^ 64 }
-        ensures ok { IfOk result (λ judged. (told : Trace) → HasJudged self.old told → after_shape self.old.limits self.old.line told (shown shape.entry) ≡ Ok (with_judged judged self.new.names told)) }
-        ensures judged { IfOk result (λ judged. (told : Trace) → HasJudged self.old told → HasJudged self.new (with_judged judged self.new.names told)) }
+        ensures ok { IfOk result (TellsAs self.old self.new (λ told. after_shape self.old.limits self.old.line told (shown shape.entry))) }
+        ensures judged { IfOk result (HasJudgedMore self.old self.new) }
         ensures known { IfOk result (λ judged. IsKnown judged (length self.new.names.threads)) }
-        ensures fault { (number : ℕ) (kind : StdKind) → result ≡ Err (ReadFault.Line number kind) → (told : Trace) → HasJudged self.old told
-            → after_shape self.old.limits self.old.line told (shown shape.entry) ≡ Err (ReadFault.Line number kind) }
+        ensures fault { FailsAs self.old (λ told. after_shape self.old.limits self.old.line told (shown shape.entry)) result }
         ensures limits { self.new.limits ≡ self.old.limits }
         ensures line { self.new.line ≡ self.old.line }
         ensures few_skipped { self.new.skipped ≤ self.old.skipped + 1 }
@@ -144,11 +143,10 @@ impl Judge {
         requires sound { IsSound self.old }
         requires apart { is_on_itself (shown_operation operation) thread.now operand.now ≡ false }
         requires countable { self.old.line + 1 < 2 ^ 64 }
-        ensures ok { IfOk result (λ judged. (told : Trace) → HasJudged self.old told → after_call self.old.limits self.old.line told (shown_operation operation) thread.now operand.now location.now ≡ Ok (with_judged judged self.new.names told)) }
-        ensures judged { IfOk result (λ judged. (told : Trace) → HasJudged self.old told → HasJudged self.new (with_judged judged self.new.names told)) }
+        ensures ok { IfOk result (TellsAs self.old self.new (λ told. after_call self.old.limits self.old.line told (shown_operation operation) thread.now operand.now location.now)) }
+        ensures judged { IfOk result (HasJudgedMore self.old self.new) }
         ensures known { IfOk result (λ judged. IsKnown judged (length self.new.names.threads)) }
-        ensures fault { (number : ℕ) (kind : StdKind) → result ≡ Err (ReadFault.Line number kind) → (told : Trace) → HasJudged self.old told
-            → after_call self.old.limits self.old.line told (shown_operation operation) thread.now operand.now location.now ≡ Err (ReadFault.Line number kind) }
+        ensures fault { FailsAs self.old (λ told. after_call self.old.limits self.old.line told (shown_operation operation) thread.now operand.now location.now) result }
         ensures limits { self.new.limits ≡ self.old.limits }
         ensures line { self.new.line ≡ self.old.line }
         ensures few_skipped { self.new.skipped ≡ self.old.skipped }
@@ -170,11 +168,10 @@ impl Judge {
         requires sound { IsSound self.old }
         requires found { found.now ≡ found_in self.old.names (shown_operation operation) thread.now operand.now location.now }
         requires countable { self.old.line + 1 < 2 ^ 64 }
-        ensures ok { IfOk result (λ judged. (told : Trace) → HasJudged self.old told → after_call self.old.limits self.old.line told (shown_operation operation) thread.now operand.now location.now ≡ Ok (with_judged judged self.new.names told)) }
-        ensures judged { IfOk result (λ judged. (told : Trace) → HasJudged self.old told → HasJudged self.new (with_judged judged self.new.names told)) }
+        ensures ok { IfOk result (TellsAs self.old self.new (λ told. after_call self.old.limits self.old.line told (shown_operation operation) thread.now operand.now location.now)) }
+        ensures judged { IfOk result (HasJudgedMore self.old self.new) }
         ensures known { IfOk result (λ judged. IsKnown judged (length self.new.names.threads)) }
-        ensures fault { (number : ℕ) (kind : StdKind) → result ≡ Err (ReadFault.Line number kind) → (told : Trace) → HasJudged self.old told
-            → after_call self.old.limits self.old.line told (shown_operation operation) thread.now operand.now location.now ≡ Err (ReadFault.Line number kind) }
+        ensures fault { FailsAs self.old (λ told. after_call self.old.limits self.old.line told (shown_operation operation) thread.now operand.now location.now) result }
         ensures limits { self.new.limits ≡ self.old.limits }
         ensures line { self.new.line ≡ self.old.line }
         ensures few_skipped { self.new.skipped ≡ self.old.skipped }

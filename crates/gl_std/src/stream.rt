@@ -3,6 +3,7 @@ ghost use Rattle.std.specs.Prelude.{◌≡◌, ℕ, ◌^◌, ◌<◌, ◌≤◌,
 ghost use Rattle.gl_event.specs.Bounds.{Bounds};
 ghost use Rattle.gl_event.specs.declared.events.Event.{Event as EventOf};
 ghost use Rattle.gl_io.specs.Reads.{HasRead};
+ghost use Rattle.gl_io.specs.Uses.{Use, used};
 ghost use Rattle.gl_std.specs.Feeding.{IsFit, IsOver, ReadsOn};
 ghost use Rattle.gl_std.specs.Sourced.{items_of, source_of};
 ghost use Rattle.gl_std.specs.Streaming.{event_in, names_of, with_answer, CanBeAsked, CanBeNamed, GoesOn, HasFault, HasNoFault, HasTold, IsDone};
@@ -82,7 +83,7 @@ impl Items {
     /// that was drawn at random.
     pub fn new(alloc: Global, limits: &Limits, turns: u64, seed: Seed) -> Result<Items, AllocError>
         requires few_turns { turns ≤ 2 ^ 40 }
-        ensures tells { IfOk result (λ i. (start : Option (List ℕ)) → HasTold limits.now turns start start false i [] nothing) }
+        ensures tells { IfOk result (λ i. (start : Option (List ℕ)) → HasTold limits.now turns (used start start false) i [] nothing) }
         ensures usable { IfOk result (λ i. CanBeAsked i false) }
     {
         let feed = Feed::new(alloc, limits, turns, seed)?;
@@ -100,8 +101,8 @@ impl Items {
     /// each of its names looked up at most once by hash.
     pub fn next<R: Source>(&mut self, input: &mut R) -> Result<Item, LinesFault>
         requires usable { CanBeAsked self.old (R.failed input.old) }
-        ensures tells { (limits : Bounds) (turns : ℕ) (start : Option (List ℕ)) (text : List ℕ) (told : Trace) → HasTold limits turns start (R.remaining input.old) (R.failed input.old) self.old text told
-            → GoesOn limits turns start (R.remaining input.new) (R.failed input.new) self.new text told result }
+        ensures tells { (limits : Bounds) (turns : ℕ) (start : Option (List ℕ)) (text : List ℕ) (told : Trace) → HasTold limits turns (used start (R.remaining input.old) (R.failed input.old)) self.old text told
+            → GoesOn limits turns (used start (R.remaining input.new) (R.failed input.new)) self.new text told result }
         ensures known { (thread : ℕ) (event : EventOf) → result ≡ Ok (Item.Event thread event) → thread < length (names_of self.new).threads }
         ensures usable { CanBeAsked self.new (R.failed input.new) }
         ensures end { result ≡ Ok Item.End → IsDone self.new }
@@ -123,7 +124,7 @@ impl Items {
         requires fit { IsFit self.old.feed }
         requires not_failed { R.failed input.old ≡ false }
         ensures tells { (limits : Bounds) (turns : ℕ) (start : Option (List ℕ)) (text : List ℕ) (told : Trace) → ReadsOn limits turns start (R.remaining input.old) self.old.feed text told
-            → GoesOn limits turns start (R.remaining input.new) (R.failed input.new) self.new text told result }
+            → GoesOn limits turns (used start (R.remaining input.new) (R.failed input.new)) self.new text told result }
         ensures known { (thread : ℕ) (event : EventOf) → result ≡ Ok (Item.Event thread event) → thread < length (names_of self.new).threads }
         ensures usable { CanBeAsked self.new (R.failed input.new) }
         ensures end { result ≡ Ok Item.End → IsDone self.new }
@@ -144,8 +145,8 @@ impl Items {
     // `next`, where the source has ended.
     fn finish(&mut self) -> Result<Item, LinesFault>
         requires fit { IsFit self.old.feed }
-        ensures tells { (limits : Bounds) (turns : ℕ) (start now : Option (List ℕ)) (failed : Bool) (text : List ℕ) (told : Trace) → HasRead turns start now failed text true → self.old.feed.judge.limits ≡ limits → IsOver self.old.feed text told
-            → HasTold limits turns start now failed self.new text (with_answer result (names_of self.new) told) }
+        ensures tells { (limits : Bounds) (turns : ℕ) (input : Use) (text : List ℕ) (told : Trace) → HasRead turns input.before input.after input.failed text true → self.old.feed.judge.limits ≡ limits → IsOver self.old.feed text told
+            → HasTold limits turns input self.new text (with_answer result (names_of self.new) told) }
         ensures known { (thread : ℕ) (event : EventOf) → result ≡ Ok (Item.Event thread event) → thread < length (names_of self.new).threads }
         ensures usable { (failed : Bool) → CanBeAsked self.new failed }
         ensures end { OnOk result (IsDone self.new) }
@@ -170,9 +171,9 @@ impl Items {
     /// The names so far, how many lines were skipped, and how many were strays. After a line at fault,
     /// or where memory was refused, they say nothing.
     pub fn parts(self) -> (Names, u64, u64)
-        ensures names { (limits : Bounds) (turns : ℕ) (start now : Option (List ℕ)) (failed : Bool) (text : List ℕ) (told : Trace) → CanBeNamed self → HasTold limits turns start now failed self text told → result.0 ≡ told.names }
-        ensures skipped { (limits : Bounds) (turns : ℕ) (start now : Option (List ℕ)) (failed : Bool) (text : List ℕ) (told : Trace) → CanBeNamed self → HasTold limits turns start now failed self text told → result.1 ≡ told.skipped }
-        ensures stray { (limits : Bounds) (turns : ℕ) (start now : Option (List ℕ)) (failed : Bool) (text : List ℕ) (told : Trace) → CanBeNamed self → HasTold limits turns start now failed self text told → result.2 ≡ told.stray }
+        ensures names { (limits : Bounds) (turns : ℕ) (input : Use) (text : List ℕ) (told : Trace) → CanBeNamed self → HasTold limits turns input self text told → result.0 ≡ told.names }
+        ensures skipped { (limits : Bounds) (turns : ℕ) (input : Use) (text : List ℕ) (told : Trace) → CanBeNamed self → HasTold limits turns input self text told → result.1 ≡ told.skipped }
+        ensures stray { (limits : Bounds) (turns : ℕ) (input : Use) (text : List ℕ) (told : Trace) → CanBeNamed self → HasTold limits turns input self text told → result.2 ≡ told.stray }
     {
         self.feed.into_parts()
     }
@@ -197,7 +198,7 @@ impl<R: Source + Drop> Lines<R> {
     ) -> Result<Lines<R>, AllocError>
         requires not_failed { R.failed input ≡ false }
         requires few_turns { turns ≤ 2 ^ 40 }
-        ensures tells { IfOk result (λ l. HasTold limits.now turns (R.remaining input) (R.remaining (source_of l)) (R.failed (source_of l)) (items_of l) [] nothing) }
+        ensures tells { IfOk result (λ l. HasTold limits.now turns (used (R.remaining input) (R.remaining (source_of l)) (R.failed (source_of l))) (items_of l) [] nothing) }
         ensures usable { IfOk result (λ l. CanBeAsked (items_of l) (R.failed (source_of l))) }
     {
         let items = Items::new(alloc, limits, turns, seed)?;
@@ -207,8 +208,8 @@ impl<R: Source + Drop> Lines<R> {
     /// The next item, as [`Items::next`] answers it.
     pub fn next(&mut self) -> Result<Item, LinesFault>
         requires usable { CanBeAsked (items_of self.old) (R.failed (source_of self.old)) }
-        ensures tells { (limits : Bounds) (turns : ℕ) (start : Option (List ℕ)) (text : List ℕ) (told : Trace) → HasTold limits turns start (R.remaining (source_of self.old)) (R.failed (source_of self.old)) (items_of self.old) text told
-            → GoesOn limits turns start (R.remaining (source_of self.new)) (R.failed (source_of self.new)) (items_of self.new) text told result }
+        ensures tells { (limits : Bounds) (turns : ℕ) (start : Option (List ℕ)) (text : List ℕ) (told : Trace) → HasTold limits turns (used start (R.remaining (source_of self.old)) (R.failed (source_of self.old))) (items_of self.old) text told
+            → GoesOn limits turns (used start (R.remaining (source_of self.new)) (R.failed (source_of self.new))) (items_of self.new) text told result }
         ensures known { (thread : ℕ) (event : EventOf) → result ≡ Ok (Item.Event thread event) → thread < length (names_of (items_of self.new)).threads }
         ensures usable { CanBeAsked (items_of self.new) (R.failed (source_of self.new)) }
         ensures end { result ≡ Ok Item.End → IsDone (items_of self.new) }
@@ -223,9 +224,9 @@ impl<R: Source + Drop> Lines<R> {
     /// The names so far, how many lines were skipped, how many were strays, and the source. After a
     /// line at fault, or where memory was refused, the first three say nothing.
     pub fn parts(self) -> (Names, u64, u64, R)
-        ensures names { (limits : Bounds) (turns : ℕ) (start now : Option (List ℕ)) (failed : Bool) (text : List ℕ) (told : Trace) → CanBeNamed (items_of self) → HasTold limits turns start now failed (items_of self) text told → result.0 ≡ told.names }
-        ensures skipped { (limits : Bounds) (turns : ℕ) (start now : Option (List ℕ)) (failed : Bool) (text : List ℕ) (told : Trace) → CanBeNamed (items_of self) → HasTold limits turns start now failed (items_of self) text told → result.1 ≡ told.skipped }
-        ensures stray { (limits : Bounds) (turns : ℕ) (start now : Option (List ℕ)) (failed : Bool) (text : List ℕ) (told : Trace) → CanBeNamed (items_of self) → HasTold limits turns start now failed (items_of self) text told → result.2 ≡ told.stray }
+        ensures names { (limits : Bounds) (turns : ℕ) (input : Use) (text : List ℕ) (told : Trace) → CanBeNamed (items_of self) → HasTold limits turns input (items_of self) text told → result.0 ≡ told.names }
+        ensures skipped { (limits : Bounds) (turns : ℕ) (input : Use) (text : List ℕ) (told : Trace) → CanBeNamed (items_of self) → HasTold limits turns input (items_of self) text told → result.1 ≡ told.skipped }
+        ensures stray { (limits : Bounds) (turns : ℕ) (input : Use) (text : List ℕ) (told : Trace) → CanBeNamed (items_of self) → HasTold limits turns input (items_of self) text told → result.2 ≡ told.stray }
         ensures source { result.3 ≡ source_of self }
     {
         let (names, skipped, stray) = self.items.parts();

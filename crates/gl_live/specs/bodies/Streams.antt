@@ -6,6 +6,7 @@ use Rattle.gl_event.specs.Bounds.{Bounds}
 use Rattle.gl_event.specs.Lawful.{refusal}
 use Rattle.gl_event.specs.declared.events.Event.{Event}
 use Rattle.gl_event.specs.declared.limits.TheConstants.{MAX_EVENTS}
+use Rattle.gl_io.specs.Uses.{Use, used}
 use Rattle.gl_shards.specs.Feeds.{Sending}
 use Rattle.gl_shards.specs.declared.shard.TheConstants.{MAX_SHARDS}
 use Rattle.gl_std.specs.Streaming.{event_in, HasFault, HasTold, IsDone, Stream}
@@ -61,10 +62,10 @@ pub record HasGathered (c : Collecting) (outlets : List Sending) (g : Gathering)
   pub feeds : g.fault ≡ None → map (λ s. s.feed) g.sent ≡ map (λ o. o.feed) outlets
 
 -- the reads gave a text, and the recorders have recorded what the items told of it
-pub record Follows (s : Seating) (limits : Bounds) (turns : ℕ) (start now : Option (List ℕ)) (failed : Bool) (items : Stream) (recorders : List Recording) : Type 0 where
+pub record Follows (s : Seating) (limits : Bounds) (turns : ℕ) (input : Use) (items : Stream) (recorders : List Recording) : Type 0 where
   pub text : List ℕ
   pub told : Trace
-  pub tells : HasTold limits turns start now failed items text told
+  pub tells : HasTold limits turns input items text told
   pub recorded : AreRecorded s told.lists recorders
 
 -- recorders have recorded what the items told of a text, under a limit of as many threads as there are recorders; each takes as many events
@@ -77,7 +78,7 @@ pub record IsRecording (now : Option (List ℕ)) (failed : Bool) (items : Stream
   pub as_many : limits.threads ≡ length recorders
   pub threads_are : s.limits.threads ≡ limits.threads
   pub events_are : s.limits.events ≡ MAX_EVENTS
-  pub follows : Follows s limits turns start now failed items recorders
+  pub follows : Follows s limits turns (used start now failed) items recorders
 
 -- the thread's recorder may take the event next
 pub record MayTake (recorders : List Recording) (thread : ℕ) (event : Event) : Type 0 where
@@ -90,10 +91,10 @@ abbrev pub CanBeTaken : List Recording → Item → Type 0
 CanBeTaken recorders item = (thread : ℕ) (event : Event) → event_in item ≡ Some (thread, event) → MayTake recorders thread event
 
 -- the reads gave a text, of which the items told no more than this trace, for this fault
-pub record Stops (limits : Bounds) (turns : ℕ) (start now : Option (List ℕ)) (failed : Bool) (items : Stream) (fault : LinesFault) : Type 0 where
+pub record Stops (limits : Bounds) (turns : ℕ) (input : Use) (items : Stream) (fault : LinesFault) : Type 0 where
   pub text : List ℕ
   pub told : Trace
-  pub tells : HasTold limits turns start now failed items text told
+  pub tells : HasTold limits turns input items text told
   pub why : HasFault items fault
 
 -- what a session of so many threads leaves where the items told this trace: receipts for the trace's lists, and for an empty one of each
@@ -103,8 +104,8 @@ LeavesAll threads items told (Ok ran) = IsDone items × ((more : ℕ) → thread
 LeavesAll threads items told (Err fault) = IsStreamFault items told fault
 
 -- the reads gave a text, the items told a trace of it, and a session of so many threads has recorded it
-pub record HasStreamed (limits : Bounds) (turns : ℕ) (start now : Option (List ℕ)) (failed : Bool) (threads : ℕ) (items : Stream) (ran : Result Ran StreamFault) : Type 0 where
+pub record HasStreamed (limits : Bounds) (turns : ℕ) (input : Use) (threads : ℕ) (items : Stream) (ran : Result Ran StreamFault) : Type 0 where
   pub text : List ℕ
   pub told : Trace
-  pub tells : HasTold limits turns start now failed items text told
+  pub tells : HasTold limits turns input items text told
   pub leaves : LeavesAll threads items told ran

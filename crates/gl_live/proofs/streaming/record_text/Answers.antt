@@ -1,5 +1,6 @@
 use Rattle.std.proofs.Common.{refl, sym, ap, ◌∙◌, length, arith}
 use Rattle.gl_event.specs.Bounds.{Bounds}
+use Rattle.gl_io.specs.Uses.{used}
 use Rattle.gl_live.specs.bodies.Seats.{seating_of}
 use Rattle.gl_live.specs.declared.run.Ran.{Ran}
 use Rattle.gl_live.proofs.Leaving.{as_long}
@@ -21,7 +22,7 @@ record_items-read-requires-clause-recording g c =
       as_many = unread.as_many;
       threads_are = c.requires.ready.threads_are ∙ sym unread.as_many;
       events_are = c.requires.ready.events_are;
-      follows = begins session.collector unread.limits unread.turns unread.start _ _ _ session.recorders.items c.requires.ready.unused unread.tells;
+      follows = begins session.collector unread.limits unread.turns _ _ session.recorders.items c.requires.ready.unused unread.tells;
     }
 
 pub returns-in-Ok-read-clause-run : goal.returns-in-Ok-read-clause-run
@@ -41,15 +42,15 @@ pub returns-in-Ok-read-clause-streamed : goal.returns-in-Ok-read-clause-streamed
 returns-in-Ok-read-clause-streamed g c = λ limits turns start told.
     let session = c.args.session in
     let gathered = has_gathered _ _ _ _ c.join-gathered.result c.in-Some.ensures.collector c.in-Some.ensures.outlets c.join-gathered.ensures in
-    streamed limits turns start _ _ _ _ session.collector session.outlets.items c.record_items-read.new.recorders.items session.receipts.items _ gathered c.requires.ready.no_receipt c.record_items-read.ensures.count c.in-Ok-read.ensures.done
+    streamed limits turns _ _ _ session.collector session.outlets.items c.record_items-read.new.recorders.items session.receipts.items _ gathered c.requires.ready.no_receipt c.record_items-read.ensures.count c.in-Ok-read.ensures.done
     c.close_all.ensures
-    (c.in-Ok-read.ensures.follows (seating_of session.collector) limits turns start (begins session.collector limits turns start _ _ _ session.recorders.items c.requires.ready.unused told))
+    (c.in-Ok-read.ensures.follows (seating_of session.collector) limits turns start (begins session.collector limits turns _ _ session.recorders.items c.requires.ready.unused told))
 
 pub returns-in-Err-clause-streamed : goal.returns-in-Err-clause-streamed
 returns-in-Err-clause-streamed g c = λ limits turns start told.
     let session = c.args.session in
-    unstreamed limits turns start _ _ _ _ c.in-Err.fault
-    (c.in-Err.ensures.stops (seating_of session.collector) limits turns start (begins session.collector limits turns start _ _ _ session.recorders.items c.requires.ready.unused told))
+    unstreamed limits turns _ _ _ c.in-Err.fault
+    (c.in-Err.ensures.stops (seating_of session.collector) limits turns start (begins session.collector limits turns _ _ session.recorders.items c.requires.ready.unused told))
 
 pub returns-in-Ok-read-clause-ours : goal.returns-in-Ok-read-clause-ours
 returns-in-Ok-read-clause-ours g c =
@@ -61,7 +62,7 @@ returns-in-Ok-read-clause-ours g c =
     let failed = g.S.Source.failed c.record_items-read.new.input in
     let threads = length session.recorders.items in
     let items = c.record_items-read.new.items in
-    ours_streamed unread.limits unread.turns unread.start now failed threads items ran unread.as_many
-    (streamed unread.limits unread.turns unread.start now failed threads items session.collector session.outlets.items c.record_items-read.new.recorders.items session.receipts.items ran gathered c.requires.ready.no_receipt c.record_items-read.ensures.count c.in-Ok-read.ensures.done
+    ours_streamed unread.limits unread.turns (used unread.start now failed) threads items ran unread.as_many
+    (streamed unread.limits unread.turns (used unread.start now failed) threads items session.collector session.outlets.items c.record_items-read.new.recorders.items session.receipts.items ran gathered c.requires.ready.no_receipt c.record_items-read.ensures.count c.in-Ok-read.ensures.done
     c.close_all.ensures
-    (c.in-Ok-read.ensures.follows (seating_of session.collector) unread.limits unread.turns unread.start (begins session.collector unread.limits unread.turns unread.start _ _ _ session.recorders.items c.requires.ready.unused unread.tells)))
+    (c.in-Ok-read.ensures.follows (seating_of session.collector) unread.limits unread.turns unread.start (begins session.collector unread.limits unread.turns _ _ session.recorders.items c.requires.ready.unused unread.tells)))

@@ -5,14 +5,14 @@ use Rattle.gl_std.proofs.StreamLemmas.{known_item, last_told, over_shown}
 use Rattle.gl_std.proofs.stream.Items.finish.Goals as goal
 
 pub returns-in-Ok-clause-tells : goal.returns-in-Ok-clause-tells
-returns-in-Ok-clause-tells c = λ limits turns start now failed text told read same over.
+returns-in-Ok-clause-tells c = λ limits turns input text told read same over.
     let old = c.self.inside in
     let shown = c.self.view_is in
     let over1 = over_shown old.stage old.feed c.args.self.now text told shown over in
-    last_told limits turns start now failed old.feed c.last.new.self text told c.in-Ok.judged _ c.item_of.ensures (ap (λ (s : Stream). s.feed.judge.limits) shown ∙ same) read (c.in-Ok.ensures.told text told over1) (c.in-Ok.ensures.judged text told over1)
+    last_told limits turns input.before input.after input.failed old.feed c.last.new.self text told c.in-Ok.judged _ c.item_of.ensures (ap (λ (s : Stream). s.feed.judge.limits) shown ∙ same) read (c.in-Ok.ensures.told text told over1) (c.in-Ok.ensures.judged text told over1)
 
 pub returns-in-Err-Line-clause-tells : goal.returns-in-Err-Line-clause-tells
-returns-in-Err-Line-clause-tells c = λ limits turns start now failed text told read same over.
+returns-in-Err-Line-clause-tells c = λ limits turns input text told read same over.
     let old = c.self.inside in
     let shown = c.self.view_is in
     inr (read, ap (λ l. trace_of l text) (sym (ap (λ (s : Stream). s.feed.judge.limits) shown ∙ same)) ∙ c.last.ensures.fault c.in-Err-Line.line c.in-Err-Line.kind (c.in-Err-Line.is ∙ ap (λ e. Err e) c.in-Err-Line.field-0-is) text told (over_shown old.stage old.feed c.args.self.now text told shown over))
