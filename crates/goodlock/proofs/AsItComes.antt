@@ -30,7 +30,7 @@ use Rattle.goodlock.specs.Lines.{fault_line, inconsistent_line}
 use Rattle.goodlock.specs.bodies.Stops.{EndsUnwritten, HasAnswer, IfRefused, IsEndOfText}
 use Rattle.goodlock.specs.declared.ended.Ended.{Ended}
 use Rattle.goodlock.specs.declared.ended.Ended.TheVariants as variant
-use Rattle.goodlock.specs.declared.ended.Form.{Form}
+use Rattle.gl_options.specs.declared.form.Form.{Form}
 use Rattle.goodlock.specs.declared.ended.Outcome.{Outcome}
 use Rattle.goodlock.proofs.Answering.{least_of_ring, with_session}
 

@@ -1,5 +1,4 @@
 pub mod Accepting
 pub mod Answering
 pub mod AsItComes
-pub mod Reading
 pub mod Uniqueness

@@ -20,8 +20,8 @@ use Rattle.gl_report.specs.Counts.{stats_of, stats_text}
 use Rattle.gl_report.specs.Text.{report_text}
 use Rattle.gl_report.specs.Tree.{report_tree}
 use Rattle.goodlock.specs.Lines.{fault_line, inconsistent_line}
-use Rattle.goodlock.specs.declared.ended.Form.{Form}
-use Rattle.goodlock.specs.declared.ended.Form.TheVariants.{Text, Json}
+use Rattle.gl_options.specs.declared.form.Form.{Form}
+use Rattle.gl_options.specs.declared.form.Form.TheVariants.{Text, Json}
 use Rattle.goodlock.specs.declared.ended.Outcome.{Outcome}
 use Rattle.goodlock.specs.declared.ended.Outcome.TheVariants.{Clean, Cycles, Done}
 

@@ -2,7 +2,6 @@ pub mod Answer
 pub mod Checking
 pub mod Ending
 pub mod Lines
-pub mod Options
 pub mod Performed
 pub mod Said
 pub mod Sessions

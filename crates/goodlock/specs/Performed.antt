@@ -5,8 +5,8 @@ use Rattle.goodlock.specs.Checking.{HasChecked}
 use Rattle.goodlock.specs.Ending.{HasEnded, Use}
 use Rattle.goodlock.specs.Sessions.{HasEndedSession}
 use Rattle.goodlock.specs.declared.ended.Ended.{Ended}
-use Rattle.goodlock.specs.declared.options.Command.{Command}
-use Rattle.goodlock.specs.declared.options.Command.TheVariants.{Predict, Live, Stats, Replay, Check}
+use Rattle.gl_options.specs.declared.options.Command.{Command}
+use Rattle.gl_options.specs.declared.options.Command.TheVariants.{Predict, Live, Stats, Replay, Check}
 
 -- each command ends with its own answer, after at most so many turns over this reader and this writer
 abbrev pub HasPerformed : Command → ℕ → Use → Use → Ended → Type 0

@@ -3,8 +3,8 @@
 use Rattle.std.specs.Prelude.{ℕ, List, [], codes, string_bytes}
 use Rattle.goodlock.specs.declared.ended.Ended.{Ended}
 use Rattle.goodlock.specs.declared.ended.Ended.TheVariants.{Clean, Cycles, Done, Refused, Memory, ReadFailed, WriteFailed, Unconfirmed}
-use Rattle.goodlock.specs.declared.options.Usage.{Usage}
-use Rattle.goodlock.specs.declared.options.Usage.TheVariants as usage
+use Rattle.gl_options.specs.declared.options.Usage.{Usage}
+use Rattle.gl_options.specs.declared.options.Usage.TheVariants as usage
 
 -- ---- of a command
 

@@ -8,12 +8,13 @@ ghost use Rattle.goodlock.specs.Answer.{IsAnswer, IsPlainAnswer, counts, outcome
 ghost use Rattle.goodlock.specs.Answer.Answer.{Prints, Refusal};
 ghost use Rattle.goodlock.specs.bodies.Stops.{IfRefused, IsFaultIn, IsLoopOf, IsReportOf, SaysWhyNoReport};
 
-use crate::ended::{Ended, Form, Outcome};
+use crate::ended::{Ended, Outcome};
 use crate::lines::{fault_line, inconsistent_line};
 use gl_cycles::{Report, report_by_parallel};
 use gl_edges::edges_of;
 use gl_event::{Limits, MAX_EVENTS, MAX_NAMES, MAX_RING, MAX_THREADS, Memory};
 use gl_filters::Query;
+use gl_options::Form;
 use gl_report::{Stats, json_text, stats_text, text};
 use gl_segments::{Order, OrderFault};
 use gl_std::{Names, ReadFault, Trace, write_trace};

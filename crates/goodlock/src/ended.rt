@@ -47,12 +47,3 @@ pub enum Outcome {
     /// It is no report.
     Done,
 }
-
-/// The form of a report.
-#[derive(Clone, Copy, Debug, PartialEq, Eq, Hash)]
-pub enum Form {
-    /// Lines of text.
-    Text,
-    /// One JSON object on a line.
-    Json,
-}

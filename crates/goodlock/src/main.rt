@@ -3,14 +3,14 @@
 #![tactic(auto)]
 
 ghost use Rattle.std.specs.Prelude.{◌≡◌};
+ghost use Rattle.gl_options.specs.Sessions.{CanRun};
 ghost use Rattle.goodlock.specs.Said.{line_of, status_of, shown_text, refused_text, usage_status};
-ghost use Rattle.goodlock.specs.Sessions.{CanRun};
 
 use commands::perform;
 use ended::Ended;
 use gl_io::FromStd;
+use gl_options::{Command, Usage, parse};
 use gl_std::Seed;
-use options::{Command, Usage, parse};
 use std::env;
 use std::io::{ErrorKind, Write};
 use std::process::ExitCode;
@@ -24,8 +24,6 @@ mod ended;
 mod laws;
 mod limits;
 mod lines;
-mod live_options;
-mod options;
 mod recorded;
 mod streamed;
 #[cfg(test)]

@@ -2,10 +2,10 @@
 ghost use Rattle.std.specs.Prelude.{◌≡◌, None, false};
 
 use crate::commands::predict;
-use crate::ended::{Ended, Form};
-use crate::options::{Command, Usage, parse};
+use crate::ended::Ended;
 use gl_filters::{Mode, Query};
 use gl_io::{Failed, FromStd, Source};
+use gl_options::Form;
 use gl_std::Seed;
 use std::process::Abort;
 use std::test::Fail;
@@ -20,7 +20,6 @@ mod sessions;
 mod streams;
 mod tables;
 mod traces;
-mod usage;
 
 const TURNS: u64 = 1_000_000_000;
 
@@ -118,23 +117,6 @@ impl Source for Cut<'_> {
 fn expect_line<R: Abort>(rt: &R, ended: Ended, said: &[u8]) {
     match ended {
         Ended::Refused(line) => assert_eq!(rt; line.as_slice(), said),
-        other => assert!(rt; false, "{other:?}"),
-    }
-}
-
-// The words ask for this.
-fn expect_command<R: Abort + AllocGlobal>(rt: &R, words: &[&str], wanted: &Command) {
-    match parse(rt.alloc(), words) {
-        Ok(command) => assert!(rt; command == *wanted),
-        Err(usage) => assert!(rt; false, "{usage:?}"),
-    }
-}
-
-// The words are refused, or answered with a text.
-fn expect_usage<R: Abort + AllocGlobal>(rt: &R, words: &[&str], is_shown: bool) {
-    match parse(rt.alloc(), words) {
-        Err(Usage::Shown(_)) => assert!(rt; is_shown),
-        Err(Usage::Refused(_)) => assert!(rt; !is_shown),
         other => assert!(rt; false, "{other:?}"),
     }
 }

@@ -1,8 +1,9 @@
 //! Readers and writers that stop, and turns that are used up.
 use super::{Cut, OPPOSITE_ORDER, TURNS, full};
 use crate::commands::{predict, replay, stats};
-use crate::ended::{Ended, Form};
+use crate::ended::Ended;
 use gl_io::FromStd;
+use gl_options::Form;
 use gl_std::Seed;
 use std::io::Cursor;
 use std::test::Fail;

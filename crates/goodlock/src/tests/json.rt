@@ -1,8 +1,9 @@
 //! Reports as JSON.
 use super::{TURNS, full};
 use crate::commands::predict;
-use crate::ended::{Ended, Form};
+use crate::ended::Ended;
 use gl_io::FromStd;
+use gl_options::Form;
 use gl_std::Seed;
 use std::test::Fail;
 

@@ -1,17 +1,15 @@
 //! What `live` prints: the bytes of `predict`.
 ghost use Rattle.std.specs.Prelude.{◌≡◌, ◌≤◌};
-ghost use Rattle.goodlock.specs.Sessions.{AreOfSession};
+ghost use Rattle.gl_options.specs.Sessions.{AreOfSession};
 
 use super::{
-    Cut, NO_CYCLES, OPPOSITE_ORDER, OPPOSITE_ORDER_REPORT, TURNS, expect_command, expect_line,
-    expect_usage, full, query,
+    Cut, NO_CYCLES, OPPOSITE_ORDER, OPPOSITE_ORDER_REPORT, TURNS, expect_line, full, query,
 };
 use crate::commands::{live, live_gated, predict};
-use crate::ended::{Ended, Form};
-use crate::live_options::LiveOptions;
-use crate::options::Command;
+use crate::ended::Ended;
 use gl_filters::{Mode, Query};
 use gl_io::FromStd;
+use gl_options::{Form, LiveOptions};
 use gl_shards::Gate;
 use gl_std::Seed;
 use itoa::Buffer;
@@ -271,43 +269,4 @@ fn sixteen_lanes(rt: HostRuntime) -> Result<(), Fail> {
     expect_ring(&rt, 1)?;
     expect_ring(&rt, 4)?;
     expect_ring(&rt, 16)
-}
-
-#[test]
-fn live_words(rt: HostRuntime) -> Result<(), Fail> {
-    let defaults = session(full()?, 4, 4, 256);
-    expect_command(&rt, &["goodlock", "live"], &Command::Live(defaults));
-    let words = [
-        "goodlock",
-        "live",
-        "--ring=65536",
-        "--shards",
-        "16",
-        "--recorders=16",
-        "--len=16",
-        "--mode=basic",
-        "--max=1",
-        "--json",
-    ];
-    let options = LiveOptions {
-        query: query(Mode::Basic, 16, 1)?,
-        form: Form::Json,
-        recorders: 16,
-        shards: 16,
-        ring: 65_536,
-        stream: false,
-        threads: 64,
-    };
-    expect_command(&rt, &words, &Command::Live(options));
-    Ok(())
-}
-
-#[test]
-fn usage_faults(rt: HostRuntime) {
-    expect_usage(&rt, &["goodlock", "live", "--ring", "0"], false);
-    expect_usage(&rt, &["goodlock", "live", "--ring", "65537"], false);
-    expect_usage(&rt, &["goodlock", "live", "--shards", "17"], false);
-    expect_usage(&rt, &["goodlock", "live", "--recorders", "0"], false);
-    expect_usage(&rt, &["goodlock", "predict", "--ring", "1"], false);
-    expect_usage(&rt, &["goodlock", "live", "--help"], true);
 }

@@ -1,19 +1,14 @@
 //! What `live` prints where it records a text as it comes.
 ghost use Rattle.std.specs.Prelude.{◌≡◌, ◌≤◌, None, false, IfOk};
 ghost use Rattle.gl_event.specs.declared.limits.TheConstants.{MAX_THREADS};
-ghost use Rattle.goodlock.specs.Sessions.{AreOfSession};
+ghost use Rattle.gl_options.specs.Sessions.{AreOfSession};
 
 use super::sessions::{Meeting, has_met, new_meeting};
-use super::{
-    Cut, NO_CYCLES, OPPOSITE_ORDER, OPPOSITE_ORDER_REPORT, TURNS, expect_command, expect_usage,
-    full, query,
-};
+use super::{Cut, NO_CYCLES, OPPOSITE_ORDER, OPPOSITE_ORDER_REPORT, TURNS, full};
 use crate::commands::{live, live_gated};
-use crate::ended::{Ended, Form};
-use crate::live_options::LiveOptions;
-use crate::options::Command;
-use gl_filters::Mode;
+use crate::ended::Ended;
 use gl_io::{Failed, FromStd, Source};
+use gl_options::{Form, LiveOptions};
 use gl_std::Seed;
 use std::io::Cursor;
 use std::process::Abort;
@@ -293,32 +288,5 @@ fn edges_before_the_end(rt: HostRuntime) -> Result<(), Fail> {
     assert!(rt; !input.is_late);
     assert_eq!(rt; output.into_inner().as_slice(), OPPOSITE_ORDER_REPORT);
     assert_eq!(rt; gate.passes(), (1, 1, 0, 0));
-    Ok(())
-}
-
-#[test]
-fn stream_words(rt: HostRuntime) -> Result<(), Fail> {
-    let options = LiveOptions {
-        query: query(Mode::Full, 4, 1_000)?,
-        form: Form::Text,
-        recorders: 4,
-        shards: 4,
-        ring: 256,
-        stream: true,
-        threads: 64,
-    };
-    let words = ["goodlock", "live", "--stream"];
-    expect_command(&rt, &words, &Command::Live(options));
-    let options = LiveOptions {
-        stream: false,
-        threads: 1_024,
-        ..options
-    };
-    let words = ["goodlock", "live", "--threads=1024"];
-    expect_command(&rt, &words, &Command::Live(options));
-    expect_usage(&rt, &["goodlock", "live", "--threads", "0"], false);
-    expect_usage(&rt, &["goodlock", "live", "--threads", "1025"], false);
-    expect_usage(&rt, &["goodlock", "live", "--stream=yes"], false);
-    expect_usage(&rt, &["goodlock", "predict", "--stream"], false);
     Ok(())
 }

@@ -1,17 +1,16 @@
 //! Readers that stop after so many bytes, and writers that have room for so many: each number of them in turn, for
 //! each command.
 ghost use Rattle.std.specs.Prelude.{◌≡◌, ◌<◌, ◌≤◌, ◌^◌, length, IfOk};
-ghost use Rattle.goodlock.specs.Sessions.{AreOfSession, CanRun};
+ghost use Rattle.gl_options.specs.Sessions.{AreOfSession, CanRun};
 
 use super::checks::TRUE_REPORT;
 use super::sessions::session;
 use super::{OPPOSITE_ORDER, TURNS, full};
 use crate::commands::{check_input, live, predict, replay, stats};
-use crate::ended::{Ended, Form};
-use crate::live_options::LiveOptions;
-use crate::options::Command;
+use crate::ended::Ended;
 use crate::said;
 use gl_io::FromStd;
+use gl_options::{Command, Form, LiveOptions};
 use gl_std::Seed;
 use std::alloc::Global;
 use std::io::{self, ErrorKind};

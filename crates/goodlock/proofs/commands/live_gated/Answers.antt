@@ -4,7 +4,7 @@ use Rattle.std.proofs.lemmas.Bool.{false≢true}
 use Rattle.goodlock.specs.Answer.{IsAnswer, IsAnswerUnder, prediction}
 use Rattle.goodlock.specs.Ending.HasEndedUnder.{early}
 use Rattle.goodlock.specs.Ending.HasEndedLive.{confirmed}
-use Rattle.goodlock.specs.Sessions.{with_threads}
+use Rattle.gl_options.specs.Sessions.{with_threads}
 use Rattle.goodlock.proofs.Answering.{ends_live, ends_streamed}
 use Rattle.goodlock.proofs.commands.live_gated.Goals as goal
 

@@ -5,7 +5,7 @@ use Rattle.gl_std.specs.Streaming.{HasTold}
 use Rattle.gl_std.specs.Trace.{nothing}
 use Rattle.goodlock.specs.Answer.{IsAnswerUnder, prediction}
 use Rattle.goodlock.specs.Ending.{used}
-use Rattle.goodlock.specs.Sessions.{with_threads}
+use Rattle.gl_options.specs.Sessions.{with_threads}
 use Rattle.goodlock.proofs.AsItComes.{ends_without_memory}
 use Rattle.goodlock.proofs.streamed.streamed.Goals as goal
 

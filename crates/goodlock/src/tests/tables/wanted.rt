@@ -1,6 +1,6 @@
 //! What each command answers to a front of a sample.
-use crate::options::Command;
 use crate::tests::{NO_CYCLES, OPPOSITE_ORDER_REPORT};
+use gl_options::Command;
 use std::alloc::Global;
 use std::test::Fail;
 

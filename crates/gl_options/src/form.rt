@@ -1,0 +1,10 @@
+//! The forms of a report.
+
+/// The form of a report.
+#[derive(Clone, Copy, Debug, PartialEq, Eq, Hash)]
+pub enum Form {
+    /// Lines of text.
+    Text,
+    /// One JSON object on a line.
+    Json,
+}

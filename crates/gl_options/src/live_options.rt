@@ -1,0 +1,176 @@
+//! What a session is run with, and how the words of the command line ask for it.
+ghost use Rattle.std.specs.Prelude.{◌≡◌, ◌<◌, ◌≤◌, ◌^◌, ℕ, false, None, codes, IfOk, IfSome};
+ghost use Rattle.clap.specs.Words.{app_of, found_of, rows_of, rule_of, with_rule};
+ghost use Rattle.clap.specs.declared.builder.command.Command.TheViews.{out-Command as fields_of};
+ghost use Rattle.gl_options.specs.Options.{live, query_app, session_app, json_rule, recorders_rule, shards_rule, ring_rule, stream_rule, threads_rule, IsCommand, IsFlagIn, IsNumberIn};
+
+use crate::form::Form;
+use crate::options::{Command, form_in, json_option, number_at, query_command, query_in};
+use clap::{Arg, ArgAction, ArgMatches, value_parser};
+use gl_filters::Query;
+use std::alloc::{AllocError, Global};
+
+/// What is asked of a session over a trace, and what it is run with.
+#[derive(Clone, Copy, Debug, PartialEq, Eq)]
+pub struct LiveOptions {
+    /// Which cycles count.
+    pub query: Query,
+    /// The form of the report.
+    pub form: Form,
+    /// How many threads record, 1 to 16. The trace's thread `t` is recorded by thread `t` modulo this
+    /// number.
+    pub recorders: u32,
+    /// How many workers keep edges, 1 to 16.
+    pub shards: u32,
+    /// How many notes a lane or a feed has room for, 1 to 65,536.
+    pub ring: u32,
+    /// Whether each event is recorded as it is read, by the thread that reads. Then the recorder threads above
+    /// don't count.
+    pub stream: bool,
+    /// How many threads the trace may name where it is recorded as it is read, 1 to 1,024. Else it doesn't
+    /// count.
+    pub threads: u32,
+}
+
+// The number of threads that record.
+fn recorders_option<'a>(alloc: Global) -> Arg<'a>
+    ensures rule { rule_of result ≡ recorders_rule }
+    ensures local { result.global ≡ false }
+{
+    Arg::new(alloc, "recorders")
+        .long("recorders")
+        .value_name("THREADS")
+        .value_parser(value_parser!(u32).range(1..=16))
+        .default_value("4")
+        .help("How many threads record at once, 1 to 16")
+}
+
+// The number of shards.
+fn shards_option<'a>(alloc: Global) -> Arg<'a>
+    ensures rule { rule_of result ≡ shards_rule }
+    ensures local { result.global ≡ false }
+{
+    Arg::new(alloc, "shards")
+        .long("shards")
+        .value_name("WORKERS")
+        .value_parser(value_parser!(u32).range(1..=16))
+        .default_value("4")
+        .help("How many workers keep edges, by the lock that is held, 1 to 16")
+}
+
+// The capacity of rings.
+fn ring_option<'a>(alloc: Global) -> Arg<'a>
+    ensures rule { rule_of result ≡ ring_rule }
+    ensures local { result.global ≡ false }
+{
+    Arg::new(alloc, "ring")
+        .long("ring")
+        .value_name("NOTES")
+        .value_parser(value_parser!(u32).range(1..=65_536))
+        .default_value("256")
+        .help(
+            "How many events wait in each thread's ring, and edges before each worker, 1 to 65536",
+        )
+}
+
+// Whether the trace is recorded as it is read.
+fn stream_option<'a>(alloc: Global) -> Arg<'a>
+    ensures rule { rule_of result ≡ stream_rule }
+    ensures local { result.global ≡ false }
+{
+    Arg::new(alloc, "stream")
+        .long("stream")
+        .action(ArgAction::SetTrue)
+        .help(
+            "Records each event as it is read, while the input is still coming: --recorders doesn't count then",
+        )
+}
+
+// The limit of threads.
+fn threads_option<'a>(alloc: Global) -> Arg<'a>
+    ensures rule { rule_of result ≡ threads_rule }
+    ensures local { result.global ≡ false }
+{
+    Arg::new(alloc, "threads")
+        .long("threads")
+        .value_name("THREADS")
+        .value_parser(value_parser!(u32).range(1..=1_024))
+        .default_value("64")
+        .help("How many threads a trace may name with --stream, 1 to 1024")
+}
+
+// A command that reports, with the number of its recorder threads.
+fn recording_command<'a>(alloc: Global) -> Result<clap::Command<'a>, AllocError>
+    ensures shape { IfOk result (λ c. app_of c ≡ with_rule (with_rule (query_app (codes "live")) json_rule) recorders_rule) }
+    ensures local { IfOk result (λ c. (fields_of c).has_globals ≡ false) }
+{
+    query_command(alloc, "live")?
+        .arg(json_option(alloc))?
+        .arg(recorders_option(alloc))
+}
+
+// A command that reports by a session of these workers and rings.
+fn session_command<'a>(alloc: Global) -> Result<clap::Command<'a>, AllocError>
+    ensures shape { IfOk result (λ c. app_of c ≡ session_app) }
+    ensures local { IfOk result (λ c. (fields_of c).has_globals ≡ false) }
+{
+    recording_command(alloc)?
+        .arg(shards_option(alloc))?
+        .arg(ring_option(alloc))
+}
+
+/// The command that predicts by a session.
+pub(crate) fn live_command<'a>(alloc: Global) -> Result<clap::Command<'a>, AllocError>
+    ensures shape { IfOk result (λ c. app_of c ≡ live) }
+    ensures local { IfOk result (λ c. (fields_of c).has_globals ≡ false) }
+{
+    session_command(alloc)?
+        .about(
+            "Reads a trace from standard input, records it again in running threads and prints the deadlocks that it predicts",
+        )
+        .after_help(
+            "Examples:\n  goodlock live < trace.std\n  goodlock live --recorders 2 --shards 3 --ring 1 --json < trace.std\n  some-recorder | goodlock live --stream --threads 256",
+        )
+        .arg(stream_option(alloc))?
+        .arg(threads_option(alloc))
+}
+
+// The number that was read for an option, where it is from 1 to the greatest.
+fn number_in(matches: &ArgMatches<'_>, id: &str, greatest: u32) -> Option<u32>
+    ensures some { IfSome result (IsNumberIn (rows_of (found_of matches.now)) id.now greatest) }
+    ensures none { result ≡ None → (n : ℕ) → IsNumberIn (rows_of (found_of matches.now)) id.now greatest n → ⊥ }
+{
+    let number = number_at(matches, id)?;
+    if number < 1 || number > greatest {
+        return None;
+    }
+    Some(number)
+}
+
+// Whether the flag was given.
+fn flag_in(matches: &ArgMatches<'_>, id: &str) -> bool
+    ensures { IsFlagIn (rows_of (found_of matches.now)) id.now result }
+{
+    matches.get_flag(id)
+}
+
+/// The command that these values of its options ask for.
+pub(crate) fn live_in(options: &ArgMatches<'_>) -> Option<Command>
+    ensures some { IfSome result (IsCommand (codes "live") (rows_of (found_of options.now))) }
+    ensures none { result ≡ None → (c : Command) → IsCommand (codes "live") (rows_of (found_of options.now)) c → ⊥ }
+{
+    let query = query_in(options)?;
+    let recorders = number_in(options, "recorders", 16)?;
+    let shards = number_in(options, "shards", 16)?;
+    let ring = number_in(options, "ring", 65_536)?;
+    let threads = number_in(options, "threads", 1_024)?;
+    Some(Command::Live(LiveOptions {
+        query,
+        form: form_in(options),
+        recorders,
+        shards,
+        ring,
+        stream: flag_in(options, "stream"),
+        threads,
+    }))
+}

@@ -1,0 +1,371 @@
+//! What the words of the command line ask for.
+ghost use Rattle.std.specs.Prelude.{◌≡◌, ◌<◌, ◌^◌, ℕ, false, map, Some, None, codes, option_and_then, IfOk, IfErr, IfSome};
+ghost use Rattle.clap.specs.declared.error.kind.ErrorKind.TheVariants.{InvalidValue};
+ghost use Rattle.clap.specs.Words.{app_of, first_of, found_of, kind_of, rows_of, rule_of, subcommand_rows_of, with_subcommand};
+ghost use Rattle.clap.specs.declared.builder.command.Command.TheViews.{out-Command as fields_of};
+ghost use Rattle.gl_filters.specs.Asked.{Asked};
+ghost use Rattle.gl_options.specs.Options.{goodlock, program, predict, live, stats, replay, check, query_app, mode_rule, len_rule, max_rule, json_rule};
+ghost use Rattle.gl_options.specs.Options.{Asks, AsksIn, IsCommand, IsEntered, IsFormIn, IsNumberAt, IsUsageFor, IsUsageOf, mode_named};
+
+use crate::form::Form;
+use crate::live_options::{LiveOptions, live_command, live_in};
+use clap::error::ErrorKind;
+use clap::{Arg, ArgAction, ArgMatches, Error, value_parser};
+use gl_filters::{Mode, Query};
+use std::alloc::{AllocError, Global};
+use std::convert::AsStr;
+
+// What is said of a value that no option takes.
+const REFUSED: &str =
+    "error: --mode takes basic, guarded or full\n\nFor more information, try '--help'.\n";
+
+/// What the program is to do.
+#[derive(Clone, Copy, Debug, PartialEq, Eq)]
+pub enum Command {
+    /// Read a trace and print the cycles that this query asks for, in this form.
+    Predict { query: Query, form: Form },
+    /// Read a trace, run a session over it and print the cycles that its options ask for.
+    Live(LiveOptions),
+    /// Read a trace and print counts of it and of the cycles that this query asks for.
+    Stats { query: Query },
+    /// Read a trace and print it as a text.
+    Replay,
+    /// Read a report and the trace that it is of, and print whether it is true.
+    Check,
+}
+
+/// Why words ask for nothing that is to be done.
+#[derive(Drop, Debug)]
+pub enum Usage {
+    /// They ask for help or the version: this text for standard output.
+    Shown(String),
+    /// They are refused: this text for standard error says why.
+    Refused(String),
+    /// Memory was refused.
+    Memory,
+}
+
+impl From<AllocError> for Usage {
+    ghost use Rattle.gl_options.specs.declared.options.Usage.TheVariants.{Memory};
+
+    ghost from_gives = { λ _ u. u ≡ Memory };
+
+    fn from(_e: AllocError) -> Usage {
+        Usage::Memory
+    }
+}
+
+// Which cycles count.
+fn mode_option<'a>(alloc: Global) -> Arg<'a>
+    ensures rule { rule_of result ≡ mode_rule }
+    ensures local { result.global ≡ false }
+{
+    Arg::new(alloc, "mode")
+        .long("mode")
+        .value_name("MODE")
+        .default_value("full")
+        .help(
+            "Which cycles count: basic, guarded (no guard lock in common), or full (and not ordered by forks and joins)",
+        )
+}
+
+// The greatest length of a cycle.
+fn len_option<'a>(alloc: Global) -> Arg<'a>
+    ensures rule { rule_of result ≡ len_rule }
+    ensures local { result.global ≡ false }
+{
+    Arg::new(alloc, "len")
+        .long("len")
+        .value_name("EDGES")
+        .value_parser(value_parser!(u32).range(2..=16))
+        .default_value("4")
+        .help("The most edges that a cycle may have, 2 to 16")
+}
+
+// The greatest number of cycles.
+fn max_option<'a>(alloc: Global) -> Arg<'a>
+    ensures rule { rule_of result ≡ max_rule }
+    ensures local { result.global ≡ false }
+{
+    Arg::new(alloc, "max")
+        .long("max")
+        .value_name("CYCLES")
+        .value_parser(value_parser!(u32).range(1..=100_000))
+        .default_value("1000")
+        .help("The most cycles that are listed, 1 to 100000")
+}
+
+/// The form of the report.
+pub(crate) fn json_option<'a>(alloc: Global) -> Arg<'a>
+    ensures rule { rule_of result ≡ json_rule }
+    ensures local { result.global ≡ false }
+{
+    Arg::new(alloc, "json")
+        .long("json")
+        .action(ArgAction::SetTrue)
+        .help("Prints the report as JSON, one object on a line")
+}
+
+/// A command of this name with the options of a query.
+pub(crate) fn query_command<'a>(
+    alloc: Global,
+    name: &'a str,
+) -> Result<clap::Command<'a>, AllocError>
+    ensures shape { IfOk result (λ c. app_of c ≡ query_app name.entry.now) }
+    ensures local { IfOk result (λ c. (fields_of c).has_globals ≡ false) }
+{
+    clap::Command::new(alloc, name)
+        .arg(mode_option(alloc))?
+        .arg(len_option(alloc))?
+        .arg(max_option(alloc))
+}
+
+// The command that predicts.
+fn predict_command<'a>(alloc: Global) -> Result<clap::Command<'a>, AllocError>
+    ensures shape { IfOk result (λ c. app_of c ≡ predict) }
+    ensures local { IfOk result (λ c. (fields_of c).has_globals ≡ false) }
+{
+    query_command(alloc, "predict")?
+        .about("Reads a trace from standard input and prints the deadlocks that it predicts")
+        .after_help(
+            "Examples:\n  goodlock predict < trace.std\n  goodlock predict --mode guarded --len 3 --json < trace.std",
+        )
+        .arg(json_option(alloc))
+}
+
+// The command that counts.
+fn stats_command<'a>(alloc: Global) -> Result<clap::Command<'a>, AllocError>
+    ensures shape { IfOk result (λ c. app_of c ≡ stats) }
+    ensures local { IfOk result (λ c. (fields_of c).has_globals ≡ false) }
+{
+    let command = query_command(alloc, "stats")?
+        .about(
+            "Reads a trace from standard input and counts its events, names, segments, edges and cycles",
+        )
+        .after_help(
+            "Examples:\n  goodlock stats < trace.std\n  goodlock stats --mode basic --max 100000 < trace.std",
+        );
+    Ok(command)
+}
+
+// The command that writes the trace.
+fn replay_command<'a>(alloc: Global) -> clap::Command<'a>
+    ensures shape { app_of result ≡ replay }
+    ensures local { (fields_of result).has_globals ≡ false }
+{
+    clap::Command::new(alloc, "replay")
+        .about(
+            "Reads a trace from standard input and prints its events again, thread by thread, each as a line",
+        )
+        .after_help(
+            "Examples:\n  goodlock replay < trace.std\n  goodlock replay < trace.std | goodlock predict",
+        )
+}
+
+// The command that checks a report.
+fn check_command<'a>(alloc: Global) -> clap::Command<'a>
+    ensures shape { app_of result ≡ check }
+    ensures local { (fields_of result).has_globals ≡ false }
+{
+    clap::Command::new(alloc, "check")
+        .about(
+            "Reads a JSON report, which is one line, and then its trace from standard input, and says whether the report is true",
+        )
+        .after_help(
+            "Examples:\n  cat report.json trace.std | goodlock check\n  (goodlock predict --json < trace.std; cat trace.std) | goodlock check",
+        )
+}
+
+// The program with the command that predicts.
+fn predicting<'a>(alloc: Global) -> Result<clap::Command<'a>, AllocError>
+    ensures { IfOk result (λ c. app_of c ≡ with_subcommand program predict.top) }
+{
+    clap::Command::new(alloc, "goodlock")
+        .about("Predicts deadlocks from a trace of lock events")
+        .version("0.1.0")
+        .after_help(
+            "Examples:\n  goodlock predict < trace.std\n  goodlock stats --mode guarded < trace.std",
+        )
+        .subcommand_required(true)
+        .disable_help_subcommand(true)
+        .subcommand(predict_command(alloc)?)
+}
+
+// And with the one that runs a session.
+fn recording<'a>(alloc: Global) -> Result<clap::Command<'a>, AllocError>
+    ensures { IfOk result (λ c. app_of c ≡ with_subcommand (with_subcommand program predict.top) live.top) }
+{
+    predicting(alloc)?.subcommand(live_command(alloc)?)
+}
+
+// And with the one that counts.
+fn counting<'a>(alloc: Global) -> Result<clap::Command<'a>, AllocError>
+    ensures { IfOk result (λ c. app_of c ≡ with_subcommand (with_subcommand (with_subcommand program predict.top) live.top) stats.top) }
+{
+    recording(alloc)?.subcommand(stats_command(alloc)?)
+}
+
+// And with the one that writes the trace.
+fn replaying<'a>(alloc: Global) -> Result<clap::Command<'a>, AllocError>
+    ensures { IfOk result (λ c. app_of c ≡ with_subcommand (with_subcommand (with_subcommand (with_subcommand program predict.top) live.top) stats.top) replay.top) }
+{
+    counting(alloc)?.subcommand(replay_command(alloc))
+}
+
+// The whole command line.
+fn command_line<'a>(alloc: Global) -> Result<clap::Command<'a>, AllocError>
+    ensures { IfOk result (λ c. app_of c ≡ goodlock) }
+{
+    replaying(alloc)?.subcommand(check_command(alloc))
+}
+
+// The mode of this name.
+fn mode_named(name: &str) -> Option<Mode>
+    ensures { result ≡ mode_named name.now }
+{
+    if name == "basic" {
+        return Some(Mode::Basic);
+    }
+    if name == "guarded" {
+        return Some(Mode::Guarded);
+    }
+    if name == "full" {
+        return Some(Mode::Full);
+    }
+    None
+}
+
+/// The number that was read for an option.
+pub(crate) fn number_at(matches: &ArgMatches<'_>, id: &str) -> Option<u32>
+    ensures some { IfSome result (λ n. IsNumberAt (rows_of (found_of matches.now)) id.now n) }
+    ensures none { result ≡ None → (n : ℕ) → n < 2 ^ 32 → IsNumberAt (rows_of (found_of matches.now)) id.now n → ⊥ }
+{
+    matches.get_one::<u32>(id)
+}
+
+// The mode that was read.
+fn mode_in(matches: &ArgMatches<'_>) -> Option<Mode>
+    ensures { result ≡ option_and_then mode_named (first_of (codes "mode") (rows_of (found_of matches.now))) }
+{
+    match matches.get_str("mode") {
+        Some(name) => mode_named(name),
+        None => None,
+    }
+}
+
+/// The query that was read, where its options have values in their ranges.
+pub(crate) fn query_in(matches: &ArgMatches<'_>) -> Option<Query>
+    ensures some { IfSome result (λ q. AsksIn (rows_of (found_of matches.now)) q) }
+    ensures none { result ≡ None → (q : Asked) → AsksIn (rows_of (found_of matches.now)) q → ⊥ }
+{
+    let mode = mode_in(matches)?;
+    let len = number_at(matches, "len")?;
+    let max = number_at(matches, "max")?;
+    match Query::new(mode, len, max) {
+        Ok(query) => Some(query),
+        Err(_) => None,
+    }
+}
+
+/// The form that was read.
+pub(crate) fn form_in(matches: &ArgMatches<'_>) -> Form
+    ensures { IsFormIn (rows_of (found_of matches.now)) result }
+{
+    if matches.get_flag("json") {
+        return Form::Json;
+    }
+    Form::Text
+}
+
+// What becomes of a parse that fails.
+fn usage_of(alloc: Global, error: &Error) -> Usage
+    ensures { IsUsageFor (kind_of error.now) result }
+{
+    if matches!(error.kind(), ErrorKind::OutOfMemory) {
+        return Usage::Memory;
+    }
+    let Ok(text) = error.to_string(alloc) else {
+        return Usage::Memory;
+    };
+    if error.use_stderr() {
+        Usage::Refused(text)
+    } else {
+        Usage::Shown(text)
+    }
+}
+
+// A value that no option takes.
+fn refused(alloc: Global) -> Usage
+    ensures { IsUsageFor InvalidValue result }
+{
+    match String::from_str(alloc, REFUSED) {
+        Ok(text) => Usage::Refused(text),
+        Err(_) => Usage::Memory,
+    }
+}
+
+// The command that these values of its options ask for.
+fn predict_in(options: &ArgMatches<'_>) -> Option<Command>
+    ensures some { IfSome result (IsCommand (codes "predict") (rows_of (found_of options.now))) }
+    ensures none { result ≡ None → (c : Command) → IsCommand (codes "predict") (rows_of (found_of options.now)) c → ⊥ }
+{
+    let query = query_in(options)?;
+    Some(Command::Predict {
+        query,
+        form: form_in(options),
+    })
+}
+
+// The command that these values of its options ask for.
+fn stats_in(options: &ArgMatches<'_>) -> Option<Command>
+    ensures some { IfSome result (IsCommand (codes "stats") (rows_of (found_of options.now))) }
+    ensures none { result ≡ None → (c : Command) → IsCommand (codes "stats") (rows_of (found_of options.now)) c → ⊥ }
+{
+    let query = query_in(options)?;
+    Some(Command::Stats { query })
+}
+
+// The command that was entered, where its options have values in their ranges.
+fn command_in(matches: &ArgMatches<'_>) -> Option<Command>
+    ensures some { IfSome result (IsEntered (subcommand_rows_of matches.now)) }
+    ensures none { result ≡ None → (c : Command) → IsEntered (subcommand_rows_of matches.now) c → ⊥ }
+{
+    if let Some(options) = matches.subcommand_matches("predict") {
+        return predict_in(options);
+    }
+    if let Some(options) = matches.subcommand_matches("live") {
+        return live_in(options);
+    }
+    if let Some(options) = matches.subcommand_matches("stats") {
+        return stats_in(options);
+    }
+    if matches.subcommand_matches("replay").is_some() {
+        return Some(Command::Replay);
+    }
+    match matches.subcommand_matches("check") {
+        Some(_) => Some(Command::Check),
+        None => None,
+    }
+}
+
+/// What these words ask for, of which the first is the program's name, or why they ask for nothing.
+///
+/// The words are `goodlock predict`, `goodlock live` or `goodlock stats`, then any of `--mode` with
+/// `basic`, `guarded` or `full` (the default), `--len` with a number from 2 to 16 (4), and `--max` with
+/// one from 1 to 100,000 (1,000), of `predict` and `live` also `--json`, and of `live` `--recorders` and
+/// `--shards` with numbers from 1 to 16 (4 each), `--ring` with one from 1 to 65,536 (256), `--stream`,
+/// and `--threads` with a number from 1 to 1,024 (64), each once at the most; or `goodlock replay` or `goodlock check`. `--help`, of the program or of a command, and `--version` ask for a
+/// text.
+pub fn parse<'a, S: AsStr>(alloc: Global, words: &'a [S]) -> Result<Command, Usage>
+    ensures asks { IfOk result (Asks (map S.text words.entry.now)) }
+    ensures usage { IfErr result (IsUsageOf (map S.text words.entry.now)) }
+{
+    let matches = match command_line(alloc)?.try_get_matches_from(words) {
+        Ok(matches) => matches,
+        Err(error) => return Err(usage_of(alloc, &error)),
+    };
+    match command_in(&matches) {
+        Some(command) => Ok(command),
+        None => Err(refused(alloc)),
+    }
+}

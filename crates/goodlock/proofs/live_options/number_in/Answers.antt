@@ -1,8 +1,0 @@
-use Rattle.std.proofs.Common.{refl, arith}
-use Rattle.goodlock.proofs.live_options.number_in.Goals as goal
-
-pub returns-in_err-number-clause-none : goal.returns-in_err-number-clause-none
-returns-in_err-number-clause-none c = λ _ n asked.
-    let fits = asked.fits in
-    let small = c.ranges.greatest.fits in
-    c.in_err-number.ensures.none refl n (omega (arith, fits, small)) asked.value

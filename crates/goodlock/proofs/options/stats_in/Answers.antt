@@ -1,7 +1,0 @@
-use Rattle.std.proofs.Common.{refl}
-use Rattle.clap.specs.Words.{found_of, rows_of}
-use Rattle.goodlock.proofs.Reading.{no_stats}
-use Rattle.goodlock.proofs.options.stats_in.Goals as goal
-
-pub returns-in_err-query-clause-none : goal.returns-in_err-query-clause-none
-returns-in_err-query-clause-none c = λ _. no_stats (rows_of (found_of c.args.options.now)) (c.in_err-query.ensures.none refl)
