@@ -4,7 +4,8 @@ use Rattle.gl_event.specs.Bounds.{Bounds, greatest}
 use Rattle.gl_event.specs.declared.limits.TheConstants.{MAX_THREADS, MAX_RING}
 use Rattle.gl_shards.specs.declared.shard.TheConstants.{MAX_SHARDS}
 use Rattle.goodlock.specs.Answer.{IsAnswer, IsAnswerUnder, prediction}
-use Rattle.goodlock.specs.Ending.{HasEndedLive, HasEndedStreamed, Use}
+use Rattle.gl_io.specs.Uses.{Use}
+use Rattle.goodlock.specs.Ending.{HasEndedLive, HasEndedStreamed}
 use Rattle.goodlock.specs.declared.ended.Ended.{Ended}
 use Rattle.goodlock.specs.declared.live_options.LiveOptions.{LiveOptions}
 use Rattle.goodlock.specs.declared.options.Command.{Command}
