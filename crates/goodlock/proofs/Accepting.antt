@@ -12,7 +12,8 @@ use Rattle.goodlock.specs.Answer.Answer.{Prints, Refusal}
 use Rattle.goodlock.specs.Checking.{HasChecked, IsCheckAnswer, report_in, trace_in}
 use Rattle.goodlock.specs.Checking.HasChecked.{cut_short, ended_so}
 use Rattle.goodlock.specs.Checking.IsCheckAnswer.{bad_line, refused, accepted}
-use Rattle.goodlock.specs.Ending.{EndsEarlyAs, Use}
+use Rattle.gl_io.specs.Uses.{Use}
+use Rattle.goodlock.specs.Ending.{EndsEarlyAs}
 use Rattle.goodlock.specs.bodies.Halves.{EndsWith}
 use Rattle.goodlock.specs.bodies.Opinions.{SaysAccepted, SaysRefused}
 use Rattle.goodlock.specs.bodies.Stops.{IfRefused, IsFaultIn}

@@ -16,7 +16,8 @@ use Rattle.goodlock.specs.Answer.{Answer, IsAnswerUnder, IsLeastBeforeItself, Is
 use Rattle.goodlock.specs.Answer.Answer.{Prints, Refusal}
 use Rattle.goodlock.specs.Answer.IsAnswerUnder.{bad_line, no_order, ordered}
 use Rattle.goodlock.specs.Answer.IsPlainAnswer.{bad_line as plain_fault}
-use Rattle.goodlock.specs.Ending.{EndsAs, HasEnded, HasEndedLive, HasEndedStreamed, Use}
+use Rattle.gl_io.specs.Uses.{Use}
+use Rattle.goodlock.specs.Ending.{EndsAs, HasEnded, HasEndedLive, HasEndedStreamed}
 use Rattle.goodlock.specs.bodies.Halves.{EndsWith, HasHeardAll}
 use Rattle.goodlock.specs.Ending.HasEndedUnder.{ended_so}
 use Rattle.goodlock.specs.Ending.HasEndedLive.{confirmed, unconfirmed}

@@ -22,7 +22,8 @@ use Rattle.gl_live.specs.Streamed.{Becomes}
 use Rattle.goodlock.specs.Answer.{Answer, IsAnswerUnder, outcome_of, prediction, printed_report}
 use Rattle.goodlock.specs.Answer.Answer.{Prints, Refusal}
 use Rattle.goodlock.specs.Answer.IsAnswerUnder.{bad_line, no_order}
-use Rattle.goodlock.specs.Ending.{HasNoFault, Use}
+use Rattle.gl_io.specs.Uses.{Use}
+use Rattle.goodlock.specs.Ending.{HasNoFault}
 use Rattle.goodlock.specs.Ending.HasEndedEarly.{out_of_memory, cut_short}
 use Rattle.goodlock.specs.Ending.HasEndedUnder.{early, ended_so}
 use Rattle.goodlock.specs.Ending.HasEndedStreamed.{confirmed, met_fault, unconfirmed, unstarted}
@@ -48,9 +49,9 @@ record IsWhole (limits : Bounds) (turns : ℕ) (input : Use) (items : Stream) (t
   named : CanBeNamed items
 
 whole_at_end : (limits : Bounds) (turns : ℕ) (input : Use) (items : Stream) (text : List ℕ) (told : Trace)
-    → HasTold limits turns input.before input.after input.failed items text told → IsDone items → IsWhole limits turns input items text told
+    → HasTold limits turns input items text told → IsDone items → IsWhole limits turns input items text told
 whole_at_end limits turns input items text told tells done =
-    let at_end = subst (λ (stage : Stage). HasToldAt stage limits turns input.before input.after input.failed items.feed text told) done tells in
+    let at_end = subst (λ (stage : Stage). HasToldAt stage limits turns input items.feed text told) done tells in
     record {
       read = at_end.0;
       trace = at_end.1;
@@ -61,23 +62,23 @@ whole_at_end limits turns input items text told tells done =
 
 -- the session isn't confirmed: it wasn't begun, or all was told
 pub ends_unconfirmed : (limits : Bounds) (A : List ℕ → Answer → Type 0) (turns : ℕ) (input : Use) (items : Stream) (text : List ℕ) (told : Trace)
-    → HasTold limits turns input.before input.after input.failed items text told → (input.after ≡ input.before) ⊎ IsDone items → EndsUnwritten limits A turns input variant.Unconfirmed
+    → HasTold limits turns input items text told → (input.after ≡ input.before) ⊎ IsDone items → EndsUnwritten limits A turns input variant.Unconfirmed
 ends_unconfirmed limits A turns input items text told tells (inl unread) = λ output kept sound. unstarted unread kept sound
 ends_unconfirmed limits A turns input items text told tells (inr done) = λ output kept sound.
     unconfirmed text (whole_at_end limits turns input items text told tells done).read kept sound
 
 -- the names that were taken of the items
 abbrev pub AreNames : Stream → NameLists → Type 0
-AreNames items names = (limits : Bounds) (turns : ℕ) (start now : Option (List ℕ)) (failed : Bool) (text : List ℕ) (told : Trace) → CanBeNamed items → HasTold limits turns start now failed items text told → names ≡ told.names
+AreNames items names = (limits : Bounds) (turns : ℕ) (input : Use) (text : List ℕ) (told : Trace) → CanBeNamed items → HasTold limits turns input items text told → names ≡ told.names
 
 -- the report is printed
 pub printed_whole : (asked : Asked) (form : Form) (limits : Bounds) (turns : ℕ) (input : Use) (items : Stream) (report : Report) (names : NameLists) (text : List ℕ) (outcome : Outcome)
     → AreNames items names → text ≡ printed_report form names report → outcome ≡ outcome_of report
-    → Becomes asked limits turns input.before input.after input.failed items (Ok report) → HasAnswer (IsAnswerUnder limits (prediction asked form)) turns input (Prints text outcome)
+    → Becomes asked limits turns input items (Ok report) → HasAnswer (IsAnswerUnder limits (prediction asked form)) turns input (Prints text outcome)
 printed_whole asked form limits turns input items report names text outcome named text_is outcome_is became =
     let told = became.told in
     let whole = whole_at_end limits turns input items became.text told became.tells became.reports.0 in
-    let names_are : names ≡ told.names = named limits turns input.before input.after input.failed became.text told whole.named became.tells in
+    let names_are : names ≡ told.names = named limits turns input became.text told whole.named became.tells in
     let printed : text ≡ printed_report form told.names report = text_is ∙ ap (λ n. printed_report form n report) names_are in
     record {
       text = became.text;
@@ -89,10 +90,10 @@ printed_whole asked form limits turns input items report names text outcome name
 -- a segment is before itself
 pub refused_whole : (printed : (Segment → Segment → Bool) → Trace → Answer) (limits : Bounds) (turns : ℕ) (input : Use) (items : Stream) (text : List ℕ) (told : Trace) (at : Segment) (ring : List Segment) (names : NameLists) (ended : Ended)
     → AreNames items names → IfRefused ended (λ line. line ≡ inconsistent_line names at) → IsDone items → IsLeastInRing told.lists at ring
-    → HasTold limits turns input.before input.after input.failed items text told → EndsUnwritten limits (IsAnswerUnder limits printed) turns input ended
+    → HasTold limits turns input items text told → EndsUnwritten limits (IsAnswerUnder limits printed) turns input ended
 refused_whole printed limits turns input items text told at ring names (variant.Refused line) named said done least tells = λ output kept sound.
     let whole = whole_at_end limits turns input items text told tells done in
-    let names_are : names ≡ told.names = named limits turns input.before input.after input.failed text told whole.named tells in
+    let names_are : names ≡ told.names = named limits turns input text told whole.named tells in
     let line_is : line.items ≡ inconsistent_line told.names at = said ∙ ap (λ n. inconsistent_line n at) names_are in
     let answer = subst (λ l. IsAnswerUnder limits printed text (Refusal l)) (sym line_is) (no_order told at whole.trace (least_of_ring told.lists at ring least)) in
     confirmed (variant.Refused line) (ended_so text (variant.Refused line) whole.read (kept, answer, sound))
@@ -131,10 +132,10 @@ no_fault_before limits text told is number kind bad =
 
 -- this fault of the text was met
 pub ends_at_fault : (printed : (Segment → Segment → Bool) → Trace → Answer) (limits : Bounds) (turns : ℕ) (input : Use) (items : Stream) (text : List ℕ) (told : Trace) (fault : LinesFault) (ended : Ended)
-    → HasTold limits turns input.before input.after input.failed items text told → HasFault items fault → IsEndOfText fault ended → EndsUnwritten limits (IsAnswerUnder limits printed) turns input ended
-ends_at_fault printed limits turns input items text told fault ended tells has is = go fault (subst (λ (stage : Stage). HasToldAt stage limits turns input.before input.after input.failed items.feed text told) has tells) is
+    → HasTold limits turns input items text told → HasFault items fault → IsEndOfText fault ended → EndsUnwritten limits (IsAnswerUnder limits printed) turns input ended
+ends_at_fault printed limits turns input items text told fault ended tells has is = go fault (subst (λ (stage : Stage). HasToldAt stage limits turns input items.feed text told) has tells) is
   where
-    go : (f : LinesFault) → HasToldAt (Faulty f) limits turns input.before input.after input.failed items.feed text told → IsEndOfText f ended → EndsUnwritten limits (IsAnswerUnder limits printed) turns input ended
+    go : (f : LinesFault) → HasToldAt (Faulty f) limits turns input items.feed text told → IsEndOfText f ended → EndsUnwritten limits (IsAnswerUnder limits printed) turns input ended
     go (Line number kind) was so = refused_at printed limits turns input items.feed.turns text number kind ended so was
     go Read was so = subst (EndsUnwritten limits (IsAnswerUnder limits printed) turns input) (sym so)
         (λ output kept sound. confirmed variant.ReadFailed (early variant.ReadFailed (cut_short text variant.ReadFailed was.0 (no_fault_before limits text told was.1)) kept sound))

@@ -16,7 +16,8 @@ use Rattle.gl_check.specs.declared.faults.CheckFault.TheVariants.{Inconsistent, 
 use Rattle.gl_check.specs.declared.reports.Checked.{Checked}
 use Rattle.goodlock.specs.Answer.{Answer}
 use Rattle.goodlock.specs.Answer.Answer.{Prints, Refusal}
-use Rattle.goodlock.specs.Ending.{EndsAs, EndsEarlyAs, Use}
+use Rattle.gl_io.specs.Uses.{Use}
+use Rattle.goodlock.specs.Ending.{EndsAs, EndsEarlyAs}
 use Rattle.goodlock.specs.Lines.{fault_line, inconsistent_line}
 use Rattle.goodlock.specs.declared.ended.Ended.{Ended}
 use Rattle.goodlock.specs.declared.ended.Ended.TheVariants as ended

@@ -3,6 +3,7 @@ use Rattle.std.specs.Prelude.{◌≡◌, ◌≢◌, ◌++◌, ℕ, ◌<◌, Bool
 use Rattle.std.specs.Io.KnownBytes.{Appends, Keeps}
 use Rattle.gl_event.specs.Bounds.{Bounds, greatest}
 use Rattle.gl_io.specs.Reads.{HasRead}
+use Rattle.gl_io.specs.Uses.{Use}
 use Rattle.gl_std.specs.Feeding.{HasGiven}
 use Rattle.gl_std.specs.Lines.{ended_lines}
 use Rattle.gl_std.specs.Trace.{trace_of}
@@ -15,16 +16,6 @@ use Rattle.goodlock.specs.declared.ended.Ended.{Ended}
 use Rattle.goodlock.specs.declared.ended.Ended.TheVariants.{Clean, Cycles, Done, Refused, Memory, ReadFailed, WriteFailed, Unconfirmed}
 use Rattle.goodlock.specs.declared.ended.Outcome.{Outcome}
 use Rattle.goodlock.specs.declared.ended.Outcome.TheVariants as outcome
-
--- a reader, or a writer, over a call: the bytes that a reader has left, or that a writer was given, before it and after, where they are
--- told; and whether it has failed since
-pub record Use : Type 0 where
-  pub before : Option (List ℕ)
-  pub after : Option (List ℕ)
-  pub failed : Bool
-
-abbrev pub used : Option (List ℕ) → Option (List ℕ) → Bool → Use
-used before after failed = record { before = before; after = after; failed = failed }
 
 -- ---- the input was read whole
 

@@ -2,7 +2,8 @@
 use Rattle.std.specs.Prelude.{ℕ}
 use Rattle.goodlock.specs.Answer.{IsAnswer, IsPlainAnswer, counts, prediction, replay}
 use Rattle.goodlock.specs.Checking.{HasChecked}
-use Rattle.goodlock.specs.Ending.{HasEnded, Use}
+use Rattle.gl_io.specs.Uses.{Use}
+use Rattle.goodlock.specs.Ending.{HasEnded}
 use Rattle.goodlock.specs.Sessions.{HasEndedSession}
 use Rattle.goodlock.specs.declared.ended.Ended.{Ended}
 use Rattle.gl_options.specs.declared.options.Command.{Command}

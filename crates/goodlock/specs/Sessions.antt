@@ -3,7 +3,8 @@ use Rattle.std.specs.Prelude.{◌≡◌, ℕ, true, false}
 use Rattle.gl_options.specs.Sessions.{with_threads}
 use Rattle.gl_options.specs.declared.live_options.LiveOptions.{LiveOptions}
 use Rattle.goodlock.specs.Answer.{IsAnswer, IsAnswerUnder, prediction}
-use Rattle.goodlock.specs.Ending.{HasEndedLive, HasEndedStreamed, Use}
+use Rattle.gl_io.specs.Uses.{Use}
+use Rattle.goodlock.specs.Ending.{HasEndedLive, HasEndedStreamed}
 use Rattle.goodlock.specs.declared.ended.Ended.{Ended}
 
 -- the end of a session that predicts, after at most so many turns over this reader and this writer: the text is read whole first, or, where

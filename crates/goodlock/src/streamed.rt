@@ -8,7 +8,7 @@ ghost use Rattle.gl_live.specs.declared.faults.StreamFault.TheVariants.{Session}
 ghost use Rattle.gl_options.specs.Sessions.{AreOfSession, with_threads};
 ghost use Rattle.goodlock.specs.Answer.{IsAnswerUnder, prediction};
 ghost use Rattle.goodlock.specs.Answer.Answer.{Prints};
-ghost use Rattle.goodlock.specs.Ending.{Use, used};
+ghost use Rattle.gl_io.specs.Uses.{Use, used};
 ghost use Rattle.goodlock.specs.bodies.Stops.{EndsUnwritten, HasAnswer, IsEndOfText};
 
 use crate::answer::{Printed, outcome_of, print};
@@ -58,7 +58,7 @@ fn printed_of(
     report: &Report,
     items: Items,
 ) -> Result<Printed, Memory>
-    ensures { (limits : Bounds) (turns : ℕ) (input : Use) → Becomes options.now.query limits turns input.before input.after input.failed items (Ok report.now)
+    ensures { (limits : Bounds) (turns : ℕ) (input : Use) → Becomes options.now.query limits turns input items (Ok report.now)
         → IfOk result (λ p. HasAnswer (IsAnswerUnder limits (prediction options.now.query options.now.form)) turns input (Prints p.text.items p.outcome)) }
 {
     let (names, _skipped, _stray) = items.parts();
@@ -75,7 +75,7 @@ fn end_of_loop(
     ring: Vec<Segment>,
     items: Items,
 ) -> Ended
-    ensures { (limits : Bounds) (turns : ℕ) (input : Use) → Becomes options.now.query limits turns input.before input.after input.failed items (Err (Session (Inconsistent at ring)))
+    ensures { (limits : Bounds) (turns : ℕ) (input : Use) → Becomes options.now.query limits turns input items (Err (Session (Inconsistent at ring)))
         → EndsUnwritten limits (IsAnswerUnder limits (prediction options.now.query options.now.form)) turns input result }
 {
     let (names, _skipped, _stray) = items.parts();
@@ -92,9 +92,9 @@ fn answered(
     reported: Result<Report, StreamFault>,
     items: Items,
 ) -> Result<Printed, Ended>
-    ensures printed { (limits : Bounds) (turns : ℕ) (input : Use) → Becomes options.now.query limits turns input.before input.after input.failed items reported
+    ensures printed { (limits : Bounds) (turns : ℕ) (input : Use) → Becomes options.now.query limits turns input items reported
         → IfOk result (λ p. HasAnswer (IsAnswerUnder limits (prediction options.now.query options.now.form)) turns input (Prints p.text.items p.outcome)) }
-    ensures stopped { (limits : Bounds) (turns : ℕ) (input : Use) → Becomes options.now.query limits turns input.before input.after input.failed items reported
+    ensures stopped { (limits : Bounds) (turns : ℕ) (input : Use) → Becomes options.now.query limits turns input items reported
         → FailsInTime input.before input.after items reported → IfErr result (EndsUnwritten limits (IsAnswerUnder limits (prediction options.now.query options.now.form)) turns input) }
 {
     match reported {

@@ -6,7 +6,7 @@ use Rattle.gl_io.specs.Reads.{HasRead}
 use Rattle.gl_std.specs.Trace.{trace_of}
 use Rattle.gl_std.specs.declared.faults.ReadFault.{ReadFault}
 use Rattle.gl_std.specs.declared.trace.Trace.{Trace}
-use Rattle.goodlock.specs.Ending.{Use}
+use Rattle.gl_io.specs.Uses.{Use}
 use Rattle.goodlock.specs.declared.answer.Printed.{Printed}
 use Rattle.goodlock.specs.declared.ended.Ended.{Ended}
 use Rattle.goodlock.specs.declared.ended.Ended.TheVariants.{Clean, Cycles, Done, WriteFailed}

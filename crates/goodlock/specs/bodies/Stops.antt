@@ -15,7 +15,8 @@ use Rattle.gl_std.specs.declared.faults.ReadFault.{ReadFault}
 use Rattle.gl_std.specs.declared.faults.ReadFault.TheVariants.{Line}
 use Rattle.gl_std.specs.declared.trace.Trace.{Trace}
 use Rattle.goodlock.specs.Answer.{Answer, IsLeastBeforeItself, report_of}
-use Rattle.goodlock.specs.Ending.{HasEndedStreamed, Use}
+use Rattle.gl_io.specs.Uses.{Use}
+use Rattle.goodlock.specs.Ending.{HasEndedStreamed}
 use Rattle.goodlock.specs.Lines.{fault_line, inconsistent_line}
 use Rattle.goodlock.specs.declared.ended.Ended.{Ended}
 use Rattle.goodlock.specs.declared.ended.Ended.TheVariants.{Refused, Memory, ReadFailed, Unconfirmed}

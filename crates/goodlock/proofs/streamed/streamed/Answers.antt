@@ -4,7 +4,7 @@ use Rattle.gl_event.specs.Bounds.{Bounds}
 use Rattle.gl_std.specs.Streaming.{HasTold}
 use Rattle.gl_std.specs.Trace.{nothing}
 use Rattle.goodlock.specs.Answer.{IsAnswerUnder, prediction}
-use Rattle.goodlock.specs.Ending.{used}
+use Rattle.gl_io.specs.Uses.{used}
 use Rattle.gl_options.specs.Sessions.{with_threads}
 use Rattle.goodlock.proofs.AsItComes.{ends_without_memory}
 use Rattle.goodlock.proofs.streamed.streamed.Goals as goal
@@ -24,22 +24,22 @@ stream_report-reported-requires-clause-unread g c κs within =
       turns = c.args.turns;
       start = start;
       as_many = ap (λ (b : Bounds). b.threads) c.limits_of.ensures;
-      tells = subst (λ (failed : Bool). HasTold c.limits_of.result c.args.turns start start failed c.in_ok-items.items [] nothing) (sym c.requires.readable) (c.in_ok-items.ensures.tells start);
+      tells = subst (λ (failed : Bool). HasTold c.limits_of.result c.args.turns (used start start failed) c.in_ok-items.items [] nothing) (sym c.requires.readable) (c.in_ok-items.ensures.tells start);
     }
 
 pub returns-clause-printed : goal.returns-clause-printed
 returns-clause-printed g c =
     let limits = with_threads c.args.options.now.threads in
     let start = g.I.Source.remaining c.args.input.now in
-    let told = subst (λ (b : Bounds). HasTold b c.args.turns start start (g.I.Source.failed c.args.input.now) c.in_ok-items.items [] nothing) c.limits_of.ensures
-    (subst (λ (failed : Bool). HasTold c.limits_of.result c.args.turns start start failed c.in_ok-items.items [] nothing) (sym c.requires.readable) (c.in_ok-items.ensures.tells start)) in
+    let told = subst (λ (b : Bounds). HasTold b c.args.turns (used start start (g.I.Source.failed c.args.input.now)) c.in_ok-items.items [] nothing) c.limits_of.ensures
+    (subst (λ (failed : Bool). HasTold c.limits_of.result c.args.turns (used start start failed) c.in_ok-items.items [] nothing) (sym c.requires.readable) (c.in_ok-items.ensures.tells start)) in
     c.answered.ensures.printed limits c.args.turns (used start (g.I.Source.remaining c.stream_report-reported.new.input) (g.I.Source.failed c.stream_report-reported.new.input)) (c.stream_report-reported.ensures.becomes limits c.args.turns start refl told)
 
 pub returns-clause-stopped : goal.returns-clause-stopped
 returns-clause-stopped g c =
     let limits = with_threads c.args.options.now.threads in
     let start = g.I.Source.remaining c.args.input.now in
-    let told = subst (λ (b : Bounds). HasTold b c.args.turns start start (g.I.Source.failed c.args.input.now) c.in_ok-items.items [] nothing) c.limits_of.ensures
-    (subst (λ (failed : Bool). HasTold c.limits_of.result c.args.turns start start failed c.in_ok-items.items [] nothing) (sym c.requires.readable) (c.in_ok-items.ensures.tells start)) in
+    let told = subst (λ (b : Bounds). HasTold b c.args.turns (used start start (g.I.Source.failed c.args.input.now)) c.in_ok-items.items [] nothing) c.limits_of.ensures
+    (subst (λ (failed : Bool). HasTold c.limits_of.result c.args.turns (used start start failed) c.in_ok-items.items [] nothing) (sym c.requires.readable) (c.in_ok-items.ensures.tells start)) in
     c.answered.ensures.stopped limits c.args.turns (used start (g.I.Source.remaining c.stream_report-reported.new.input) (g.I.Source.failed c.stream_report-reported.new.input)) (c.stream_report-reported.ensures.becomes limits c.args.turns start refl told)
     c.stream_report-reported.ensures.in_time
