@@ -5,11 +5,14 @@
 
 LIST has commands with commas between them ("predict, predict --json"); the table below knows some more. The answer
 must be the one of an undisturbed run, which is written by hand, or what the disturbance asks for. A preload
-library, which gcc builds in a temporary folder, does the refusing (tests/refuse.c). The last line is
-`N passed, N failed`.
+library, which gcc builds in a temporary folder, does the refusing (tests/refuse.c). As many commands and traces as
+there are processors are tried side by side. The last line is `N passed, N failed`.
 """
 
 import argparse
+import concurrent.futures
+import contextlib
+import io
 import os
 import pathlib
 import signal
@@ -310,6 +313,32 @@ def built_library(folder):
     return library
 
 
+def disturb(tests, words, name):
+    """All disturbances of the command over the trace of this name; a command's others are of no name."""
+    if name is None:
+        tests.ends(words, text_of(words, "opposite_order"), compare.in_format(ANSWERS[words]["opposite_order"]))
+        for usage, status in USAGE.get(words, {}).items():
+            tests.usage(usage, status)
+        return
+    text, ample = text_of(words, name), compare.in_format(ANSWERS[words][name])
+    tests.check(f"{words}, {name}", [ample], tests.runner.run(words, text))
+    for session in swept(words, name):
+        tests.check(f"{session}, {name}", [ample], tests.runner.run(session, text))
+        tests.memory(session, name, text, ample)
+        tests.threads(session, name, text, ample)
+    tests.reads(words, name, text, ample)
+    tests.writes(words, name, text, ample)
+
+
+def disturbed(runner, words, name):
+    """How many passed and failed, and what was printed of it."""
+    tests, printed = Tests(runner), io.StringIO()
+    with contextlib.redirect_stdout(printed):
+        disturb(tests, words, name)
+        print(f"{words}, {name or 'ends and usage'}: {tests.passed + tests.failed} answers")
+    return tests.passed, tests.failed, printed.getvalue()
+
+
 def main():
     parser = argparse.ArgumentParser(description=__doc__, formatter_class=argparse.RawDescriptionHelpFormatter)
     parser.add_argument("--commands", default="predict, predict --json")
@@ -318,25 +347,17 @@ def main():
     commands = [words.strip() for words in options.commands.split(",") if words.strip()]
     if not set(commands) <= set(ANSWERS):
         parser.error(f"--commands knows {', '.join(ANSWERS)}")
-    with tempfile.TemporaryDirectory() as folder:
-        tests = Tests(Runner(os.path.abspath(options.program), built_library(folder)))
-        for words in commands:
-            for name in TRACES:
-                text, ample = text_of(words, name), compare.in_format(ANSWERS[words][name])
-                before = tests.passed + tests.failed
-                tests.check(f"{words}, {name}", [ample], tests.runner.run(words, text))
-                for session in swept(words, name):
-                    tests.check(f"{session}, {name}", [ample], tests.runner.run(session, text))
-                    tests.memory(session, name, text, ample)
-                    tests.threads(session, name, text, ample)
-                tests.reads(words, name, text, ample)
-                tests.writes(words, name, text, ample)
-                print(f"{words}, {name}: {tests.passed + tests.failed - before} answers", flush=True)
-            tests.ends(words, text_of(words, "opposite_order"), compare.in_format(ANSWERS[words]["opposite_order"]))
-            for usage, status in USAGE.get(words, {}).items():
-                tests.usage(usage, status)
-    print(f"{tests.passed} passed, {tests.failed} failed")
-    return 1 if tests.failed or tests.passed == 0 else 0
+    passed = failed = 0
+    workers = len(os.sched_getaffinity(0))
+    with tempfile.TemporaryDirectory() as folder, concurrent.futures.ProcessPoolExecutor(workers) as pool:
+        runner = Runner(os.path.abspath(options.program), built_library(folder))
+        parts = [pool.submit(disturbed, runner, words, name) for words in commands for name in [*TRACES, None]]
+        for part in parts:
+            some_passed, some_failed, printed = part.result()
+            passed, failed = passed + some_passed, failed + some_failed
+            print(printed, end="", flush=True)
+    print(f"{passed} passed, {failed} failed")
+    return 1 if failed or passed == 0 else 0
 
 
 if __name__ == "__main__":
