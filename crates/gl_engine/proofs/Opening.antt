@@ -13,7 +13,8 @@ use Rattle.gl_world.specs.Keeping.{notes_of}
 use Rattle.gl_world.proofs.Lists.{same_some, place_cases}
 use Rattle.gl_world.proofs.Makings.{made_nothing}
 use Rattle.gl_engine.specs.Collecting.{Pulling, as_of, fresh_row}
-use Rattle.gl_engine.specs.Keeping.{AreFresh, IsCollector, pulling_of}
+use Rattle.gl_engine.specs.Keeping.{IsCollector, pulling_of}
+use Rattle.gl_engine.specs.bodies.Opening.{AreFresh}
 use Rattle.gl_engine.specs.Recording.{Recording, IsFresh}
 use Rattle.gl_engine.proofs.Dealt.{made_by_none}
 use Rattle.gl_engine.specs.declared.row.Row.{Row}

@@ -11,8 +11,7 @@ use Rattle.gl_intake.specs.declared.notes.Refused.{Refused}
 use Rattle.gl_lane.specs.Lanes.{Popping}
 use Rattle.gl_recorder.specs.Taking.{Taking, Tracks}
 use Rattle.gl_world.specs.Keeping.{notes_of, AreMade}
-use Rattle.gl_engine.specs.Recording.{Recording, IsFresh}
-use Rattle.gl_engine.specs.Collecting.{Pulling, as_of, fresh_row}
+use Rattle.gl_engine.specs.Collecting.{Pulling, as_of}
 use Rattle.gl_engine.specs.Dealing.{made_by}
 use Rattle.gl_engine.specs.declared.row.Row.{Row}
 
@@ -63,11 +62,3 @@ pub record IsCollector (limits : Bounds) (rows : List Row) (stream : List Note) 
   pub made_is : made ≡ made_by stream
   pub same_limits : collecting ≡ limits
   pub range : AreWithinRange limits
-
--- a recorder and a row for each of the first threads, in the order of their numbers: the two ends of a lane in which nothing was pushed
-pub record AreFresh (session : ℕ) (limits : Bounds) (threads : ℕ) (recorders : List Recording) (rows : List Row) : Type 0 where
-  pub count : length recorders ≡ threads
-  pub rows_count : length rows ≡ threads
-  pub fresh : (thread : ℕ) (r : Recording) → slice_get recorders thread ≡ Some r → IsFresh session limits thread r
-  pub ends : map pulling_of rows ≡ map fresh_row (map (λ r. r.lane) recorders)
-  pub follows : (thread : ℕ) (row : Row) → slice_get rows thread ≡ Some row → (row.lane.popped ≡ []) × (row.broken ≡ None) × Follows thread [] row.tracker

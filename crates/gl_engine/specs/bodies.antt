@@ -1,3 +1,4 @@
 -- The words of loops, private functions and private fields. No public contract cites them.
 pub mod Breaking
+pub mod Opening
 pub mod Whole

@@ -3,7 +3,8 @@ ghost use Rattle.std.specs.Prelude.{◌≡◌, ◌<◌, [], map, IfOk};
 ghost use Rattle.gl_event.specs.Bounds.{AreWithinRange};
 ghost use Rattle.gl_edges.specs.Tracking.{Tracks as Follows};
 ghost use Rattle.gl_engine.specs.Collecting.{fresh_row, IsOpened};
-ghost use Rattle.gl_engine.specs.Keeping.{pulling_of, AreFresh};
+ghost use Rattle.gl_engine.specs.Keeping.{pulling_of};
+ghost use Rattle.gl_engine.specs.bodies.Opening.{AreFresh};
 ghost use Rattle.gl_engine.specs.Recording.{IsFresh};
 
 use crate::collector::Collector;

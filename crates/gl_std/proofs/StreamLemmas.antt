@@ -6,6 +6,7 @@ use Rattle.gl_event.specs.declared.events.Event.{Event as EventOf}
 use Rattle.gl_io.specs.Reads.{HasRead}
 use Rattle.gl_io.specs.Uses.{used}
 use Rattle.gl_std.specs.Feeding as feeding
+use Rattle.gl_std.specs.bodies.Lasts as lasts
 use Rattle.gl_std.specs.Streaming.{with_item, GoesOn, HasToldAt, Stream}
 use Rattle.gl_std.specs.Streaming.Stage.{Reading, Done, Faulty}
 use Rattle.gl_std.specs.Trace.{trace_of}
@@ -75,8 +76,8 @@ fit_of (FaultyStage fault) f i is held reading fit = let wrong : Faulty fault �
 pub reads_shown : (limits : Bounds) (turns : ℕ) (start now : Option (List ℕ)) (stage : Stage) (f : Feed) (i : Stream) (text : List ℕ) (told : Trace) → stream_of stage f ≡ i → feeding.ReadsOn limits turns start now i.feed text told → ReadsOn limits turns start now f text told
 reads_shown limits turns start now stage f i text told is on = subst (λ (s : Stream). feeding.ReadsOn limits turns start now s.feed text told) (sym is) on
 
-pub over_shown : (stage : Stage) (f : Feed) (i : Stream) (text : List ℕ) (told : Trace) → stream_of stage f ≡ i → feeding.IsOver i.feed text told → feeding.IsOver (feed_of f) text told
-over_shown stage f i text told is over = subst (λ (s : Stream). feeding.IsOver s.feed text told) (sym is) over
+pub over_shown : (stage : Stage) (f : Feed) (i : Stream) (text : List ℕ) (told : Trace) → stream_of stage f ≡ i → lasts.IsOver i.feed text told → lasts.IsOver (feed_of f) text told
+over_shown stage f i text told is over = subst (λ (s : Stream). lasts.IsOver s.feed text told) (sym is) over
 
 -- ---- items
 

@@ -55,7 +55,3 @@ pub record ReadsOn (limits : Bounds) (turns : ℕ) (start now : Option (List ℕ
   pub given : HasGiven turns start now f.turns text
   pub same : f.judge.limits ≡ limits
   pub at : IsAt f text told
-
--- no more comes of this text: its lines that LF has ended told this trace, and the rest of it is a last line
-abbrev pub IsOver : Feed → List ℕ → Trace → Type 0
-IsOver f text told = Reaches f.judge f.beginning text told

@@ -1,6 +1,5 @@
 -- What is known of threads' events without the events themselves.
-use Rattle.std.specs.Prelude.{◌≡◌, ℕ, List, [], ◌∷◌, Option, length, slice_index_or}
-use Rattle.std.specs.Option.{option_map_or}
+use Rattle.std.specs.Prelude.{◌≡◌, ℕ, List, [], ◌∷◌, length}
 use Rattle.gl_event.specs.Events.{segment}
 use Rattle.gl_event.specs.Standing.{StandsFor}
 use Rattle.gl_event.specs.declared.events.Event.{Event}
@@ -24,7 +23,3 @@ AreStanding [] [] = Unit {0}
 AreStanding [] (s ∷ states) = ⊥
 AreStanding (es ∷ lists) [] = ⊥
 AreStanding (es ∷ lists) (s ∷ states) = StandsAfter es s × AreStanding lists states
-
--- how many events the thread has, or none of a new one
-abbrev pub count_of : List State → Option ℕ → ℕ
-count_of states number = option_map_or (λ i. (slice_index_or states i (record { held = []; events = 0; closed = 0 })).events) number 0

@@ -1,7 +1,9 @@
 -- The words of loops and private functions. No public contract cites them.
+pub mod Counting
 pub mod Finding
 pub mod Hearing
 pub mod Judgements
+pub mod Lasts
 pub mod Reading
 pub mod Shown
 pub mod States

@@ -50,7 +50,7 @@ impl Judge {
     ghost use Rattle.gl_event.specs.Bounds.{AreWithinRange};
     ghost use Rattle.std.specs.Prelude.{false};
     ghost use Rattle.gl_std.specs.Line.{is_on_itself};
-    ghost use Rattle.gl_std.specs.Standings.{count_of};
+    ghost use Rattle.gl_std.specs.bodies.Counting.{count_of};
     ghost use Rattle.gl_std.specs.bodies.States.{HasJudged, IsSound};
     ghost use Rattle.gl_std.specs.bodies.Judgements.{FailsAs, HasJudgedMore, TellsAs};
     ghost use Rattle.gl_std.specs.bodies.Telling.{IsKnown};

@@ -5,6 +5,7 @@ use Rattle.gl_io.specs.declared.source.TheConstants.{CHUNK}
 use Rattle.gl_std.specs.Feeding as feeding
 use Rattle.gl_std.specs.Judging as judging
 use Rattle.gl_std.specs.Streaming.{Stage as StageOf, Stream}
+use Rattle.gl_std.specs.bodies.Lasts as lasts
 use Rattle.gl_std.specs.Streaming.Stage.{Reading as ReadingOn, Done as AtEnd, Faulty as AtFault}
 use Rattle.gl_std.specs.declared.feed.Feed.{Feed}
 use Rattle.gl_std.specs.declared.feed.TheConstants.{KEPT}
@@ -45,7 +46,7 @@ abbrev pub ReadsOn : Bounds → ℕ → Option (List ℕ) → Option (List ℕ) 
 ReadsOn limits turns start now f text told = feeding.ReadsOn limits turns start now (feed_of f) text told
 
 abbrev pub IsOver : Feed → List ℕ → Trace → Type 0
-IsOver f text told = feeding.IsOver (feed_of f) text told
+IsOver f text told = lasts.IsOver (feed_of f) text told
 
 -- what is left of the latest read lies in the buffer
 pub record IsBuffered (f : Feed) : Type 0 where

@@ -1,4 +1,4 @@
-use Rattle.gl_engine.specs.Keeping.{AreFresh}
+use Rattle.gl_engine.specs.bodies.Opening.{AreFresh}
 use Rattle.gl_engine.proofs.session.open_lanes.Given as goal
 
 -- there are a recorder and a row for each thread so far
