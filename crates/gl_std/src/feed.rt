@@ -7,7 +7,7 @@ ghost use Rattle.gl_std.specs.bodies.States.{left_of, HasJudged, IsAt, IsFit, Is
 ghost use Rattle.gl_std.specs.bodies.Telling.{with_judged, IsKnown};
 ghost use Rattle.gl_std.specs.Lines.{LF};
 ghost use Rattle.gl_std.specs.Pieces.{IsFaulty};
-ghost use Rattle.gl_std.specs.bodies.Stepping.{fuel, is_idle, HasDrained, HasFilled, Steps};
+ghost use Rattle.gl_std.specs.bodies.Stepping.{fuel, is_idle, HasDrained, HasFilled, StepsOn};
 ghost use Rattle.gl_std.specs.Trace.{nothing, trace_of};
 ghost use Rattle.gl_std.specs.declared.faults.StdKind.{StdKind};
 ghost use Rattle.gl_std.specs.declared.judge.Judged.{Judged};
@@ -93,8 +93,7 @@ impl Feed {
     pub(crate) fn next<R: Source>(&mut self, input: &mut R) -> Result<Step, LinesFault>
         requires fit { IsFit self.old }
         requires not_failed { R.failed input.old ≡ false }
-        ensures steps { (limits : Bounds) (turns : ℕ) (start : Option (List ℕ)) (text : List ℕ) (told : Trace) → ReadsOn limits turns start (R.remaining input.old) self.old text told
-            → Steps limits turns start (R.remaining input.new) (R.failed input.new) self.new text told result }
+        ensures steps { StepsOn (R.remaining input.old) self.old (R.remaining input.new) (R.failed input.new) self.new result }
         ensures fit { OnOk result (IsFit self.new) }
         ensures found { IfOk result (λ step. is_idle step ≡ false) }
         ensures known { (judged : Judged) → result ≡ Ok (Step.Told judged) → IsKnown judged (length self.new.judge.names.threads) }
@@ -114,8 +113,7 @@ impl Feed {
     pub(crate) fn step<R: Source>(&mut self, input: &mut R) -> Result<Step, LinesFault>
         requires fit { IsFit self.old }
         requires not_failed { R.failed input.old ≡ false }
-        ensures steps { (limits : Bounds) (turns : ℕ) (start : Option (List ℕ)) (text : List ℕ) (told : Trace) → ReadsOn limits turns start (R.remaining input.old) self.old text told
-            → Steps limits turns start (R.remaining input.new) (R.failed input.new) self.new text told result }
+        ensures steps { StepsOn (R.remaining input.old) self.old (R.remaining input.new) (R.failed input.new) self.new result }
         ensures known { (judged : Judged) → result ≡ Ok (Step.Told judged) → IsKnown judged (length self.new.judge.names.threads) }
         ensures fit { OnOk result (IsFit self.new) }
         ensures smaller { OnOk result (fuel self.new < fuel self.old) }
@@ -136,8 +134,7 @@ impl Feed {
         requires fit { IsFit self.old }
         requires spent { self.old.start ≡ self.old.end }
         requires not_failed { R.failed input.old ≡ false }
-        ensures steps { (limits : Bounds) (turns : ℕ) (start : Option (List ℕ)) (text : List ℕ) (told : Trace) → ReadsOn limits turns start (R.remaining input.old) self.old text told
-            → Steps limits turns start (R.remaining input.new) (R.failed input.new) self.new text told result }
+        ensures steps { StepsOn (R.remaining input.old) self.old (R.remaining input.new) (R.failed input.new) self.new result }
         ensures known { (judged : Judged) → result ≡ Ok (Step.Told judged) → IsKnown judged (length self.new.judge.names.threads) }
         ensures fit { OnOk result (IsFit self.new) }
         ensures smaller { OnOk result (fuel self.new < fuel self.old) }

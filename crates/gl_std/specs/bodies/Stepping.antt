@@ -53,3 +53,8 @@ HasStepped limits turns start now failed f text told (Err Memory) = Unit {0}
 pub record Steps (limits : Bounds) (turns : ℕ) (start now : Option (List ℕ)) (failed : Bool) (f : Feed) (text : List ℕ) (told : Trace) (result : Result Step LinesFault) : Type 0 where
   pub piece : List ℕ
   pub stepped : HasStepped limits turns start now failed f (text ++ piece) told result
+
+-- a step of a feed over its source, from whatever text it was told and whatever trace
+abbrev pub StepsOn : Option (List ℕ) → Feed → Option (List ℕ) → Bool → Feed → Result Step LinesFault → Type 0
+StepsOn before old now failed new result = (limits : Bounds) (turns : ℕ) (start : Option (List ℕ)) (text : List ℕ) (told : Trace) → ReadsOn limits turns start before old text told
+    → Steps limits turns start now failed new text told result
