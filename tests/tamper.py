@@ -747,9 +747,10 @@ def main():
             tests.by_program(name, other, other_trace)
             if options.only is not None:
                 print(f"{other.decode('latin-1')}\n{other_trace.decode('latin-1')}\nknown {known}, answer {answer}")
-    if options.only is None and options.cases >= 1000:
+    if options.only is None:
+        least = min(10, options.cases // 300)
         for name in check.LINES:
-            tests.that(f"answers of the kind {name}", seen.get(name, 0) >= 10, f"only {seen.get(name, 0)}")
+            tests.that(f"answers of the kind {name}", seen.get(name, 0) >= least, f"only {seen.get(name, 0)}")
     if tests.skipped:
         print(f"{tests.skipped} reports of format 2 weren't given to the program")
     print("answers: " + ", ".join(f"{name} {count}" for name, count in sorted(seen.items())))
