@@ -11,6 +11,7 @@ ghost use Rattle.gl_cycles.specs.bodies.Gaps.{gap_of, gap_closes, gap_leads, gap
 use crate::prints::mixed;
 use gl_edges::Edge;
 use gl_event::{LockId, LockMode, Memory};
+use gl_filters::waits_for;
 use std::alloc::Global;
 use std::collections::HashMap;
 
@@ -51,14 +52,14 @@ impl Gap {
     pub(crate) fn is_closed(&self) -> bool
         ensures { result ≡ gap_closes self.now }
     {
-        self.wanted == self.held && self.wanted_mode.conflicts_with(self.held_mode)
+        waits_for(self.wanted, self.wanted_mode, self.held, self.held_mode)
     }
 
     /// Whether the last edge leads on to this one.
     pub(crate) fn leads_to(&self, edge: &Edge) -> bool
         ensures { result ≡ gap_leads self.now edge.now }
     {
-        self.wanted == edge.held && self.wanted_mode.conflicts_with(edge.held_mode)
+        waits_for(self.wanted, self.wanted_mode, edge.held, edge.held_mode)
     }
 
     /// What is missing behind this edge.

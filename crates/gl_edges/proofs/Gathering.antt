@@ -1,8 +1,6 @@
 -- A table that grows by the edges of one event after another.
 use Rattle.std.proofs.Common.{◌≡◌, ◌≢◌, ℕ, zero, suc, ◌+◌, ◌<◌, ◌≤◌, inl, inr, Bool, true, false, cond, eqb, List, [], ◌∷◌, ◌++◌, length, get_or, map, take, Some, None, refl, sym, ap, subst, ◌∙◌, arith}
 use Rattle.std.specs.Prelude.{Contains, slice_get}
-use Rattle.std.specs.BTreeMap.{BTreeMap}
-use Rattle.std.specs.FinMap as table
 use Rattle.std.specs.List.{flat_map, range_with_len, enumerate_from}
 use Rattle.std.specs.Option.{option_map_or, option_map}
 use Rattle.std.proofs.lemmas.Bool.{ne_eqb, cases_lt}
@@ -20,7 +18,7 @@ use Rattle.gl_event.specs.declared.held.HeldEntry.{HeldEntry}
 use Rattle.gl_event.proofs.HeldLemmas.{entry_of-lock}
 use Rattle.gl_edges.proofs.Holding.{guards_are}
 use Rattle.gl_edges.specs.Guards.{guards_of}
-use Rattle.gl_edges.specs.Edges.{pair_at, edges_wanting, edges_after, edges_at, edges_below, edges_of_list, edges_made}
+use Rattle.gl_edges.specs.Edges.{once, pair_at, edges_wanting, edges_after, edges_at, edges_below, edges_of_list, edges_made}
 use Rattle.gl_edges.specs.bodies.Tables.{IsTableOf}
 use Rattle.gl_edges.specs.Tracking.{Tracks, MayFollow}
 use Rattle.gl_edges.specs.bodies.Gatherers.{pair_for}
@@ -28,16 +26,21 @@ use Rattle.gl_edges.specs.declared.edge.Edge.{Edge}
 use Rattle.gl_edges.specs.declared.edge.Sample.{Sample}
 use Rattle.gl_edges.specs.declared.tracker.Tracker.{Tracker}
 use Rattle.gl_edges.specs.Laws.{AreAmong}
-use Rattle.gl_edges.proofs.Least.{same_table}
+use Rattle.gl_edges.proofs.Filling.{once_before}
+use Rattle.gl_edges.proofs.Least.{same_once}
 use Rattle.gl_edges.proofs.Membership.{contains_none, contains_map, contains_map_from, held_where_deep, deep_where_held}
 
 -- a table of the same pairs
-pub table_same : (known : BTreeMap Edge Sample) (xs ys : List (Edge × Sample)) → xs ≡ ys → IsTableOf known xs → IsTableOf known ys
+pub table_same : (known : List (Edge × Sample)) (xs ys : List (Edge × Sample)) → xs ≡ ys → IsTableOf known xs → IsTableOf known ys
 table_same known xs ys same is = subst (IsTableOf known) same is
 
 -- a table of the same pairs and no more
-pub table_nil : (known : BTreeMap Edge Sample) (pairs : List (Edge × Sample)) → IsTableOf known pairs → IsTableOf known (pairs ++ [])
+pub table_nil : (known : List (Edge × Sample)) (pairs : List (Edge × Sample)) → IsTableOf known pairs → IsTableOf known (pairs ++ [])
 table_nil known pairs is = subst (IsTableOf known) (sym (append-nil pairs)) is
+
+-- a table into which one more pair was put
+pub table_push : (known new : List (Edge × Sample)) (pairs : List (Edge × Sample)) (pair : Edge × Sample) → new ≡ once (known ++ pair ∷ []) → IsTableOf known pairs → IsTableOf new (pairs ++ pair ∷ [])
+table_push known new pairs pair put is = record { is = put ∙ ap (λ table. once (table ++ pair ∷ [])) is.is ∙ once_before pairs (pair ∷ []) }
 
 -- ---- the edges of one acquire
 
@@ -51,7 +54,7 @@ pair_is edge tracker wanted mode loc h of_thread wants wants_as in_segment guard
 )
 
 -- one more entry of the held locks
-pub table_more : (known : BTreeMap Edge Sample) (pairs : List (Edge × Sample)) (f : HeldEntry → Edge × Sample) (hs : List HeldEntry) (i : ℕ) (h : HeldEntry) (pair : Edge × Sample)
+pub table_more : (known : List (Edge × Sample)) (pairs : List (Edge × Sample)) (f : HeldEntry → Edge × Sample) (hs : List HeldEntry) (i : ℕ) (h : HeldEntry) (pair : Edge × Sample)
     → i < length hs → h ≡ get_or hs i h → pair ≡ f h → IsTableOf known ((pairs ++ map f (take i hs)) ++ pair ∷ []) → IsTableOf known (pairs ++ map f (take (i + 1) hs))
 table_more known pairs f hs i h pair within is same step =
     table_same known _ _
@@ -61,13 +64,13 @@ table_more known pairs f hs i h pair within is same step =
     step
 
 -- all entries of the held locks
-pub table_all : (known : BTreeMap Edge Sample) (pairs : List (Edge × Sample)) (f : HeldEntry → Edge × Sample) (hs : List HeldEntry) (i : ℕ) → length hs ≤ i
+pub table_all : (known : List (Edge × Sample)) (pairs : List (Edge × Sample)) (f : HeldEntry → Edge × Sample) (hs : List HeldEntry) (i : ℕ) → length hs ≤ i
     → IsTableOf known (pairs ++ map f (take i hs)) → IsTableOf known (pairs ++ map f hs)
 table_all known pairs f hs i all is = table_same known _ _ (ap (λ xs. pairs ++ map f xs) (take_all i hs all)) is
 
 -- a table of pairs in another order
-pub table_alike : (known : BTreeMap Edge Sample) (xs ys : List (Edge × Sample)) → AreAmong xs ys → AreAmong ys xs → IsTableOf known xs → IsTableOf known ys
-table_alike known xs ys to from is = record { each = λ edge. is.each edge ∙ ap (λ t. table.get t edge) (same_table xs ys to from) }
+pub table_alike : (known : List (Edge × Sample)) (xs ys : List (Edge × Sample)) → AreAmong xs ys → AreAmong ys xs → IsTableOf known xs → IsTableOf known ys
+table_alike known xs ys to from is = record { is = is.is ∙ same_once xs ys to from }
 
 -- pairs that follow the same front
 pub append_among : (pairs xs ys : List (Edge × Sample)) → AreAmong xs ys → AreAmong (pairs ++ xs) (pairs ++ ys)
@@ -195,7 +198,7 @@ pub tracks_start : (thread : ℕ) (es : List Event) (tracker : Tracker) → Trac
 tracks_start thread es tracker is = is
 
 -- the table has the edges of all places
-pub table_list : (known : BTreeMap Edge Sample) (pairs : List (Edge × Sample)) (thread : ℕ) (es : List Event) (i : ℕ) → i ≡ length es
+pub table_list : (known : List (Edge × Sample)) (pairs : List (Edge × Sample)) (thread : ℕ) (es : List Event) (i : ℕ) → i ≡ length es
     → IsTableOf known (pairs ++ edges_below thread es i) → IsTableOf known (pairs ++ edges_of_list thread es)
 table_list known pairs thread es i all is = table_same known _ _ (ap (λ n. pairs ++ edges_below thread es n) all) is
 
@@ -222,7 +225,7 @@ module _ {X : Type 0} (items : X → List Event) (xs : List X) (i : ℕ) (x : X)
   list_at = slice_get-map items xs i ∙ ap (option_map items) (slice_get_read xs (length xs) i x refl within item)
 
   -- the table then has the edges of one list more
-  pub table_lists : (known : BTreeMap Edge Sample) (thread : ℕ) (es : List Event) → thread ≡ i → es ≡ items x
+  pub table_lists : (known : List (Edge × Sample)) (thread : ℕ) (es : List Event) → thread ≡ i → es ≡ items x
       → IsTableOf known (edges_made (map items (take i xs)) ++ edges_of_list thread es) → IsTableOf known (edges_made (map items (take (i + 1) xs)))
   table_lists known thread es number list is =
       table_same known _ _

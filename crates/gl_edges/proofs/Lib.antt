@@ -6,6 +6,7 @@ pub mod Membership
 pub mod Least
 pub mod Tables
 pub mod Merging
+pub mod Filling
 pub mod Holding
 pub mod Following
 pub mod Gathering

@@ -1,7 +1,7 @@
 -- An acquire whose edges stand among the pairs already, with lesser samples, changes nothing.
 use Rattle.std.proofs.Common.{◌≡◌, ℕ, ◌+◌, ◌<◌, ◌⊎◌, inl, inr, false, List, [], ◌++◌, length, map, Option, None, Some, Result, Ok, Err, OnOk, refl, sym, ap, subst, ◌∙◌, arith}
 use Rattle.std.specs.Prelude.{Contains}
-use Rattle.std.specs.BTreeMap.{BTreeMap}
+use Rattle.std.specs.FinMap as map_of
 use Rattle.std.specs.Ordering.{is_lt, nat_cmp, ordering_then, MatchOrdering}
 use Rattle.std.specs.declared.cmp.Ordering.{Ordering}
 use Rattle.std.specs.declared.cmp.Ordering.TheVariants.{Less, Equal, Greater}
@@ -12,7 +12,7 @@ use Rattle.gl_event.specs.Events.{depth, held}
 use Rattle.gl_event.specs.declared.events.Event.{Event}
 use Rattle.gl_event.specs.declared.events.Event.TheVariants.{Acquire, Release, TryAcquire, Fork, Join}
 use Rattle.gl_event.specs.declared.events.LockMode.{LockMode}
-use Rattle.gl_edges.specs.Edges.{pair_at, edges_wanting, edges_after}
+use Rattle.gl_edges.specs.Edges.{least_samples, once, pair_at, edges_wanting, edges_after}
 use Rattle.gl_edges.specs.bodies.Gatherers.{AreBefore, Gathers, pair_for}
 use Rattle.gl_edges.specs.Laws.{AreAmong}
 use Rattle.gl_edges.specs.Order.{sample_cmp}
@@ -27,7 +27,7 @@ use Rattle.gl_edges.proofs.Gathering.{append_among, pairs_made, pairs_all, table
 use Rattle.gl_edges.proofs.Least.{Answers, table_answers, neither_below}
 use Rattle.gl_edges.proofs.Membership.{contains_map, contains_map_from, contains_none}
 use Rattle.gl_edges.proofs.Merging.{not_below_trans}
-use Rattle.gl_edges.proofs.Orders.{sample_cmp_total, sample_cmp_exact}
+use Rattle.gl_edges.proofs.Orders.{edge_cmp_total, edge_cmp_exact, sample_cmp_total, sample_cmp_exact}
 
 -- ---- pairs that have a lesser one already
 
@@ -56,11 +56,17 @@ same_answer pairs more less edge (Some s) (Some t) known_a known_b = ap Some (ne
           | inr at ↦ let (u, there, above) = less edge t at in not_below_trans sample_cmp_total t u s above (known_a.least u there)
         ]
 
+-- so each edge is taken once with the same sample
+once_stays : (pairs more : List (Edge × Sample)) → HaveLess pairs more → once pairs ≡ once (pairs ++ more)
+unfolding once
+once_stays pairs more less =
+    ap map_of.entries
+    (map_of.same_map edge_cmp_total edge_cmp_exact (least_samples pairs) (least_samples (pairs ++ more))
+    (λ edge. same_answer pairs more less edge _ _ (table_answers pairs edge) (table_answers (pairs ++ more) edge)))
+
 -- and the table stays
-table_stays : (known : BTreeMap Edge Sample) (pairs more : List (Edge × Sample)) → HaveLess pairs more → IsTableOf known pairs → IsTableOf known (pairs ++ more)
-table_stays known pairs more less is = record {
-  each = λ edge. is.each edge ∙ same_answer pairs more less edge _ _ (table_answers pairs edge) (table_answers (pairs ++ more) edge);
-}
+table_stays : (known : List (Edge × Sample)) (pairs more : List (Edge × Sample)) → HaveLess pairs more → IsTableOf known pairs → IsTableOf known (pairs ++ more)
+table_stays known pairs more less is = record { is = is.is ∙ once_stays pairs more less }
 
 -- what comes after is greater
 after : (x y : ℕ) (r : Ordering) → y < x → MatchOrdering r (x < y) (x ≡ y) (y < x) → r ≡ Greater
@@ -82,7 +88,7 @@ module _ (tracker : Tracker) (wanted : ℕ) (mode : LockMode) (loc : ℕ) where
   more = map (pair_for tracker wanted mode loc) tracker.held
 
   -- where all its edges stand among the pairs with earlier samples, the table has them
-  pub table_seen : (known : BTreeMap Edge Sample) (pairs : List (Edge × Sample)) (seen : List Edge) → AreBefore seen pairs tracker.place
+  pub table_seen : (known : List (Edge × Sample)) (pairs : List (Edge × Sample)) (seen : List Edge) → AreBefore seen pairs tracker.place
       → ((edge : Edge) → Contains (edges_now tracker wanted mode) edge → Contains seen edge) → IsTableOf known pairs → IsTableOf known (pairs ++ more)
   table_seen known pairs seen before all is = table_stays known pairs more less is
     where

@@ -18,11 +18,15 @@ use Rattle.std.proofs.lemmas.Map.Views.{Contains-from_lookup, lookup-from_Contai
 use Rattle.gl_edges.specs.Edges.{lesser, least_samples, once}
 use Rattle.gl_edges.specs.Order.{edge_cmp, sample_cmp, AreAscending}
 use Rattle.gl_edges.specs.Samples.{IsLeastSample}
-use Rattle.gl_edges.specs.bodies.Tables.{IsTableOf}
 use Rattle.gl_edges.specs.declared.edge.Edge.{Edge}
 use Rattle.gl_edges.specs.declared.edge.Sample.{Sample}
 use Rattle.gl_edges.proofs.Orders.{edge_cmp_total, edge_cmp_exact, sample_cmp_total, sample_cmp_exact}
 use Rattle.gl_edges.proofs.Least.{tied, neither_below, least_samples_push, Answers, table_answers}
+
+-- the map has each edge of these pairs, with its least sample
+pub record IsTreeOf (table : BTreeMap Edge Sample) (pairs : List (Edge × Sample)) : Type 0 where
+  -- what it has at an edge
+  pub each : (edge : Edge) → tree.get edge_cmp table edge ≡ map.get (least_samples pairs) edge
 
 -- whether a table that answers so at an edge has it with a sample that is not above this one
 abbrev has_seen : Sample → Option Sample → Bool
@@ -64,8 +68,8 @@ get_push pairs edge sample q =
     ∙ map.get-insert edge_cmp_total (least_samples pairs) edge _ q
 
 -- an edge that was seen adds nothing
-pub seen_more : (table : BTreeMap Edge Sample) (pairs : List (Edge × Sample)) (edge : Edge) (sample : Sample) → IsTableOf table pairs
-    → has_seen sample (tree.get edge_cmp table edge) ≡ true → IsTableOf table (pairs ++ (edge, sample) ∷ [])
+pub seen_more : (table : BTreeMap Edge Sample) (pairs : List (Edge × Sample)) (edge : Edge) (sample : Sample) → IsTreeOf table pairs
+    → has_seen sample (tree.get edge_cmp table edge) ≡ true → IsTreeOf table (pairs ++ (edge, sample) ∷ [])
 seen_more table pairs edge sample known seen = record {
   each = λ q.
       elim (eq_by_cmp edge_cmp q edge) as (λ b. eq_by_cmp edge_cmp q edge ≡ b → tree.get edge_cmp table q ≡ cond b (Some (option_map_or (lesser sample) (map.get (least_samples pairs) edge) sample)) (map.get (least_samples pairs) q)) [
@@ -78,10 +82,10 @@ seen_more table pairs edge sample known seen = record {
 }
 
 -- one that was not is put in
-pub unseen_more : (table new : BTreeMap Edge Sample) (pairs : List (Edge × Sample)) (edge : Edge) (sample : Sample) → IsTableOf table pairs
+pub unseen_more : (table new : BTreeMap Edge Sample) (pairs : List (Edge × Sample)) (edge : Edge) (sample : Sample) → IsTreeOf table pairs
     → has_seen sample (tree.get edge_cmp table edge) ≡ false
     → ((q : Edge) → tree.get edge_cmp new q ≡ cond (eq_by_cmp edge_cmp edge q) (Some sample) (tree.get edge_cmp table q))
-    → IsTableOf new (pairs ++ (edge, sample) ∷ [])
+    → IsTreeOf new (pairs ++ (edge, sample) ∷ [])
 unseen_more table new pairs edge sample known unseen puts = record {
   each = λ q.
       let value : Some sample ≡ Some (option_map_or (lesser sample) (map.get (least_samples pairs) edge) sample) =
@@ -124,16 +128,12 @@ is_sorted_from R [] all = tt
 is_sorted_from R (e ∷ es) all = both _ _ (below_all_from R e.0 es all.0) (is_sorted_from R es all.1)
 
 -- the entries of the table are the pairs, each edge once
-pub table_entries : (table : BTreeMap Edge Sample) (pairs : List (Edge × Sample)) → IsOrdered edge_cmp table → IsTableOf table pairs → table.entries ≡ once pairs
+pub table_entries : (table : BTreeMap Edge Sample) (pairs : List (Edge × Sample)) → IsOrdered edge_cmp table → IsTreeOf table pairs → table.entries ≡ once pairs
 unfolding once
 table_entries table pairs ordered known =
     same_entries edge_cmp edge_cmp_total edge_cmp_exact table.entries (map.entries (least_samples pairs))
     (is_sorted_from edge_cmp table.entries ordered) (map.entries_sorted (least_samples pairs))
     (λ q. find_is_lookup edge_cmp q table.entries ∙ known.each q ∙ map.get-entries (least_samples pairs) q)
-
--- an empty table is that of no pairs
-pub empty_table : (table : BTreeMap Edge Sample) → table.entries ≡ [] → IsTableOf table []
-empty_table table none = record { each = λ q. ap (lookup (is_at (edge_cmp q))) none ∙ sym (map.get-empty edge_cmp q) }
 
 -- ---- what is in the list of a table
 

@@ -15,17 +15,16 @@ use crate::edge::{Edge, Sample};
 use crate::guards::Guards;
 use crate::list::EdgeList;
 use crate::seen::Seen;
-use crate::table::{into_list, keep};
+use crate::table::Table;
 use crate::tracker::Tracker;
 use gl_event::{Event, LocId, LockId, LockMode, Memory, ThreadId};
 use std::alloc::Global;
-use std::collections::BTreeMap;
 
 // The edges found so far, one edge whose fields are set in turn to look others up, and acquires that
 // the current thread made before.
 #[derive(Drop)]
 struct Gatherer {
-    table: BTreeMap<Edge, Sample>,
+    table: Table,
     edge: Edge,
     seen: Seen,
 }
@@ -77,7 +76,7 @@ impl Gatherer {
                 held_loc: entry.loc,
                 wanted_loc: loc,
             };
-            keep(alloc, &mut self.table, &self.edge, sample)?;
+            self.table.keep(alloc, &self.edge, sample)?;
         }
         Ok(())
     }
@@ -132,7 +131,7 @@ pub fn edges_of(alloc: Global, lists: &[Vec<Event>]) -> Result<EdgeList, Memory>
     ensures { IfOk result (λ l. l ≡ edges (map (λ v. v.items) lists.now)) }
 {
     let mut gatherer = Gatherer {
-        table: BTreeMap::new(alloc),
+        table: Table::new(alloc),
         edge: Edge {
             thread: ThreadId::new(0),
             held: LockId::new(0),
@@ -148,5 +147,5 @@ pub fn edges_of(alloc: Global, lists: &[Vec<Event>]) -> Result<EdgeList, Memory>
     for (number, list) in lists.iter().enumerate() {
         gatherer.take_list(alloc, ThreadId::new(number as u32), list.as_slice())?;
     }
-    into_list(alloc, gatherer.table)
+    gatherer.table.into_list(alloc)
 }

@@ -34,4 +34,5 @@ pub use laws::{
     samples_are_ordered_by_their_fields,
 };
 pub use list::EdgeList;
+pub use table::Table;
 pub use tracker::Tracker;

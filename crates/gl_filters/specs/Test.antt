@@ -1,16 +1,21 @@
 -- The test of a cycle: what of a list of edges is looked at, in the order in which it grows.
-use Rattle.std.specs.Prelude.{Bool, true, false, not, ◌&&◌, List, [], ◌∷◌, length, ◌==◌, nat_le}
+use Rattle.std.specs.Prelude.{ℕ, Bool, true, false, not, ◌&&◌, List, [], ◌∷◌, length, ◌==◌, nat_le}
 use Rattle.std.specs.List.{list_all}
 use Rattle.gl_event.specs.declared.events.Segment.{Segment}
 use Rattle.gl_event.specs.Modes.{conflict}
+use Rattle.gl_event.specs.declared.events.LockMode.{LockMode}
 use Rattle.gl_edges.specs.Clashes.{guards_clash}
 use Rattle.gl_edges.specs.declared.edge.Edge.{Edge}
 use Rattle.gl_filters.specs.Cycle.{asks_guards, asks_order, is_ordered}
 use Rattle.gl_filters.specs.declared.query.Mode.{Mode}
 
+-- who wants a lock in this mode waits for who holds one in that mode: the locks are the same, and the two aren't both readers
+abbrev pub waits_for : ℕ → LockMode → ℕ → LockMode → Bool
+waits_for wanted wanted_mode held held_mode = (wanted == held) && conflict wanted_mode held_mode
+
 -- the first edge wants the lock that the second one holds, and not both as readers
 abbrev pub leads_to : Edge → Edge → Bool
-leads_to e f = (e.wanted == f.held) && conflict e.wanted_mode f.held_mode
+leads_to e f = waits_for e.wanted e.wanted_mode f.held f.held_mode
 
 -- guards and order let the two edges stand in one cycle of this mode
 unfoldable pub is_clear : (Segment → Segment → Bool) → Mode → Edge → Edge → Bool

@@ -12,6 +12,6 @@ mod verdict;
 pub use laws::{
     cycles_are_as_tested, cycles_go_round, valid_lists_are_cycles, verdicts_are_unique,
 };
-pub use pairs::{compatible, compatible_at, goes_with, kinds_go_together, leads_on};
+pub use pairs::{compatible, compatible_at, goes_with, kinds_go_together, leads_on, waits_for};
 pub use query::{BadQuery, MAX_CYCLES, MAX_LEN, Mode, Query, limits_in_numbers};
 pub use verdict::{Verdict, judge};

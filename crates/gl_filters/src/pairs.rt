@@ -5,19 +5,27 @@ ghost use Rattle.gl_edges.specs.Numbered.{guards_in, AreNumbered};
 ghost use Rattle.gl_edges.specs.declared.edge.Edge.{Edge};
 ghost use Rattle.gl_segments.specs.Clocks.{is_before};
 ghost use Rattle.gl_filters.specs.Cycle.{asks_guards, asks_order, is_ordered};
-ghost use Rattle.gl_filters.specs.Test.{leads_to, is_clear, goes_with, kinds_go_together, is_compatible};
+ghost use Rattle.gl_filters.specs.Test.{leads_to, waits_for, is_clear, goes_with, kinds_go_together, is_compatible};
 
 use crate::query::Mode;
 use gl_edges::{Edge, EdgeList, GuardSets, Guards};
-use gl_event::Segment;
+use gl_event::{LockId, LockMode, Segment};
 use gl_segments::Order;
 
+/// Whether who wants a lock in this mode waits for who holds one in that mode: the locks are the same,
+/// and the two aren't both readers. A reader doesn't wait for a reader.
+pub fn waits_for(wanted: LockId, wanted_mode: LockMode, held: LockId, held_mode: LockMode) -> bool
+    ensures { result ≡ waits_for wanted wanted_mode held held_mode }
+{
+    wanted == held && wanted_mode.conflicts_with(held_mode)
+}
+
 /// Whether the first edge leads on to the second: it wants the lock that the second one holds, and
-/// not both as readers. A reader doesn't wait for a reader.
+/// not both as readers.
 pub fn leads_on(e: &Edge, f: &Edge) -> bool
     ensures { result ≡ leads_to e.now f.now }
 {
-    e.wanted == f.held && e.wanted_mode.conflicts_with(f.held_mode)
+    waits_for(e.wanted, e.wanted_mode, f.held, f.held_mode)
 }
 
 impl Mode {

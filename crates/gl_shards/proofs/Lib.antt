@@ -1,4 +1,3 @@
-pub mod Filling
 pub mod InOrder
 pub mod Messages
 pub mod Serving

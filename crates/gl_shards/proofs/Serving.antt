@@ -13,7 +13,7 @@ use Rattle.gl_shards.specs.declared.rule.Traffic.{Traffic}
 use Rattle.gl_shards.specs.Ends.{Channel, IsFresh, IsServing, HasServed}
 use Rattle.gl_shards.specs.Feeds.{feed_of, received_by}
 use Rattle.gl_shards.specs.Rule.{traffic, and_got, pairs_in, HasEnded}
-use Rattle.gl_shards.proofs.Filling.{once_of_none}
+use Rattle.gl_edges.proofs.Filling.{once_of_none}
 use Rattle.gl_shards.proofs.Messages.{pair_more, end_more, still_open, now_ended}
 
 module _ {Q M L A B : Type 0} (receiver : Receiving (Channel Q M L A) B) where

@@ -15,7 +15,7 @@ use Rattle.gl_edges.proofs.Least.{same_once}
 use Rattle.gl_edges.proofs.Membership.{contains_here, contains_later, contains_cases, contains_none, contains_map, contains_map_from, contains_flat_map, contains_flat_map_from, contains_range}
 use Rattle.gl_shards.specs.Shards.{shard_of}
 use Rattle.gl_shards.specs.Tables.{all_pairs, filled, of_shard, union}
-use Rattle.gl_shards.proofs.Filling.{once_of_none, once_again, once_before, once_behind, once_moved}
+use Rattle.gl_edges.proofs.Filling.{once_of_none, once_again, once_before, once_behind, once_moved}
 
 -- pairs that are inserted one after the other, into a table that has each edge once
 filled_from : (table pairs : List (Edge × Sample)) → once table ≡ table → filled table pairs ≡ once (table ++ pairs)

@@ -34,19 +34,20 @@
 
 mod ends;
 mod laws;
+mod merging;
 mod rule;
 mod shard;
-mod table;
 #[cfg(test)]
 mod tests;
 mod waiting;
 mod worker;
 
 pub use ends::{Gone, Inlet, Outlet, Sent, feed};
+pub use gl_edges::Table;
 pub use laws::{
     shards_make_the_whole, tables_have_least_samples, tables_need_no_order, unions_need_no_order,
 };
+pub use merging::merge;
 pub use shard::{MAX_SHARDS, limits_in_numbers, shard_of};
-pub use table::{Table, merge};
 pub use waiting::pause;
 pub use worker::{Gate, Open, ServeFault, Served, serve};

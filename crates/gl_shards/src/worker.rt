@@ -11,10 +11,9 @@ ghost use Rattle.gl_shards.specs.declared.worker.ServeFault.TheVariants.{Cut, Me
 
 use crate::ends::{Inlet, Receiver, Sent};
 use crate::rule::{Message, Receives, Roles, Traffic, Whole};
-use crate::table::Table;
 use crate::waiting::{LOOKS, pause};
 use crossbeam_channel::{Pass, RecvError, TryRecvError};
-use gl_edges::{Edge, Sample};
+use gl_edges::{Edge, Sample, Table};
 use std::alloc::Global;
 use std::marker::Model;
 use std::sync::Wait;

@@ -10,7 +10,7 @@ use Rattle.gl_edges.specs.declared.edge.Edge.{Edge}
 use Rattle.gl_edges.specs.declared.edge.Sample.{Sample}
 use Rattle.gl_shards.specs.Shards.{shard_of}
 use Rattle.gl_shards.specs.Tables.{all_pairs, union}
-use Rattle.gl_shards.proofs.Filling.{once_of_none, once_before, once_behind}
+use Rattle.gl_edges.proofs.Filling.{once_of_none, once_before, once_behind}
 use Rattle.gl_world.specs.Dispatch.{Shard, Dispatch, Handled, wait, has_place, has_work, ship_edge, work_edge, ship_turn, work_turn}
 use Rattle.gl_world.specs.Keeping.{IsTabled}
 use Rattle.gl_world.specs.declared.steps.Did.TheVariants.{Nothing, Shipped, Worked}

@@ -1,11 +1,11 @@
 -- Gaps of rounds: what is missing from the lock that the last edge of a path wants back to the one that its first edge holds.
-use Rattle.std.specs.Prelude.{◌≡◌, ℕ, ◌+◌, ◌-◌, ◌<◌, ◌≤◌, Bool, true, ◌&&◌, ◌==◌, List, [], ◌∷◌, length, slice_get, Some, All, Contains}
+use Rattle.std.specs.Prelude.{◌≡◌, ℕ, ◌+◌, ◌-◌, ◌<◌, ◌≤◌, Bool, true, List, [], ◌∷◌, length, slice_get, Some, All, Contains}
 use Rattle.gl_event.specs.declared.events.Segment.{Segment}
-use Rattle.gl_event.specs.Modes.{conflict}
 use Rattle.gl_edges.specs.declared.edge.Edge.{Edge}
 use Rattle.gl_filters.specs.declared.query.Mode.{Mode}
 use Rattle.gl_filters.specs.Cycle.{IsCycle}
 use Rattle.gl_filters.specs.Picked.{edges_of_table}
+use Rattle.gl_filters.specs.Test.{waits_for}
 use Rattle.gl_segments.specs.Clocks.{is_before}
 use Rattle.gl_cycles.specs.bodies.Kinds.{AreAlike, may_meet, place_after, AreWithin, HasModels, NoneThrough}
 use Rattle.gl_cycles.specs.declared.dead_ends.DeadEnd.{DeadEnd}
@@ -19,11 +19,11 @@ gap_of e len = record { wanted = e.wanted; wanted_mode = e.wanted_mode; held = e
 
 -- nothing is missing
 abbrev pub gap_closes : Gap → Bool
-gap_closes gap = (gap.wanted == gap.held) && conflict gap.wanted_mode gap.held_mode
+gap_closes gap = waits_for gap.wanted gap.wanted_mode gap.held gap.held_mode
 
 -- this edge may come next
 abbrev pub gap_leads : Gap → Edge → Bool
-gap_leads gap e = (gap.wanted == e.held) && conflict gap.wanted_mode e.held_mode
+gap_leads gap e = waits_for gap.wanted gap.wanted_mode e.held e.held_mode
 
 -- what is missing after it
 abbrev pub gap_behind : Gap → Edge → Gap

@@ -1,12 +1,12 @@
-use Rattle.std.proofs.Common.{◌∙◌}
+use Rattle.std.proofs.Common.{sym, ◌∙◌}
 use Rattle.std.proofs.lemmas.List.{take_all}
 use Rattle.std.proofs.lemmas.Result.{IfOk-weaker}
 use Rattle.gl_edges.proofs.Gathering.{list_at, table_lists}
-use Rattle.gl_edges.proofs.Tables.{empty_table, table_entries}
+use Rattle.gl_edges.proofs.Filling.{once_of_none}
 use Rattle.gl_edges.proofs.gather.edges_of.Goals as goal
 
 pub loop-number-init : goal.loop-number-init
-loop-number-init c = empty_table c.new.result c.new.ensures.empty
+loop-number-init c = record { is = c.new.ensures ∙ sym once_of_none }
 
 pub take_list-requires : goal.take_list-requires
 take_list-requires c =
@@ -24,5 +24,4 @@ pub returns : goal.returns
 returns c =
     let all = take_all c.loop-number.number c.args.lists.now c.loop-number-test.false in
     let known = rw all at c.loop-number.invariant in
-    let entries = table_entries c.loop-number.gatherer.table _ c.into_list.ensures.ordered known in
-    IfOk-weaker c.into_list.result _ _ (λ l is. is ∙ entries) c.into_list.ensures.entries
+    IfOk-weaker c.into_list.result _ _ (λ l is. is ∙ known.is) c.into_list.ensures

@@ -2,7 +2,7 @@ use Rattle.std.proofs.Common.{sym, ap, ◌∙◌, subst}
 use Rattle.gl_cycles.specs.Reports.{IsReport}
 use Rattle.gl_edges.specs.Edges.{edges}
 use Rattle.gl_segments.specs.Orders.{lists_of}
-use Rattle.gl_shards.proofs.Filling.{once_of_none}
+use Rattle.gl_edges.proofs.Filling.{once_of_none}
 use Rattle.gl_live.proofs.live.report_of_none.Goals as goal
 
 pub returns-in-Ok-clause-report : goal.returns-in-Ok-clause-report

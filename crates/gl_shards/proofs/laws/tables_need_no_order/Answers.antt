@@ -1,5 +1,5 @@
 use Rattle.std.proofs.Common.{[], ◌∷◌}
-use Rattle.gl_shards.proofs.Filling.{once_of_none, once_before}
+use Rattle.gl_edges.proofs.Filling.{once_of_none, once_before}
 use Rattle.gl_shards.proofs.Uniting.{filled_is_once, once_permuted}
 use Rattle.gl_shards.proofs.laws.tables_need_no_order.Goals as goal
 

@@ -2,7 +2,7 @@ use Rattle.std.proofs.Common.{◌≡◌, [], ◌∷◌, ◌++◌, ap, subst, ◌
 use Rattle.gl_edges.specs.Edges.{once}
 use Rattle.gl_edges.specs.declared.edge.Edge.{Edge}
 use Rattle.gl_edges.specs.declared.edge.Sample.{Sample}
-use Rattle.gl_shards.proofs.Filling.{once_before}
+use Rattle.gl_edges.proofs.Filling.{once_before}
 use Rattle.gl_shards.proofs.worker.with_edge.Goals as goal
 
 pub returns-in-Ok : goal.returns-in-Ok

@@ -1,7 +1,7 @@
 use Rattle.std.proofs.Common.{◌++◌, map, take, refl, ap, ◌∙◌}
 use Rattle.gl_edges.specs.Guards.{guards_of}
 use Rattle.gl_edges.specs.bodies.Gatherers.{pair_for}
-use Rattle.gl_edges.proofs.Gathering.{table_nil, pair_is, table_more, table_all}
+use Rattle.gl_edges.proofs.Gathering.{table_nil, table_push, pair_is, table_more, table_all}
 use Rattle.gl_edges.proofs.gather.Gatherer.add_each.Goals as goal
 
 pub loop-entry-init : goal.loop-entry-init
@@ -29,8 +29,8 @@ loop-entry-preserved c =
           let f = pair_for c.args.tracker.now c.args.wanted c.args.mode c.args.loc in
           let within = rw c.entries-entries.ensures at c.loop-entry-test.true in
           let item = rw c.entries-entries.ensures at c.entry-item.is in
-          let step = c.in_ok-keep.ensures (pairs ++ map f (take c.loop-entry.entry-index c.args.tracker.now.held)) (known.known pairs is) in
-          table_more c.keep.new.table pairs f c.args.tracker.now.held c.loop-entry.entry-index c.entry-item.result _ within item
+          let step = table_push c.loop-entry.self.table c.keep.new.self (pairs ++ map f (take c.loop-entry.entry-index c.args.tracker.now.held)) _ c.in_ok-keep.ensures (known.known pairs is) in
+          table_more c.keep.new.self pairs f c.args.tracker.now.held c.loop-entry.entry-index c.entry-item.result _ within item
           (pair_is c.loop-entry.self.edge c.args.tracker.now c.args.wanted c.args.mode c.args.loc c.entry-item.result known.of_thread known.wants known.wants_as known.in_segment known.guarded)
           step;
     }

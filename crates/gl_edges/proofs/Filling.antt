@@ -17,13 +17,12 @@ use Rattle.std.proofs.lemmas.Map.Views.{Contains-from_lookup, lookup-from_Contai
 use Rattle.gl_edges.specs.Edges.{least_samples, once}
 use Rattle.gl_edges.specs.Laws.{AreAmong}
 use Rattle.gl_edges.specs.Order.{edge_cmp, sample_cmp, AreAscending}
-use Rattle.gl_edges.specs.bodies.Tables.{IsTableOf}
 use Rattle.gl_edges.specs.declared.edge.Edge.{Edge}
 use Rattle.gl_edges.specs.declared.edge.Sample.{Sample}
 use Rattle.gl_edges.proofs.Least.{tied, same_once, Answers, table_answers}
 use Rattle.gl_edges.proofs.Merging.{once_merged}
 use Rattle.gl_edges.proofs.Orders.{edge_cmp_total, edge_cmp_exact}
-use Rattle.gl_edges.proofs.Tables.{once_ascends, seen_more, unseen_more, table_entries, is_sorted_from, find_is_lookup}
+use Rattle.gl_edges.proofs.Tables.{IsTreeOf, once_ascends, seen_more, unseen_more, table_entries, is_sorted_from, find_is_lookup}
 
 -- ---- what stands in an ascending list
 
@@ -64,7 +63,7 @@ once_of_ascending pairs ascends =
 -- ---- one more edge
 
 -- a table is that of its own entries
-own_entries : (table : BTreeMap Edge Sample) → IsOrdered edge_cmp table → IsTableOf table table.entries
+own_entries : (table : BTreeMap Edge Sample) → IsOrdered edge_cmp table → IsTreeOf table table.entries
 own_entries table ordered = record { each = found_is_answer table.entries ordered }
 
 -- an edge that the table has with a sample that is not above leaves it as it is

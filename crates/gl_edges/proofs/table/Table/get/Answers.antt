@@ -1,6 +1,6 @@
 use Rattle.std.proofs.Common.{sym, ◌∙◌}
-use Rattle.gl_shards.proofs.Filling.{found_is_there, there_is_found}
-use Rattle.gl_shards.proofs.table.Table.get.Goals as goal
+use Rattle.gl_edges.proofs.Filling.{found_is_there, there_is_found}
+use Rattle.gl_edges.proofs.table.Table.get.Goals as goal
 
 pub returns : goal.returns
 returns c = λ sample.

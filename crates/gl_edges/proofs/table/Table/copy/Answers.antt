@@ -4,8 +4,8 @@ use Rattle.std.proofs.lemmas.Map.Iter.{rest_more, rest_all}
 use Rattle.gl_edges.specs.Edges.{once}
 use Rattle.gl_edges.specs.declared.edge.Edge.{Edge}
 use Rattle.gl_edges.specs.declared.edge.Sample.{Sample}
-use Rattle.gl_shards.proofs.Filling.{once_of_ascending, once_of_none, once_again, once_moved, once_whole}
-use Rattle.gl_shards.proofs.table.Table.copy.Goals as goal
+use Rattle.gl_edges.proofs.Filling.{once_of_ascending, once_of_none, once_again, once_moved, once_whole}
+use Rattle.gl_edges.proofs.table.Table.copy.Goals as goal
 
 pub loop-edge-init : goal.loop-edge-init
 loop-edge-init c =

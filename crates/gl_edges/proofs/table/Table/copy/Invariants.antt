@@ -1,6 +1,6 @@
 use Rattle.std.proofs.Common.{◌≡◌, ◌++◌}
 use Rattle.gl_edges.specs.Edges.{once}
-use Rattle.gl_shards.proofs.table.Table.copy.Given as goal
+use Rattle.gl_edges.proofs.table.Table.copy.Given as goal
 
 abbrev pub invariant-loop-edge : goal.invariant-loop-edge
 invariant-loop-edge l = record {

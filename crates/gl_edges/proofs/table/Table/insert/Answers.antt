@@ -1,7 +1,7 @@
 use Rattle.std.proofs.Common.{◌≡◌, [], ◌∷◌, ◌++◌, sym, subst, ◌∙◌}
 use Rattle.gl_edges.specs.Edges.{once}
-use Rattle.gl_shards.proofs.Filling.{seen_stays, unseen_enters, never_there}
-use Rattle.gl_shards.proofs.table.Table.insert.Goals as goal
+use Rattle.gl_edges.proofs.Filling.{seen_stays, unseen_enters, never_there}
+use Rattle.gl_edges.proofs.table.Table.insert.Goals as goal
 
 pub returns-then-has_seen-clause-inserted : goal.returns-then-has_seen-clause-inserted
 returns-then-has_seen-clause-inserted c =

@@ -2,7 +2,7 @@ use Rattle.std.proofs.Common.{◌≡◌, ◌++◌}
 use Rattle.std.specs.Vec.Iter.{into_iter_items}
 use Rattle.gl_edges.specs.Edges.{once}
 use Rattle.gl_shards.specs.Tables.{all_pairs, union}
-use Rattle.gl_shards.proofs.table.merge.Given as goal
+use Rattle.gl_shards.proofs.merging.merge.Given as goal
 
 abbrev pub invariant-loop-table : goal.invariant-loop-table
 invariant-loop-table l = record {

@@ -2,9 +2,9 @@ use Rattle.std.proofs.Common.{◌++◌, sym, ap, ◌∙◌}
 use Rattle.std.specs.Vec.Iter.{into_iter_items}
 use Rattle.gl_edges.specs.Edges.{once}
 use Rattle.gl_shards.specs.Tables.{all_pairs}
-use Rattle.gl_shards.proofs.Filling.{once_of_none, once_again, once_before}
+use Rattle.gl_edges.proofs.Filling.{once_of_none, once_again, once_before}
 use Rattle.std.proofs.lemmas.List.{append_assoc}
-use Rattle.gl_shards.proofs.table.merge.Goals as goal
+use Rattle.gl_shards.proofs.merging.merge.Goals as goal
 
 pub loop-table-init : goal.loop-table-init
 loop-table-init c = record {
