@@ -111,7 +111,8 @@ fn put_list(
 
 /// The text that tells a trace: each thread's list in the order of their numbers, and each event as
 /// its line, by the word of its operation. A line is ended by LF, and by CR LF where its location
-/// ends with CR.
+/// ends with CR. Where the trace is that of a text, what is written is read again under the same
+/// limits, and tells the same ([`written_texts_are_read_again`](crate::written_texts_are_read_again)).
 ///
 /// Takes memory for the text alone. Time grows with its length.
 pub fn write_trace(alloc: Global, trace: &Trace) -> Result<Vec<u8>, AllocError>
