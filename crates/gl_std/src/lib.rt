@@ -42,24 +42,24 @@
 
 mod faults;
 mod feed;
+mod from_source;
 mod guess;
 mod judge;
 mod laws;
 mod line;
-mod lines;
+mod line_ends;
 mod lists;
 mod name;
 mod names;
-mod read;
-mod reader;
 mod seed;
 mod standing;
 mod stream;
-mod text;
 mod trace;
+mod whole_text;
 mod writing;
 
 pub use faults::{LinesFault, ReadFault, StdKind};
+pub use from_source::{Heard, read_source};
 pub use gl_io::{Failed, FromStd, Sink, Source};
 pub use laws::{
     faults_come_first, lines_are_unique, lines_follow_lines, lines_say_one_thing, reading_goes_on,
@@ -67,12 +67,11 @@ pub use laws::{
     written_texts_are_read_again, written_texts_say_traces,
 };
 pub use line::{MAX_LINE, limits_in_numbers};
-pub use lines::ended_lines;
+pub use line_ends::ended_lines;
 pub use lists::Lists;
 pub use names::Names;
-pub use read::{read_seeded, read_trace};
 pub use seed::Seed;
 pub use stream::{Item, Items, Lines};
-pub use text::{Heard, read_source};
 pub use trace::Trace;
+pub use whole_text::{read_seeded, read_trace};
 pub use writing::write_trace;

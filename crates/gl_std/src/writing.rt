@@ -5,7 +5,7 @@ ghost use Rattle.gl_event.specs.declared.events.Event.{Event};
 ghost use Rattle.gl_std.specs.Trace.{IsNamed};
 ghost use Rattle.gl_std.specs.Written.{line_end, name_at, operand_name, word_of, written, written_event, written_list};
 
-use crate::lines::without_cr;
+use crate::line_ends::without_cr;
 use crate::names::Names;
 use crate::trace::Trace;
 use gl_event::{Event, LockMode, ThreadId};

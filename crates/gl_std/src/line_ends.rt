@@ -1,4 +1,4 @@
-//! The lines of a text.
+//! Where the lines of a text end.
 ghost use Rattle.std.specs.Prelude.{◌≡◌, ◌<◌, [], ◌∷◌, length, MatchOption};
 ghost use Rattle.gl_std.specs.Lines.{ended_lines, lines, without_cr};
 

@@ -2,7 +2,7 @@ use Rattle.std.proofs.Common.{◌≡◌, false, List, ℕ}
 use Rattle.gl_std.specs.bodies.States.{IsFit, ReadsOn}
 use Rattle.gl_std.specs.bodies.Stepping.{fuel}
 use Rattle.gl_std.specs.bodies.Hearing.{listed_by}
-use Rattle.gl_std.proofs.text.read_source.Given as goal
+use Rattle.gl_std.proofs.from_source.read_source.Given as goal
 
 abbrev pub invariant-lines : goal.invariant-lines
 invariant-lines g l = record {

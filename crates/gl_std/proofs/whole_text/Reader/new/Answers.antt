@@ -1,10 +1,10 @@
 use Rattle.std.proofs.Common.{map, Vec, Global, ap, ◌∙◌}
 use Rattle.gl_event.specs.declared.events.Event.{Event}
 use Rattle.gl_std.specs.Trace.{nothing}
-use Rattle.gl_std.specs.declared.reader.Reader.{Reader}
+use Rattle.gl_std.specs.declared.whole_text.Reader.{Reader}
 use Rattle.gl_std.proofs.ReadingLemmas.{told_is, ready_of}
 use Rattle.gl_std.proofs.StepLemmas.{nothing_over}
-use Rattle.gl_std.proofs.reader.Reader.new.Goals as goal
+use Rattle.gl_std.proofs.whole_text.Reader.new.Goals as goal
 
 pub returns-clause-told : goal.returns-clause-told
 returns-clause-told c =

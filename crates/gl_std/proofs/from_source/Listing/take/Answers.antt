@@ -2,9 +2,9 @@ use Rattle.std.proofs.Common.{◌++◌, Ok, Err, refl, sym, ap, subst, ◌∙◌
 use Rattle.gl_std.specs.bodies.States.{IsOver}
 use Rattle.gl_std.specs.bodies.Stepping.{Steps}
 use Rattle.gl_std.specs.bodies.Hearing.{listed_by}
-use Rattle.gl_std.specs.declared.text.Listing.{Listing}
+use Rattle.gl_std.specs.declared.from_source.Listing.{Listing}
 use Rattle.gl_std.proofs.HeardLemmas.{listed_is, met_line}
-use Rattle.gl_std.proofs.text.Listing.take.Goals as goal
+use Rattle.gl_std.proofs.from_source.Listing.take.Goals as goal
 
 pub returns-in-Ok-More-clause-meets : goal.returns-in-Ok-More-clause-meets
 returns-in-Ok-More-clause-meets g c = λ limits turns start text is.

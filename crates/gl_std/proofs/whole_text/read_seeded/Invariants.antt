@@ -2,7 +2,7 @@ use Rattle.std.proofs.Common.{◌≡◌, ◌+◌, ◌≤◌, length}
 use Rattle.gl_std.specs.Lines.{lines}
 use Rattle.gl_std.specs.bodies.Reading.{told_by, IsReady}
 use Rattle.gl_std.specs.Trace.{read_from, trace_of}
-use Rattle.gl_std.proofs.read.read_seeded.Given as goal
+use Rattle.gl_std.proofs.whole_text.read_seeded.Given as goal
 
 abbrev pub invariant-loop-line : goal.invariant-loop-line
 invariant-loop-line l =

@@ -3,7 +3,7 @@ use Rattle.gl_std.specs.bodies.States.{ReadsOn}
 use Rattle.gl_std.specs.bodies.Hearing.{listed_by, Meets}
 use Rattle.gl_std.specs.Trace.{nothing}
 use Rattle.gl_std.proofs.HeardLemmas.{heard_over, heard_trace_over, heard_whole, listed_is}
-use Rattle.gl_std.proofs.text.read_source.Goals as goal
+use Rattle.gl_std.proofs.from_source.read_source.Goals as goal
 
 pub lines-init : goal.lines-init
 lines-init g c =

@@ -1,7 +1,7 @@
 use Rattle.std.proofs.Common.{Ok, Err, refl, sym, ap, ◌∙◌}
 use Rattle.gl_std.specs.bodies.Hearing.{listed_by}
 use Rattle.gl_std.proofs.HeardLemmas.{put_is}
-use Rattle.gl_std.proofs.text.Listing.finish.Goals as goal
+use Rattle.gl_std.proofs.from_source.Listing.finish.Goals as goal
 
 pub returns-in-Ok-clause-trace : goal.returns-in-Ok-clause-trace
 returns-in-Ok-clause-trace c = λ text over.

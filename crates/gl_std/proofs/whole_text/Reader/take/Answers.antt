@@ -3,7 +3,7 @@ use Rattle.gl_std.specs.bodies.Telling.{with_judged}
 use Rattle.gl_std.specs.Listed.{listed}
 use Rattle.gl_std.specs.bodies.Reading.{told_by}
 use Rattle.gl_std.proofs.ReadingLemmas.{line_ready}
-use Rattle.gl_std.proofs.reader.Reader.take.Goals as goal
+use Rattle.gl_std.proofs.whole_text.Reader.take.Goals as goal
 
 pub returns-in-Blank-clause-ready : goal.returns-in-Blank-clause-ready
 returns-in-Blank-clause-ready c =

@@ -1,6 +1,6 @@
 use Rattle.std.proofs.Common.{◌++◌}
 use Rattle.gl_std.proofs.PieceLemmas.{faulty_judged, faulty_more}
-use Rattle.gl_std.proofs.text.Listing.drain.Goals as goal
+use Rattle.gl_std.proofs.from_source.Listing.drain.Goals as goal
 
 pub returns : goal.returns
 returns g c = λ limits turns start text given faulty.

@@ -3,7 +3,7 @@ use Rattle.gl_std.specs.Lines.{lines}
 use Rattle.gl_std.specs.bodies.Reading.{told_by}
 use Rattle.gl_std.specs.Trace.{read_from}
 use Rattle.gl_std.proofs.StepLemmas.{trace_of-lines}
-use Rattle.gl_std.proofs.read.read_seeded.Goals as goal
+use Rattle.gl_std.proofs.whole_text.read_seeded.Goals as goal
 
 pub loop-line-init : goal.loop-line-init
 loop-line-init c =
