@@ -121,7 +121,7 @@ lists-found : (on : Bool) (names : NameLists) (lists : List (List Event)) (threa
 lists-found true names lists thread operand event = ap (λ ns. with_list (with_event lists (position (bytes_eq thread) names.threads) event) (position (bytes_eq operand) ns)) (sym (with_name-mention names.threads thread))
 lists-found false names lists thread operand event = refl
 
-trace-found : (told : Trace) (operation : Operation) (thread operand location : List ℕ) → with_call told operation thread operand location ≡ with_found told operation thread operand location
+pub trace-found : (told : Trace) (operation : Operation) (thread operand location : List ℕ) → with_call told operation thread operand location ≡ with_found told operation thread operand location
 trace-found told operation thread operand location =
     let names = names-found told.names operation thread operand location in
     let found = found_in told.names operation thread operand location in

@@ -10,9 +10,9 @@ use Rattle.gl_std.specs.Pieces.{judged}
 use Rattle.gl_std.specs.Trace.{trace_of, IsTraceOver}
 use Rattle.gl_std.specs.declared.faults.ReadFault.{ReadFault}
 use Rattle.gl_std.specs.declared.feed.Feed.{Feed}
-use Rattle.gl_std.specs.declared.text.Heard.{Heard}
-use Rattle.gl_std.specs.declared.text.Listing.{Listing}
-use Rattle.gl_std.specs.declared.text.Progress.TheVariants.{More}
+use Rattle.gl_std.specs.declared.from_source.Heard.{Heard}
+use Rattle.gl_std.specs.declared.from_source.Listing.{Listing}
+use Rattle.gl_std.specs.declared.from_source.Progress.TheVariants.{More}
 use Rattle.gl_std.specs.declared.trace.Trace.{Trace}
 use Rattle.gl_std.proofs.StepLemmas.{trace_of_over}
 

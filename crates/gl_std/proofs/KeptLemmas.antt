@@ -84,7 +84,7 @@ operands_front true a b grows = grows.threads
 operands_front false a b grows = grows.locks
 
 -- a name keeps its number
-IsNumbered-more : (a b : Trace) → Grows a b → (line : KeptLine) → IsNumbered a.names line → IsNumbered b.names line
+pub IsNumbered-more : (a b : Trace) → Grows a b → (line : KeptLine) → IsNumbered a.names line → IsNumbered b.names line
 IsNumbered-more a b grows line is =
     record {
       operand_number = is.operand_number;
@@ -176,7 +176,7 @@ locks_of-mention true names thread operand = refl
 locks_of-mention false names thread operand = with_name-mention names.locks operand
 
 -- the event goes to the end of its own thread's events, and to no other's
-events_named-lists_of : (on : Bool) (names : NameLists) (lists : List (List Event)) (thread operand name : List ℕ) (e : Event) → length lists ≡ length names.threads → events_named (threads_of on names thread operand) (lists_of on lists (position (bytes_eq thread) names.threads) (place_of on names thread operand) e) name ≡ events_named names.threads lists name ++ own (bytes_eq name thread) e
+pub events_named-lists_of : (on : Bool) (names : NameLists) (lists : List (List Event)) (thread operand name : List ℕ) (e : Event) → length lists ≡ length names.threads → events_named (threads_of on names thread operand) (lists_of on lists (position (bytes_eq thread) names.threads) (place_of on names thread operand) e) name ≡ events_named names.threads lists name ++ own (bytes_eq name thread) e
 events_named-lists_of false names lists thread operand name e each = events_named-after names.threads lists thread name e each
 events_named-lists_of true names lists thread operand name e each =
     let number = position (bytes_eq thread) names.threads in
@@ -184,8 +184,8 @@ events_named-lists_of true names lists thread operand name e each =
     events_named-listed (acting names thread) (with_event lists number e) operand name sizes ∙ events_named-after names.threads lists thread name e each
 
 -- the name stands at its number
-name_at : (names : List (List ℕ)) (name : List ℕ) → slice_get (with_name names (position (bytes_eq name) names) name) (unwrap_or (position (bytes_eq name) names) (length names)) ≡ Some name
-name_at names name = by (position (bytes_eq name) names) refl
+pub name_stands : (names : List (List ℕ)) (name : List ℕ) → slice_get (with_name names (position (bytes_eq name) names) name) (unwrap_or (position (bytes_eq name) names) (length names)) ≡ Some name
+name_stands names name = by (position (bytes_eq name) names) refl
   where
     by : (r : Option ℕ) → position (bytes_eq name) names ≡ r → slice_get (with_name names r name) (unwrap_or r (length names)) ≡ Some name
     by None e = slice_get_last names name
@@ -193,10 +193,10 @@ name_at names name = by (position (bytes_eq name) names) refl
         let at = position-Some (bytes_eq name) names i [] e in
         slice_get-get_or names i [] at.0 ∙ ap (λ n. Some n) (sym ((bytes_eq-Decides name (get_or names i [])).0 at.1))
 
-operand_at : (on : Bool) (names : NameLists) (thread operand : List ℕ) → slice_get (cond on (threads_of on names thread operand) (locks_of on names thread operand)) (unwrap_or (place_of on names thread operand) (cond on (length names.threads + cond (is_none (position (bytes_eq thread) names.threads)) 1 0) (length names.locks))) ≡ Some operand
+pub operand_at : (on : Bool) (names : NameLists) (thread operand : List ℕ) → slice_get (cond on (threads_of on names thread operand) (locks_of on names thread operand)) (unwrap_or (place_of on names thread operand) (cond on (length names.threads + cond (is_none (position (bytes_eq thread) names.threads)) 1 0) (length names.locks))) ≡ Some operand
 operand_at true names thread operand =
-    subst (λ n. slice_get (threads_of true names thread operand) (unwrap_or (place_of true names thread operand) n) ≡ Some operand) (length-with_name names.threads (position (bytes_eq thread) names.threads) thread) (name_at (acting names thread) operand)
-operand_at false names thread operand = name_at names.locks operand
+    subst (λ n. slice_get (threads_of true names thread operand) (unwrap_or (place_of true names thread operand) n) ≡ Some operand) (length-with_name names.threads (position (bytes_eq thread) names.threads) thread) (name_stands (acting names thread) operand)
+operand_at false names thread operand = name_stands names.locks operand
 
 one_line : (P : KeptLine → Type 0) (line : KeptLine) → P line → All P (line ∷ [])
 one_line P line is = All-push P [] line (λ k d h. absurd (omega arith)) is
@@ -213,7 +213,7 @@ call_told told operation thread operand location each =
       operand_number = operand_number told.names operation found;
       loc_number = unwrap_or found.loc (length told.names.locs);
       operand_at = operand_at on told.names thread operand;
-      loc_at = name_at told.names.locs location;
+      loc_at = name_stands told.names.locs location;
       event_is = refl;
     } in
     record {

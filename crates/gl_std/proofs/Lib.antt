@@ -1,3 +1,4 @@
+pub mod AgainLemmas
 pub mod CutLemmas
 pub mod FaultLemmas
 pub mod FeedLemmas
@@ -7,10 +8,13 @@ pub mod HeardLemmas
 pub mod JudgingLemmas
 pub mod LinesLemmas
 pub mod KeptLemmas
+pub mod MentionLemmas
 pub mod NameLemmas
 pub mod PieceLemmas
 pub mod PlaceLemmas
 pub mod ReadingLemmas
+pub mod RenumberingLemmas
+pub mod RetoldLemmas
 pub mod SayingLemmas
 pub mod ShapeLemmas
 pub mod StandingLemmas

@@ -61,13 +61,13 @@ position-push p xs y = by (position p xs) refl (p y) refl
 
 -- ---- names
 
-same_name : (a b : List ℕ) → bytes_eq a b ≡ true → a ≡ b
+pub same_name : (a b : List ℕ) → bytes_eq a b ≡ true → a ≡ b
 same_name a b h = (bytes_eq-Decides a b).0 h
 
 pub itself : (a : List ℕ) → bytes_eq a a ≡ true
 itself a = (bytes_eq-Decides a a).1 refl
 
-other_name : (a b : List ℕ) → a ≢ b → bytes_eq a b ≡ false
+pub other_name : (a b : List ℕ) → a ≢ b → bytes_eq a b ≡ false
 other_name a b apart = by (bytes_eq a b) refl
   where
     by : (r : Bool) → bytes_eq a b ≡ r → r ≡ false

@@ -6,7 +6,7 @@ use Rattle.gl_std.specs.bodies.Telling.{with_judged}
 use Rattle.gl_std.specs.bodies.Reading.{told_by, IsReady}
 use Rattle.gl_std.specs.Trace.{after_line, IsTraceOver}
 use Rattle.gl_std.specs.declared.judge.Judged.{Judged}
-use Rattle.gl_std.specs.declared.reader.Reader.{Reader}
+use Rattle.gl_std.specs.declared.whole_text.Reader.{Reader}
 use Rattle.gl_std.specs.declared.trace.Trace.{Trace}
 use Rattle.gl_std.proofs.StepLemmas.{after_line_over}
 

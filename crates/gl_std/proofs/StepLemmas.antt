@@ -59,7 +59,7 @@ absent_differs : (names : List (List ℕ)) (name : List ℕ) → position (bytes
 absent_differs names name absent k d within same =
     false≢true (sym (list_any-absent (bytes_eq name) names absent) ∙ list_any_at (bytes_eq name) names k d within ((bytes_eq-Decides name (get_or names k d)).1 (sym same)))
 
-names_differ : (names : List (List ℕ)) (number : Option ℕ) (name : List ℕ) → number ≡ position (bytes_eq name) names → AllPairs (λ a b. a ≢ b) names → AllPairs (λ a b. a ≢ b) (with_name names number name)
+pub names_differ : (names : List (List ℕ)) (number : Option ℕ) (name : List ℕ) → number ≡ position (bytes_eq name) names → AllPairs (λ a b. a ≢ b) names → AllPairs (λ a b. a ≢ b) (with_name names number name)
 names_differ names None name is differ = all_pairs_push (λ a b. a ≢ b) names name differ (absent_differs names name (sym is))
 names_differ names (Some i) name is differ = differ
 
@@ -166,16 +166,16 @@ length-with_list : (lists : List (List Event)) (number : Option ℕ) → length 
 length-with_list lists None = length_push lists []
 length-with_list lists (Some i) = omega arith
 
-length-lists_of : (on : Bool) (lists : List (List Event)) (number place : Option ℕ) (e : Event) → length (lists_of on lists number place e) ≡ length lists + cond (is_none number) 1 0 + cond on (cond (is_none place) 1 0) 0
+pub length-lists_of : (on : Bool) (lists : List (List Event)) (number place : Option ℕ) (e : Event) → length (lists_of on lists number place e) ≡ length lists + cond (is_none number) 1 0 + cond on (cond (is_none place) 1 0) 0
 length-lists_of true lists number place e = omega (arith, length-with_event lists number e, length-with_list (with_event lists number e) place)
 length-lists_of false lists number place e = omega (arith, length-with_event lists number e)
 
-threads_of-differ : (on : Bool) (names : NameLists) (thread operand : List ℕ) → AllPairs (λ a b. a ≢ b) names.threads → AllPairs (λ a b. a ≢ b) (threads_of on names thread operand)
+pub threads_of-differ : (on : Bool) (names : NameLists) (thread operand : List ℕ) → AllPairs (λ a b. a ≢ b) names.threads → AllPairs (λ a b. a ≢ b) (threads_of on names thread operand)
 threads_of-differ true names thread operand differ =
     names_differ (acting names thread) (place_of true names thread operand) operand refl (names_differ names.threads (position (bytes_eq thread) names.threads) thread refl differ)
 threads_of-differ false names thread operand differ = names_differ names.threads (position (bytes_eq thread) names.threads) thread refl differ
 
-locks_of-differ : (on : Bool) (names : NameLists) (thread operand : List ℕ) → AllPairs (λ a b. a ≢ b) names.locks → AllPairs (λ a b. a ≢ b) (locks_of on names thread operand)
+pub locks_of-differ : (on : Bool) (names : NameLists) (thread operand : List ℕ) → AllPairs (λ a b. a ≢ b) names.locks → AllPairs (λ a b. a ≢ b) (locks_of on names thread operand)
 locks_of-differ true names thread operand differ = differ
 locks_of-differ false names thread operand differ = names_differ names.locks (place_of false names thread operand) operand refl differ
 

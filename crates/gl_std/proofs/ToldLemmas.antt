@@ -197,21 +197,21 @@ kept_from_comes limits (line ∷ ls) number told free =
 
 -- ---- the event of a kept line can be told again
 
-operand_again : (operation : Operation) (names : NameLists) (n m : ℕ) (operand : List ℕ) → slice_get (operands operation names) n ≡ Some operand → operand_name names (event_of operation n m) ≡ operand
+pub operand_again : (operation : Operation) (names : NameLists) (n m : ℕ) (operand : List ℕ) → slice_get (operands operation names) n ≡ Some operand → operand_name names (event_of operation n m) ≡ operand
 operand_again (AcquireOf mode) names n m operand at = ap (λ o. unwrap_or o []) at
 operand_again (ReleaseOf mode) names n m operand at = ap (λ o. unwrap_or o []) at
 operand_again (TryAcquireOf mode) names n m operand at = ap (λ o. unwrap_or o []) at
 operand_again ForkOf names n m operand at = ap (λ o. unwrap_or o []) at
 operand_again JoinOf names n m operand at = ap (λ o. unwrap_or o []) at
 
-location_again : (operation : Operation) (n m : ℕ) → location (event_of operation n m) ≡ m
+pub location_again : (operation : Operation) (n m : ℕ) → location (event_of operation n m) ≡ m
 location_again (AcquireOf mode) n m = refl
 location_again (ReleaseOf mode) n m = refl
 location_again (TryAcquireOf mode) n m = refl
 location_again ForkOf n m = refl
 location_again JoinOf n m = refl
 
-operation_again : (operation : Operation) (n m : ℕ) → operation_in (event_of operation n m) ≡ operation
+pub operation_again : (operation : Operation) (n m : ℕ) → operation_in (event_of operation n m) ≡ operation
 operation_again (AcquireOf mode) n m = refl
 operation_again (ReleaseOf mode) n m = refl
 operation_again (TryAcquireOf mode) n m = refl

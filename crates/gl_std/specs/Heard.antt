@@ -4,7 +4,7 @@ use Rattle.gl_event.specs.Bounds.{Bounds}
 use Rattle.gl_io.specs.Reads.{HasRead}
 use Rattle.gl_std.specs.Pieces.{judged}
 use Rattle.gl_std.specs.Trace.{trace_of}
-use Rattle.gl_std.specs.declared.text.Heard.{Heard}
+use Rattle.gl_std.specs.declared.from_source.Heard.{Heard}
 
 -- the reads gave this text; what was heard is its trace, or its first fault: of all of it where it was read whole, else of the
 -- lines that LF has ended

@@ -1,5 +1,5 @@
 -- The text that tells a trace.
-use Rattle.std.specs.Prelude.{◌≡◌, ◌≢◌, ◌≤◌, ℕ, List, [], ◌∷◌, ◌++◌, Contains, IsTrue, Ok, length, map, slice_get, unwrap_or, if◌then◌else◌, codes}
+use Rattle.std.specs.Prelude.{◌≡◌, ◌≢◌, ◌↔◌, ◌≤◌, ℕ, List, [], ◌∷◌, ◌++◌, Contains, IsTrue, Ok, length, map, position, slice_get, unwrap_or, if◌then◌else◌, codes}
 use Rattle.std.specs.List.{flat_map, zip}
 use Rattle.std.specs.Str.{bytes_eq}
 use Rattle.gl_event.specs.Bounds.{Bounds}
@@ -11,7 +11,7 @@ use Rattle.gl_std.specs.Line.{Operation, Shape, BAR, shape_of, is_on_thread}
 use Rattle.gl_std.specs.Line.Shape.{Call}
 use Rattle.gl_std.specs.Lines.{LF, CR, lines, without_cr}
 use Rattle.gl_std.specs.Names.{NameLists}
-use Rattle.gl_std.specs.Trace.{trace_of}
+use Rattle.gl_std.specs.Trace.{events_of, trace_of}
 use Rattle.gl_std.specs.Line.Operation.{Acquire as AcquireOf, Release as ReleaseOf, TryAcquire as TryAcquireOf, Fork as ForkOf, Join as JoinOf}
 use Rattle.gl_std.specs.declared.line.TheConstants.{MAX_LINE}
 use Rattle.gl_std.specs.declared.trace.Trace.{Trace}
@@ -95,3 +95,29 @@ abbrev pub WrittenTextsSayTraces : Type 0
 WrittenTextsSayTraces =
     (limits : Bounds) (text : List ℕ) (trace : Trace) → trace_of limits text ≡ Ok trace
     → map shape_of (lines (written trace.names trace.lists)) ≡ flat_map (λ own. map (said trace.names own.0) own.1) (zip trace.names.threads trace.lists)
+
+-- the same names stand in both lists, wherever they stand
+abbrev pub HaveSameNames : List (List ℕ) → List (List ℕ) → Type 0
+HaveSameNames names others = (name : List ℕ) → Contains names name ↔ Contains others name
+
+-- what the thread's events say, by names
+abbrev pub told_of : Trace → List ℕ → List Shape
+told_of trace thread = map (said trace.names thread) (events_of trace.lists (position (bytes_eq thread) trace.names.threads))
+
+-- read under these limits, the text tells what the trace tells: the same threads, locks and locations, and of each thread the
+-- same operations, in the same order, on the same operands and at the same locations; no line is skipped, and no event is a
+-- stray. Only numbers may differ: they go by first mention
+pub record IsReadAgainAs (limits : Bounds) (text : List ℕ) (trace : Trace) : Type 0 where
+  pub again : Trace
+  pub accepted : trace_of limits text ≡ Ok again
+  pub none_skipped : again.skipped ≡ 0
+  pub none_stray : again.stray ≡ 0
+  pub threads : HaveSameNames again.names.threads trace.names.threads
+  pub locks : HaveSameNames again.names.locks trace.names.locks
+  pub locs : HaveSameNames again.names.locs trace.names.locs
+  pub lists : (thread : List ℕ) → told_of again thread ≡ told_of trace thread
+
+-- what is written of a trace that was read is read again, under the same limits, and tells the same
+abbrev pub WrittenTextsAreReadAgain : Type 0
+WrittenTextsAreReadAgain =
+    (limits : Bounds) (text : List ℕ) (trace : Trace) → trace_of limits text ≡ Ok trace → IsReadAgainAs limits (written trace.names trace.lists) trace

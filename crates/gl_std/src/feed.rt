@@ -17,7 +17,7 @@ ghost use Rattle.gl_std.specs.declared.trace.Trace.{Trace};
 use crate::faults::{LinesFault, ReadFault};
 use crate::judge::{Judge, Judged};
 use crate::line::{MAX_LINE, cut};
-use crate::lines::{LF, without_cr};
+use crate::line_ends::{LF, without_cr};
 use crate::names::Names;
 use crate::seed::Seed;
 use gl_event::Limits;

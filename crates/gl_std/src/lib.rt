@@ -36,42 +36,42 @@
 //! item, and `specs/Written` what is written of a trace. Above them stand
 //! the laws (`specs/Laws`): a text has one list of lines, a line says one thing, a text is read
 //! piece by piece, its trace tells the kept lines and obeys the limits, the first fault in the order
-//! of the reasons decides, and a line that is written says its event.
+//! of the reasons decides, a line that is written says its event, and a text that is written of a
+//! trace is read again, and tells the same ([`written_texts_are_read_again`]).
 #![tactic(auto)]
 
 mod faults;
 mod feed;
+mod from_source;
 mod guess;
 mod judge;
 mod laws;
 mod line;
-mod lines;
+mod line_ends;
 mod lists;
 mod name;
 mod names;
-mod read;
-mod reader;
 mod seed;
 mod standing;
 mod stream;
-mod text;
 mod trace;
+mod whole_text;
 mod writing;
 
 pub use faults::{LinesFault, ReadFault, StdKind};
+pub use from_source::{Heard, read_source};
 pub use gl_io::{Failed, FromStd, Sink, Source};
 pub use laws::{
     faults_come_first, lines_are_unique, lines_follow_lines, lines_say_one_thing, reading_goes_on,
     traces_grow, traces_obey_limits, traces_tell_lines, written_lines_say_events,
-    written_texts_say_traces,
+    written_texts_are_read_again, written_texts_say_traces,
 };
 pub use line::{MAX_LINE, limits_in_numbers};
-pub use lines::ended_lines;
+pub use line_ends::ended_lines;
 pub use lists::Lists;
 pub use names::Names;
-pub use read::{read_seeded, read_trace};
 pub use seed::Seed;
 pub use stream::{Item, Items, Lines};
-pub use text::{Heard, read_source};
 pub use trace::Trace;
+pub use whole_text::{read_seeded, read_trace};
 pub use writing::write_trace;

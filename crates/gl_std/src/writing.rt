@@ -5,7 +5,7 @@ ghost use Rattle.gl_event.specs.declared.events.Event.{Event};
 ghost use Rattle.gl_std.specs.Trace.{IsNamed};
 ghost use Rattle.gl_std.specs.Written.{line_end, name_at, operand_name, word_of, written, written_event, written_list};
 
-use crate::lines::without_cr;
+use crate::line_ends::without_cr;
 use crate::names::Names;
 use crate::trace::Trace;
 use gl_event::{Event, LockMode, ThreadId};
@@ -111,7 +111,8 @@ fn put_list(
 
 /// The text that tells a trace: each thread's list in the order of their numbers, and each event as
 /// its line, by the word of its operation. A line is ended by LF, and by CR LF where its location
-/// ends with CR.
+/// ends with CR. Where the trace is that of a text, what is written is read again under the same
+/// limits, and tells the same ([`written_texts_are_read_again`](crate::written_texts_are_read_again)).
 ///
 /// Takes memory for the text alone. Time grows with its length.
 pub fn write_trace(alloc: Global, trace: &Trace) -> Result<Vec<u8>, AllocError>

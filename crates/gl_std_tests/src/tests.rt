@@ -39,6 +39,13 @@ fn release(lock: u32, loc: u32) -> Event {
     release_in(LockMode::Exclusive, lock, loc)
 }
 
+fn fork(thread: u32, loc: u32) -> Event {
+    Event::Fork {
+        thread: ThreadId::new(thread),
+        loc: LocId::new(loc),
+    }
+}
+
 fn greatest() -> Result<Limits, Fail> {
     Ok(Limits::new(1_024, 65_536, 4_000_000_000, 4_000_000_000)?)
 }

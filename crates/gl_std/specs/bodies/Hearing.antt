@@ -7,9 +7,9 @@ use Rattle.gl_std.specs.bodies.States.{IsOver, ReadsOn}
 use Rattle.gl_std.specs.Lines.{ended_lines}
 use Rattle.gl_std.specs.Pieces.{IsFaulty}
 use Rattle.gl_std.specs.Trace.{trace_of}
-use Rattle.gl_std.specs.declared.text.Listing.{Listing}
-use Rattle.gl_std.specs.declared.text.Progress.{Progress}
-use Rattle.gl_std.specs.declared.text.Progress.TheVariants.{More, End, Fault, Broke}
+use Rattle.gl_std.specs.declared.from_source.Listing.{Listing}
+use Rattle.gl_std.specs.declared.from_source.Progress.{Progress}
+use Rattle.gl_std.specs.declared.from_source.Progress.TheVariants.{More, End, Fault, Broke}
 use Rattle.gl_std.specs.declared.trace.Trace.{Trace}
 
 -- the trace of the lines so far

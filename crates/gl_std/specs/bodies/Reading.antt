@@ -4,7 +4,7 @@ use Rattle.gl_std.specs.bodies.States.{HasJudged, IsSound}
 use Rattle.gl_std.specs.Line.{Shape, is_on_itself}
 use Rattle.gl_std.specs.Line.Shape.{Blank, Bad, Other, Call}
 use Rattle.gl_std.specs.Trace.{IsTraceOver}
-use Rattle.gl_std.specs.declared.reader.Reader.{Reader}
+use Rattle.gl_std.specs.declared.whole_text.Reader.{Reader}
 use Rattle.gl_std.specs.declared.trace.Trace.{Trace}
 
 -- the trace so far

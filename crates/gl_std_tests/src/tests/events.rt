@@ -1,19 +1,12 @@
 //! What the events of texts are.
 use super::{
     acquire, expect, expect_acquire, expect_bytes, expect_dropped, expect_list, expect_lists,
-    expect_loc, expect_lock, expect_names, release, trace_of,
+    expect_loc, expect_lock, expect_names, fork, release, trace_of,
 };
 use gl_event::{Event, LocId, LockId, ThreadId};
 use gl_std::{Lists, Names, Trace};
 use std::process::Abort;
 use std::test::Fail;
-
-fn fork(thread: u32, loc: u32) -> Event {
-    Event::Fork {
-        thread: ThreadId::new(thread),
-        loc: LocId::new(loc),
-    }
-}
 
 fn join(thread: u32, loc: u32) -> Event {
     Event::Join {

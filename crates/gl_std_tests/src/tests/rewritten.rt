@@ -1,6 +1,10 @@
 //! Texts that are written of traces.
-use super::{expect_bytes, greatest};
-use gl_std::{read_trace, write_trace};
+use super::{
+    acquire, expect_bytes, expect_dropped, expect_list, expect_lists, expect_names, fork, greatest,
+    release,
+};
+use gl_event::{Limits, ThreadId};
+use gl_std::{Trace, read_trace, write_trace};
 use std::alloc::Global;
 use std::test::Fail;
 
@@ -17,5 +21,29 @@ fn replayed_lists(rt: HostRuntime) -> Result<(), Fail> {
     expect_bytes(&rt, &replayed(rt.alloc(), text)?, lists);
     let ends_with_cr = replayed(rt.alloc(), b"T0|acq(a)|x\r")?;
     expect_bytes(&rt, &ends_with_cr, b"T0|acq(a)|x\r\r\n");
+    Ok(())
+}
+
+// The trace of what is written of the text's trace, under the same limits.
+fn read_again(alloc: Global, text: &[u8], limits: &Limits) -> Result<Trace, Fail> {
+    let written = write_trace(alloc, &read_trace(alloc, text, limits)?)?;
+    Ok(read_trace(alloc, &written, limits)?)
+}
+
+// T0 is the third thread here and the second one before: T1's list comes first, and mentions T2.
+#[test]
+fn threads_read_again(rt: HostRuntime) -> Result<(), Fail> {
+    let text =
+        b"T1|acq(b)|5\nT0|acq(a)|1\nT1|r(x)|9\nT0|rel(b)|4\nT1|fork(T2)|6\nT0|rel(a)|2\nT2|acq(a)|7\n";
+    let again = read_again(rt.alloc(), text, &Limits::new(3, 1, 2, 5)?)?;
+    expect_lists(&rt, &again, 3);
+    expect_list(&rt, &again, 0, &[acquire(0, 0), fork(1, 1)]);
+    expect_list(&rt, &again, 1, &[acquire(1, 4)]);
+    expect_list(&rt, &again, 2, &[acquire(1, 2), release(1, 3)]);
+    expect_names(&rt, &again.names, 3, 2, 5);
+    expect_dropped(&rt, &again, 0, 0);
+    if again.names.threads() == 3 {
+        expect_bytes(&rt, again.names.thread(ThreadId::new(2)), b"T0");
+    }
     Ok(())
 }

@@ -1,0 +1,14 @@
+use Rattle.std.proofs.Common.{Ok, Err, refl, sym, ap, ◌∙◌}
+use Rattle.gl_std.specs.bodies.Hearing.{listed_by}
+use Rattle.gl_std.proofs.HeardLemmas.{put_is}
+use Rattle.gl_std.proofs.from_source.Listing.finish.Goals as goal
+
+pub returns-in-Ok-clause-trace : goal.returns-in-Ok-clause-trace
+returns-in-Ok-clause-trace c = λ text over.
+    let told = listed_by c.args.self in
+    c.in-Ok.ensures.told text told over
+    ∙ ap (λ t. Ok t) (sym (c.into_trace.ensures ∙ put_is (record { alloc = c.args.self.alloc; feed = c.last.new.self; lists = c.args.self.lists }) c.put.new.self _ (c.in-Ok.ensures.judged text told over) c.put.ensures.same (c.in_ok-put-in-Ok.ensures.lists told refl)))
+
+pub returns-in-Err-Line-clause-trace : goal.returns-in-Err-Line-clause-trace
+returns-in-Err-Line-clause-trace c = λ text over.
+    c.last.ensures.fault c.in-Err-Line.line c.in-Err-Line.kind (c.in-Err-Line.is ∙ ap (λ e. Err e) c.in-Err-Line.field-0-is) text (listed_by c.args.self) over
