@@ -37,8 +37,6 @@ mod laws;
 mod rule;
 mod shard;
 mod table;
-#[cfg(test)]
-mod tests;
 mod waiting;
 mod worker;
 
