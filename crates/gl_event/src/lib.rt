@@ -25,6 +25,3 @@ pub use notes::{Body, Note};
 
 /// Want of memory: a growth was refused. Calls that may take memory answer it, and only then.
 pub type Memory = std::alloc::AllocError;
-
-#[cfg(test)]
-mod tests;

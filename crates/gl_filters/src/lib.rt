@@ -5,8 +5,6 @@ mod gate_locks;
 mod laws;
 mod pairs;
 mod query;
-#[cfg(test)]
-mod tests;
 mod verdict;
 
 pub use laws::{

@@ -21,6 +21,3 @@ mod notes;
 pub use intake::Intake;
 pub use laws::{notes_are_refused_unless_next, refusals_are_never_for_memory};
 pub use notes::{Accepted, Refused};
-
-#[cfg(test)]
-mod tests;

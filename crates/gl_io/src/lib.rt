@@ -25,6 +25,3 @@ pub use from_std::FromStd;
 pub use sink::{Sink, WriteFault, write_out};
 pub use source::{CHUNK, Failed, Source};
 pub use whole::{Gathered, read_whole};
-
-#[cfg(test)]
-mod tests;

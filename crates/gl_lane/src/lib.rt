@@ -24,6 +24,3 @@
 mod ends;
 
 pub use ends::{Finished, LaneIn, LaneOut, lane};
-
-#[cfg(test)]
-mod tests;

@@ -21,6 +21,3 @@ mod taker;
 pub use gl_event::Refusal;
 pub use lawful::{are_lawful, is_lawful};
 pub use taker::Taker;
-
-#[cfg(test)]
-mod tests;

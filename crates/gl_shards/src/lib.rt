@@ -37,8 +37,6 @@ mod laws;
 mod merging;
 mod rule;
 mod shard;
-#[cfg(test)]
-mod tests;
 mod waiting;
 mod worker;
 

@@ -3,7 +3,7 @@ ghost use Rattle.std.specs.Prelude.{◌<◌, ◌≤◌, ◌^◌, IfOk, None};
 
 mod tables;
 
-use crate::{Failed, FromStd, Sink, Source, WriteFault, read_whole, write_out};
+use gl_io::{Failed, FromStd, Sink, Source, WriteFault, read_whole, write_out};
 use std::io::{self, Cursor, ErrorKind};
 use std::process::Abort;
 use std::test::Fail;

@@ -1,27 +1,12 @@
 //! What an intake answers, note by note.
 ghost use Rattle.std.specs.Prelude.{◌≡◌, IfOk};
 
-use crate::{Accepted, Intake, Refused};
-use gl_event::{Body, Event, Limits, LocId, LockId, LockMode, Note, Refusal, ThreadId};
+use super::{acquire, release};
+use gl_event::{Body, Event, Limits, Note, Refusal, ThreadId};
+use gl_intake::{Accepted, Intake, Refused};
 use std::alloc::Global;
 use std::process::Abort;
 use std::test::Fail;
-
-fn acquire(lock: u32) -> Event {
-    Event::Acquire {
-        lock: LockId::new(lock),
-        mode: LockMode::Exclusive,
-        loc: LocId::new(0),
-    }
-}
-
-fn release(lock: u32) -> Event {
-    Event::Release {
-        lock: LockId::new(lock),
-        mode: LockMode::Exclusive,
-        loc: LocId::new(0),
-    }
-}
 
 fn happened(thread: u32, place: u32, event: Event) -> Note {
     Note {

@@ -1,16 +1,9 @@
 //! What recorders answer at their limits.
-use crate::{Refusal, Taker};
+use super::{acquire, release};
 use gl_event::{Body, Event, Limits, LocId, LockId, LockMode, MAX_DEPTH, Note, ThreadId};
+use gl_recorder::{Refusal, Taker};
 use std::process::Abort;
 use std::test::Fail;
-
-fn acquire(lock: u32) -> Event {
-    Event::Acquire {
-        lock: LockId::new(lock),
-        mode: LockMode::Exclusive,
-        loc: LocId::new(0),
-    }
-}
 
 fn acquire_shared(lock: u32) -> Event {
     Event::Acquire {
@@ -24,14 +17,6 @@ fn try_acquire(lock: u32, mode: LockMode) -> Event {
     Event::TryAcquire {
         lock: LockId::new(lock),
         mode,
-        loc: LocId::new(0),
-    }
-}
-
-fn release(lock: u32) -> Event {
-    Event::Release {
-        lock: LockId::new(lock),
-        mode: LockMode::Exclusive,
         loc: LocId::new(0),
     }
 }

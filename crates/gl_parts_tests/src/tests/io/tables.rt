@@ -2,7 +2,7 @@
 ghost use Rattle.std.specs.Prelude.{◌<◌, ◌≤◌, ◌^◌, length};
 
 use super::REPORT;
-use crate::{FromStd, WriteFault, read_whole, write_out};
+use gl_io::{FromStd, WriteFault, read_whole, write_out};
 use std::io::{self, ErrorKind};
 use std::process::Abort;
 use std::test::Fail;

@@ -1,7 +1,7 @@
 //! Limits and held locks at their bounds.
 ghost use Rattle.std.specs.Prelude.{◌≡◌, Ok, IfOk};
 
-use crate::{BadLimits, Held, HeldFault, Limits, LocId, LockId, LockMode, MAX_DEPTH, NotHeld};
+use gl_event::{BadLimits, Held, HeldFault, Limits, LocId, LockId, LockMode, MAX_DEPTH, NotHeld};
 use std::test::Fail;
 
 #[test]

@@ -1,8 +1,7 @@
 //! Worked examples, and each call that takes memory on its happy path.
-use crate::merging::merge;
-use crate::shard::{MAX_SHARDS, shard_of};
-use gl_edges::{Edge, Guard, Guards, Sample, Table};
+use gl_edges::{Edge, Guard, Guards, Sample};
 use gl_event::{LocId, LockId, LockMode, Memory, ThreadId};
+use gl_shards::{MAX_SHARDS, Table, merge, shard_of};
 use std::alloc::Global;
 use std::test::Fail;
 

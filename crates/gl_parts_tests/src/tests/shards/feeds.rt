@@ -2,9 +2,9 @@
 ghost use Rattle.std.specs.Prelude.{◌≡◌, IfSome};
 
 use super::{are_as_wanted, at, edge, sample_of};
-use crate::{Gate, Gone, Inlet, Open, Outlet, Sent, Served, Table, feed, merge, serve};
 use gl_edges::{Edge, Sample};
 use gl_event::{MAX_RING, Memory};
+use gl_shards::{Gate, Gone, Inlet, Open, Outlet, Sent, Served, Table, feed, merge, serve};
 use std::alloc::Global;
 use std::sync::Wait;
 use std::sync::atomic::{AtomicU64, Ordering};

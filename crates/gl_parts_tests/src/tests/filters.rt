@@ -1,17 +1,14 @@
 //! Worked examples.
-ghost use Rattle.std.specs.Prelude.{◌≡◌, ℕ, ◌≤◌, List, length, slice_get, Some, IsTrue};
-ghost use Rattle.gl_event.specs.Bounds.{greatest};
-ghost use Rattle.gl_event.specs.Lawful.{IsLawful};
-ghost use Rattle.gl_event.specs.declared.events.Event.{Event};
 ghost use Rattle.gl_edges.specs.Numbered.{guards_in, AreNumbered};
-ghost use Rattle.gl_segments.specs.Orders.{lists_of};
 
-use crate::pairs::{compatible, compatible_at, goes_with};
-use crate::query::{BadQuery, MAX_CYCLES, MAX_LEN, Mode, Query};
-use crate::verdict::{Verdict, judge};
 use gl_edges::{Edge, EdgeList, GuardSets, edges_of};
-use gl_event::{Event, Limits, LocId, LockId, LockMode, Memory, ThreadId};
+use gl_event::{Event, LocId, LockId, LockMode, Memory, ThreadId};
+use gl_filters::{
+    BadQuery, MAX_CYCLES, MAX_LEN, Mode, Query, Verdict, compatible, compatible_at, goes_with,
+    judge,
+};
 use gl_segments::Order;
+use gl_segments_tests::lawful::are_lawful;
 use std::alloc::Global;
 use std::process::Abort;
 use std::test::Fail;
@@ -39,14 +36,6 @@ fn join(thread: u32, loc: u32) -> Event {
         thread: ThreadId::new(thread),
         loc: LocId::new(loc),
     }
-}
-
-// Whether the lists are lawful under the greatest limits.
-fn are_lawful(lists: &[Vec<Event>]) -> bool
-    ensures few { IsTrue result → length lists.now ≤ 1024 }
-    ensures lawful { IsTrue result → (thread : ℕ) (es : List Event) → slice_get (lists_of lists.now) thread ≡ Some es → IsLawful greatest thread es }
-{
-    gl_recorder::are_lawful(&Limits::greatest(), lists)
 }
 
 fn is_refused(query: Result<Query, BadQuery>, wanted: BadQuery) -> bool {

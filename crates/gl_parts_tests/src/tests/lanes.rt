@@ -2,8 +2,8 @@
 ghost use Rattle.std.specs.Prelude.{◌≡◌, [], IfOk, IfSome};
 ghost use Rattle.gl_lane.specs.Rule.{IsPlaced};
 
-use crate::{Finished, LaneIn, LaneOut, lane};
 use gl_event::{Body, Event, LocId, LockId, MAX_RING, Memory, Note, ThreadId};
+use gl_lane::{Finished, LaneIn, LaneOut, lane};
 use std::alloc::Global;
 use std::test::Fail;
 use std::thread;
