@@ -1,8 +1,1 @@
-pub mod Answer
-pub mod Checking
-pub mod Ending
-pub mod Lines
-pub mod Performed
-pub mod Said
-pub mod Sessions
-pub mod bodies
+pub mod Usages

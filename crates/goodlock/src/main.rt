@@ -4,10 +4,9 @@
 
 ghost use Rattle.std.specs.Prelude.{◌≡◌};
 ghost use Rattle.gl_options.specs.Sessions.{CanRun};
-ghost use Rattle.goodlock.specs.Said.{line_of, status_of, shown_text, refused_text, usage_status};
+ghost use Rattle.goodlock.specs.Usages.{refused_text, shown_text, usage_status};
 
-use commands::perform;
-use ended::Ended;
+use gl_commands::{Ended, perform, said};
 use gl_io::FromStd;
 use gl_options::{Command, Usage, parse};
 use gl_std::Seed;
@@ -17,37 +16,8 @@ use std::process::ExitCode;
 use std::sync::Wait;
 use std::thread::Threads;
 
-mod answer;
-mod checking;
-mod commands;
-mod ended;
-mod laws;
-mod limits;
-mod lines;
-mod recorded;
-mod streamed;
-#[cfg(test)]
-mod tests;
-
 // What is said of words that are no text.
 const NOT_TEXT: &str = "error: the words of the command line are no UTF-8 text\n";
-
-// The line for standard error and the exit status.
-fn said(ended: &Ended) -> (&[u8], u8)
-    ensures line { result.0.now ≡ line_of ended.now }
-    ensures status { result.1 ≡ status_of ended.now }
-{
-    match ended {
-        Ended::Clean => (b"", 0),
-        Ended::Cycles => (b"", 1),
-        Ended::Done => (b"", 0),
-        Ended::Refused(line) => (line.as_slice(), 2),
-        Ended::Memory => (b"goodlock: out of memory\n", 3),
-        Ended::ReadFailed => (b"goodlock: read failed\n", 4),
-        Ended::WriteFailed { .. } => (b"goodlock: write failed\n", 4),
-        Ended::Unconfirmed => (b"goodlock: session not confirmed\n", 4),
-    }
-}
 
 // What standard output and standard error get of words that ask for nothing to be done, and the
 // exit status.

@@ -1,0 +1,13 @@
+use Rattle.std.proofs.KnownBytes.{Keeps-refl}
+use Rattle.gl_commands.specs.Answer.{IsPlainAnswer, replay}
+use Rattle.gl_commands.specs.Ending.HasEndedUnder.{early}
+use Rattle.gl_commands.proofs.Answering.{ends}
+use Rattle.gl_commands.proofs.commands.replay.Goals as goal
+
+pub returns-in-Ok : goal.returns-in-Ok
+returns-in-Ok g c =
+    ends (IsPlainAnswer replay) _ _ c.in-Ok.read c.replayed.result _ c.end.result c.in-Ok.ensures.heard c.replayed.ensures.printed c.replayed.ensures.refused c.end.ensures
+
+-- nothing was written
+pub returns-in-Err : goal.returns-in-Err
+returns-in-Err g c = early c.in-Err.ended c.in-Err.ensures.early (Keeps-refl _) c.requires.writable

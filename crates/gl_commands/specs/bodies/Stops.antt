@@ -1,0 +1,76 @@
+-- The report of a trace that was read, or why there is none.
+use Rattle.std.specs.Prelude.{◌≡◌, ◌⊎◌, ℕ, Bool, false, true, List, Result, Ok, Err}
+use Rattle.std.specs.Io.KnownBytes.{Keeps}
+use Rattle.gl_event.specs.Bounds.{Bounds}
+use Rattle.gl_event.specs.declared.events.Segment.{Segment}
+use Rattle.gl_segments.specs.Laws.{DecidesBefore}
+use Rattle.gl_segments.specs.Segments.{IsConsistent}
+use Rattle.gl_filters.specs.Asked.{Asked}
+use Rattle.gl_cycles.specs.declared.found.Report.{Report}
+use Rattle.gl_std.specs.declared.faults.StdKind.{StdKind}
+use Rattle.gl_io.specs.Reads.{HasRead}
+use Rattle.gl_std.specs.declared.faults.LinesFault.{LinesFault}
+use Rattle.gl_std.specs.declared.faults.LinesFault.TheVariants.{Line as BadLine, Read as CutShort, Memory as NoMemory}
+use Rattle.gl_std.specs.declared.faults.ReadFault.{ReadFault}
+use Rattle.gl_std.specs.declared.faults.ReadFault.TheVariants.{Line}
+use Rattle.gl_std.specs.declared.trace.Trace.{Trace}
+use Rattle.gl_commands.specs.Answer.{Answer, IsLeastBeforeItself, report_of}
+use Rattle.gl_io.specs.Uses.{Use}
+use Rattle.gl_commands.specs.Ending.{HasEndedStreamed}
+use Rattle.gl_commands.specs.RefusalLines.{fault_line, inconsistent_line}
+use Rattle.gl_commands.specs.declared.ended.Ended.{Ended}
+use Rattle.gl_commands.specs.declared.ended.Ended.TheVariants.{Refused, Memory, ReadFailed, Unconfirmed}
+
+-- it ended with a line, of which this holds, or for want of memory
+abbrev pub IfRefused : Ended → (List ℕ → Type 0) → Type 0
+IfRefused (Refused line) P = P line.items
+IfRefused Memory P = Unit {0}
+IfRefused other P = ⊥
+
+-- or because the session isn't confirmed
+abbrev pub IfStopped : Ended → (List ℕ → Type 0) → Type 0
+IfStopped Unconfirmed P = Unit {0}
+IfStopped other P = IfRefused other P
+
+-- the line says the fault that was read in a trace's place
+pub record IsFaultIn (read : Result Trace ReadFault) (line : List ℕ) : Type 0 where
+  pub number : ℕ
+  pub kind : StdKind
+  pub first : read ≡ Err (Line number kind)
+  pub said : line ≡ fault_line number kind
+
+-- the line says which segment of the trace is before itself
+pub record IsLoopOf (trace : Trace) (line : List ℕ) : Type 0 where
+  pub at : Segment
+  pub least : IsLeastBeforeItself trace.lists at
+  pub said : line ≡ inconsistent_line trace.names at
+
+-- the line says either
+abbrev pub SaysWhyNoReport : Result Trace ReadFault → List ℕ → Type 0
+SaysWhyNoReport read line = IsFaultIn read line ⊎ ((trace : Trace) × (read ≡ Ok trace) × IsLoopOf trace line)
+
+-- the trace is the one that was read, and this is the report of it
+pub record IsReportOf (asked : Asked) (read : Result Trace ReadFault) (trace : Trace) (report : Report) : Type 0 where
+  pub is_read : read ≡ Ok trace
+  pub before : Segment → Segment → Bool
+  pub consistent : IsConsistent trace.lists
+  pub decides : DecidesBefore trace.lists before
+  pub is_report : report ≡ report_of asked before trace
+
+-- ---- a session that records a text as it comes
+
+-- a text was read whole, and this is answered to it
+pub record HasAnswer (IsAnswered : List ℕ → Answer → Type 0) (turns : ℕ) (input : Use) (answer : Answer) : Type 0 where
+  pub text : List ℕ
+  pub whole : HasRead turns input.before input.after input.failed text true
+  pub is : IsAnswered text answer
+
+-- it ends so over each writer that is left as it was
+abbrev pub EndsUnwritten : Bounds → (List ℕ → Answer → Type 0) → ℕ → Use → Ended → Type 0
+EndsUnwritten limits IsAnswered turns input ended = (output : Use) → Keeps output.before output.after → output.failed ≡ false → HasEndedStreamed limits IsAnswered turns input output ended
+
+-- it ends so where this fault of the text was met
+abbrev pub IsEndOfText : LinesFault → Ended → Type 0
+IsEndOfText (BadLine number kind) ended = IfRefused ended (λ line. line ≡ fault_line number kind)
+IsEndOfText CutShort ended = ended ≡ ReadFailed
+IsEndOfText NoMemory ended = ended ≡ Memory

@@ -1,0 +1,190 @@
+//! What is answered to a text.
+ghost use Rattle.std.specs.Prelude.{◌≡◌, ℕ, Ok, List, IfOk, IfErr, OnOk};
+ghost use Rattle.gl_event.specs.Bounds.{greatest};
+ghost use Rattle.gl_std.specs.Trace.{trace_of, IsTraceOver};
+ghost use Rattle.gl_segments.specs.Clocks.{is_before, OrdersBy};
+ghost use Rattle.gl_segments.specs.Segments.{IsConsistent};
+ghost use Rattle.gl_commands.specs.Answer.{IsAnswer, IsPlainAnswer, counts, outcome_of, prediction, printed_report, replay, report_of};
+ghost use Rattle.gl_commands.specs.Answer.Answer.{Prints, Refusal};
+ghost use Rattle.gl_commands.specs.bodies.Stops.{IfRefused, IsFaultIn, IsLoopOf, IsReportOf, SaysWhyNoReport};
+
+use crate::ended::{Ended, Outcome};
+use crate::refusal_lines::{fault_line, inconsistent_line};
+use gl_cycles::{Report, report_by_parallel};
+use gl_edges::edges_of;
+use gl_event::{Limits, MAX_EVENTS, MAX_NAMES, MAX_RING, MAX_THREADS, Memory};
+use gl_filters::Query;
+use gl_options::Form;
+use gl_report::{Stats, json_text, stats_text, text};
+use gl_segments::{Order, OrderFault};
+use gl_std::{Names, ReadFault, Trace, write_trace};
+use std::alloc::Global;
+use std::thread::Threads;
+
+/// What a command prints of a text.
+#[derive(Drop, Debug)]
+pub(crate) struct Printed {
+    /// What is printed.
+    pub(crate) text: Vec<u8>,
+    /// What becomes of the command once it is.
+    pub(crate) outcome: Outcome,
+}
+
+// A trace with its report.
+#[derive(Drop)]
+struct Reported {
+    trace: Trace,
+    report: Report,
+}
+
+/// The greatest limits.
+pub(crate) fn greatest_limits() -> Limits
+    ensures { result ≡ greatest }
+{
+    match Limits::new(MAX_THREADS, MAX_RING, MAX_EVENTS, MAX_NAMES) {
+        Ok(limits) => limits,
+        Err(_) => unreachable!(),
+    }
+}
+
+/// The trace that was read, or the line that says its first fault.
+pub(crate) fn trace_or_line(alloc: Global, read: Result<Trace, ReadFault>) -> Result<Trace, Ended>
+    ensures trace { IfOk result (λ t. read ≡ Ok t) }
+    ensures refused { IfErr result (λ ended. IfRefused ended (IsFaultIn read)) }
+{
+    match read {
+        Ok(trace) => Ok(trace),
+        Err(ReadFault::Line { line, kind }) => {
+            let line = fault_line(alloc, line, kind)?;
+            Err(Ended::Refused(line))
+        }
+        Err(ReadFault::Memory) => Err(Ended::Memory),
+    }
+}
+
+// The order of a trace's segments, or the line that says which one is before itself.
+fn order_or_line(alloc: Global, trace: &Trace) -> Result<Order, Ended>
+    requires { IsTraceOver greatest trace.now }
+    ensures order { IfOk result (λ order. OrdersBy trace.now.lists order) }
+    ensures consistent { OnOk result (IsConsistent trace.now.lists) }
+    ensures refused { IfErr result (λ ended. IfRefused ended (IsLoopOf trace.now)) }
+{
+    match Order::of(alloc, trace.lists.as_slice()) {
+        Ok(order) => Ok(order),
+        Err(OrderFault::Inconsistent { at, ring: _ring }) => {
+            let line = inconsistent_line(alloc, &trace.names, at)?;
+            Err(Ended::Refused(line))
+        }
+        Err(OrderFault::Memory) => Err(Ended::Memory),
+    }
+}
+
+/// The report in this form.
+pub(crate) fn print(
+    alloc: Global,
+    form: Form,
+    names: &Names,
+    report: &Report,
+) -> Result<Vec<u8>, Memory>
+    ensures { IfOk result (λ t. t.items ≡ printed_report form names.now report.now) }
+{
+    match form {
+        Form::Text => text(alloc, names, report),
+        Form::Json => json_text(alloc, names, report),
+    }
+}
+
+// The report of a trace whose segments have this order.
+fn report_by(
+    rt: &(impl Threads + Sync),
+    alloc: Global,
+    trace: &Trace,
+    order: &Order,
+    query: &Query,
+) -> Result<Report, Memory>
+    requires { IsTraceOver greatest trace.now }
+    ensures { IfOk result (λ r. r ≡ report_of query.now (is_before order.now) trace.now) }
+{
+    let edges = edges_of(alloc, trace.lists.as_slice())?;
+    report_by_parallel(rt, alloc, edges, order, query)
+}
+
+// The report of the trace that was read, or why there is none.
+fn trace_and_report(
+    rt: &(impl Threads + Sync),
+    alloc: Global,
+    read: Result<Trace, ReadFault>,
+    query: &Query,
+) -> Result<Reported, Ended>
+    requires { IfOk read (IsTraceOver greatest) }
+    ensures report { IfOk result (λ r. IsReportOf query.now read r.trace r.report) }
+    ensures over { IfOk result (λ r. IsTraceOver greatest r.trace) }
+    ensures refused { IfErr result (λ ended. IfRefused ended (SaysWhyNoReport read)) }
+{
+    let trace = trace_or_line(alloc, read)?;
+    let order = order_or_line(alloc, &trace)?;
+    let report = report_by(rt, alloc, &trace, &order, query)?;
+    Ok(Reported { trace, report })
+}
+
+/// Whether a report lists a cycle.
+pub(crate) fn outcome_of(report: &Report) -> Outcome
+    ensures { result ≡ outcome_of report.now }
+{
+    if report.found.cycles.as_slice().is_empty() {
+        return Outcome::Clean;
+    }
+    Outcome::Cycles
+}
+
+/// The report of the texts that have this trace or first fault, in this form, or why they have none.
+pub(crate) fn predicted(
+    rt: &(impl Threads + Sync),
+    alloc: Global,
+    read: Result<Trace, ReadFault>,
+    query: &Query,
+    form: Form,
+) -> Result<Printed, Ended>
+    requires { IfOk read (IsTraceOver greatest) }
+    ensures printed { IfOk result (λ p. (text : List ℕ) → trace_of greatest text ≡ read → IsAnswer (prediction query.now form) text (Prints p.text.items p.outcome)) }
+    ensures refused { IfErr result (λ ended. IfRefused ended (λ line. (text : List ℕ) → trace_of greatest text ≡ read → IsAnswer (prediction query.now form) text (Refusal line))) }
+{
+    let Reported { trace, report } = trace_and_report(rt, alloc, read, query)?;
+    let outcome = outcome_of(&report);
+    let text = print(alloc, form, &trace.names, &report)?;
+    Ok(Printed { text, outcome })
+}
+
+/// The counts of the texts that have this trace or first fault, and of their report, or why they have
+/// none.
+pub(crate) fn counted(
+    rt: &(impl Threads + Sync),
+    alloc: Global,
+    read: Result<Trace, ReadFault>,
+    query: &Query,
+) -> Result<Printed, Ended>
+    requires { IfOk read (IsTraceOver greatest) }
+    ensures printed { IfOk result (λ p. (text : List ℕ) → trace_of greatest text ≡ read → IsAnswer (counts query.now) text (Prints p.text.items p.outcome)) }
+    ensures refused { IfErr result (λ ended. IfRefused ended (λ line. (text : List ℕ) → trace_of greatest text ≡ read → IsAnswer (counts query.now) text (Refusal line))) }
+{
+    let Reported { trace, report } = trace_and_report(rt, alloc, read, query)?;
+    let text = stats_text(alloc, &Stats::of(&trace, &report))?;
+    Ok(Printed {
+        text,
+        outcome: Outcome::Done,
+    })
+}
+
+/// The trace of the texts that have this trace or first fault, written, or their first fault.
+pub(crate) fn replayed(alloc: Global, read: Result<Trace, ReadFault>) -> Result<Printed, Ended>
+    requires { IfOk read (IsTraceOver greatest) }
+    ensures printed { IfOk result (λ p. (text : List ℕ) → trace_of greatest text ≡ read → IsPlainAnswer replay text (Prints p.text.items p.outcome)) }
+    ensures refused { IfErr result (λ ended. IfRefused ended (λ line. (text : List ℕ) → trace_of greatest text ≡ read → IsPlainAnswer replay text (Refusal line))) }
+{
+    let trace = trace_or_line(alloc, read)?;
+    let text = write_trace(alloc, &trace)?;
+    Ok(Printed {
+        text,
+        outcome: Outcome::Done,
+    })
+}

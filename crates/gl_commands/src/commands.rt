@@ -1,0 +1,282 @@
+//! The commands, over a reader and a writer.
+//!
+//! Each hears the trace of its input, makes what it prints of it, and writes that.
+ghost use Rattle.std.specs.Prelude.{◌≡◌, ◌≤◌, ◌^◌, ℕ, false, List, Option, IfOk, IfErr};
+ghost use Rattle.std.specs.Io.KnownBytes.{Appends};
+ghost use Rattle.gl_event.specs.Bounds.{greatest};
+ghost use Rattle.gl_std.specs.Lines.{ended_lines};
+ghost use Rattle.gl_std.specs.Trace.{trace_of, IsTraceOver};
+ghost use Rattle.gl_options.specs.Sessions.{AreOfSession, CanRun};
+ghost use Rattle.gl_commands.specs.Answer.{IsAnswer, IsPlainAnswer, counts, prediction, replay};
+ghost use Rattle.gl_commands.specs.Checking.{HasChecked};
+ghost use Rattle.gl_io.specs.Uses.{used};
+ghost use Rattle.gl_commands.specs.Ending.{EndsEarlyAs, HasEnded, HasEndedEarly};
+ghost use Rattle.gl_commands.specs.bodies.Halves.{EndsWith, HasHeardAll, HasWrittenText};
+ghost use Rattle.gl_commands.specs.Performed.{HasPerformed};
+ghost use Rattle.gl_commands.specs.Sessions.{HasEndedSession};
+
+use crate::answer::{Printed, counted, greatest_limits, predicted, replayed, trace_or_line};
+use crate::checking::{checked, end_cut};
+use crate::ended::{Ended, Outcome};
+use crate::recorded::recorded;
+use crate::streamed::streamed;
+use gl_filters::Query;
+use gl_io::{Sink, Source, WriteFault, read_whole, write_out};
+use gl_options::{Command, Form, LiveOptions};
+use gl_shards::{Gate, Open};
+use gl_std::{ReadFault, Seed, Trace, read_source};
+use std::alloc::Global;
+use std::sync::Wait;
+use std::thread::Threads;
+
+// The most reads of the program's input.
+const TURNS: u64 = 1_000_000_000;
+
+// How a command ends over a text that wasn't read whole, with this trace or first fault of the
+// lines that LF has ended.
+fn end_early(alloc: Global, read: Result<Trace, ReadFault>) -> Ended
+    ensures { (text : List ℕ) → trace_of greatest (ended_lines text) ≡ read → EndsEarlyAs greatest text result }
+{
+    match trace_or_line(alloc, read) {
+        Ok(_trace) => Ended::ReadFailed,
+        Err(ended) => ended,
+    }
+}
+
+// Reads the input to its end: the trace of its text or the first fault, or how a command ends where
+// it can't be read so far.
+fn hear<I: Source>(
+    alloc: Global,
+    input: &mut I,
+    turns: u64,
+    seed: Seed,
+) -> Result<Result<Trace, ReadFault>, Ended>
+    requires readable { I.failed input.old ≡ false }
+    requires few_turns { turns ≤ 2 ^ 40 }
+    ensures heard { IfOk result (HasHeardAll turns (used (I.remaining input.old) (I.remaining input.new) (I.failed input.new))) }
+    ensures over { IfOk result (λ read. IfOk read (IsTraceOver greatest)) }
+    ensures early { IfErr result (HasEndedEarly greatest turns (used (I.remaining input.old) (I.remaining input.new) (I.failed input.new))) }
+{
+    let Ok(heard) = read_source(alloc, input, turns, &greatest_limits(), seed) else {
+        return Err(Ended::Memory);
+    };
+    if heard.is_whole {
+        return Ok(heard.trace);
+    }
+    Err(end_early(alloc, heard.trace))
+}
+
+// How a command ends that has written all.
+fn end_written(outcome: Outcome) -> Ended
+    ensures { (before after : Option (List ℕ)) (text : List ℕ) → Appends before after text → HasWrittenText text outcome before after false result }
+{
+    match outcome {
+        Outcome::Clean => Ended::Clean,
+        Outcome::Cycles => Ended::Cycles,
+        Outcome::Done => Ended::Done,
+    }
+}
+
+// Writes a text.
+fn write<O: Sink>(output: &mut O, printed: &Printed) -> Ended
+    requires { O.failed output.old ≡ false }
+    ensures { HasWrittenText printed.now.text.items printed.now.outcome (O.contents output.old) (O.contents output.new) (O.failed output.new) result }
+{
+    match write_out(output, printed.text.as_slice()) {
+        Ok(()) => end_written(printed.outcome),
+        Err(WriteFault { written }) => Ended::WriteFailed { written },
+    }
+}
+
+// Writes what is answered, if it is a text to be printed.
+fn end<O: Sink>(output: &mut O, answered: Result<Printed, Ended>) -> Ended
+    requires { O.failed output.old ≡ false }
+    ensures { EndsWith answered (O.contents output.old) (O.contents output.new) (O.failed output.new) result }
+{
+    match answered {
+        Ok(printed) => write(output, &printed),
+        Err(ended) => ended,
+    }
+}
+
+/// Reads a trace, predicts its deadlocks and writes the report in the form asked for.
+///
+/// The input is read to its end, in at most `turns` reads, before anything else; its text isn't kept.
+/// The report is made whole before its first byte is written. Where the input can't be read to its
+/// end, the first fault in the lines that were ended before is answered, else
+/// [`Ended::ReadFailed`]. Each reader and writer is used only while it hasn't failed. Cycles are sought in
+/// several threads.
+pub fn predict<R: AllocGlobal + Threads + Sync, I: Source, O: Sink>(
+    rt: &R,
+    input: &mut I,
+    output: &mut O,
+    turns: u64,
+    seed: Seed,
+    query: &Query,
+    form: Form,
+) -> Ended
+    requires readable { I.failed input.old ≡ false }
+    requires writable { O.failed output.old ≡ false }
+    requires few_turns { turns ≤ 2 ^ 40 }
+    ensures { HasEnded (IsAnswer (prediction query.now form)) turns (used (I.remaining input.old) (I.remaining input.new) (I.failed input.new)) (used (O.contents output.old) (O.contents output.new) (O.failed output.new)) result }
+{
+    let alloc = rt.alloc();
+    match hear(alloc, input, turns, seed) {
+        Ok(read) => end(output, predicted(rt, alloc, read, query, form)),
+        Err(ended) => ended,
+    }
+}
+
+/// Reads a trace, records it again in running threads, and writes the report of what was recorded, in
+/// the form asked for.
+///
+/// **Unless it answers [`Ended::Memory`] or [`Ended::Unconfirmed`], it ends as [`predict`] does and writes
+/// the same bytes**, whatever the threads' timing. Each thread of the trace has a lane of its own; lane `t`
+/// is recorded by recorder thread `t` modulo their number, event after event; the collector runs in the
+/// calling thread, and a worker keeps the edges of each shard. A trace without threads opens no session.
+/// The input is read whole before a thread is started, and no thread records before all were.
+///
+/// With [`LiveOptions::stream`] the calling thread reads and records each event as it is read, into one of
+/// [`LiveOptions::threads`] lanes, and the collector has a thread of its own: edges are shipped before the
+/// input ends. It ends as `predict` does under that limit of threads; but reading stops at the first line
+/// with a fault, which is refused as `predict` refuses it, whatever follows.
+pub fn live<R: AllocGlobal + Threads + Wait + Sync, I: Source, O: Sink>(
+    rt: &R,
+    input: &mut I,
+    output: &mut O,
+    turns: u64,
+    seed: Seed,
+    options: &LiveOptions,
+) -> Ended
+    requires readable { I.failed input.old ≡ false }
+    requires writable { O.failed output.old ≡ false }
+    requires few_turns { turns ≤ 2 ^ 40 }
+    requires session { AreOfSession options.now }
+    ensures { HasEndedSession options.now turns (used (I.remaining input.old) (I.remaining input.new) (I.failed input.new)) (used (O.contents output.old) (O.contents output.new) (O.failed output.new)) result }
+{
+    live_gated(rt, input, output, turns, seed, options, &Open)
+}
+
+/// As [`live`], with a gate that each worker passes before it keeps an edge.
+pub fn live_gated<R: AllocGlobal + Threads + Wait + Sync, I: Source, O: Sink, G: Gate + Sync>(
+    rt: &R,
+    input: &mut I,
+    output: &mut O,
+    turns: u64,
+    seed: Seed,
+    options: &LiveOptions,
+    gate: &G,
+) -> Ended
+    requires readable { I.failed input.old ≡ false }
+    requires writable { O.failed output.old ≡ false }
+    requires few_turns { turns ≤ 2 ^ 40 }
+    requires session { AreOfSession options.now }
+    ensures { HasEndedSession options.now turns (used (I.remaining input.old) (I.remaining input.new) (I.failed input.new)) (used (O.contents output.old) (O.contents output.new) (O.failed output.new)) result }
+{
+    if options.stream {
+        return end(output, streamed(rt, input, turns, seed, options, gate));
+    }
+    let alloc = rt.alloc();
+    match hear(alloc, input, turns, seed) {
+        Ok(read) => end(output, recorded(rt, alloc, read, options, gate)),
+        Err(ended) => ended,
+    }
+}
+
+/// Reads a trace and writes eight counts of it and of its report, each on a line.
+///
+/// Reads, refuses and fails as [`predict`] does.
+pub fn stats<R: AllocGlobal + Threads + Sync, I: Source, O: Sink>(
+    rt: &R,
+    input: &mut I,
+    output: &mut O,
+    turns: u64,
+    seed: Seed,
+    query: &Query,
+) -> Ended
+    requires readable { I.failed input.old ≡ false }
+    requires writable { O.failed output.old ≡ false }
+    requires few_turns { turns ≤ 2 ^ 40 }
+    ensures { HasEnded (IsAnswer (counts query.now)) turns (used (I.remaining input.old) (I.remaining input.new) (I.failed input.new)) (used (O.contents output.old) (O.contents output.new) (O.failed output.new)) result }
+{
+    let alloc = rt.alloc();
+    match hear(alloc, input, turns, seed) {
+        Ok(read) => end(output, counted(rt, alloc, read, query)),
+        Err(ended) => ended,
+    }
+}
+
+/// Reads a trace and writes it as a text, thread by thread: its events alone, each as a line.
+///
+/// Reads and fails as [`predict`] does, and refuses lines at fault alone: whether its forks and joins
+/// can have happened isn't asked.
+pub fn replay<R: AllocGlobal, I: Source, O: Sink>(
+    rt: &R,
+    input: &mut I,
+    output: &mut O,
+    turns: u64,
+    seed: Seed,
+) -> Ended
+    requires readable { I.failed input.old ≡ false }
+    requires writable { O.failed output.old ≡ false }
+    requires few_turns { turns ≤ 2 ^ 40 }
+    ensures { HasEnded (IsPlainAnswer replay) turns (used (I.remaining input.old) (I.remaining input.new) (I.failed input.new)) (used (O.contents output.old) (O.contents output.new) (O.failed output.new)) result }
+{
+    let alloc = rt.alloc();
+    match hear(alloc, input, turns, seed) {
+        Ok(read) => end(output, replayed(alloc, read)),
+        Err(ended) => ended,
+    }
+}
+
+/// Reads a report, which is one line of JSON, and after it the text of a trace, and writes whether the
+/// report is true of the trace. A report that isn't is refused with the line that says its first fault.
+///
+/// Fails as [`predict`] does, and refuses each trace that has a line at fault, with the number of the line
+/// in the trace, before it looks at the report. Where the input can't be read to its end, it judges the
+/// lines of the trace that were ended. The input is kept in memory.
+pub fn check_input<R: AllocGlobal, I: Source, O: Sink>(
+    rt: &R,
+    input: &mut I,
+    output: &mut O,
+    turns: u64,
+    seed: Seed,
+) -> Ended
+    requires readable { I.failed input.old ≡ false }
+    requires writable { O.failed output.old ≡ false }
+    requires few_turns { turns ≤ 2 ^ 40 }
+    ensures { HasChecked turns (used (I.remaining input.old) (I.remaining input.new) (I.failed input.new)) (used (O.contents output.old) (O.contents output.new) (O.failed output.new)) result }
+{
+    let alloc = rt.alloc();
+    let Ok(gathered) = read_whole(alloc, input, turns) else {
+        return Ended::Memory;
+    };
+    let text = gathered.text.as_slice();
+    if gathered.is_whole {
+        return end(output, checked(alloc, text, seed));
+    }
+    end_cut(alloc, text, seed)
+}
+
+/// Does what the words of the command line ask for, from the input to the output, in at most
+/// 1,000,000,000 reads. The seed is that of the names' hash: no answer depends on it.
+pub fn perform<R: AllocGlobal + Threads + Wait + Sync, I: Source, O: Sink>(
+    rt: &R,
+    input: &mut I,
+    output: &mut O,
+    seed: Seed,
+    command: &Command,
+) -> Ended
+    requires readable { I.failed input.old ≡ false }
+    requires writable { O.failed output.old ≡ false }
+    requires runs { CanRun command.now }
+    ensures { HasPerformed command.now 1000000000 (used (I.remaining input.old) (I.remaining input.new) (I.failed input.new)) (used (O.contents output.old) (O.contents output.new) (O.failed output.new)) result }
+{
+    match command {
+        Command::Predict { query, form } => predict(rt, input, output, TURNS, seed, query, *form),
+        Command::Live(options) => live(rt, input, output, TURNS, seed, options),
+        Command::Stats { query } => stats(rt, input, output, TURNS, seed, query),
+        Command::Replay => replay(rt, input, output, TURNS, seed),
+        Command::Check => check_input(rt, input, output, TURNS, seed),
+    }
+}

@@ -1,0 +1,78 @@
+//! What is answered to a text by a session that records its trace again.
+ghost use Rattle.std.specs.Prelude.{◌≡◌, ℕ, List, IfOk, IfErr};
+ghost use Rattle.gl_event.specs.Bounds.{greatest};
+ghost use Rattle.gl_cycles.specs.Reports.{IsGoodlockReport};
+ghost use Rattle.gl_std.specs.Trace.{trace_of, IsTraceOver};
+ghost use Rattle.gl_options.specs.Sessions.{AreOfSession};
+ghost use Rattle.gl_commands.specs.Answer.{IsAnswer, prediction};
+ghost use Rattle.gl_commands.specs.Answer.Answer.{Prints, Refusal};
+ghost use Rattle.gl_commands.specs.bodies.Stops.{IfStopped, IsLoopOf};
+
+use crate::answer::{Printed, outcome_of, print, trace_or_line};
+use crate::ended::Ended;
+use crate::refusal_lines::inconsistent_line;
+use gl_cycles::Report;
+use gl_live::{LiveFault, SessionOptions, live_report};
+use gl_options::LiveOptions;
+use gl_shards::Gate;
+use gl_std::{ReadFault, Trace};
+use std::alloc::Global;
+use std::sync::Wait;
+use std::thread::Threads;
+
+// The report of a trace by a session, or why there is none.
+fn session_report<R: Threads + Wait + Sync, G: Gate + Sync>(
+    rt: &R,
+    alloc: Global,
+    trace: &Trace,
+    options: &LiveOptions,
+    gate: &G,
+) -> Result<Report, Ended>
+    requires trace { IsTraceOver greatest trace.now }
+    requires session { AreOfSession options.now }
+    ensures report { IfOk result (λ report. IsGoodlockReport options.now.query trace.now.lists report) }
+    ensures refused { IfErr result (λ ended. IfStopped ended (IsLoopOf trace.now)) }
+{
+    let LiveOptions {
+        query,
+        recorders,
+        shards,
+        ring,
+        ..
+    } = *options;
+    let session = SessionOptions {
+        recorders,
+        shards,
+        ring,
+    };
+    match live_report(rt, alloc, trace.lists.as_slice(), &session, &query, gate) {
+        Ok(report) => Ok(report),
+        Err(LiveFault::Inconsistent { at, ring: _ring }) => {
+            let line = inconsistent_line(alloc, &trace.names, at)?;
+            Err(Ended::Refused(line))
+        }
+        Err(LiveFault::Memory) => Err(Ended::Memory),
+        Err(LiveFault::Unconfirmed) => Err(Ended::Unconfirmed),
+    }
+}
+
+/// The report of the texts that have this trace or first fault, by a session, in the form asked for, or
+/// why there is none.
+pub(crate) fn recorded<R: Threads + Wait + Sync, G: Gate + Sync>(
+    rt: &R,
+    alloc: Global,
+    read: Result<Trace, ReadFault>,
+    options: &LiveOptions,
+    gate: &G,
+) -> Result<Printed, Ended>
+    requires over { IfOk read (IsTraceOver greatest) }
+    requires session { AreOfSession options.now }
+    ensures printed { IfOk result (λ p. (text : List ℕ) → trace_of greatest text ≡ read → IsAnswer (prediction options.now.query options.now.form) text (Prints p.text.items p.outcome)) }
+    ensures refused { IfErr result (λ ended. IfStopped ended (λ line. (text : List ℕ) → trace_of greatest text ≡ read → IsAnswer (prediction options.now.query options.now.form) text (Refusal line))) }
+{
+    let trace = trace_or_line(alloc, read)?;
+    let report = session_report(rt, alloc, &trace, options, gate)?;
+    let outcome = outcome_of(&report);
+    let text = print(alloc, options.form, &trace.names, &report)?;
+    Ok(Printed { text, outcome })
+}

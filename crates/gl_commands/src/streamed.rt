@@ -1,0 +1,142 @@
+//! What is answered to a text by a session that records it as it comes.
+ghost use Rattle.std.specs.Prelude.{◌≡◌, ◌≤◌, ◌^◌, ℕ, true, false, Ok, Err, IfOk, IfErr};
+ghost use Rattle.gl_event.specs.Bounds.{Bounds};
+ghost use Rattle.gl_event.specs.declared.limits.TheConstants.{MAX_THREADS};
+ghost use Rattle.gl_live.specs.Streamed.{Becomes, FailsInTime};
+ghost use Rattle.gl_live.specs.declared.faults.LiveFault.TheVariants.{Inconsistent};
+ghost use Rattle.gl_live.specs.declared.faults.StreamFault.TheVariants.{Session};
+ghost use Rattle.gl_options.specs.Sessions.{AreOfSession, with_threads};
+ghost use Rattle.gl_commands.specs.Answer.{IsAnswerUnder, prediction};
+ghost use Rattle.gl_commands.specs.Answer.Answer.{Prints};
+ghost use Rattle.gl_io.specs.Uses.{Use, used};
+ghost use Rattle.gl_commands.specs.bodies.Stops.{EndsUnwritten, HasAnswer, IsEndOfText};
+
+use crate::answer::{Printed, outcome_of, print};
+use crate::ended::Ended;
+use crate::refusal_lines::{fault_line, inconsistent_line};
+use gl_cycles::Report;
+use gl_event::{Limits, MAX_EVENTS, MAX_NAMES, MAX_RING, Memory, Segment};
+use gl_io::Source;
+use gl_live::{LiveFault, StreamFault, StreamOptions, stream_report};
+use gl_options::LiveOptions;
+use gl_shards::Gate;
+use gl_std::{Items, LinesFault, Seed};
+use std::alloc::Global;
+use std::sync::Wait;
+use std::thread::Threads;
+
+// The greatest limits, but for the threads.
+fn limits_of(threads: u32) -> Limits
+    requires some { 1 ≤ threads }
+    requires fit { threads ≤ MAX_THREADS }
+    ensures { result ≡ with_threads threads }
+{
+    match Limits::new(threads, MAX_RING, MAX_EVENTS, MAX_NAMES) {
+        Ok(limits) => limits,
+        Err(_) => unreachable!(),
+    }
+}
+
+// How a session ends over a text of which this fault was met.
+fn end_of_text(alloc: Global, fault: LinesFault) -> Ended
+    ensures { IsEndOfText fault result }
+{
+    match fault {
+        LinesFault::Line { line, kind } => match fault_line(alloc, line, kind) {
+            Ok(said) => Ended::Refused(said),
+            Err(_) => Ended::Memory,
+        },
+        LinesFault::Read => Ended::ReadFailed,
+        LinesFault::Memory => Ended::Memory,
+    }
+}
+
+// What is printed of a text that has this report.
+fn printed_of(
+    alloc: Global,
+    options: &LiveOptions,
+    report: &Report,
+    items: Items,
+) -> Result<Printed, Memory>
+    ensures { (limits : Bounds) (turns : ℕ) (input : Use) → Becomes options.now.query limits turns input items (Ok report.now)
+        → IfOk result (λ p. HasAnswer (IsAnswerUnder limits (prediction options.now.query options.now.form)) turns input (Prints p.text.items p.outcome)) }
+{
+    let (names, _skipped, _stray) = items.parts();
+    let outcome = outcome_of(report);
+    let text = print(alloc, options.form, &names, report)?;
+    Ok(Printed { text, outcome })
+}
+
+// How a session ends over a text of which this segment is before itself.
+fn end_of_loop(
+    alloc: Global,
+    options: &LiveOptions,
+    at: Segment,
+    ring: Vec<Segment>,
+    items: Items,
+) -> Ended
+    ensures { (limits : Bounds) (turns : ℕ) (input : Use) → Becomes options.now.query limits turns input items (Err (Session (Inconsistent at ring)))
+        → EndsUnwritten limits (IsAnswerUnder limits (prediction options.now.query options.now.form)) turns input result }
+{
+    let (names, _skipped, _stray) = items.parts();
+    match inconsistent_line(alloc, &names, at) {
+        Ok(line) => Ended::Refused(line),
+        Err(_) => Ended::Memory,
+    }
+}
+
+// What is answered to a text, where a session had this report of it or none.
+fn answered(
+    alloc: Global,
+    options: &LiveOptions,
+    reported: Result<Report, StreamFault>,
+    items: Items,
+) -> Result<Printed, Ended>
+    ensures printed { (limits : Bounds) (turns : ℕ) (input : Use) → Becomes options.now.query limits turns input items reported
+        → IfOk result (λ p. HasAnswer (IsAnswerUnder limits (prediction options.now.query options.now.form)) turns input (Prints p.text.items p.outcome)) }
+    ensures stopped { (limits : Bounds) (turns : ℕ) (input : Use) → Becomes options.now.query limits turns input items reported
+        → FailsInTime input.before input.after items reported → IfErr result (EndsUnwritten limits (IsAnswerUnder limits (prediction options.now.query options.now.form)) turns input) }
+{
+    match reported {
+        Ok(report) => {
+            let printed = printed_of(alloc, options, &report, items)?;
+            Ok(printed)
+        }
+        Err(StreamFault::Text(fault)) => Err(end_of_text(alloc, fault)),
+        Err(StreamFault::Session(LiveFault::Inconsistent { at, ring })) => {
+            Err(end_of_loop(alloc, options, at, ring, items))
+        }
+        Err(StreamFault::Session(LiveFault::Memory)) => Err(Ended::Memory),
+        Err(StreamFault::Session(LiveFault::Unconfirmed)) => Err(Ended::Unconfirmed),
+    }
+}
+
+/// What is answered to the text that a source gives, by a session that records it as it comes.
+///
+/// The names and what each thread holds are kept of the text, and the session's events; reading stops at the
+/// first line with a fault.
+pub(crate) fn streamed<R: AllocGlobal + Threads + Wait + Sync, I: Source, G: Gate + Sync>(
+    rt: &R,
+    input: &mut I,
+    turns: u64,
+    seed: Seed,
+    options: &LiveOptions,
+    gate: &G,
+) -> Result<Printed, Ended>
+    requires readable { I.failed input.old ≡ false }
+    requires few_turns { turns ≤ 2 ^ 40 }
+    requires session { AreOfSession options.now }
+    requires as_it_comes { options.now.stream ≡ true }
+    ensures printed { IfOk result (λ p. HasAnswer (IsAnswerUnder (with_threads options.now.threads) (prediction options.now.query options.now.form)) turns (used (I.remaining input.old) (I.remaining input.new) (I.failed input.new)) (Prints p.text.items p.outcome)) }
+    ensures stopped { IfErr result (EndsUnwritten (with_threads options.now.threads) (IsAnswerUnder (with_threads options.now.threads) (prediction options.now.query options.now.form)) turns (used (I.remaining input.old) (I.remaining input.new) (I.failed input.new))) }
+{
+    let alloc = rt.alloc();
+    let items = Items::new(alloc, &limits_of(options.threads), turns, seed)?;
+    let session = StreamOptions {
+        threads: options.threads,
+        shards: options.shards,
+        ring: options.ring,
+    };
+    let (reported, items) = stream_report(rt, alloc, items, input, &session, &options.query, gate);
+    answered(alloc, options, reported, items)
+}

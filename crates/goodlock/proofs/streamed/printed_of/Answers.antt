@@ -1,7 +1,0 @@
-use Rattle.goodlock.proofs.AsItComes.{printed_whole}
-use Rattle.goodlock.proofs.streamed.printed_of.Goals as goal
-
-pub returns : goal.returns
-returns c = λ limits turns input became.
-    printed_whole c.args.options.now.query c.args.options.now.form limits turns input c.args.items c.args.report.now c.parts-names.result.0 c.in_ok-text.text.items c.outcome_of-outcome.result c.parts-names.ensures.names
-    c.in_ok-text.ensures c.outcome_of-outcome.ensures became
