@@ -1,12 +1,12 @@
 //! Sessions, in one thread and in two.
-ghost use Rattle.std.specs.Prelude.{◌≡◌, ◌<◌};
+ghost use Rattle.std.specs.Prelude.{◌≡◌, ◌<◌, IfSome};
 
 mod settling;
 
-use crate::{CloseFault, Collector, Pulled, Receipt, RecordFault, Recorder, open};
-use gl_cycles::{Report, ReportFault};
+use crate::{CloseFault, Collector, PullFault, Pulled, Receipt, RecordFault, Recorder, open};
 use gl_event::{Event, Limits, LocId, LockId, LockMode, Refusal, ThreadId};
 use gl_filters::{Mode, Query};
+use std::alloc::Global;
 use std::sync::Wait;
 use std::test::Fail;
 use std::thread;
@@ -41,11 +41,47 @@ fn join(thread: u32, loc: u32) -> Event {
     }
 }
 
+// What the recorder answers. Nothing is told of it, so that what is known doesn't grow with each call of
+// a long test; so it is with the next ones.
+fn record(recorder: &mut Recorder, event: Event) -> Result<u32, RecordFault> {
+    recorder.record(event)
+}
+
+// What the collector answers for the first thread.
+fn pull(collector: &mut Collector) -> Result<Pulled, PullFault>
+    requires known { 0 < collector.old.limits.threads }
+    ensures limits { collector.new.limits ≡ collector.old.limits }
+{
+    collector.pull(ThreadId::new(0))
+}
+
+// Whether these are the first thread's collected events, and so many notes were collected in all.
+fn has_collected(collector: &Collector, events: &[Event], notes: usize) -> bool
+    requires known { 0 < collector.now.limits.threads }
+{
+    collector.log(ThreadId::new(0)) == events && collector.stream().len() == notes
+}
+
+// The recorders and the collector of a session with these limits of threads and room.
+fn session(alloc: Global, threads: u32, ring: u32) -> Option<(Vec<Recorder>, Collector)>
+    ensures { IfSome result (λ s. s.1.limits.threads ≡ threads) }
+{
+    open(alloc, 7, &Limits::new(threads, ring, 100, 100).ok()?).ok()
+}
+
 // The recorder that is handed back by a full lane.
 fn handed_back(answer: Result<Receipt, CloseFault>) -> Option<Recorder> {
     match answer {
         Err(CloseFault::Full(recorder)) => Some(recorder),
         _ => None,
+    }
+}
+
+// The session and the number of events of the receipt.
+fn counts_of(answer: Result<Receipt, CloseFault>) -> Option<(u64, u32)> {
+    match answer {
+        Ok(receipt) => Some((receipt.session(), receipt.taken())),
+        Err(_) => None,
     }
 }
 
@@ -80,50 +116,45 @@ fn pulls_first(collector: &mut Collector, thread: u32, events: u32) -> bool
     true
 }
 
-// How many cycles are reported, and whether there are more.
-fn cycles(report: &Result<Report, ReportFault>) -> Option<(usize, bool)> {
-    match report {
-        Ok(report) => Some((report.found.cycles.as_slice().len(), report.found.more)),
-        Err(_) => None,
-    }
+// How many cycles are reported of what was collected so far, and whether there are more.
+fn cycles_so_far(collector: &Collector) -> Option<(usize, bool)> {
+    let query = Query::new(Mode::Full, 4, 1_000).ok()?;
+    let report = collector.report_so_far(&query).ok()?;
+    Some((report.found.cycles.as_slice().len(), report.found.more))
 }
 
 // A lane of one note: each event, and the end mark, waits for the one before it to be pulled.
 #[test]
 fn ring_of_one(rt: HostRuntime) -> Result<(), Fail> {
-    let (mut recorders, mut collector) = open(rt.alloc(), 7, &Limits::new(1, 1, 100, 100)?)?;
-    let thread = ThreadId::new(0);
+    let (mut recorders, mut collector) = session(rt.alloc(), 1, 1).expect(&rt, "a session");
     let mut recorder = recorders.pop().expect(&rt, "a recorder");
-    assert_eq!(rt; recorder.record(acquire(0, 0)), Ok(0));
+    assert_eq!(rt; record(&mut recorder, acquire(0, 0)), Ok(0));
     assert_eq!(rt;
-        recorder.record(acquire(1, 1)),
+        record(&mut recorder, acquire(1, 1)),
         Err(RecordFault::Full(acquire(1, 1)))
     );
     let mut recorder = handed_back(recorder.close()).expect(&rt, "a full lane");
-    assert_eq!(rt; collector.pull(thread), Ok(Pulled::Event { place: 0 }));
-    assert_eq!(rt; recorder.record(acquire(1, 1)), Ok(1));
-    assert_eq!(rt; collector.pull(thread), Ok(Pulled::Event { place: 1 }));
-    let receipt = recorder.close().ok().expect(&rt, "a receipt");
-    assert_eq!(rt; (receipt.session(), receipt.taken()), (7, 2));
-    assert_eq!(rt; collector.pull(thread), Ok(Pulled::Ended { count: 2 }));
-    assert_eq!(rt; collector.pull(thread), Ok(Pulled::Empty));
-    let log = [acquire(0, 0), acquire(1, 1)];
-    assert_eq!(rt; collector.log(thread), log.as_slice());
-    assert_eq!(rt; collector.stream().len(), 3);
+    assert_eq!(rt; pull(&mut collector), Ok(Pulled::Event { place: 0 }));
+    assert_eq!(rt; record(&mut recorder, acquire(1, 1)), Ok(1));
+    assert_eq!(rt; pull(&mut collector), Ok(Pulled::Event { place: 1 }));
+    assert_eq!(rt; counts_of(recorder.close()), Some((7, 2)));
+    assert_eq!(rt; pull(&mut collector), Ok(Pulled::Ended { count: 2 }));
+    assert_eq!(rt; pull(&mut collector), Ok(Pulled::Empty));
+    assert!(rt; has_collected(&collector, &[acquire(0, 0), acquire(1, 1)], 3));
     Ok(())
 }
 
 // A release of a lock that isn't held leaves the recorder as it was.
 #[test]
 fn stray_release(rt: HostRuntime) -> Result<(), Fail> {
-    let (mut recorders, _) = open(rt.alloc(), 7, &Limits::new(1, 8, 100, 100)?)?;
+    let (mut recorders, _) = session(rt.alloc(), 1, 8).expect(&rt, "a session");
     let mut recorder = recorders.pop().expect(&rt, "a recorder");
     assert_eq!(rt;
-        recorder.record(release(0, 1)),
+        record(&mut recorder, release(0, 1)),
         Err(RecordFault::Refused(Refusal::NotHeld))
     );
     assert_eq!(rt; recorder.taken(), 0);
-    assert_eq!(rt; recorder.record(acquire(1, 2)), Ok(0));
+    assert_eq!(rt; record(&mut recorder, acquire(1, 2)), Ok(0));
     assert_eq!(rt; recorder.taken(), 1);
     Ok(())
 }
@@ -131,15 +162,15 @@ fn stray_release(rt: HostRuntime) -> Result<(), Fail> {
 // What can't come next is refused also where the lane is full.
 #[test]
 fn refused_before_full(rt: HostRuntime) -> Result<(), Fail> {
-    let (mut recorders, _) = open(rt.alloc(), 7, &Limits::new(1, 1, 100, 100)?)?;
+    let (mut recorders, _) = session(rt.alloc(), 1, 1).expect(&rt, "a session");
     let mut recorder = recorders.pop().expect(&rt, "a recorder");
-    assert_eq!(rt; recorder.record(acquire(0, 1)), Ok(0));
+    assert_eq!(rt; record(&mut recorder, acquire(0, 1)), Ok(0));
     assert_eq!(rt;
-        recorder.record(release(1, 2)),
+        record(&mut recorder, release(1, 2)),
         Err(RecordFault::Refused(Refusal::NotHeld))
     );
     assert_eq!(rt;
-        recorder.record(release(0, 3)),
+        record(&mut recorder, release(0, 3)),
         Err(RecordFault::Full(release(0, 3)))
     );
     Ok(())
@@ -147,10 +178,10 @@ fn refused_before_full(rt: HostRuntime) -> Result<(), Fail> {
 
 #[test]
 fn nobody_left_to_collect(rt: HostRuntime) -> Result<(), Fail> {
-    let (mut recorders, collector) = open(rt.alloc(), 7, &Limits::new(1, 8, 100, 100)?)?;
+    let (mut recorders, collector) = session(rt.alloc(), 1, 8).expect(&rt, "a session");
     let mut recorder = recorders.pop().expect(&rt, "a recorder");
     drop(collector);
-    assert_eq!(rt; recorder.record(acquire(0, 1)), Ok(0));
+    assert_eq!(rt; record(&mut recorder, acquire(0, 1)), Ok(0));
     assert_eq!(rt; unconfirmed(&recorder.close()), Some(1));
     Ok(())
 }
@@ -159,21 +190,23 @@ fn nobody_left_to_collect(rt: HostRuntime) -> Result<(), Fail> {
 // was forked is collected later: the cycle of an earlier report is dropped then.
 #[test]
 fn report_so_far_drops(rt: HostRuntime) -> Result<(), Fail> {
-    let (mut recorders, mut collector) = open(rt.alloc(), 7, &Limits::new(3, 8, 100, 100)?)?;
-    let query = Query::new(Mode::Full, 4, 1_000)?;
+    let (mut recorders, mut collector) = session(rt.alloc(), 3, 8).expect(&rt, "a session");
     let (first, second) = (
         [acquire(0, 1), acquire(1, 2)],
         [acquire(1, 3), acquire(0, 4)],
     );
-    assert!(rt; all_recorded(&mut recorders[1], first.as_slice()));
-    assert!(rt; all_recorded(&mut recorders[2], second.as_slice()));
+    let mut last = recorders.pop().expect(&rt, "a recorder");
+    let mut middle = recorders.pop().expect(&rt, "a recorder");
+    let mut main = recorders.pop().expect(&rt, "a recorder");
+    assert!(rt; all_recorded(&mut middle, first.as_slice()));
+    assert!(rt; all_recorded(&mut last, second.as_slice()));
     assert!(rt; pulls_first(&mut collector, 1, 2));
     assert!(rt; pulls_first(&mut collector, 2, 2));
-    assert_eq!(rt; cycles(&collector.report_so_far(&query)), Some((1, false)));
+    assert_eq!(rt; cycles_so_far(&collector), Some((1, false)));
     let forks = [fork(1, 5), join(1, 6), fork(2, 7)];
-    assert!(rt; all_recorded(&mut recorders[0], forks.as_slice()));
+    assert!(rt; all_recorded(&mut main, forks.as_slice()));
     assert!(rt; pulls_first(&mut collector, 0, 3));
-    assert_eq!(rt; cycles(&collector.report_so_far(&query)), Some((0, false)));
+    assert_eq!(rt; cycles_so_far(&collector), Some((0, false)));
     Ok(())
 }
 
@@ -323,7 +356,7 @@ fn pull_both(collector: &mut Collector) -> bool
 // collects what they record and then reports it.
 #[test]
 fn opposite_order(rt: HostRuntime) -> Result<(), Fail> {
-    let (mut recorders, mut collector) = open(rt.alloc(), 7, &Limits::new(2, 1, 100, 100)?)?;
+    let (mut recorders, mut collector) = session(rt.alloc(), 2, 1).expect(&rt, "a session");
     let second = recorders.pop().expect(&rt, "a recorder");
     let first = recorders.pop().expect(&rt, "a recorder");
     let ((one, other), collected) = thread::join(
@@ -338,7 +371,6 @@ fn opposite_order(rt: HostRuntime) -> Result<(), Fail> {
         || pull_both(&mut collector),
     );
     assert!(rt; collected && one.is_some() && other.is_some());
-    let query = Query::new(Mode::Full, 4, 1_000)?;
-    assert_eq!(rt; cycles(&collector.report_so_far(&query)), Some((1, false)));
+    assert_eq!(rt; cycles_so_far(&collector), Some((1, false)));
     Ok(())
 }
