@@ -4,12 +4,34 @@ ghost use Rattle.gl_engine.specs.Gathering.{AreOurs};
 
 use super::{counts_over, recorded, recorded_alone, run_alone, settled_alone};
 use crate::tests::acquire;
-use crate::{Collector, Gathered, Receipt, SettleFault, Settled, open};
+use crate::{Collector, Gathered, Receipt, Recorder, SettleFault, Settled, open};
 use gl_event::{Event, Limits, Memory};
 use gl_shards::{Inlet, Open, Outlet, Sent, Table, feed, serve};
 use std::alloc::{AllocError, Global};
 use std::sync::Wait;
 use std::test::Fail;
+
+// The recorders of a session of two threads, and its collector.
+fn both_opened(
+    alloc: Global,
+    session: u64,
+    limits: &Limits,
+) -> Result<Option<(Recorder, Recorder, Collector)>, AllocError>
+    requires two { limits.now.threads ≡ 2 }
+    ensures threads { IfOk result (λ done. IfSome done (λ d. (d.0.thread ≡ 0) × (d.1.thread ≡ 1))) }
+    ensures session { IfOk result (λ done. IfSome done (λ d. d.2.session ≡ session)) }
+    ensures limits { IfOk result (λ done. IfSome done (λ d. (d.0.limits ≡ d.2.limits) × (d.1.limits ≡ d.2.limits))) }
+    ensures lanes { IfOk result (λ done. IfSome done (λ d. map (λ row. row.lane) d.2.rows ≡ d.0.lane ∷ d.1.lane ∷ [])) }
+{
+    let (mut recorders, collector) = open(alloc, session, limits)?;
+    let Some(other) = recorders.pop() else {
+        return Ok(None);
+    };
+    let Some(one) = recorders.pop() else {
+        return Ok(None);
+    };
+    Ok(Some((one, other, collector)))
+}
 
 // A session of two threads that recorded these events and closed: the receipts, and the collector.
 fn recorded_both(
@@ -25,11 +47,7 @@ fn recorded_both(
     ensures limits { IfOk result (λ done. IfSome done (λ d. (d.0.limits ≡ d.2.limits) × (d.1.limits ≡ d.2.limits))) }
     ensures lanes { IfOk result (λ done. IfSome done (λ d. map (λ row. row.lane) d.2.rows ≡ d.0.lane ∷ d.1.lane ∷ [])) }
 {
-    let (mut recorders, collector) = open(alloc, session, limits)?;
-    let Some(other) = recorders.pop() else {
-        return Ok(None);
-    };
-    let Some(one) = recorders.pop() else {
+    let Some((one, other, collector)) = both_opened(alloc, session, limits)? else {
         return Ok(None);
     };
     let Some(one) = recorded(one, first) else {

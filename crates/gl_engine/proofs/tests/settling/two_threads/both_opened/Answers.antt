@@ -2,14 +2,14 @@ use Rattle.std.proofs.Common.{sym, ap, ◌∙◌}
 use Rattle.gl_engine.specs.Collecting.{Collecting}
 use Rattle.gl_engine.specs.Recording.{Recording}
 use Rattle.gl_engine.proofs.Pair.{first_is, second_is}
-use Rattle.gl_engine.proofs.tests.settling.two_threads.recorded_both.Goals as goal
+use Rattle.gl_engine.proofs.tests.settling.two_threads.both_opened.Goals as goal
 
 pub returns-clause-threads : goal.returns-clause-threads
 returns-clause-threads c =
     let opened = c.in_ok-recorders.ensures in
     let one = first_is _ _ _ _ opened c.requires.two _ _ c.in-Some-pop.one c.in-Some.other c.in-Some.ensures.items c.in-Some-pop.ensures.items in
     let other = second_is _ _ _ _ opened c.requires.two _ _ c.in-Some-pop.one c.in-Some.other c.in-Some.ensures.items c.in-Some-pop.ensures.items in
-    (c.in-Some-recorded.ensures.thread ∙ ap (λ (r : Recording). r.thread) one, c.in-Some-recorded-2.ensures.thread ∙ ap (λ (r : Recording). r.thread) other)
+    (ap (λ (r : Recording). r.thread) one, ap (λ (r : Recording). r.thread) other)
 
 pub returns-clause-limits : goal.returns-clause-limits
 returns-clause-limits c =
@@ -17,4 +17,4 @@ returns-clause-limits c =
     let one = first_is _ _ _ _ opened c.requires.two _ _ c.in-Some-pop.one c.in-Some.other c.in-Some.ensures.items c.in-Some-pop.ensures.items in
     let other = second_is _ _ _ _ opened c.requires.two _ _ c.in-Some-pop.one c.in-Some.other c.in-Some.ensures.items c.in-Some-pop.ensures.items in
     let same = sym (ap (λ (s : Collecting). s.limits) opened.collects) in
-    (c.in-Some-recorded.ensures.limits ∙ ap (λ (r : Recording). r.limits) one ∙ same, c.in-Some-recorded-2.ensures.limits ∙ ap (λ (r : Recording). r.limits) other ∙ same)
+    (ap (λ (r : Recording). r.limits) one ∙ same, ap (λ (r : Recording). r.limits) other ∙ same)
