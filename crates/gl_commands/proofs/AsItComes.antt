@@ -23,7 +23,6 @@ use Rattle.gl_commands.specs.Answer.{Answer, IsAnswerUnder, outcome_of, predicti
 use Rattle.gl_commands.specs.Answer.Answer.{Prints, Refusal}
 use Rattle.gl_commands.specs.Answer.IsAnswerUnder.{bad_line, no_order}
 use Rattle.gl_io.specs.Uses.{Use}
-use Rattle.gl_commands.specs.Ending.{HasNoFault}
 use Rattle.gl_commands.specs.Ending.HasEndedEarly.{out_of_memory, cut_short}
 use Rattle.gl_commands.specs.Ending.HasEndedUnder.{early, ended_so}
 use Rattle.gl_commands.specs.Ending.HasEndedStreamed.{confirmed, met_fault, unconfirmed, unstarted}
@@ -34,6 +33,7 @@ use Rattle.gl_commands.specs.declared.ended.Ended.TheVariants as variant
 use Rattle.gl_options.specs.declared.form.Form.{Form}
 use Rattle.gl_commands.specs.declared.ended.Outcome.{Outcome}
 use Rattle.gl_commands.proofs.Answering.{least_of_ring, with_session}
+use Rattle.gl_commands.proofs.FirstFaults.{no_fault_before}
 
 -- ---- ends that need no text
 
@@ -123,12 +123,6 @@ refused_at printed limits turns input left text number kind variant.Done said wa
 refused_at printed limits turns input left text number kind variant.ReadFailed said was = absurd said
 refused_at printed limits turns input left text number kind (variant.WriteFailed count) said was = absurd said
 refused_at printed limits turns input left text number kind variant.Unconfirmed said was = absurd said
-
--- the lines that LF has ended have no fault
-no_fault_before : (limits : Bounds) (text : List ℕ) (told : Trace) → trace_of limits (ended_lines text) ≡ Ok told → HasNoFault limits text
-no_fault_before limits text told is number kind bad =
-    let clash : Ok told ≡ Err (BadLine number kind) = sym is ∙ bad in
-    cc
 
 -- this fault of the text was met
 pub ends_at_fault : (printed : (Segment → Segment → Bool) → Trace → Answer) (limits : Bounds) (turns : ℕ) (input : Use) (items : Stream) (text : List ℕ) (told : Trace) (fault : LinesFault) (ended : Ended)

@@ -1,4 +1,5 @@
 pub mod Accepting
 pub mod Answering
 pub mod AsItComes
+pub mod FirstFaults
 pub mod Uniqueness

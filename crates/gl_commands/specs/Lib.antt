@@ -1,8 +1,8 @@
 pub mod Answer
 pub mod Checking
 pub mod Ending
-pub mod Lines
 pub mod Performed
+pub mod RefusalLines
 pub mod Said
 pub mod Sessions
 pub mod bodies

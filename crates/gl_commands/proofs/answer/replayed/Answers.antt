@@ -19,3 +19,13 @@ returns-in_err-trace-clause-refused c =
 pub returns-clause-printed : goal.returns-clause-printed
 returns-clause-printed c = λ text is.
     subst (IsPlainAnswer replay text) (ap (λ t. Prints t Done) (sym c.in_ok-text.ensures)) (plain c.in_ok-trace.trace (is ∙ c.in_ok-trace.ensures.trace))
+
+pub returns-in_err-text-clause-printed : goal.returns-in_err-text-clause-printed
+returns-in_err-text-clause-printed c =
+    let p = err_from_is_err_and c.from_residual-in_err-text.result c.from_residual-in_err-text.ensures.1 in
+    rw p.1 tt
+
+pub returns-in_err-text-clause-refused : goal.returns-in_err-text-clause-refused
+returns-in_err-text-clause-refused c =
+    let p = err_from_is_err_and c.from_residual-in_err-text.result c.from_residual-in_err-text.ensures.1 in
+    rw (p.1, p.2) tt

@@ -1,5 +1,5 @@
 use Rattle.std.proofs.Common.{◌≡◌, ap, ◌∙◌}
-use Rattle.std.proofs.lemmas.Result.{IfOk-weaker}
+use Rattle.std.proofs.lemmas.Result.{IfOk-weaker, err_from_is_err_and}
 use Rattle.gl_segments.specs.Clocks.{is_before}
 use Rattle.gl_edges.specs.Edges.{edges}
 use Rattle.gl_cycles.specs.Reports.{report_by}
@@ -10,3 +10,8 @@ returns g c =
     let by = report_by c.args.query.now (is_before c.args.order.now) in
     let same = c.in_ok-edges.ensures ∙ ap edges c.as_slice.ensures in
     IfOk-weaker c.report_by_parallel.result (λ report. report ≡ by c.in_ok-edges.edges) (λ report. report ≡ by (edges c.args.trace.now.lists)) (λ report is. is ∙ ap by same) c.report_by_parallel.ensures
+
+pub returns-in_err-edges : goal.returns-in_err-edges
+returns-in_err-edges g c =
+    let p = err_from_is_err_and c.from_residual.result c.from_residual.ensures.1 in
+    rw p.1 tt

@@ -1,4 +1,5 @@
 use Rattle.std.proofs.Common.{subst}
+use Rattle.gl_cycles.specs.Reports.{IsGoodlockReport}
 use Rattle.gl_segments.specs.Segments.{IsLeastInRing}
 use Rattle.gl_commands.proofs.Answering.{least_of_ring}
 use Rattle.gl_commands.proofs.recorded.session_report.Goals as goal
@@ -11,3 +12,6 @@ returns-in_ok-line-in-Err-Inconsistent-clause-refused g c =
       least = least_of_ring c.args.trace.now.lists c.in-Err-Inconsistent.at c.in-Err-Inconsistent._ring.items least;
       said = c.in_ok-line-in-Err-Inconsistent.ensures;
     }
+
+pub returns-in-Ok-clause-report : goal.returns-in-Ok-clause-report
+returns-in-Ok-clause-report g c = subst (λ lists. IsGoodlockReport c.args.options.now.query lists c.in-Ok.report) c.as_slice.ensures c.in-Ok.ensures.report
