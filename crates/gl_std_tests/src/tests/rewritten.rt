@@ -6,11 +6,12 @@ use super::{
 use gl_event::{Limits, ThreadId};
 use gl_std::{Trace, read_trace, write_trace};
 use std::alloc::Global;
+use std::process::Abort;
 use std::test::Fail;
 
-// What is written of the text's trace.
-fn replayed(alloc: Global, text: &[u8]) -> Result<Vec<u8>, Fail> {
-    let trace = read_trace(alloc, text, &greatest()?)?;
+// What is written of the text's trace under these limits.
+fn replayed(alloc: Global, text: &[u8], limits: &Limits) -> Result<Vec<u8>, Fail> {
+    let trace = read_trace(alloc, text, limits)?;
     Ok(write_trace(alloc, &trace)?)
 }
 
@@ -18,32 +19,31 @@ fn replayed(alloc: Global, text: &[u8]) -> Result<Vec<u8>, Fail> {
 fn replayed_lists(rt: HostRuntime) -> Result<(), Fail> {
     let text = b"T1|acq(b)|5\nT0|acq(a)|1\nT1|rel(b)|6\nT1|r(x)|9\n";
     let lists = b"T1|acq(b)|5\nT1|rel(b)|6\nT0|acq(a)|1\n";
-    expect_bytes(&rt, &replayed(rt.alloc(), text)?, lists);
-    let ends_with_cr = replayed(rt.alloc(), b"T0|acq(a)|x\r")?;
+    expect_bytes(&rt, &replayed(rt.alloc(), text, &greatest()?)?, lists);
+    let ends_with_cr = replayed(rt.alloc(), b"T0|acq(a)|x\r", &greatest()?)?;
     expect_bytes(&rt, &ends_with_cr, b"T0|acq(a)|x\r\r\n");
     Ok(())
 }
 
-// The trace of what is written of the text's trace, under the same limits.
-fn read_again(alloc: Global, text: &[u8], limits: &Limits) -> Result<Trace, Fail> {
-    let written = write_trace(alloc, &read_trace(alloc, text, limits)?)?;
-    Ok(read_trace(alloc, &written, limits)?)
+// T1's two events come first and mention T2, which has one; T0 is the third thread.
+fn expect_numbered_anew(rt: &impl Abort, again: &Trace) {
+    expect_lists(rt, again, 3);
+    expect_list(rt, again, 0, &[acquire(0, 0), fork(1, 1)]);
+    expect_list(rt, again, 1, &[acquire(1, 4)]);
+    expect_list(rt, again, 2, &[acquire(1, 2), release(1, 3)]);
+    expect_names(rt, &again.names, 3, 2, 5);
+    expect_dropped(rt, again, 0, 0);
+    if again.names.threads() == 3 {
+        expect_bytes(rt, again.names.thread(ThreadId::new(2)), b"T0");
+    }
 }
 
-// T0 is the third thread here and the second one before: T1's list comes first, and mentions T2.
 #[test]
 fn threads_read_again(rt: HostRuntime) -> Result<(), Fail> {
     let text =
         b"T1|acq(b)|5\nT0|acq(a)|1\nT1|r(x)|9\nT0|rel(b)|4\nT1|fork(T2)|6\nT0|rel(a)|2\nT2|acq(a)|7\n";
-    let again = read_again(rt.alloc(), text, &Limits::new(3, 1, 2, 5)?)?;
-    expect_lists(&rt, &again, 3);
-    expect_list(&rt, &again, 0, &[acquire(0, 0), fork(1, 1)]);
-    expect_list(&rt, &again, 1, &[acquire(1, 4)]);
-    expect_list(&rt, &again, 2, &[acquire(1, 2), release(1, 3)]);
-    expect_names(&rt, &again.names, 3, 2, 5);
-    expect_dropped(&rt, &again, 0, 0);
-    if again.names.threads() == 3 {
-        expect_bytes(&rt, again.names.thread(ThreadId::new(2)), b"T0");
-    }
+    let limits = Limits::new(3, 1, 2, 5)?;
+    let written = replayed(rt.alloc(), text, &limits)?;
+    expect_numbered_anew(&rt, &read_trace(rt.alloc(), &written, &limits)?);
     Ok(())
 }
