@@ -1,5 +1,6 @@
 //! How commands end over whole traces, and what they write.
-use gl_commands::{Ended, predict};
+use calls::predict;
+use gl_commands::Ended;
 use gl_filters::{Mode, Query};
 use gl_io::FromStd;
 use gl_options::Form;
@@ -8,6 +9,7 @@ use std::process::Abort;
 use std::test::Fail;
 use std::thread::Threads;
 
+mod calls;
 mod checks;
 mod counts;
 mod cuts;

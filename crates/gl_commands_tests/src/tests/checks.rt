@@ -1,7 +1,8 @@
 //! Reports that are checked with their traces.
+use super::calls::check_input;
 use super::{TURNS, expect_line};
 use crate::cut::Cut;
-use gl_commands::{Ended, check_input};
+use gl_commands::Ended;
 use gl_io::FromStd;
 use gl_std::Seed;
 use std::io::Cursor;

@@ -1,6 +1,7 @@
 //! Counts of traces, and traces replayed.
+use super::calls::{replay, stats};
 use super::{OPPOSITE_ORDER, TURNS, expect_line, full, query};
-use gl_commands::{Ended, replay, stats};
+use gl_commands::Ended;
 use gl_filters::{Mode, Query};
 use gl_io::FromStd;
 use gl_std::Seed;

@@ -1,7 +1,8 @@
 //! Readers and writers that stop, and turns that are used up.
+use super::calls::{predict, replay, stats};
 use super::{OPPOSITE_ORDER, TURNS, full};
 use crate::cut::Cut;
-use gl_commands::{Ended, predict, replay, stats};
+use gl_commands::Ended;
 use gl_io::FromStd;
 use gl_options::Form;
 use gl_std::Seed;

@@ -1,6 +1,7 @@
 //! Reports as JSON.
+use super::calls::predict;
 use super::{TURNS, full};
-use gl_commands::{Ended, predict};
+use gl_commands::Ended;
 use gl_io::FromStd;
 use gl_options::Form;
 use gl_std::Seed;

@@ -2,9 +2,10 @@
 ghost use Rattle.std.specs.Prelude.{◌≡◌, ◌≤◌};
 ghost use Rattle.gl_options.specs.Sessions.{AreOfSession};
 
+use super::calls::{live, live_gated, predict};
 use super::{NO_CYCLES, OPPOSITE_ORDER, OPPOSITE_ORDER_REPORT, TURNS, expect_line, full, query};
 use crate::cut::Cut;
-use gl_commands::{Ended, live, live_gated, predict};
+use gl_commands::Ended;
 use gl_filters::{Mode, Query};
 use gl_io::FromStd;
 use gl_options::{Form, LiveOptions};

@@ -3,10 +3,11 @@ ghost use Rattle.std.specs.Prelude.{◌≡◌, ◌≤◌, None, false, IfOk};
 ghost use Rattle.gl_event.specs.declared.limits.TheConstants.{MAX_THREADS};
 ghost use Rattle.gl_options.specs.Sessions.{AreOfSession};
 
+use super::calls::{live, live_gated};
 use super::sessions::{Meeting, has_met, new_meeting};
 use super::{NO_CYCLES, OPPOSITE_ORDER, OPPOSITE_ORDER_REPORT, TURNS, full};
 use crate::cut::Cut;
-use gl_commands::{Ended, live, live_gated};
+use gl_commands::Ended;
 use gl_io::{Failed, FromStd, Source};
 use gl_options::{Form, LiveOptions};
 use gl_std::Seed;

@@ -3,10 +3,11 @@
 ghost use Rattle.std.specs.Prelude.{◌≡◌, ◌<◌, ◌≤◌, ◌^◌, length, IfOk};
 ghost use Rattle.gl_options.specs.Sessions.{AreOfSession, CanRun};
 
+use super::calls::{check_input, live, predict, replay, stats};
 use super::checks::TRUE_REPORT;
 use super::sessions::session;
 use super::{OPPOSITE_ORDER, TURNS, full};
-use gl_commands::{Ended, check_input, live, predict, replay, said, stats};
+use gl_commands::{Ended, said};
 use gl_io::FromStd;
 use gl_options::{Command, Form, LiveOptions};
 use gl_std::Seed;
