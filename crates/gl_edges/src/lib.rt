@@ -8,7 +8,8 @@
 //!
 //! [`edges_of`] finds the edges of whole lists of events, [`Tracker`] those of one event after the
 //! other. Both name an edge by its fields alone; where a thread makes it twice, the first place
-//! stays its sample. The definitions stand in `specs/Edges.antt`, and the functions without a body
+//! stays its sample. A [`Table`] is filled edge by edge in whatever order they come, and has each once
+//! with its least sample. The definitions stand in `specs/Edges.antt`, and the functions without a body
 //! say what holds of them in the words of the events.
 #![tactic(auto)]
 

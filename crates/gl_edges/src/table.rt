@@ -98,7 +98,8 @@ impl Table {
         self.edges.len()
     }
 
-    /// Puts all edges of the other table in, each with its sample.
+    /// Puts all edges of the other table in, each with its sample. Where there is no memory for one of
+    /// them, some may be in.
     ///
     /// It takes time logarithmic in the number of edges for each of the other table's.
     pub fn absorb(&mut self, other: Table) -> Result<(), Memory>
