@@ -1,8 +1,10 @@
 //! Worked examples of gl_event, gl_io, gl_lane, gl_recorder, gl_intake, gl_shards and gl_filters, by their
 //! public calls.
 //!
-//! They stand in a crate of their own, since a crate is proved once more with its tests.
+//! They stand in a crate of their own, since a crate is proved once more with its tests. What stands outside
+//! of the tests is a writer, [`Narrow`](narrow::Narrow).
 #![tactic(auto)]
 
+pub mod narrow;
 #[cfg(test)]
 mod tests;

@@ -1,9 +1,10 @@
 //! Fake readers and writers, and what reading and writing them gives.
-ghost use Rattle.std.specs.Prelude.{◌<◌, ◌≤◌, ◌^◌, IfOk, None};
+ghost use Rattle.std.specs.Prelude.{◌≤◌, ◌^◌, IfOk};
 
 mod tables;
 
-use gl_io::{Failed, FromStd, Sink, Source, WriteFault, read_whole, write_out};
+use crate::narrow::Narrow;
+use gl_io::{Failed, FromStd, Source, WriteFault, read_whole, write_out};
 use std::io::{self, Cursor, ErrorKind};
 use std::process::Abort;
 use std::test::Fail;
@@ -41,35 +42,6 @@ impl io::Write for FailsOnce {
 
     fn flush(&mut self) -> io::Result<()> {
         Ok(())
-    }
-}
-
-// Takes some bytes a call, and fails once it is full.
-#[derive(Drop)]
-struct Narrow {
-    held: Vec<u8>,
-    piece: usize,
-    room: usize,
-    is_failed: bool,
-    ghost some: { 0 < piece },
-}
-
-impl Sink for Narrow {
-    ghost contents = { λ _. None };
-
-    ghost failed = { λ s. s.is_failed };
-
-    fn write(&mut self, bytes: &[u8]) -> Result<usize, Failed> {
-        if bytes.is_empty() {
-            return Ok(0);
-        }
-        let count = self.piece.min(self.room).min(bytes.len());
-        if count == 0 || self.held.extend_from_slice(&bytes[..count]).is_err() {
-            self.is_failed = true;
-            return Err(Failed);
-        }
-        self.room -= count;
-        Ok(count)
     }
 }
 
