@@ -4,7 +4,6 @@ use Rattle.gl_event.specs.declared.events.Segment.{Segment}
 use Rattle.gl_edges.specs.declared.edge.Edge.{Edge}
 use Rattle.gl_filters.specs.declared.query.Mode.{Mode}
 use Rattle.gl_filters.specs.Cycle.{IsCycle}
-use Rattle.gl_filters.specs.Picked.{edges_of_table}
 
 module _ (before : Segment → Segment → Bool) (mode : Mode) (len : ℕ) (edges : List Edge) where
   -- the edge is in no cycle of this mode, of at most len of these edges
