@@ -26,6 +26,10 @@ leads_as : (wanted held : ℕ) (wanted_mode held_mode : LockMode) (e f : Edge) �
 leads_as wanted held wanted_mode held_mode e f leads is_wanted is_mode is_held is_held_mode =
     and_from _ _ (eq-eqb wanted held (sym is_wanted ∙ leads.same_lock ∙ is_held)) ((λ i. conflict (sym is_mode i) (sym is_held_mode i)) ∙ leads.in_conflict)
 
+-- where a number stands
+pub stands_there : (xs : List ℕ) (v : ℕ) (there : Contains xs v) → slice_get xs there.0 ≡ Some v
+stands_there xs v there = slice_get-get_or xs there.0 v there.1 ∙ ap Some there.2
+
 module _ (before : Segment → Segment → Bool) (mode : Mode) (grain : Grain) (len : ℕ) (edges : List Edge) (flags : List Bool) where
   module _ (gap : Gap) (rest : List ℕ) (cycle : List Edge) (k m : ℕ) (is : IsCycle before mode len cycle) (by : ClosesBy before mode grain len edges flags gap rest cycle k m) where
     -- the edge that the cycle has come to
@@ -101,7 +105,7 @@ module _ (before : Segment → Segment → Bool) (mode : Mode) (grain : Grain) (
             let next = element_at cycle (place_after (length cycle) k (m + 1)) (place_within (length cycle) k (m + 1) by.within (omega arith)) in
             let model = models cycle (place_after (length cycle) k (m + 1)) next.0 among is next.1 in
             let there = by.among (m + 1) model.place model.model next.0 (omega arith) below next.1 model.stands model.flagged model.alike in
-            tried there.0 model.place (slice_get-get_or rest there.0 model.place there.1 ∙ ap Some there.2) cycle k m model.model next.0 among is by below next.1 model.stands model.alike
+            tried there.0 model.place (stands_there rest model.place there) cycle k m model.model next.0 among is by below next.1 model.stands model.alike
       ]
 
   -- one more of the rest was tried
@@ -185,5 +189,5 @@ module _ (before : Segment → Segment → Bool) (mode : Mode) (grain : Grain) (
   -- all places
   pub narrowed_all : (next n : ℕ) (e : Edge × Sample) (some : List ℕ) → next < length table → length rest ≤ n → IsNarrowedBelow n (get_or table next e).0 some → IsNarrowed before mode grain (edges_of_table table) rest next some
   narrowed_all next n e some there whole had i d f among stands stands_f meets =
-      let at = slice_get-get_or rest among.0 i among.1 ∙ ap Some among.2 in
+      let at = stands_there rest i among in
       had among.0 i d (omega (arith, among.1, whole)) at stands (ap (λ x. may_meet before mode grain x d) (sym (edge_is table e next f there stands_f)) ∙ meets)

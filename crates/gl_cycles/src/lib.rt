@@ -19,6 +19,7 @@
 //! go there is no cycle, in whichever order they go: [`removal_fault`] checks an order that was given.
 #![tactic(auto)]
 
+mod candidates;
 mod chains;
 mod closers;
 mod components;
@@ -41,17 +42,17 @@ mod ranks;
 mod removals;
 mod reports;
 mod rests;
-#[cfg(test)]
-mod tests;
 mod trims;
 mod watchers;
 mod ways;
 
+pub use candidates::{edges_sought, edges_sought_parallel};
 pub use found::{Cycles, Found, Report, ReportFault, TrimOrder};
 pub use laws::{
     cycles_are_all, cycles_are_level, cycles_ascend, cycles_ascend_by_edges, cycles_survive_trims,
     no_cycle_if_all_go, reports_are_unique, trims_are_unique,
 };
+pub use loops::edges_on_loops;
 pub use parallel::search_parallel;
 pub use paths::search;
 pub use removals::removal_fault;

@@ -1,8 +1,9 @@
 //! Which edges may lie on a loop.
 ghost use Rattle.std.specs.Prelude.{◌≡◌, IfOk, IfSome, IfNone, map};
 ghost use Rattle.gl_filters.specs.Picked.{edges_of_table};
-ghost use Rattle.gl_cycles.specs.bodies.Loops.{KeepsLoops, is_level};
 ghost use Rattle.gl_cycles.specs.Laws.{IsNeverFalling};
+ghost use Rattle.gl_cycles.specs.Loops.{KeepsLoops};
+ghost use Rattle.gl_cycles.specs.bodies.Loops.{is_level};
 ghost use Rattle.gl_cycles.specs.bodies.Ranks.{rank_in};
 
 use crate::ranks::Ranks;
@@ -10,9 +11,13 @@ use gl_edges::{Edge, Sample};
 use gl_event::Memory;
 use std::alloc::Global;
 
-/// Which edges of a table may lie on a loop: for each a flag. Two look-ups for each edge, and what
-/// [`Ranks::of`] takes.
-pub(crate) fn edges_on_loops(alloc: Global, table: &[(Edge, Sample)]) -> Result<Vec<bool>, Memory>
+/// Which edges of a table may lie on a loop of the lock-order graph, and so in a cycle: for each a flag.
+/// Those have none that lead from a lock to another from which none leads back.
+///
+/// It takes four look-ups for each edge, and two walks through the graph.
+///
+/// Err where memory was refused.
+pub fn edges_on_loops(alloc: Global, table: &[(Edge, Sample)]) -> Result<Vec<bool>, Memory>
     ensures { IfOk result (λ kept. KeepsLoops (edges_of_table table.now) kept.items) }
 {
     let ranks = Ranks::of(alloc, table)?;

@@ -39,9 +39,7 @@ impl Rounds<'_> {
     {
         let mut alive = Vec::new(alloc);
         for place in 0..models.len() {
-            let i = models[place];
-            let is_dead = dead.get(i).copied().unwrap_or(false);
-            add_flagged(&mut alive, i, !is_dead)?;
+            add_alive(&mut alive, models[place], dead)?;
         }
         Ok(alive)
     }
@@ -197,4 +195,14 @@ fn add_flagged(models: &mut Vec<usize>, i: usize, flag: bool) -> Result<(), Memo
     }
     models.push(i)?;
     Ok(())
+}
+
+// Adds a position, if it isn't flagged as dead.
+fn add_alive(alive: &mut Vec<usize>, i: usize, dead: &[bool]) -> Result<(), Memory>
+    ensures stay { OnOk result ((j : ℕ) → Contains alive.old.items j → Contains alive.new.items j) }
+    ensures added { OnOk result (¬ (slice_get dead.now i ≡ Some true) → Contains alive.new.items i) }
+    ensures within { OnOk result ((n : ℕ) → i < n → All (λ j. j < n) alive.old.items → All (λ j. j < n) alive.new.items) }
+{
+    let is_dead = dead.get(i).copied().unwrap_or(false);
+    add_flagged(alive, i, !is_dead)
 }

@@ -1,5 +1,5 @@
 //! Trimming: edges that nothing may follow in a cycle, or that may follow nothing, go one by one.
-ghost use Rattle.std.specs.Prelude.{◌≡◌, ◌+◌, ◌<◌, ◌≤◌, ◌⊎◌, ◌||◌, ℕ, false, List, [], Some, length, set, get_or, slice_get, nat_lt, ◌==◌, IfOk, IfSome, OnOk, MatchOption, vec_len};
+ghost use Rattle.std.specs.Prelude.{◌≡◌, ◌+◌, ◌<◌, ◌≤◌, ◌⊎◌, ◌||◌, ℕ, true, false, List, [], Some, length, set, get_or, slice_get, nat_lt, ◌==◌, IfOk, IfSome, OnOk, MatchOption, vec_len};
 ghost use Rattle.std.specs.BTreeSet.{contains};
 ghost use Rattle.std.specs.List.{list_any};
 ghost use Rattle.std.specs.Ordering.{nat_cmp};
@@ -8,7 +8,7 @@ ghost use Rattle.gl_filters.specs.Picked.{edges_of_table};
 ghost use Rattle.gl_cycles.specs.Trims.{is_beside, IsStuck, IsFirstStuck, IsTrimmed, others};
 ghost use Rattle.gl_cycles.specs.declared.trims.Side.{Side};
 ghost use Rattle.gl_edges.specs.declared.edge.Edge.{Edge};
-ghost use Rattle.gl_cycles.specs.bodies.Trimming.{IsFlagged, IsStart, IsHint, AreHints, AreBothHints, HasBesideAt, TellsStuck, KeepPlaced, AreSettled, AreFlagsOf, AreAwake, AreChained, IsWoken, lock_towards, opposite, places_of, watched_at};
+ghost use Rattle.gl_cycles.specs.bodies.Trimming.{IsFlagged, IsStart, IsHint, AreHints, AreBothHints, HasBesideAt, TellsStuck, KeepPlaced, AreSettled, AreFlagsOf, AreAwake, AreTaken, AreChained, IsWoken, lock_towards, opposite, places_of, watched_at};
 
 use crate::chains::Chain;
 use crate::watchers::Watchers;
@@ -171,6 +171,16 @@ impl Trimming<'_> {
         Ok(hints)
     }
 
+    // The hints on both sides.
+    fn both_hints(&self, alloc: Global, gone: &[bool]) -> Result<Sides, Memory>
+        requires flags { length gone.now ≡ length self.now.table.now }
+        ensures { IfOk result (λ sides. AreBothHints (is_before self.now.order.now) self.now.mode (edges_of_table self.now.table.now) gone.now (length self.now.table.now) sides) }
+    {
+        let followers = self.hints(alloc, gone, Side::Follower)?;
+        let leaders = self.hints(alloc, gone, Side::Leader)?;
+        Ok(Sides { followers, leaders })
+    }
+
     // Whether an edge is left that may come beside the one at a position. Then one is its place.
     fn has_beside(
         &self,
@@ -252,21 +262,37 @@ impl Trimming<'_> {
         Ok(waiting)
     }
 
+    // Takes away the first edge that is stuck.
+    fn take_away(
+        &self,
+        alloc: Global,
+        gone: &mut Vec<bool>,
+        sides: &mut Sides,
+        waiting: &mut BTreeSet<usize>,
+        removed: &mut Vec<usize>,
+        i: usize,
+    ) -> Result<(), Memory>
+        requires first { IsFirstStuck (is_before self.now.order.now) self.now.mode (edges_of_table self.now.table.now) (IsFlagged gone.old.items) i }
+        requires taken { AreTaken (is_before self.now.order.now) self.now.mode (edges_of_table self.now.table.now) (length self.now.table.now) gone.old.items sides.old waiting.old removed.old.items }
+        ensures flag { OnOk result (gone.new.items ≡ set gone.old.items i true) }
+        ensures taken { OnOk result (AreTaken (is_before self.now.order.now) self.now.mode (edges_of_table self.now.table.now) (length self.now.table.now) gone.new.items sides.new waiting.new removed.new.items) }
+    {
+        gone[i] = true;
+        wake(alloc, sides, waiting, i)?;
+        removed.push(i)?;
+        Ok(())
+    }
+
     // Takes away edges that are stuck, as long as there are any.
     fn run(&self, alloc: Global) -> Result<Trimmed, Memory>
         ensures { IfOk result (λ trimmed. IsTrimmed (is_before self.now.order.now) self.now.mode (edges_of_table self.now.table.now) trimmed.kept.items trimmed.removed.items) }
     {
         let mut gone = vec![in alloc; false; self.table.len()]?;
-        let mut sides = Sides {
-            followers: self.hints(alloc, &gone, Side::Follower)?,
-            leaders: self.hints(alloc, &gone, Side::Leader)?,
-        };
+        let mut sides = self.both_hints(alloc, &gone)?;
         let mut waiting = self.all_wait(alloc)?;
         let mut removed = Vec::new(alloc);
         while let Some(i) = self.first_stuck(&gone, &mut sides, &mut waiting)? {
-            gone[i] = true;
-            wake(alloc, &mut sides, &mut waiting, i)?;
-            removed.push(i)?;
+            self.take_away(alloc, &mut gone, &mut sides, &mut waiting, &mut removed, i)?;
         }
         let kept = left_of(alloc, &gone)?;
         Ok(Trimmed { kept, removed })

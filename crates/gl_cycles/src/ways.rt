@@ -43,23 +43,8 @@ impl Ways {
         kept: &[bool],
         budget: usize,
     ) -> Result<Ways, Memory> {
-        let mut links = Vec::new(alloc);
-        for (position, (ends, &is_kept)) in ends.iter().zip(kept).enumerate() {
-            if is_kept {
-                links.push(Link {
-                    held: ends.held,
-                    wanted: ends.wanted,
-                    position,
-                })?;
-            }
-        }
-        links.sort_unstable();
-        let mut first = vec![in alloc; None; locks]?;
-        for (i, link) in links.iter().enumerate().rev() {
-            if let Some(begin) = first.get_mut(link.held) {
-                *begin = Some(i);
-            }
-        }
+        let links = links_of(alloc, ends, kept)?;
+        let first = first_links(alloc, &links, locks)?;
         Ok(Ways {
             links,
             first,
@@ -161,6 +146,33 @@ impl Ways {
         }
         Ok(false)
     }
+}
+
+// The edges that are kept, by held lock and then by wanted lock.
+fn links_of(alloc: Global, ends: &[Ends], kept: &[bool]) -> Result<Vec<Link>, Memory> {
+    let mut links = Vec::new(alloc);
+    for (position, (ends, &is_kept)) in ends.iter().zip(kept).enumerate() {
+        if is_kept {
+            links.push(Link {
+                held: ends.held,
+                wanted: ends.wanted,
+                position,
+            })?;
+        }
+    }
+    links.sort_unstable();
+    Ok(links)
+}
+
+// For each lock where its links begin.
+fn first_links(alloc: Global, links: &[Link], locks: usize) -> Result<Vec<Option<usize>>, Memory> {
+    let mut first = vec![in alloc; None; locks]?;
+    for (i, link) in links.iter().enumerate().rev() {
+        if let Some(begin) = first.get_mut(link.held) {
+            *begin = Some(i);
+        }
+    }
+    Ok(first)
 }
 
 // Whether the link's edge is kept and goes with this one.

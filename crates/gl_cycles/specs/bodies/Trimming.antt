@@ -8,7 +8,7 @@ use Rattle.gl_event.specs.declared.events.Segment.{Segment}
 use Rattle.gl_edges.specs.declared.edge.Edge.{Edge}
 use Rattle.gl_filters.specs.declared.query.Mode.{Mode}
 use Rattle.gl_cycles.specs.bodies.Followers.{AreListed}
-use Rattle.gl_cycles.specs.Trims.{is_beside, HasBeside, IsStuck}
+use Rattle.gl_cycles.specs.Trims.{is_beside, HasBeside, IsStuck, IsTrimOrder}
 use Rattle.gl_cycles.specs.declared.chains.Chain.{Chain}
 use Rattle.gl_cycles.specs.declared.trims.Hints.{Hints}
 use Rattle.gl_cycles.specs.declared.trims.Side.{Side}
@@ -118,3 +118,10 @@ module _ (before : Segment → Segment → Bool) (mode : Mode) (edges : List Edg
   -- each edge below a position that isn't gone has a follower and a leader left
   abbrev pub AreSettled : ℕ → Type 0
   AreSettled n = (j : ℕ) (e : Edge) (side : Side) → j < n → slice_get edges j ≡ Some e → slice_get gone j ≡ Some false → HasBeside before mode edges (IsFlagged gone) side e
+
+-- what is known where these of the edges were taken away
+pub record AreTaken (before : Segment → Segment → Bool) (mode : Mode) (edges : List Edge) (size : ℕ) (gone : List Bool) (sides : Sides) (waiting : BTreeSet ℕ) (removed : List ℕ) : Type 0 where
+  pub flags : AreFlagsOf (length edges) gone removed
+  pub hints : AreBothHints before mode edges gone size sides
+  pub awake : AreAwake gone size sides waiting
+  pub in_order : IsTrimOrder before mode edges removed

@@ -1,7 +1,6 @@
 //! Reports over given edges.
 use super::{acq, are_all, are_lawful, join, lists_of};
-use crate::found::{Report, ReportFault};
-use crate::reports::report_over;
+use gl_cycles::{Report, ReportFault, report_over};
 use gl_edges::{EdgeList, edges_of};
 use gl_event::{Event, Memory, ThreadId};
 use gl_filters::{Mode, Query};

@@ -1,9 +1,21 @@
 //! The search on several threads.
-use super::{are_listed, known_of, three_and_three};
-use crate::found::Found;
-use crate::parallel::search_parallel;
+use super::{Known, are_listed, known_of, three_and_three};
+use gl_cycles::Found;
+use gl_event::Memory;
 use gl_filters::{Mode, Query};
+use std::alloc::Global;
 use std::test::Fail;
+use std::thread::Threads;
+
+// Searches these edges on several threads; nothing is told of what is found.
+pub(super) fn search_parallel(
+    rt: &(impl Threads + Sync),
+    alloc: Global,
+    known: &Known,
+    query: &Query,
+) -> Result<Found, Memory> {
+    gl_cycles::search_parallel(rt, alloc, &known.edges, &known.order, query)
+}
 
 // Whether so many cycles were found, these are the first of them, and whether there are more.
 fn begins_with(found: &Found, count: usize, first: &[&[usize]], more: bool) -> bool {
@@ -28,7 +40,7 @@ fn parallel_as_search(rt: HostRuntime) -> Result<(), Fail> {
     ];
     for (max, first, more) in wanted {
         let query = Query::new(Mode::Full, 4, max)?;
-        let found = search_parallel(&rt, alloc, &known.edges, &known.order, &query)?;
+        let found = search_parallel(&rt, alloc, &known, &query)?;
         assert!(rt; begins_with(&found, max as usize, first, more));
     }
     Ok(())

@@ -1,15 +1,10 @@
 //! Worked examples.
-ghost use Rattle.std.specs.Prelude.{◌≡◌, ◌≤◌, ℕ, List, map, length, slice_get, Some, IsTrue};
-ghost use Rattle.gl_event.specs.Bounds.{greatest};
-ghost use Rattle.gl_event.specs.Lawful.{IsLawful};
-ghost use Rattle.gl_event.specs.declared.events.Event.{Event};
-
-use crate::found::{Cycles, Found};
-use crate::paths::search;
+use gl_cycles::{Cycles, Found};
 use gl_edges::{EdgeList, edges_of};
-use gl_event::{Event, Limits, LocId, LockId, LockMode, Memory, ThreadId};
+use gl_event::{Event, LocId, LockId, LockMode, Memory, ThreadId};
 use gl_filters::{Mode, Query};
 use gl_segments::Order;
+use gl_segments_tests::lawful::are_lawful;
 use std::alloc::Global;
 use std::process::Abort;
 use std::test::Fail;
@@ -62,14 +57,6 @@ fn join(thread: u32, loc: u32) -> Event {
     }
 }
 
-// Whether the lists are lawful under the greatest limits.
-fn are_lawful(lists: &[Vec<Event>]) -> bool
-    ensures few { IsTrue result → length lists.now ≤ 1024 }
-    ensures lawful { IsTrue result → (thread : ℕ) (es : List Event) → slice_get (map (λ v. v.items) lists.now) thread ≡ Some es → IsLawful greatest thread es }
-{
-    gl_recorder::are_lawful(&Limits::greatest(), lists)
-}
-
 // Lists of events, each a copy of one of these.
 fn lists_of(alloc: Global, lists: &[&[Event]]) -> Result<Vec<Vec<Event>>, Memory> {
     let mut copies = Vec::new(alloc);
@@ -107,6 +94,11 @@ fn three_and_three(alloc: Global) -> Result<Vec<Vec<Event>>, Memory> {
     lists_of(alloc, &[&one, &one, &one, &other, &other, &other])
 }
 
+// Searches these edges, of which nothing is told.
+fn search(alloc: Global, known: &Known, query: &Query) -> Result<Found, Memory> {
+    gl_cycles::search(alloc, &known.edges, &known.order, query)
+}
+
 // Whether these cycles are listed.
 fn are_listed(cycles: &[Vec<usize>], wanted: &[&[usize]]) -> bool {
     if cycles.len() != wanted.len() {
@@ -135,7 +127,7 @@ fn expect(
     wanted: &[&[usize]],
 ) -> Result<(), Fail> {
     let query = Query::new(mode, len, 1_000)?;
-    let found = search(alloc, &known.edges, &known.order, &query)?;
+    let found = search(alloc, known, &query)?;
     assert!(rt; are_all(&found, wanted));
     Ok(())
 }
@@ -150,7 +142,7 @@ fn expect_first(
     more: bool,
 ) -> Result<(), Fail> {
     let query = Query::new(Mode::Full, 4, max)?;
-    let found = search(alloc, &known.edges, &known.order, &query)?;
+    let found = search(alloc, known, &query)?;
     assert!(rt; are_listed(found.cycles.as_slice(), wanted));
     assert!(rt; found.more == more);
     Ok(())

@@ -1,8 +1,7 @@
 //! Many edges that lead to each other.
-use super::pruning::kept_of;
+use super::pruning::expect_sought;
 use super::trims::expect_trimmed;
 use super::{acq, expect, expect_first, known_in, known_of, three_and_three};
-use crate::neighbours::Sought;
 use gl_event::{Event, Memory};
 use gl_filters::Mode;
 use std::alloc::Global;
@@ -60,19 +59,9 @@ fn no_way_back(rt: HostRuntime) -> Result<(), Fail> {
     let third = [acq(0, 6), acq(3, 7), acq(4, 8)];
     let fourth = [acq(4, 9), acq(1, 10)];
     let known = known_in(&rt, alloc, &[&first, &second, &third, &fourth])?;
-    let mut sought = Sought {
-        table: known.edges.entries(),
-        order: &known.order,
-        mode: Mode::Basic,
-        len: 4,
-    };
     let none = [false; 8];
     let ring = [false, false, true, true, false, false, true, true];
-    assert!(rt; kept_of(&rt, alloc, &sought)?.as_slice() == ring.as_slice());
-    sought.len = 3;
-    assert!(rt; kept_of(&rt, alloc, &sought)?.as_slice() == none.as_slice());
-    sought.len = 16;
-    sought.mode = Mode::Guarded;
-    assert!(rt; kept_of(&rt, alloc, &sought)?.as_slice() == none.as_slice());
-    Ok(())
+    expect_sought(&rt, alloc, &known, (Mode::Basic, 4), &ring)?;
+    expect_sought(&rt, alloc, &known, (Mode::Basic, 3), &none)?;
+    expect_sought(&rt, alloc, &known, (Mode::Guarded, 16), &none)
 }

@@ -1,7 +1,6 @@
 //! The trim order of a report, where it is whole.
 use super::{acq, known_in, rel};
-use crate::found::Report;
-use crate::reports::report_by;
+use gl_cycles::{Report, report_by};
 use gl_event::Event;
 use gl_filters::{Mode, Query};
 use std::alloc::Global;

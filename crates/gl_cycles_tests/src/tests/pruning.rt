@@ -2,44 +2,75 @@
 ghost use Rattle.std.specs.Prelude.{◌<◌};
 
 use super::rings::{add_piece, ring_under_gates, under_gates};
-use super::{acq, expect_first, fork, join, known_of};
-use crate::narrowing::{count_set, kept_edges_parallel};
-use crate::neighbours::Sought;
+use super::{Known, acq, expect_first, fork, join, known_of};
 use gl_event::{Event, Memory};
-use gl_filters::Mode;
+use gl_filters::{Mode, Query};
 use std::alloc::Global;
 use std::process::Abort;
 use std::test::Fail;
 use std::thread::Threads;
 
-// Which edges may be in a cycle, as one thread finds them. Several find the same.
-pub(super) fn kept_of(
-    rt: &(impl Abort + Threads + Sync),
-    alloc: Global,
-    sought: &Sought<'_>,
-) -> Result<Vec<bool>, Fail> {
-    let kept = sought.kept_edges(alloc)?;
-    let by_parts = kept_edges_parallel(rt, alloc, sought)?;
-    assert!(rt; kept.as_slice() == by_parts.as_slice());
-    Ok(kept)
+// Which edges may be in a cycle; nothing is told of them.
+fn edges_sought(alloc: Global, known: &Known, query: &Query) -> Result<Vec<bool>, Memory> {
+    gl_cycles::edges_sought(alloc, &known.edges, &known.order, query)
 }
 
-// How many edges of these lists may be in a cycle of at most so many.
-pub(super) fn count_kept(
+// The same, found on several threads.
+fn edges_sought_parallel(
+    rt: &(impl Threads + Sync),
+    alloc: Global,
+    known: &Known,
+    query: &Query,
+) -> Result<Vec<bool>, Memory> {
+    gl_cycles::edges_sought_parallel(rt, alloc, &known.edges, &known.order, query)
+}
+
+// Which edges may be in a cycle of the mode and of at most so many edges, as one thread finds them.
+// Several find the same.
+fn sought_of(
+    rt: &(impl Abort + Threads + Sync),
+    alloc: Global,
+    known: &Known,
+    mode: Mode,
+    len: u32,
+) -> Result<Vec<bool>, Fail> {
+    let query = Query::new(mode, len, 1)?;
+    let alone = edges_sought(alloc, known, &query)?;
+    let by_parts = edges_sought_parallel(rt, alloc, known, &query)?;
+    assert!(rt; alone.as_slice() == by_parts.as_slice());
+    Ok(alone)
+}
+
+// The edges that may be in a cycle of the mode and of at most so many edges are flagged so.
+pub(super) fn expect_sought(
+    rt: &(impl Abort + Threads + Sync),
+    alloc: Global,
+    known: &Known,
+    asked: (Mode, u32),
+    wanted: &[bool],
+) -> Result<(), Fail> {
+    let flags = sought_of(rt, alloc, known, asked.0, asked.1)?;
+    assert!(rt; flags.as_slice() == wanted);
+    Ok(())
+}
+
+// How many flags are set.
+fn count_set(flags: &[bool]) -> usize {
+    flags.iter().filter(|&&flag| flag).count()
+}
+
+// So many edges of these lists may be in a cycle of the mode and of at most so many edges.
+pub(super) fn expect_count(
     rt: &(impl Abort + Threads + Sync),
     alloc: Global,
     lists: &[Vec<Event>],
-    mode: Mode,
-    len: usize,
-) -> Result<usize, Fail> {
+    asked: (Mode, u32),
+    wanted: usize,
+) -> Result<(), Fail> {
     let known = known_of(rt, alloc, lists)?;
-    let sought = Sought {
-        table: known.edges.entries(),
-        order: &known.order,
-        mode,
-        len,
-    };
-    Ok(count_set(kept_of(rt, alloc, &sought)?.as_slice()))
+    let flags = sought_of(rt, alloc, &known, asked.0, asked.1)?;
+    assert!(rt; count_set(&flags) == wanted);
+    Ok(())
 }
 
 // Each edge of the ring goes with edges that lead back from it, but of four edges under two gate
@@ -48,9 +79,8 @@ pub(super) fn count_kept(
 fn kinds_of_no_round(rt: HostRuntime) -> Result<(), Fail> {
     let alloc = rt.alloc();
     let lists = ring_under_gates(alloc, 4, 4, &[4, 5])?;
-    assert!(rt; count_kept(&rt, alloc, &lists, Mode::Basic, 4)? == 8);
-    assert!(rt; count_kept(&rt, alloc, &lists, Mode::Guarded, 4)? == 0);
-    Ok(())
+    expect_count(&rt, alloc, &lists, (Mode::Basic, 4), 8)?;
+    expect_count(&rt, alloc, &lists, (Mode::Guarded, 4), 0)
 }
 
 // A thread runs all pieces of a ring of four locks in one segment, and then begins the next one.
@@ -86,10 +116,9 @@ fn rings_of_all(alloc: Global, threads: u32) -> Result<Vec<Vec<Event>>, Memory> 
 fn more_pieces_than_threads(rt: HostRuntime) -> Result<(), Fail> {
     let alloc = rt.alloc();
     let three = rings_of_all(alloc, 3)?;
-    assert!(rt; count_kept(&rt, alloc, &three, Mode::Basic, 4)? == 0);
+    expect_count(&rt, alloc, &three, (Mode::Basic, 4), 0)?;
     let four = rings_of_all(alloc, 4)?;
-    assert!(rt; count_kept(&rt, alloc, &four, Mode::Basic, 4)? == 480);
-    Ok(())
+    expect_count(&rt, alloc, &four, (Mode::Basic, 4), 480)
 }
 
 // Puts forks of these threads at the end, each followed by the join of its thread.
@@ -122,9 +151,8 @@ fn ring_in_two_rows(alloc: Global) -> Result<Vec<Vec<Event>>, Memory> {
 fn segments_of_no_round(rt: HostRuntime) -> Result<(), Fail> {
     let alloc = rt.alloc();
     let lists = ring_in_two_rows(alloc)?;
-    assert!(rt; count_kept(&rt, alloc, &lists, Mode::Guarded, 4)? == 8);
-    assert!(rt; count_kept(&rt, alloc, &lists, Mode::Full, 4)? == 0);
-    Ok(())
+    expect_count(&rt, alloc, &lists, (Mode::Guarded, 4), 8)?;
+    expect_count(&rt, alloc, &lists, (Mode::Full, 4), 0)
 }
 
 // A thread runs a piece under gate locks that go with a number: under one for 0, and else under six.
@@ -139,11 +167,12 @@ fn gated_piece(alloc: Global, number: u32, piece: u32, next: u32) -> Result<Vec<
     under_gates(alloc, &gates, piece, next)
 }
 
-// Sixteen threads run the pieces of a ring of sixteen locks, each under gate locks that only the piece
-// across the ring has too: the first piece and the one across under one, and the others under six.
-fn ring_of_pairs(alloc: Global) -> Result<Vec<Vec<Event>>, Memory> {
+// So many threads run the pieces of a ring of sixteen locks in turn, each under gate locks that only the
+// piece across the ring has too: the first piece and the one across under one, and the others under six.
+pub(super) fn ring_of_pairs(alloc: Global, threads: u32) -> Result<Vec<Vec<Event>>, Memory> {
     let mut lists = Vec::new(alloc);
-    for piece in 0..16u32 {
+    for thread in 0..threads {
+        let piece = thread % 16;
         lists.push(gated_piece(alloc, piece % 8, piece, (piece + 1) % 16)?)?;
     }
     Ok(lists)
@@ -155,10 +184,9 @@ fn ring_of_pairs(alloc: Global) -> Result<Vec<Vec<Event>>, Memory> {
 #[test]
 fn no_way_back_among_many_rounds(rt: HostRuntime) -> Result<(), Fail> {
     let alloc = rt.alloc();
-    let lists = ring_of_pairs(alloc)?;
-    assert!(rt; count_kept(&rt, alloc, &lists, Mode::Basic, 16)? == 86);
-    assert!(rt; count_kept(&rt, alloc, &lists, Mode::Guarded, 16)? == 0);
-    Ok(())
+    let lists = ring_of_pairs(alloc, 16)?;
+    expect_count(&rt, alloc, &lists, (Mode::Basic, 16), 86)?;
+    expect_count(&rt, alloc, &lists, (Mode::Guarded, 16), 0)
 }
 
 // The lists of two threads, of which the second takes the locks under two gate locks in turn, and the

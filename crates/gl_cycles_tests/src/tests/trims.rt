@@ -1,6 +1,6 @@
 //! What is left where edges without a follower or a leader go.
 use super::{Known, acq, known_in, rel};
-use crate::trims::{Trimmed, trim};
+use gl_cycles::{Trimmed, trim};
 use gl_filters::Mode;
 use std::alloc::Global;
 use std::process::Abort;

@@ -1,8 +1,7 @@
 //! Searches at size.
-use super::{acq, are_listed, known_of};
-use crate::found::Found;
-use crate::parallel::search_parallel;
-use crate::paths::search;
+use super::parallel::search_parallel;
+use super::{acq, are_listed, known_of, search};
+use gl_cycles::Found;
 use gl_event::{Event, Memory};
 use gl_filters::{Mode, Query};
 use std::alloc::Global;
@@ -37,7 +36,7 @@ fn hundred_thousand_cycles(rt: HostRuntime) -> Result<(), Fail> {
     let lists = crossed(alloc, 317, 316)?;
     let known = known_of(&rt, alloc, &lists)?;
     let query = Query::new(Mode::Full, 2, 100_000)?;
-    let found = search(alloc, &known.edges, &known.order, &query)?;
+    let found = search(alloc, &known, &query)?;
     expect_hundred_thousand(&rt, &found);
     Ok(())
 }
@@ -49,7 +48,7 @@ fn hundred_thousand_cycles_in_parallel(rt: HostRuntime) -> Result<(), Fail> {
     let lists = crossed(alloc, 317, 316)?;
     let known = known_of(&rt, alloc, &lists)?;
     let query = Query::new(Mode::Full, 2, 100_000)?;
-    let found = search_parallel(&rt, alloc, &known.edges, &known.order, &query)?;
+    let found = search_parallel(&rt, alloc, &known, &query)?;
     expect_hundred_thousand(&rt, &found);
     Ok(())
 }
