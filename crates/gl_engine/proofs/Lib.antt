@@ -6,6 +6,4 @@ pub mod Handing
 pub mod Confirming
 pub mod Running
 pub mod Agreeing
-pub mod Alone
-pub mod Pair
 pub mod Unpulled

@@ -54,6 +54,3 @@ pub use receipt::Receipt;
 pub use recorder::{CloseFault, RecordFault, Recorder};
 pub use session::open;
 pub use settled::Settled;
-
-#[cfg(test)]
-mod tests;

@@ -1,0 +1,7 @@
+use Rattle.std.proofs.Common.{◌≡◌}
+use Rattle.gl_engine_tests.specs.Sessions.{owner_of}
+use Rattle.gl_engine_tests.proofs.closing.close_one.Given as goal
+
+-- the recorder stays that of its thread
+abbrev pub invariant-loop-event : goal.invariant-loop-event
+invariant-loop-event l = owner_of l.recorder ≡ owner_of l.fn.recorder

@@ -1,0 +1,37 @@
+-- Sessions whose threads have closed, and which receipts they can be settled with.
+use Rattle.std.specs.Prelude.{◌≡◌, ℕ, Bool, true, List, map, Some, None, slice_get}
+use Rattle.gl_event.specs.Bounds.{Bounds}
+use Rattle.gl_lane.specs.Lanes.{LaneId}
+use Rattle.gl_shards.specs.Feeds.{AllSent, Receiving}
+use Rattle.gl_engine.specs.Recording.{Closed, Recording}
+use Rattle.gl_engine.specs.Collecting.{Collecting, lanes_of}
+use Rattle.gl_engine.specs.Gathering.{Gathering, AreOurs}
+
+-- what a recorder and its receipt have in common
+pub record Owner : Type 0 where
+  pub session : ℕ
+  pub thread : ℕ
+  pub limits : Bounds
+  pub lane : LaneId
+
+abbrev pub owner_of : Recording → Owner
+owner_of r = record { session = r.session; thread = r.thread; limits = r.limits; lane = r.lane }
+
+abbrev pub left_by : Closed → Owner
+left_by r = record { session = r.session; thread = r.thread; limits = r.limits; lane = r.lane }
+
+-- the receipt is that of the thread's recorder in a session of this number, limits and lanes, or another session's
+abbrev pub IsOurs : ℕ → Bounds → List LaneId → Closed → Type 0
+IsOurs session limits lanes r = r.session ≡ session → (lane : LaneId) → slice_get lanes r.thread ≡ Some lane → (r.lane ≡ lane) × (r.limits ≡ limits)
+
+-- each receipt is that of a thread's recorder in the collector's session, or another session's
+abbrev pub AreOursOf : Collecting → List Closed → Type 0
+AreOursOf c receipts = (at : ℕ) (r : Closed) → slice_get receipts at ≡ Some r → IsOurs c.session c.limits (lanes_of c) r
+
+-- a session of this number that has run: it can be settled with the receipts, and with those put aside, and where there is somebody to serve
+-- the feeds, these are all that was sent
+pub record IsSession (number : ℕ) (g : Gathering) (receipts aside : List Closed) (inlets : List Receiving) (served : Bool) : Type 0 where
+  pub numbered : g.session ≡ number
+  pub ours : AreOurs g receipts
+  pub ours_aside : AreOurs g aside
+  pub feeds : served ≡ true → g.fault ≡ None → map (λ (s : AllSent). s.feed) g.sent ≡ map (λ (i : Receiving). i.feed) inlets

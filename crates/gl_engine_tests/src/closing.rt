@@ -1,0 +1,50 @@
+//! Threads that record their lists and close.
+ghost use Rattle.std.specs.Prelude.{◌≡◌, map, IfSome};
+ghost use Rattle.gl_engine_tests.specs.Sessions.{left_by, owner_of, AreOursOf};
+
+use gl_engine::{Collector, Receipt, Recorder, open};
+use gl_event::{Event, Limits};
+use std::alloc::Global;
+
+// Records the events and closes.
+fn close_one(recorder: Recorder, events: &[Event]) -> Option<Receipt>
+    ensures { IfSome result (λ receipt. left_by receipt ≡ owner_of recorder) }
+{
+    let mut recorder = recorder;
+    for event in events {
+        let Ok(_) = recorder.record(*event) else {
+            return None;
+        };
+    }
+    recorder.close().ok()
+}
+
+// Each recorder records its list and closes.
+fn close_all(alloc: Global, recorders: Vec<Recorder>, lists: &[&[Event]]) -> Option<Vec<Receipt>>
+    ensures { IfSome result (λ receipts. map left_by receipts.items ≡ map owner_of recorders.items) }
+{
+    let mut receipts = Vec::new(alloc);
+    for recorder in recorders {
+        let events = lists.get(receipts.len())?;
+        let receipt = close_one(recorder, *events)?;
+        let Ok(()) = receipts.push(receipt) else {
+            return None;
+        };
+    }
+    Some(receipts)
+}
+
+/// A session of this number, with a thread for each list, that has recorded it and closed: the receipts, in
+/// the order of thread numbers, and the collector.
+pub fn closed(alloc: Global, number: u64, lists: &[&[Event]]) -> Option<(Vec<Receipt>, Collector)>
+    ensures number { IfSome result (λ session. session.1.session ≡ number) }
+    ensures ours { IfSome result (λ session. AreOursOf session.1 session.0.items) }
+{
+    let threads = u32::try_from(lists.len()).ok()?;
+    let limits = Limits::new(threads, 8, 100, 100).ok()?;
+    let Ok((recorders, collector)) = open(alloc, number, &limits) else {
+        return None;
+    };
+    let receipts = close_all(alloc, recorders, lists)?;
+    Some((receipts, collector))
+}
