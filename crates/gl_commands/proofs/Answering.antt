@@ -93,6 +93,16 @@ before_itself lists (s ∷ via) at begins rings = subst (λ x. Before lists x x)
 pub least_of_ring : (lists : List (List Event)) (at : Segment) (ring : List Segment) → IsLeastInRing lists at ring → IsLeastBeforeItself lists at
 least_of_ring lists at ring is = record { loops = before_itself lists ring at is.begins is.rings; least = is.least }
 
+-- what is printed is an answer where that is one
+pub printed_as : (answer : Result Printed Ended) (A : Answer → Type 0) (from : Answer) → IfOk answer (λ p. Prints p.text.items p.outcome ≡ from) → A from → IfOk answer (λ p. A (Prints p.text.items p.outcome))
+printed_as (Ok p) A from is holds = subst A (sym is) holds
+printed_as (Err ended) A from is holds = tt
+
+-- where memory alone is wanting
+pub memory_alone : (answer : Result Printed Ended) (E : Ended → Type 0) → IfErr answer (λ ended. ended ≡ variant.Memory) → E variant.Memory → IfErr answer E
+memory_alone (Ok p) E is holds = tt
+memory_alone (Err ended) E is holds = subst E (sym is) holds
+
 -- an answer to a text, written or refused, ends a command that read the text whole
 pub ends_as : (IsAnswered : List ℕ → Answer → Type 0) (text : List ℕ) (answered : Result Printed Ended) (old new : Option (List ℕ)) (failed : Bool) (ended : Ended)
     → IfOk answered (λ p. IsAnswered text (Prints p.text.items p.outcome)) → IfErr answered (λ how. IfRefused how (λ line. IsAnswered text (Refusal line)))

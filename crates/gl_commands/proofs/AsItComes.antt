@@ -1,5 +1,5 @@
 -- What a session that records a text as it comes ends with.
-use Rattle.std.proofs.Common.{◌≡◌, ◌∙◌, ◌⊎◌, ◌++◌, inl, inr, ℕ, Bool, true, List, Option, Ok, Err, refl, sym, ap, subst}
+use Rattle.std.proofs.Common.{◌≡◌, ◌∙◌, ◌⊎◌, ◌++◌, inl, inr, ℕ, Bool, true, List, Result, Ok, Err, IfOk, refl, sym, ap, subst}
 use Rattle.gl_event.specs.Bounds.{Bounds}
 use Rattle.gl_event.specs.declared.events.Segment.{Segment}
 use Rattle.gl_io.specs.Reads.{HasRead}
@@ -31,8 +31,8 @@ use Rattle.gl_commands.specs.bodies.Stops.{EndsUnwritten, HasAnswer, IfRefused, 
 use Rattle.gl_commands.specs.declared.ended.Ended.{Ended}
 use Rattle.gl_commands.specs.declared.ended.Ended.TheVariants as variant
 use Rattle.gl_options.specs.declared.form.Form.{Form}
-use Rattle.gl_commands.specs.declared.ended.Outcome.{Outcome}
-use Rattle.gl_commands.proofs.Answering.{least_of_ring, with_session}
+use Rattle.gl_commands.specs.declared.answer.Printed.{Printed}
+use Rattle.gl_commands.proofs.Answering.{least_of_ring, printed_as, with_session}
 use Rattle.gl_commands.proofs.FirstFaults.{no_fault_before}
 
 -- ---- ends that need no text
@@ -72,20 +72,20 @@ abbrev pub AreNames : Stream → NameLists → Type 0
 AreNames items names = (limits : Bounds) (turns : ℕ) (input : Use) (text : List ℕ) (told : Trace) → CanBeNamed items → HasTold limits turns input items text told → names ≡ told.names
 
 -- the report is printed
-pub printed_whole : (asked : Asked) (form : Form) (limits : Bounds) (turns : ℕ) (input : Use) (items : Stream) (report : Report) (names : NameLists) (text : List ℕ) (outcome : Outcome)
-    → AreNames items names → text ≡ printed_report form names report → outcome ≡ outcome_of report
-    → Becomes asked limits turns input items (Ok report) → HasAnswer (IsAnswerUnder limits (prediction asked form)) turns input (Prints text outcome)
-printed_whole asked form limits turns input items report names text outcome named text_is outcome_is became =
+pub printed_whole : (asked : Asked) (form : Form) (limits : Bounds) (turns : ℕ) (input : Use) (items : Stream) (report : Report) (names : NameLists) (answer : Result Printed Ended)
+    → AreNames items names → IfOk answer (λ p. Prints p.text.items p.outcome ≡ Prints (printed_report form names report) (outcome_of report))
+    → Becomes asked limits turns input items (Ok report) → IfOk answer (λ p. HasAnswer (IsAnswerUnder limits (prediction asked form)) turns input (Prints p.text.items p.outcome))
+printed_whole asked form limits turns input items report names answer named is became =
     let told = became.told in
     let whole = whole_at_end limits turns input items became.text told became.tells became.reports.0 in
     let names_are : names ≡ told.names = named limits turns input became.text told whole.named became.tells in
-    let printed : text ≡ printed_report form told.names report = text_is ∙ ap (λ n. printed_report form n report) names_are in
-    record {
+    printed_as answer (HasAnswer (IsAnswerUnder limits (prediction asked form)) turns input) (Prints (printed_report form names report) (outcome_of report)) is
+    (record {
       text = became.text;
       whole = whole.read;
-      is = subst (IsAnswerUnder limits (prediction asked form) became.text) (λ i. Prints (sym printed i) (sym outcome_is i))
+      is = subst (λ n. IsAnswerUnder limits (prediction asked form) became.text (Prints (printed_report form n report) (outcome_of report))) (sym names_are)
           (with_session limits (prediction asked form) (λ r. Prints (printed_report form told.names r) (outcome_of r)) asked (Ok told) told report refl became.reports.1 (λ before. refl) became.text whole.trace);
-    }
+    })
 
 -- a segment is before itself
 pub refused_whole : (printed : (Segment → Segment → Bool) → Trace → Answer) (limits : Bounds) (turns : ℕ) (input : Use) (items : Stream) (text : List ℕ) (told : Trace) (at : Segment) (ring : List Segment) (names : NameLists) (ended : Ended)

@@ -1,9 +1,13 @@
 //! What is answered to a text.
+//!
+//! A trace, a report and the names are given back by `drop`, each at one place of its own: wherever one goes out of
+//! scope instead, what it holds is proved to be given back part by part.
 ghost use Rattle.std.specs.Prelude.{◌≡◌, ℕ, Ok, List, IfOk, IfErr, OnOk};
 ghost use Rattle.gl_event.specs.Bounds.{greatest};
 ghost use Rattle.gl_std.specs.Trace.{trace_of, IsTraceOver};
 ghost use Rattle.gl_segments.specs.Clocks.{is_before, OrdersBy};
 ghost use Rattle.gl_segments.specs.Segments.{IsConsistent};
+ghost use Rattle.gl_report.specs.Counts.{stats_of, stats_text};
 ghost use Rattle.gl_commands.specs.Answer.{IsAnswer, IsPlainAnswer, counts, outcome_of, prediction, printed_report, replay, report_of};
 ghost use Rattle.gl_commands.specs.Answer.Answer.{Prints, Refusal};
 ghost use Rattle.gl_commands.specs.bodies.Stops.{IfRefused, IsFaultIn, IsLoopOf, IsReportOf, SaysWhyNoReport};
@@ -109,6 +113,22 @@ fn report_by(
     report_by_parallel(rt, alloc, edges, order, query)
 }
 
+// The report of a trace, or the line that says which segment is before itself.
+fn report_or_line(
+    rt: &(impl Threads + Sync),
+    alloc: Global,
+    trace: &Trace,
+    query: &Query,
+) -> Result<Report, Ended>
+    requires { IsTraceOver greatest trace.now }
+    ensures report { IfOk result (λ r. IsReportOf query.now (Ok trace.now) trace.now r) }
+    ensures refused { IfErr result (λ ended. IfRefused ended (IsLoopOf trace.now)) }
+{
+    let order = order_or_line(alloc, trace)?;
+    let report = report_by(rt, alloc, trace, &order, query)?;
+    Ok(report)
+}
+
 // The report of the trace that was read, or why there is none.
 fn trace_and_report(
     rt: &(impl Threads + Sync),
@@ -122,9 +142,13 @@ fn trace_and_report(
     ensures refused { IfErr result (λ ended. IfRefused ended (SaysWhyNoReport read)) }
 {
     let trace = trace_or_line(alloc, read)?;
-    let order = order_or_line(alloc, &trace)?;
-    let report = report_by(rt, alloc, &trace, &order, query)?;
-    Ok(Reported { trace, report })
+    match report_or_line(rt, alloc, &trace, query) {
+        Ok(report) => Ok(Reported { trace, report }),
+        Err(ended) => {
+            drop(trace);
+            Err(ended)
+        }
+    }
 }
 
 /// Whether a report lists a cycle.
@@ -135,6 +159,21 @@ pub(crate) fn outcome_of(report: &Report) -> Outcome
         return Outcome::Clean;
     }
     Outcome::Cycles
+}
+
+/// What is printed of a report in this form, where these are the names.
+pub(crate) fn printed_in(
+    alloc: Global,
+    form: Form,
+    names: &Names,
+    report: &Report,
+) -> Result<Printed, Ended>
+    ensures printed { IfOk result (λ p. Prints p.text.items p.outcome ≡ Prints (printed_report form names.now report.now) (outcome_of report.now)) }
+    ensures memory { IfErr result (λ ended. ended ≡ Ended.Memory) }
+{
+    let outcome = outcome_of(report);
+    let text = print(alloc, form, names, report)?;
+    Ok(Printed { text, outcome })
 }
 
 /// The report of the texts that have this trace or first fault, in this form, or why they have none.
@@ -150,9 +189,23 @@ pub(crate) fn predicted(
     ensures refused { IfErr result (λ ended. IfRefused ended (λ line. (text : List ℕ) → trace_of greatest text ≡ read → IsAnswer (prediction query.now form) text (Refusal line))) }
 {
     let Reported { trace, report } = trace_and_report(rt, alloc, read, query)?;
-    let outcome = outcome_of(&report);
-    let text = print(alloc, form, &trace.names, &report)?;
-    Ok(Printed { text, outcome })
+    let answer = printed_in(alloc, form, &trace.names, &report);
+    drop(report);
+    drop(trace);
+    answer
+}
+
+// What is printed of the counts of a trace and its report.
+fn printed_counts(alloc: Global, trace: &Trace, report: &Report) -> Result<Printed, Ended>
+    requires { IsTraceOver greatest trace.now }
+    ensures printed { IfOk result (λ p. Prints p.text.items p.outcome ≡ Prints (stats_text (stats_of trace.now report.now)) Outcome.Done) }
+    ensures memory { IfErr result (λ ended. ended ≡ Ended.Memory) }
+{
+    let text = stats_text(alloc, &Stats::of(trace, report))?;
+    Ok(Printed {
+        text,
+        outcome: Outcome::Done,
+    })
 }
 
 /// The counts of the texts that have this trace or first fault, and of their report, or why they have
@@ -168,7 +221,19 @@ pub(crate) fn counted(
     ensures refused { IfErr result (λ ended. IfRefused ended (λ line. (text : List ℕ) → trace_of greatest text ≡ read → IsAnswer (counts query.now) text (Refusal line))) }
 {
     let Reported { trace, report } = trace_and_report(rt, alloc, read, query)?;
-    let text = stats_text(alloc, &Stats::of(&trace, &report))?;
+    let answer = printed_counts(alloc, &trace, &report);
+    drop(report);
+    drop(trace);
+    answer
+}
+
+// What is printed of a trace that is written.
+fn printed_trace(alloc: Global, trace: &Trace) -> Result<Printed, Ended>
+    requires { IsTraceOver greatest trace.now }
+    ensures printed { IfOk result (λ p. Prints p.text.items p.outcome ≡ replay trace.now) }
+    ensures memory { IfErr result (λ ended. ended ≡ Ended.Memory) }
+{
+    let text = write_trace(alloc, trace)?;
     Ok(Printed {
         text,
         outcome: Outcome::Done,
@@ -182,9 +247,7 @@ pub(crate) fn replayed(alloc: Global, read: Result<Trace, ReadFault>) -> Result<
     ensures refused { IfErr result (λ ended. IfRefused ended (λ line. (text : List ℕ) → trace_of greatest text ≡ read → IsPlainAnswer replay text (Refusal line))) }
 {
     let trace = trace_or_line(alloc, read)?;
-    let text = write_trace(alloc, &trace)?;
-    Ok(Printed {
-        text,
-        outcome: Outcome::Done,
-    })
+    let answer = printed_trace(alloc, &trace);
+    drop(trace);
+    answer
 }

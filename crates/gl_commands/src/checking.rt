@@ -79,7 +79,9 @@ pub(crate) fn checked(alloc: Global, input: &[u8], seed: Seed) -> Result<Printed
 {
     let (report, text) = split_input(input);
     let trace = text_trace(alloc, text, seed)?;
-    answer_of(alloc, &trace, report)
+    let answer = answer_of(alloc, &trace, report);
+    drop(trace);
+    answer
 }
 
 /// How `check` ends over an input that wasn't read whole: with the first fault in the lines of the
@@ -89,7 +91,10 @@ pub(crate) fn end_cut(alloc: Global, input: &[u8], seed: Seed) -> Ended
 {
     let (_report, text) = split_input(input);
     match text_trace(alloc, ended_lines(text), seed) {
-        Ok(_trace) => Ended::ReadFailed,
+        Ok(trace) => {
+            drop(trace);
+            Ended::ReadFailed
+        }
         Err(ended) => ended,
     }
 }

@@ -38,7 +38,10 @@ fn end_early(alloc: Global, read: Result<Trace, ReadFault>) -> Ended
     ensures { (text : List ℕ) → trace_of greatest (ended_lines text) ≡ read → EndsEarlyAs greatest text result }
 {
     match trace_or_line(alloc, read) {
-        Ok(_trace) => Ended::ReadFailed,
+        Ok(trace) => {
+            drop(trace);
+            Ended::ReadFailed
+        }
         Err(ended) => ended,
     }
 }

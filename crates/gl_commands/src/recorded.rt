@@ -1,5 +1,5 @@
 //! What is answered to a text by a session that records its trace again.
-ghost use Rattle.std.specs.Prelude.{◌≡◌, ℕ, List, IfOk, IfErr};
+ghost use Rattle.std.specs.Prelude.{◌≡◌, ℕ, Ok, List, IfOk, IfErr};
 ghost use Rattle.gl_event.specs.Bounds.{greatest};
 ghost use Rattle.gl_cycles.specs.Reports.{IsGoodlockReport};
 ghost use Rattle.gl_std.specs.Trace.{trace_of, IsTraceOver};
@@ -8,7 +8,7 @@ ghost use Rattle.gl_commands.specs.Answer.{IsAnswer, prediction};
 ghost use Rattle.gl_commands.specs.Answer.Answer.{Prints, Refusal};
 ghost use Rattle.gl_commands.specs.bodies.Stops.{IfStopped, IsLoopOf};
 
-use crate::answer::{Printed, outcome_of, print, trace_or_line};
+use crate::answer::{Printed, printed_in, trace_or_line};
 use crate::ended::Ended;
 use crate::refusal_lines::inconsistent_line;
 use gl_cycles::Report;
@@ -56,6 +56,25 @@ fn session_report<R: Threads + Wait + Sync, G: Gate + Sync>(
     }
 }
 
+// What is answered to the texts that have this trace, by a session.
+fn session_answer<R: Threads + Wait + Sync, G: Gate + Sync>(
+    rt: &R,
+    alloc: Global,
+    trace: &Trace,
+    options: &LiveOptions,
+    gate: &G,
+) -> Result<Printed, Ended>
+    requires trace { IsTraceOver greatest trace.now }
+    requires session { AreOfSession options.now }
+    ensures printed { IfOk result (λ p. (text : List ℕ) → trace_of greatest text ≡ Ok trace.now → IsAnswer (prediction options.now.query options.now.form) text (Prints p.text.items p.outcome)) }
+    ensures refused { IfErr result (λ ended. IfStopped ended (λ line. (text : List ℕ) → trace_of greatest text ≡ Ok trace.now → IsAnswer (prediction options.now.query options.now.form) text (Refusal line))) }
+{
+    let report = session_report(rt, alloc, trace, options, gate)?;
+    let answer = printed_in(alloc, options.form, &trace.names, &report);
+    drop(report);
+    answer
+}
+
 /// The report of the texts that have this trace or first fault, by a session, in the form asked for, or
 /// why there is none.
 pub(crate) fn recorded<R: Threads + Wait + Sync, G: Gate + Sync>(
@@ -71,8 +90,7 @@ pub(crate) fn recorded<R: Threads + Wait + Sync, G: Gate + Sync>(
     ensures refused { IfErr result (λ ended. IfStopped ended (λ line. (text : List ℕ) → trace_of greatest text ≡ read → IsAnswer (prediction options.now.query options.now.form) text (Refusal line))) }
 {
     let trace = trace_or_line(alloc, read)?;
-    let report = session_report(rt, alloc, &trace, options, gate)?;
-    let outcome = outcome_of(&report);
-    let text = print(alloc, options.form, &trace.names, &report)?;
-    Ok(Printed { text, outcome })
+    let answer = session_answer(rt, alloc, &trace, options, gate);
+    drop(trace);
+    answer
 }

@@ -9,18 +9,19 @@ ghost use Rattle.gl_options.specs.Sessions.{AreOfSession, with_threads};
 ghost use Rattle.gl_commands.specs.Answer.{IsAnswerUnder, prediction};
 ghost use Rattle.gl_commands.specs.Answer.Answer.{Prints};
 ghost use Rattle.gl_io.specs.Uses.{Use, used};
-ghost use Rattle.gl_commands.specs.bodies.Stops.{EndsUnwritten, HasAnswer, IsEndOfText};
+ghost use Rattle.gl_commands.specs.RefusalLines.{inconsistent_line};
+ghost use Rattle.gl_commands.specs.bodies.Stops.{EndsUnwritten, HasAnswer, IfRefused, IsEndOfText};
 
-use crate::answer::{Printed, outcome_of, print};
+use crate::answer::{Printed, printed_in};
 use crate::ended::Ended;
 use crate::refusal_lines::{fault_line, inconsistent_line};
 use gl_cycles::Report;
-use gl_event::{Limits, MAX_EVENTS, MAX_NAMES, MAX_RING, Memory, Segment};
+use gl_event::{Limits, MAX_EVENTS, MAX_NAMES, MAX_RING, Segment};
 use gl_io::Source;
 use gl_live::{LiveFault, StreamFault, StreamOptions, stream_report};
 use gl_options::LiveOptions;
 use gl_shards::Gate;
-use gl_std::{Items, LinesFault, Seed};
+use gl_std::{Items, LinesFault, Names, Seed};
 use std::alloc::Global;
 use std::sync::Wait;
 use std::thread::Threads;
@@ -55,16 +56,28 @@ fn end_of_text(alloc: Global, fault: LinesFault) -> Ended
 fn printed_of(
     alloc: Global,
     options: &LiveOptions,
-    report: &Report,
+    report: Report,
     items: Items,
-) -> Result<Printed, Memory>
-    ensures { (limits : Bounds) (turns : ℕ) (input : Use) → Becomes options.now.query limits turns input items (Ok report.now)
+) -> Result<Printed, Ended>
+    ensures printed { (limits : Bounds) (turns : ℕ) (input : Use) → Becomes options.now.query limits turns input items (Ok report)
         → IfOk result (λ p. HasAnswer (IsAnswerUnder limits (prediction options.now.query options.now.form)) turns input (Prints p.text.items p.outcome)) }
+    ensures memory { IfErr result (λ ended. ended ≡ Ended.Memory) }
 {
     let (names, _skipped, _stray) = items.parts();
-    let outcome = outcome_of(report);
-    let text = print(alloc, options.form, &names, report)?;
-    Ok(Printed { text, outcome })
+    let answer = printed_in(alloc, options.form, &names, &report);
+    drop(names);
+    drop(report);
+    answer
+}
+
+// How a session ends over a text of which this segment is before itself, where these are the names.
+fn end_at(alloc: Global, names: &Names, at: Segment) -> Ended
+    ensures { IfRefused result (λ line. line ≡ inconsistent_line names.now at) }
+{
+    match inconsistent_line(alloc, names, at) {
+        Ok(line) => Ended::Refused(line),
+        Err(_) => Ended::Memory,
+    }
 }
 
 // How a session ends over a text of which this segment is before itself.
@@ -79,9 +92,38 @@ fn end_of_loop(
         → EndsUnwritten limits (IsAnswerUnder limits (prediction options.now.query options.now.form)) turns input result }
 {
     let (names, _skipped, _stray) = items.parts();
-    match inconsistent_line(alloc, &names, at) {
-        Ok(line) => Ended::Refused(line),
-        Err(_) => Ended::Memory,
+    let ended = end_at(alloc, &names, at);
+    drop(names);
+    drop(ring);
+    ended
+}
+
+// How a session ends over a text of which it has no report.
+fn end_without_report(
+    alloc: Global,
+    options: &LiveOptions,
+    fault: StreamFault,
+    items: Items,
+) -> Ended
+    ensures { (limits : Bounds) (turns : ℕ) (input : Use) → Becomes options.now.query limits turns input items (Err fault)
+        → FailsInTime {Y = Report} input.before input.after items (Err fault) → EndsUnwritten limits (IsAnswerUnder limits (prediction options.now.query options.now.form)) turns input result }
+{
+    match fault {
+        StreamFault::Text(fault) => {
+            drop(items);
+            end_of_text(alloc, fault)
+        }
+        StreamFault::Session(LiveFault::Inconsistent { at, ring }) => {
+            end_of_loop(alloc, options, at, ring, items)
+        }
+        StreamFault::Session(LiveFault::Memory) => {
+            drop(items);
+            Ended::Memory
+        }
+        StreamFault::Session(LiveFault::Unconfirmed) => {
+            drop(items);
+            Ended::Unconfirmed
+        }
     }
 }
 
@@ -98,16 +140,8 @@ fn answered(
         → FailsInTime input.before input.after items reported → IfErr result (EndsUnwritten limits (IsAnswerUnder limits (prediction options.now.query options.now.form)) turns input) }
 {
     match reported {
-        Ok(report) => {
-            let printed = printed_of(alloc, options, &report, items)?;
-            Ok(printed)
-        }
-        Err(StreamFault::Text(fault)) => Err(end_of_text(alloc, fault)),
-        Err(StreamFault::Session(LiveFault::Inconsistent { at, ring })) => {
-            Err(end_of_loop(alloc, options, at, ring, items))
-        }
-        Err(StreamFault::Session(LiveFault::Memory)) => Err(Ended::Memory),
-        Err(StreamFault::Session(LiveFault::Unconfirmed)) => Err(Ended::Unconfirmed),
+        Ok(report) => printed_of(alloc, options, report, items),
+        Err(fault) => Err(end_without_report(alloc, options, fault, items)),
     }
 }
 

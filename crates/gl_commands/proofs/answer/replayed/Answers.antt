@@ -1,13 +1,12 @@
-use Rattle.std.proofs.Common.{◌≡◌, ◌∙◌, List, ℕ, ap, sym, subst}
+use Rattle.std.proofs.Common.{◌≡◌, ◌∙◌, List, ℕ}
 use Rattle.std.proofs.lemmas.Result.{err_from_is_err_and}
 use Rattle.gl_event.specs.Bounds.{greatest}
 use Rattle.gl_std.specs.Trace.{trace_of}
 use Rattle.gl_commands.specs.Answer.{IsPlainAnswer, replay}
-use Rattle.gl_commands.specs.Answer.Answer.{Prints, Refusal}
+use Rattle.gl_commands.specs.Answer.Answer.{Refusal}
 use Rattle.gl_commands.specs.Answer.IsPlainAnswer.{plain}
-use Rattle.gl_commands.specs.bodies.Stops.{IsFaultIn}
-use Rattle.gl_commands.specs.declared.ended.Outcome.TheVariants.{Done}
-use Rattle.gl_commands.proofs.Answering.{no_trace, refused_then}
+use Rattle.gl_commands.specs.bodies.Stops.{IfRefused, IsFaultIn}
+use Rattle.gl_commands.proofs.Answering.{memory_alone, no_trace, printed_as, refused_then}
 use Rattle.gl_commands.proofs.answer.replayed.Goals as goal
 
 pub returns-in_err-trace-clause-refused : goal.returns-in_err-trace-clause-refused
@@ -17,15 +16,10 @@ returns-in_err-trace-clause-refused c =
     (no_trace replay c.args.read) c.in_err-trace.ensures.refused)
 
 pub returns-clause-printed : goal.returns-clause-printed
-returns-clause-printed c = λ text is.
-    subst (IsPlainAnswer replay text) (ap (λ t. Prints t Done) (sym c.in_ok-text.ensures)) (plain c.in_ok-trace.trace (is ∙ c.in_ok-trace.ensures.trace))
+returns-clause-printed c =
+    printed_as c.printed_trace-answer.result (λ answer. (text : List ℕ) → trace_of greatest text ≡ c.args.read → IsPlainAnswer replay text answer) (replay c.in_ok-trace.trace) c.printed_trace-answer.ensures.printed
+    (λ text is. plain c.in_ok-trace.trace (is ∙ c.in_ok-trace.ensures.trace))
 
-pub returns-in_err-text-clause-printed : goal.returns-in_err-text-clause-printed
-returns-in_err-text-clause-printed c =
-    let p = err_from_is_err_and c.from_residual-in_err-text.result c.from_residual-in_err-text.ensures.1 in
-    rw p.1 tt
-
-pub returns-in_err-text-clause-refused : goal.returns-in_err-text-clause-refused
-returns-in_err-text-clause-refused c =
-    let p = err_from_is_err_and c.from_residual-in_err-text.result c.from_residual-in_err-text.ensures.1 in
-    rw (p.1, p.2) tt
+pub returns-clause-refused : goal.returns-clause-refused
+returns-clause-refused c =
+    memory_alone c.printed_trace-answer.result (λ ended. IfRefused ended (λ line. (text : List ℕ) → trace_of greatest text ≡ c.args.read → IsPlainAnswer replay text (Refusal line))) c.printed_trace-answer.ensures.memory tt

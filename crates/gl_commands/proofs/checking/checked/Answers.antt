@@ -12,8 +12,8 @@ returns-in_err-trace-clause-refused c =
 
 pub returns-clause-printed : goal.returns-clause-printed
 returns-clause-printed c =
-    answers_accepted c.args.input.now c.in_ok-trace.trace c.split_input.result.0.now c.answer_of.result c.split_input.ensures.report (ap (trace_of greatest) (sym c.split_input.ensures.trace) ∙ c.in_ok-trace.ensures.trace) c.answer_of.ensures.printed
+    answers_accepted c.args.input.now c.in_ok-trace.trace c.split_input.result.0.now c.answer_of-answer.result c.split_input.ensures.report (ap (trace_of greatest) (sym c.split_input.ensures.trace) ∙ c.in_ok-trace.ensures.trace) c.answer_of-answer.ensures.printed
 
 pub returns-clause-refused : goal.returns-clause-refused
 returns-clause-refused c =
-    answers_refused c.args.input.now c.in_ok-trace.trace c.split_input.result.0.now c.answer_of.result c.split_input.ensures.report (ap (trace_of greatest) (sym c.split_input.ensures.trace) ∙ c.in_ok-trace.ensures.trace) c.answer_of.ensures.refused
+    answers_refused c.args.input.now c.in_ok-trace.trace c.split_input.result.0.now c.answer_of-answer.result c.split_input.ensures.report (ap (trace_of greatest) (sym c.split_input.ensures.trace) ∙ c.in_ok-trace.ensures.trace) c.answer_of-answer.ensures.refused

@@ -9,7 +9,7 @@ use Rattle.gl_commands.proofs.checking.end_cut.Goals as goal
 pub returns-in-Ok : goal.returns-in-Ok
 returns-in-Ok c =
     let lines = c.ended_lines.ensures ∙ ap ended_lines c.split_input.ensures.trace in
-    no_fault_before greatest (trace_in c.args.input.now) c.in-Ok._trace (ap (trace_of greatest) (sym lines) ∙ c.in-Ok.ensures.trace)
+    no_fault_before greatest (trace_in c.args.input.now) c.in-Ok.trace (ap (trace_of greatest) (sym lines) ∙ c.in-Ok.ensures.trace)
 
 pub returns-in-Err : goal.returns-in-Err
 returns-in-Err c =

@@ -1,24 +1,22 @@
-use Rattle.std.proofs.Common.{◌∙◌, Err, ap, subst}
-use Rattle.std.proofs.lemmas.Result.{err_from_is_err_and}
-use Rattle.gl_live.specs.Streamed.{FailsInTime, IsReportOf}
+use Rattle.std.proofs.Common.{subst}
+use Rattle.gl_cycles.specs.declared.found.Report.{Report}
+use Rattle.gl_live.specs.Streamed.{Becomes, FailsInTime}
 use Rattle.gl_commands.specs.Answer.{IsAnswerUnder, prediction}
-use Rattle.gl_commands.proofs.AsItComes.{ends_at_fault, ends_unconfirmed, ends_without_memory}
+use Rattle.gl_commands.specs.bodies.Stops.{EndsUnwritten}
+use Rattle.gl_commands.proofs.Answering.{memory_alone}
+use Rattle.gl_commands.proofs.AsItComes.{ends_without_memory}
 use Rattle.gl_commands.proofs.streamed.answered.Goals as goal
 
-pub returns-in_err-printed-in-Ok-clause-stopped : goal.returns-in_err-printed-in-Ok-clause-stopped
-returns-in_err-printed-in-Ok-clause-stopped c =
-    let p = err_from_is_err_and c.from_residual.result c.from_residual.ensures.1 in
-    rw (p.1, p.2) (λ limits turns input became in_time. ends_without_memory limits (IsAnswerUnder limits (prediction c.args.options.now.query c.args.options.now.form)) turns input)
+pub returns-in-Ok-clause-printed : goal.returns-in-Ok-clause-printed
+returns-in-Ok-clause-printed c = λ limits turns input became.
+    c.printed_of.ensures.printed limits turns input (subst (Becomes c.args.options.now.query limits turns input c.args.items) c.in-Ok.is became)
 
-pub returns-in-Err-Text-clause-stopped : goal.returns-in-Err-Text-clause-stopped
-returns-in-Err-Text-clause-stopped c = λ limits turns input became in_time.
-    ends_at_fault (prediction c.args.options.now.query c.args.options.now.form) limits turns input c.args.items became.text became.told c.in-Err-Text.fault c.end_of_text.result became.tells
-    (subst (IsReportOf c.args.options.now.query c.args.items became.told) (c.in-Err-Text.is ∙ ap (λ e. Err e) c.in-Err-Text.field-0-is) became.reports) c.end_of_text.ensures
+pub returns-in-Ok-clause-stopped : goal.returns-in-Ok-clause-stopped
+returns-in-Ok-clause-stopped c = λ limits turns input became in_time.
+    let A = IsAnswerUnder limits (prediction c.args.options.now.query c.args.options.now.form) in
+    memory_alone c.printed_of.result (EndsUnwritten limits A turns input) c.printed_of.ensures.memory (ends_without_memory limits A turns input)
 
-pub returns-in-Err-Session-Memory-clause-stopped : goal.returns-in-Err-Session-Memory-clause-stopped
-returns-in-Err-Session-Memory-clause-stopped c = λ limits turns input became in_time. ends_without_memory limits (IsAnswerUnder limits (prediction c.args.options.now.query c.args.options.now.form)) turns input
-
-pub returns-in-Err-Session-Unconfirmed-clause-stopped : goal.returns-in-Err-Session-Unconfirmed-clause-stopped
-returns-in-Err-Session-Unconfirmed-clause-stopped c = λ limits turns input became in_time.
-    ends_unconfirmed limits (IsAnswerUnder limits (prediction c.args.options.now.query c.args.options.now.form)) turns input c.args.items became.text became.told became.tells
-    (subst (FailsInTime input.before input.after c.args.items) (c.in-Err-Session-Unconfirmed.is ∙ ap (λ e. Err e) c.in-Err-Session-Unconfirmed.field-0-is) in_time)
+pub returns-in-Err-clause-stopped : goal.returns-in-Err-clause-stopped
+returns-in-Err-clause-stopped c = λ limits turns input became in_time.
+    c.end_without_report.ensures limits turns input (subst (Becomes c.args.options.now.query limits turns input c.args.items) c.in-Err.is became)
+    (subst (FailsInTime {Y = Report} input.before input.after c.args.items) c.in-Err.is in_time)
