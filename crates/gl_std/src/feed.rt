@@ -28,7 +28,7 @@ use std::alloc::{AllocError, Global};
 pub(crate) const KEPT: usize = MAX_LINE + 2;
 
 /// What a step of reading brings.
-#[derive(Clone, Copy, Debug)]
+#[derive(Clone, Copy)]
 pub(crate) enum Step {
     /// No line yet.
     More,
