@@ -1,7 +1,7 @@
 -- The logs and rows of an intake that has accepted nothing.
-use Rattle.std.proofs.Common.{◌≡◌, ℕ, ◌+◌, ◌<◌, false, List, [], ◌∷◌, ◌++◌, length, get_or, Vec, Global, refl, subst, arith, inl, inr}
+use Rattle.std.proofs.Common.{◌≡◌, ℕ, ◌+◌, ◌<◌, false, List, [], ◌∷◌, ◌++◌, length, get_or, Vec, Global, refl, sym, ap, subst, ◌∙◌, arith, inl, inr}
 use Rattle.std.proofs.lemmas.Bool.{cases_lt}
-use Rattle.std.proofs.lemmas.List.{get_or_append_left}
+use Rattle.std.proofs.lemmas.List.{get_or_append_left, length_push}
 use Rattle.std.proofs.Math.Seq.{get_or-append_seam}
 use Rattle.gl_event.specs.Bounds.{Bounds}
 use Rattle.gl_event.specs.declared.events.Event.{Event}
@@ -21,6 +21,15 @@ each_pushed P xs x each last i d within =
           let here : P (length xs) (get_or (xs ++ x ∷ []) (length xs) d) = rw (get_or-append_seam xs x [] d) last in
           subst (λ (k : ℕ). P k (get_or (xs ++ x ∷ []) k d)) same here
     ]
+
+-- the same of the list that a push gave
+pub each_new : {X : Type 0} (P : ℕ → X → Type 0) (xs ys : List X) (x : X) → ys ≡ xs ++ x ∷ [] → ((i : ℕ) (d : X) → i < length xs → P i (get_or xs i d)) → P (length xs) x
+    → (i : ℕ) (d : X) → i < length ys → P i (get_or ys i d)
+each_new {X = X} P xs ys x is each last i d within =
+    subst (λ (l : List X). P i (get_or l i d)) (sym is) (each_pushed P xs x each last i d (omega (arith, within, ap length is, length_push xs x)))
+
+pub count_new : {X : Type 0} (xs ys : List X) (x : X) (n : ℕ) → ys ≡ xs ++ x ∷ [] → length xs ≡ n → length ys ≡ n + 1
+count_new xs ys x n is count = ap length is ∙ length_push xs x ∙ ap (λ k. k + 1) count
 
 -- a log that holds nothing
 abbrev pub IsEmptyLog : ℕ → Vec Event Global → Type 0

@@ -6,7 +6,7 @@ use std::alloc::{AllocError, Global};
 use std::marker::Model;
 
 /// For each thread, by number, how many of its segments are before a segment.
-#[derive(Drop, Debug)]
+#[derive(Drop)]
 pub struct Clock {
     ahead: Vec<u32>,
 }

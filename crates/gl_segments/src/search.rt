@@ -8,7 +8,7 @@ use gl_event::Segment;
 use std::alloc::{AllocError, Global};
 
 /// A segment that was found.
-#[derive(Clone, Copy, Debug)]
+#[derive(Clone, Copy)]
 pub struct Link {
     pub segment: Segment,
     /// The entry of the segment that is one step after it.
@@ -17,13 +17,23 @@ pub struct Link {
 
 /// A search for all that is before one segment of a thread. The clock is kept from the thread's
 /// segment before it, so that nothing is looked at twice for one thread.
-#[derive(Drop, Debug)]
 pub struct Search {
     pub target: Segment,
     /// What was found so far, as a clock: a thread's earlier segments are before its later ones.
     pub clock: Clock,
     /// The target, and then what was found since the search began.
     pub found: Vec<Link>,
+}
+
+// Written out, so that it is proved once: a derived drop is proved again wherever one is let go.
+impl Drop for Search {
+    fn drop(self) {
+        let Search {
+            target,
+            clock,
+            found,
+        } = self;
+    }
 }
 
 impl Search {

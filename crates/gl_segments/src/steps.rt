@@ -10,7 +10,7 @@ use std::alloc::{AllocError, Global};
 use std::marker::Model;
 
 /// For each segment of each thread, the segments that are one step before it.
-#[derive(Drop, Debug)]
+#[derive(Drop)]
 pub struct Steps {
     rows: Vec<Packed>,
 }

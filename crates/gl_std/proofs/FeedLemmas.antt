@@ -36,6 +36,20 @@ use Rattle.gl_std.specs.declared.trace.Trace.{Trace}
 use Rattle.gl_std.proofs.PieceLemmas.{with_end, told_front, told_last, told_line, told_nothing, told_whole, faulty_line, told_more, faulty_more, more_read, nil_of}
 use Rattle.gl_std.proofs.ShapeLemmas.{shape_of-long}
 
+-- ---- tests of numbers
+
+within_of : (n m : ℕ) → nat_le n m ≡ true → n ≤ m
+within_of n m e = grind (arith, nat_tests, e)
+
+below_of : (n m : ℕ) → nat_le n m ≡ false → m < n
+below_of n m e = grind (arith, nat_tests, e)
+
+some_of : (n : ℕ) → nat_lt 0 n ≡ true → 0 < n
+some_of n e = grind (arith, nat_tests, e)
+
+none_of : (n : ℕ) → nat_lt 0 n ≡ false → n ≡ 0
+none_of n e = grind (arith, nat_tests, e)
+
 -- ---- the beginning of a line
 
 -- what is added to so many bytes, or to more
@@ -77,13 +91,13 @@ alike : (xs ys : List ℕ) → take KEPT xs ≡ take KEPT ys → nat_le KEPT (le
 alike xs ys same short = by (nat_le KEPT (length ys)) refl
   where
     first : take KEPT xs ≡ xs
-    first = let less : length xs < KEPT = grind (arith, nat_tests, short) in take_all KEPT xs (omega (arith, less))
+    first = let less = below_of KEPT (length xs) short in take_all KEPT xs (omega (arith, less))
 
     by : (v : Bool) → nat_le KEPT (length ys) ≡ v → xs ≡ ys
-    by false e = let less : length ys < KEPT = grind (arith, nat_tests, e) in sym first ∙ same ∙ take_all KEPT ys (omega (arith, less))
+    by false e = let less = below_of KEPT (length ys) e in sym first ∙ same ∙ take_all KEPT ys (omega (arith, less))
     by true e =
-        let more : KEPT ≤ length ys = grind (arith, nat_tests, e) in
-        let less : length xs < KEPT = grind (arith, nat_tests, short) in
+        let more = within_of KEPT (length ys) e in
+        let less = below_of KEPT (length xs) short in
         let size : length xs ≡ KEPT = ap length (sym first ∙ same) ∙ length-take-le KEPT ys more in
         absurd (omega (arith, size, less))
 
@@ -91,10 +105,10 @@ both_long : (xs ys : List ℕ) → take KEPT xs ≡ take KEPT ys → nat_le KEPT
 both_long xs ys same long = by (nat_le KEPT (length ys)) refl
   where
     by : (v : Bool) → nat_le KEPT (length ys) ≡ v → KEPT ≤ length ys
-    by true e = grind (arith, nat_tests, e)
+    by true e = within_of KEPT (length ys) e
     by false e =
-        let more : KEPT ≤ length xs = grind (arith, nat_tests, long) in
-        let less : length ys < KEPT = grind (arith, nat_tests, e) in
+        let more = within_of KEPT (length xs) long in
+        let less = below_of KEPT (length ys) e in
         let size : length ys ≡ KEPT = ap length (sym (take_all KEPT ys (omega (arith, less))) ∙ sym same) ∙ length-take-le KEPT xs more in
         absurd (omega (arith, size, less))
 
@@ -105,7 +119,7 @@ ended_alike limits number told xs ys same = by (nat_le KEPT (length xs)) refl
     by : (v : Bool) → nat_le KEPT (length xs) ≡ v → after_line limits number told (without_cr xs) ≡ after_line limits number told (without_cr ys)
     by false e = ap (λ line. after_line limits number told (without_cr line)) (alike xs ys same e)
     by true e =
-        let more : KEPT ≤ length xs = grind (arith, nat_tests, e) in
+        let more = within_of KEPT (length xs) e in
         let more2 = both_long xs ys same e in
         long_line limits number told (without_cr xs) (omega (arith, more, length-without_cr xs)) ∙ sym (long_line limits number told (without_cr ys) (omega (arith, more2, length-without_cr ys)))
 
@@ -116,7 +130,7 @@ last_alike limits number told xs ys same = by (nat_le KEPT (length xs)) refl
     by : (v : Bool) → nat_le KEPT (length xs) ≡ v → after_line limits number told xs ≡ after_line limits number told ys
     by false e = ap (after_line limits number told) (alike xs ys same e)
     by true e =
-        let more : KEPT ≤ length xs = grind (arith, nat_tests, e) in
+        let more = within_of KEPT (length xs) e in
         let more2 = both_long xs ys same e in
         long_line limits number told xs (omega (arith, more)) ∙ sym (long_line limits number told ys (omega (arith, more2)))
 
@@ -236,7 +250,7 @@ filled_by more count turns start now new failed old f piece text test begin is s
 
     by : (more : Bool) → nat_lt 0 count ≡ more → HasFilled more turns start new failed f text
     by true test =
-        let some : 0 < count = grind (arith, nat_tests, test) in
+        let some = some_of count test in
         let long = length-append text piece in
         subst (λ l. HasGiven turns start new f.turns (text ++ l)) (sym all) (record {
           bytes = Consumes-trans start now new text piece given.bytes gave;
@@ -246,7 +260,7 @@ filled_by more count turns start now new failed old f piece text test begin is s
           within = omega (arith, given.within, long, size, most);
         })
     by false test =
-        let none : count ≡ 0 = grind (arith, nat_tests, test) in
+        let none = none_of count test in
         let bytes : Consumes start new text = subst (Consumes start new) (ap (λ l. text ++ l) (nil_of piece (size ∙ none)) ∙ append_nil text) (Consumes-trans start now new text piece given.bytes gave) in
         record {
           bytes = bytes;

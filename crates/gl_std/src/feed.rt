@@ -28,7 +28,7 @@ use std::alloc::{AllocError, Global};
 pub(crate) const KEPT: usize = MAX_LINE + 2;
 
 /// What a step of reading brings.
-#[derive(Clone, Copy, Debug)]
+#[derive(Clone, Copy)]
 pub(crate) enum Step {
     /// No line yet.
     More,
@@ -53,7 +53,6 @@ impl Step {
 }
 
 /// The lines that came, and what was read beyond them.
-#[derive(Drop)]
 pub(crate) struct Feed {
     judge: Judge,
     // The first bytes of the line that the latest read goes on with.
@@ -64,6 +63,20 @@ pub(crate) struct Feed {
     end: usize,
     // So many reads may still be made.
     turns: u64,
+}
+
+// Written out, so that it is proved once: a derived drop is proved again wherever a feed is let go.
+impl Drop for Feed {
+    fn drop(self) {
+        let Feed {
+            judge,
+            unfinished,
+            buffer,
+            start: _,
+            end: _,
+            turns: _,
+        } = self;
+    }
 }
 
 impl Feed {
@@ -195,7 +208,15 @@ impl Feed {
     pub(crate) fn into_parts(self) -> (Names, u64, u64)
         ensures { result ≡ (self.judge.names, self.judge.skipped, self.judge.stray) }
     {
-        self.judge.into_parts()
+        let Feed {
+            judge,
+            unfinished,
+            buffer,
+            start: _,
+            end: _,
+            turns: _,
+        } = self;
+        judge.into_parts()
     }
 
     // One read, where nothing is left of the one before. Whether it gave any bytes.

@@ -10,7 +10,7 @@ const SPREAD: u64 = 0x9e37_79b9_7f4a_7c15;
 ///
 /// It is cheap and has no seed, so names can be chosen to have one print. All that is lost then is
 /// that a guess is wrong.
-#[derive(Clone, Copy, Debug)]
+#[derive(Clone, Copy)]
 pub(crate) struct Print {
     hash: u64,
 }
@@ -67,7 +67,7 @@ fn four(bytes: &[u8]) -> u32 {
 }
 
 // The number that was put last at a place, and the mark of its print.
-#[derive(Clone, Copy, Debug)]
+#[derive(Clone, Copy)]
 struct Guess {
     mark: u32,
     number: u32,
@@ -76,7 +76,7 @@ struct Guess {
 /// Numbers of names that were put lately, by their prints.
 ///
 /// A guess is nothing to rely on: whoever asks for one compares the name with that of this number.
-#[derive(Drop, Debug)]
+#[derive(Drop)]
 pub(crate) struct Guesses {
     // Empty until memory is taken.
     guesses: Vec<Guess>,

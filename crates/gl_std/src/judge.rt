@@ -19,7 +19,7 @@ use gl_event::{Event, Limits, LocId, LockId, ThreadId};
 use std::alloc::{AllocError, Global};
 
 /// What a line is that isn't at fault.
-#[derive(Clone, Copy, Debug)]
+#[derive(Clone, Copy)]
 pub(crate) enum Judged {
     /// It is empty.
     Blank,

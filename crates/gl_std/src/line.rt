@@ -18,7 +18,7 @@ pub(crate) const OPEN: u8 = b'(';
 pub(crate) const CLOSE: u8 = b')';
 
 /// The operations that are events.
-#[derive(Clone, Copy, Debug, PartialEq, Eq)]
+#[derive(Clone, Copy)]
 pub(crate) enum Operation {
     /// The thread acquires a lock, and waits for it where it has to.
     Acquire(LockMode),
@@ -45,7 +45,7 @@ impl Operation {
 }
 
 /// What a line says.
-#[derive(Clone, Copy, Debug)]
+#[derive(Clone, Copy)]
 pub(crate) enum Shape<'a> {
     /// Nothing: the line is empty.
     Blank,

@@ -12,10 +12,16 @@ use std::alloc::{AllocError, Global};
 use std::marker::Model;
 
 /// Different names in order of first mention, so that the place of a name is its number.
-#[derive(Drop)]
 struct NameList {
     names: IndexSet<Name, Seed>,
     guesses: Guesses,
+}
+
+// Written out, so that it is proved once: a derived drop is proved again wherever a list is let go.
+impl Drop for NameList {
+    fn drop(self) {
+        let NameList { names, guesses } = self;
+    }
 }
 
 impl Model for NameList {
@@ -143,7 +149,7 @@ impl NameList {
 
 /// The numbers of the names in a line, of those that have one. The operand is a lock or a thread, as
 /// the operation says.
-#[derive(Clone, Copy, Debug)]
+#[derive(Clone, Copy)]
 pub(crate) struct Found {
     pub(crate) thread: Option<ThreadId>,
     pub(crate) operand: Option<u32>,
@@ -183,11 +189,21 @@ impl Found {
 /// of first mention.
 ///
 /// Contracts see three lists of byte strings. None of the public calls takes memory.
-#[derive(Drop)]
 pub struct Names {
     threads: NameList,
     locks: NameList,
     locs: NameList,
+}
+
+// Written out, so that it is proved once: a derived drop is proved again wherever names are let go.
+impl Drop for Names {
+    fn drop(self) {
+        let Names {
+            threads,
+            locks,
+            locs,
+        } = self;
+    }
 }
 
 impl Model for Names {

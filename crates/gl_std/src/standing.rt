@@ -8,7 +8,7 @@ use gl_event::{Event, Held, HeldFault, LocId, LockId, LockMode};
 use std::marker::Model;
 
 /// What becomes of an event that a line tells.
-#[derive(Clone, Copy, Debug, PartialEq, Eq)]
+#[derive(Clone, Copy)]
 pub(crate) enum Ruling {
     /// It is in the trace.
     Kept,

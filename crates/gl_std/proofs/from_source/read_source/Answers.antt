@@ -1,4 +1,5 @@
 use Rattle.std.proofs.Common.{◌≡◌, ◌++◌, [], Ok, sym, ap, subst, ◌∙◌}
+use Rattle.std.proofs.lemmas.Result.{err_from_is_err_and}
 use Rattle.gl_std.specs.bodies.States.{ReadsOn}
 use Rattle.gl_std.specs.bodies.Hearing.{listed_by, Meets}
 use Rattle.gl_std.specs.Trace.{nothing}
@@ -65,3 +66,39 @@ returns-in-Broke-clause-heard g c =
 
 pub returns-in-Broke-clause-over : goal.returns-in-Broke-clause-over
 returns-in-Broke-clause-over g c = heard_trace_over c.args.limits.now c.args.turns _ _ _ _ (returns-in-Broke-clause-heard g c)
+
+pub take-requires-clause-fit : goal.take-requires-clause-fit
+take-requires-clause-fit g c = c.lines.invariant.fit
+
+pub take-requires-clause-not_failed : goal.take-requires-clause-not_failed
+take-requires-clause-not_failed g c = c.lines.invariant.sound
+
+pub lines-smaller : goal.lines-smaller
+lines-smaller g c = c.take.ensures.smaller (c.in_ok-take.was ∙ ap (λ p. Ok p) c.in-More.is)
+
+pub finish-requires : goal.finish-requires
+finish-requires g c = record { fit = c.take.ensures.fit_end (c.in_ok-take.was ∙ ap (λ p. Ok p) c.in-End.is) }
+
+pub drain-requires-clause-not_failed : goal.drain-requires-clause-not_failed
+drain-requires-clause-not_failed g c = c.take.ensures.sound_at_fault c.in-Fault.line c.in-Fault.kind (c.in_ok-take.was ∙ ap (λ p. Ok p) c.in-Fault.is)
+
+-- memory was refused
+pub returns-in_err-listing-clause-heard : goal.returns-in_err-listing-clause-heard
+returns-in_err-listing-clause-heard g c =
+    let p = err_from_is_err_and c.from_residual.result c.from_residual.ensures.1 in
+    rw p.1 tt
+
+pub returns-in_err-listing-clause-over : goal.returns-in_err-listing-clause-over
+returns-in_err-listing-clause-over g c =
+    let p = err_from_is_err_and c.from_residual.result c.from_residual.ensures.1 in
+    rw p.1 tt
+
+pub returns-in_err-take-clause-heard : goal.returns-in_err-take-clause-heard
+returns-in_err-take-clause-heard g c =
+    let p = err_from_is_err_and c.from_residual-in_err-take.result c.from_residual-in_err-take.ensures.1 in
+    rw p.1 tt
+
+pub returns-in_err-take-clause-over : goal.returns-in_err-take-clause-over
+returns-in_err-take-clause-over g c =
+    let p = err_from_is_err_and c.from_residual-in_err-take.result c.from_residual-in_err-take.ensures.1 in
+    rw p.1 tt
