@@ -21,7 +21,7 @@ use std::marker::Model;
 const MANY_HELD: usize = 4;
 
 /// A held lock, its mode, and the segment in which it was opened.
-#[derive(Clone, Copy, Debug, PartialEq, Eq, PartialOrd, Ord)]
+#[derive(Clone, Copy, PartialEq, Eq, PartialOrd, Ord)]
 struct Opened {
     lock: LockId,
     mode: LockMode,
@@ -31,7 +31,7 @@ struct Opened {
 /// An acquire inside others, by all that its edges depend on. The wanted lock comes first, as it tells
 /// most acquires apart. The held locks stand in their order, so that it doesn't matter in which order
 /// they were acquired.
-#[derive(Drop, Debug, PartialEq, Eq, PartialOrd, Ord)]
+#[derive(Drop, PartialEq, Eq, PartialOrd, Ord)]
 struct Nesting {
     wanted: LockId,
     mode: LockMode,
