@@ -6,4 +6,5 @@ pub mod Handing
 pub mod Confirming
 pub mod Running
 pub mod Agreeing
+pub mod Alone
 pub mod Unpulled

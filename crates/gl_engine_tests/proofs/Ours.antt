@@ -5,10 +5,9 @@ use Rattle.std.specs.Option.{option_to_list}
 use Rattle.std.specs.Prelude.{slice_get}
 use Rattle.gl_event.specs.Bounds.{Bounds}
 use Rattle.gl_event.proofs.Depths.{slice_get_last}
-use Rattle.gl_lane.specs.Lanes.{LaneId}
 use Rattle.gl_engine.specs.Collecting.{Collecting, IsOpened, Pulling, fresh_row, lanes_of}
 use Rattle.gl_engine.specs.Recording.{Closed, Recording, IsFresh}
-use Rattle.gl_engine_tests.specs.Sessions.{Owner, left_by, owner_of, AreOursOf, IsOurs}
+use Rattle.gl_engine_tests.specs.Sessions.{Owner, left_by, owner_of, AreOursOf}
 
 same_some : {X : Type 0} (x y : X) → Some x ≡ Some y → x ≡ y
 same_some x y h = cc

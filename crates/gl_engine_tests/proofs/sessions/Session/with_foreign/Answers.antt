@@ -1,4 +1,4 @@
-use Rattle.std.proofs.Common.{arith, ◌∙◌, sym}
+use Rattle.std.proofs.Common.{arith}
 use Rattle.gl_engine_tests.specs.Sessions.{IsOurs}
 use Rattle.gl_engine_tests.proofs.Ours.{each_push}
 use Rattle.gl_engine_tests.proofs.sessions.Session.with_foreign.Goals as goal
