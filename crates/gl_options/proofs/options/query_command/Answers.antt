@@ -1,0 +1,22 @@
+use Rattle.std.proofs.lemmas.Result.{err_from_is_err_and}
+use Rattle.gl_options.proofs.options.query_command.Goals as goal
+
+pub returns-in_err-arg-clause-shape : goal.returns-in_err-arg-clause-shape
+returns-in_err-arg-clause-shape c =
+    let p = err_from_is_err_and c.from_residual.result c.from_residual.ensures.1 in
+    rw p.1 tt
+
+pub returns-in_err-arg-clause-local : goal.returns-in_err-arg-clause-local
+returns-in_err-arg-clause-local c =
+    let p = err_from_is_err_and c.from_residual.result c.from_residual.ensures.1 in
+    rw p.1 tt
+
+pub returns-in_err-arg-2-clause-shape : goal.returns-in_err-arg-2-clause-shape
+returns-in_err-arg-2-clause-shape c =
+    let p = err_from_is_err_and c.from_residual-in_err-arg-2.result c.from_residual-in_err-arg-2.ensures.1 in
+    rw p.1 tt
+
+pub returns-in_err-arg-2-clause-local : goal.returns-in_err-arg-2-clause-local
+returns-in_err-arg-2-clause-local c =
+    let p = err_from_is_err_and c.from_residual-in_err-arg-2.result c.from_residual-in_err-arg-2.ensures.1 in
+    rw p.1 tt
