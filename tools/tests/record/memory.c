@@ -1,6 +1,7 @@
 /* Memory that is given back with locks in it, which nobody destroyed: the first argument names a program. */
 #define _GNU_SOURCE
 #include <dlfcn.h>
+#include <malloc.h>
 #include <pthread.h>
 #include <stdint.h>
 #include <stdio.h>
@@ -66,6 +67,7 @@ static void moved(void)
     memset(nodes, 0, 2 * sizeof *nodes);
     use(&nodes[1].lock);
     free(other);
+    mallopt(M_MMAP_THRESHOLD, 1 << 17); /* and not higher later */
     struct node *large = calloc(100000, sizeof *large);
     address = (uintptr_t)large;
     use(&large[99999].lock);
