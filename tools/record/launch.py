@@ -284,3 +284,6 @@ if __name__ == "__main__":
     except Failed as failure:
         say(str(failure))
         sys.exit(failure.status)
+    except Exception as failure:  # Python's own status 1 could be the program's
+        say("internal error: %r" % failure)
+        sys.exit(STATUS_FAILED)

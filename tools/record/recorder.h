@@ -157,6 +157,7 @@ struct thread {
     struct thread_record *record;
     uint32_t number;
     uint32_t exit_rounds;
+    uint32_t holds; /* how often it was held back in vain (confirm.c) */
     uintptr_t stack_top, stack_low; /* where its stack begins, and the lowest lock in it; 0: not known, none */
     struct thread *next_free;
     uint64_t sink; /* takes what there is no room for */

@@ -17,6 +17,7 @@
 #include <unistd.h>
 #include <unwind.h>
 
+#include "confirm.h"
 #include "process.h"
 
 #define WALK_LIMIT 24
@@ -385,6 +386,9 @@ static uint32_t site_new(struct slot *slot, const uintptr_t *callers, size_t cou
     for (size_t i = 0; i < count; i++)
         record->callers[i] = callers[i];
     record_done(record);
+    struct module *module = confirming ? module_of(callers[0] - 1) : NULL;
+    if (module)
+        confirm_site(record->site, module->path, callers[0] - 1 - module->bias);
     __atomic_store_n(&slot->value, SITE_PLAIN | record->site, __ATOMIC_RELEASE);
     return (uint32_t)record->site;
 }
@@ -473,4 +477,21 @@ uint32_t site_slow(uintptr_t return_address, uintptr_t stack)
     (void)stack;
 #endif
     return site_of_walk(return_address);
+}
+
+size_t stack_copy(uintptr_t return_address, uint64_t *addresses, size_t most)
+{
+    struct slow_state state;
+    struct walk walk;
+    slow_enter(&state);
+    walk_from(&walk, return_address);
+    size_t count = 0, first = 0;
+    while (first < walk.count && module_known(walk.addresses[first]) && is_wrapper(walk.addresses[first]))
+        first++;
+    for (; count < most && first + count < walk.count; count++) {
+        addresses[count] = walk.addresses[first + count];
+        module_known(addresses[count]);
+    }
+    slow_leave(&state);
+    return count;
 }
