@@ -342,6 +342,8 @@ uint32_t site_slow(uintptr_t return_address, uintptr_t stack);
 /* `stack`: the stack pointer just before the call pushed `return_address`. */
 static inline uint32_t site_number(uintptr_t return_address, uintptr_t stack)
 {
+    if (unlikely(process.frames > 1))
+        return site_slow(return_address, stack);
     struct slot *slot = table_find(&process.sites, return_address);
     if (likely(slot && (slot->value & SITE_PLAIN)))
         return (uint32_t)slot->value;

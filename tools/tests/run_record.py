@@ -481,6 +481,16 @@ def more_callers():
         main|rel(a)|@frames_unlock""", "locks.c"))
 
 
+@test
+def callers_of_frames_without_a_fixed_size():
+    run = Run(["./locks", "frames_vary"], ["--frames", "3"])
+    check(run.status == 0, run.said)
+    compare(run.lines(), expand("".join("""
+        main|acq(a)|@frames_lock<@varies<@vary_%s
+        main|rel(a)|@varies_unlock<@vary_%s<@frames_main""" % (way, way) for way in ("one", "two"))
+                                .replace("@frames_main", MAIN_CALL()), "locks.c"))
+
+
 def MAIN_CALL():
     with open(os.path.join(SOURCES, "locks.c")) as file:
         for number, line in enumerate(file, 1):
