@@ -535,7 +535,7 @@ class Summary:
                 self.path, self.kinds[BEYOND], HELD_LIMIT)
         if len(self.process.threads) > THREAD_LIMIT:
             yield "%s: goodlock reads at most %d threads, it will refuse this trace" % (self.path, THREAD_LIMIT)
-            yield "%s.window1 to .window%d have %d threads each, born one after the other: a cycle is seen only where a window has all its threads" % (
+            yield "%s.window1 to .window%d have at most %d threads each, born one after the other: a cycle is seen only where all its threads are in one" % (
                 self.path, len(windows(self.process)), THREAD_LIMIT)
 
     def name(self):
