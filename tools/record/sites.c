@@ -17,6 +17,7 @@
 #include <unistd.h>
 #include <unwind.h>
 
+#include "confirm.h"
 #include "process.h"
 
 #define WALK_LIMIT 24
@@ -30,6 +31,8 @@ struct range {
 struct module {
     uintptr_t bias, start, end;
     int all_wrappers; /* the C++ library itself */
+    int gone;         /* unloaded */
+    int present;
     struct range *wrappers;
     size_t wrapper_count;
     char path[1024];
@@ -42,8 +45,8 @@ static size_t module_count;
 
 static struct module *module_of(uintptr_t address)
 {
-    for (size_t i = module_count; i-- > 0;) /* the newest first: an older one may have been unloaded */
-        if (address >= modules[i]->start && address < modules[i]->end)
+    for (size_t i = module_count; i-- > 0;)
+        if (!modules[i]->gone && address >= modules[i]->start && address < modules[i]->end)
             return modules[i];
     return NULL;
 }
@@ -105,7 +108,7 @@ static int is_wrapper_name(const char *symbol)
         return 0;
     if (length == 6 && memcmp(name, "thread", 6) == 0)
         return is_thread_wrapper(at);
-    return contains(name, length, "mutex") || contains(name, length, "lock") ||
+    return contains(name, length, "mutex") || contains(name, length, "lock") || contains(name, length, "call_once") ||
            contains(name, length, "condition_variable") || (length == 7 && memcmp(name, "jthread", 7) == 0);
 }
 
@@ -169,7 +172,7 @@ static void module_find_wrappers(struct module *module)
             module->wrapper_count = count;
         }
     }
-    munmap((void *)bytes, size);
+    pages_drop((void *)bytes, size);
 }
 
 static int is_wrapper(uintptr_t return_address)
@@ -220,29 +223,49 @@ static void module_add(struct dl_phdr_info *info, uintptr_t start, uintptr_t end
     module->all_wrappers = strncmp(base, "libstdc++.so", 12) == 0 || strncmp(base, "libc++.so", 9) == 0;
     if (!module->all_wrappers)
         module_find_wrappers(module);
+    module->present = 1;
     modules[module_count++] = module;
 }
 
-static int module_visit(struct dl_phdr_info *info, size_t size, void *unused)
+/* The range of addresses that a module's parts lie in; whether there is one. */
+static int module_range(const struct dl_phdr_info *info, uintptr_t *start, uintptr_t *end)
 {
-    (void)size, (void)unused;
-    uintptr_t start = UINTPTR_MAX, end = 0;
+    *start = UINTPTR_MAX, *end = 0;
     for (unsigned i = 0; i < info->dlpi_phnum; i++) {
         const ElfW(Phdr) *part = &info->dlpi_phdr[i];
         if (part->p_type != PT_LOAD)
             continue;
         uintptr_t from = info->dlpi_addr + part->p_vaddr;
-        if (from < start)
-            start = from;
-        if (from + part->p_memsz > end)
-            end = from + part->p_memsz;
+        if (from < *start)
+            *start = from;
+        if (from + part->p_memsz > *end)
+            *end = from + part->p_memsz;
     }
-    if (end == 0)
+    return *end != 0;
+}
+
+static int module_visit(struct dl_phdr_info *info, size_t size, void *unused)
+{
+    (void)size, (void)unused;
+    uintptr_t start, end;
+    if (!module_range(info, &start, &end))
         return 0;
     struct module *known = module_of(start);
-    if (!known || known->start != start || known->end != end || known->bias != info->dlpi_addr)
+    if (known && known->start == start && known->end == end && known->bias == info->dlpi_addr)
+        known->present = 1;
+    else
         module_add(info, start, end);
     return 0;
+}
+
+static void modules_describe(void)
+{
+    while (process.modules < module_count) {
+        struct module *module = modules[process.modules];
+        if (!module->gone && !module_describe(module))
+            return;
+        process.modules++;
+    }
 }
 
 /* Makes the module that holds an address known, and all modules written to this process's file. */
@@ -253,9 +276,60 @@ static struct module *module_known(uintptr_t address)
         dl_iterate_phdr(module_visit, NULL);
         module = module_of(address);
     }
-    while (process.modules < module_count && module_describe(modules[process.modules]))
-        process.modules++;
+    modules_describe();
     return module;
+}
+
+int in_compiler_module(uint64_t address)
+{
+    struct module *module = module_known(address);
+    const char *base = module ? strrchr(module->path, '/') : NULL;
+    int own = module && module == module_known((uintptr_t)&process); /* has a copy of it */
+    return own || (base && strncmp(base, "/libgcc_s.so", 12) == 0);
+}
+
+/* --- Unloading -------------------------------------------------------------------------------------------- */
+
+/* Counts unloads: sites of several callers from before are other ones. */
+static uint64_t unloads;
+
+static void sites_end(const struct module *module)
+{
+    for (unsigned level = 0; level < TABLE_LEVELS && process.sites.levels[level]; level++)
+        for (size_t i = 0; i < (size_t)1 << (TABLE_FIRST_BITS + 2 * level); i++) {
+            struct slot *slot = &process.sites.levels[level][i];
+            if (slot->key >= module->start && slot->key <= module->end)
+                __atomic_store_n(&slot->value, 0, __ATOMIC_RELEASE);
+        }
+}
+
+static void module_end(struct module *module)
+{
+    struct unloaded_record *record = record_new(RECORD_UNLOADED, sizeof *record);
+    if (record) {
+        record->start = module->start;
+        record_done(record);
+    }
+    module->gone = 1;
+    unloads++;
+    sites_end(module);
+    memory_end_inside(module->start, module->end);
+    __atomic_fetch_add(&process.generation, 1, __ATOMIC_RELEASE);
+}
+
+void modules_check(void)
+{
+    struct slow_state state;
+    slow_enter(&state);
+    size_t count = module_count;
+    for (size_t i = 0; i < count; i++)
+        modules[i]->present = 0;
+    dl_iterate_phdr(module_visit, NULL);
+    modules_describe();
+    for (size_t i = 0; i < count; i++)
+        if (!modules[i]->gone && !modules[i]->present)
+            module_end(modules[i]);
+    slow_leave(&state);
 }
 
 int in_wrapper_module(uint64_t address)
@@ -298,17 +372,23 @@ static void walk_from(struct walk *walk, uintptr_t return_address)
 
 static uint32_t site_new(struct slot *slot, const uintptr_t *callers, size_t count)
 {
-    if (process.next_site == SITE_LIMIT)
+    for (size_t i = 0; i < count; i++)
+        module_known(callers[i]); /* its record stands before the site's */
+    struct site_record *record = NULL;
+    if (process.next_site < SITE_LIMIT)
+        record = record_new(RECORD_SITE, sizeof *record + count * sizeof callers[0]);
+    if (!record) {
+        count_loss(&process.losses->places);
+        __atomic_store_n(&slot->value, SITE_PLAIN, __ATOMIC_RELEASE);
         return 0;
-    struct site_record *record = record_new(RECORD_SITE, sizeof *record + count * sizeof callers[0]);
-    if (!record)
-        return 0;
-    record->site = process.next_site++;
-    for (size_t i = 0; i < count; i++) {
-        module_known(callers[i]);
-        record->callers[i] = callers[i];
     }
+    record->site = process.next_site++;
+    for (size_t i = 0; i < count; i++)
+        record->callers[i] = callers[i];
     record_done(record);
+    struct module *module = confirming ? module_of(callers[0] - 1) : NULL;
+    if (module)
+        confirm_site(record->site, module->path, callers[0] - 1 - module->bias);
     __atomic_store_n(&slot->value, SITE_PLAIN | record->site, __ATOMIC_RELEASE);
     return (uint32_t)record->site;
 }
@@ -360,8 +440,72 @@ static uint32_t site_single(uintptr_t return_address, uintptr_t stack)
 }
 #endif
 
-/* Sites of several callers, and of machines where return addresses don't lie at the ends of frames: the
- * stack is unwound at each visit. The site's key is a mix of its addresses, told from a single address by its top bit. */
+/*
+ * Sites of several callers, and of machines where return addresses don't lie at the ends of frames: the stack is unwound. The site's
+ * key is a mix of its addresses, told from a single address by its top bit.
+ *
+ * Unwinding is slow, so the table of sites also has what was found at each return address: how far up the next one lies, and whether
+ * this is a call inside a wrapper. Following these steps leads to a site that is known, or the stack is unwound again. An
+ * address at which two distances were found (of a function whose frame has no fixed size) is never used so.
+ */
+#define STEP_KNOWN 1u
+#define STEP_WRAPPER 2u
+#define STEP_LAST 4u
+#define STEP_VARIES 8u
+#define STEP_SHIFT 8
+#define STEP_LIMIT 4096u
+
+static uint64_t key_of_walk(uint64_t key, uintptr_t address)
+{
+    return mix(key + address);
+}
+
+#ifdef __x86_64__
+static uint32_t site_of_steps(uintptr_t return_address, uintptr_t stack)
+{
+    uint64_t key = unloads;
+    unsigned count = 0;
+    for (unsigned i = 0; i < WALK_LIMIT; i++) {
+        struct slot *slot = table_find(&process.sites, return_address);
+        uint64_t value = slot ? __atomic_load_n(&slot->value, __ATOMIC_ACQUIRE) : 0;
+        if (!(value & STEP_KNOWN) || value & STEP_VARIES)
+            return 0;
+        if (count > 0 || !(value & STEP_WRAPPER)) {
+            key = key_of_walk(key, return_address);
+            count++;
+        }
+        if (count == process.frames || value & STEP_LAST) {
+            slot = table_find(&process.sites, key | 1ull << 63);
+            return slot ? (uint32_t)__atomic_load_n(&slot->value, __ATOMIC_ACQUIRE) : 0;
+        }
+        stack += value >> STEP_SHIFT;
+        return_address = ((uintptr_t *)stack)[-1];
+    }
+    return 0;
+}
+
+/* Keeps the steps of a walk. */
+static void steps_learn(const struct walk *walk)
+{
+    for (size_t i = 0; i < walk->count; i++) {
+        uintptr_t address = walk->addresses[i];
+        uint64_t value = STEP_KNOWN | (is_wrapper(address) ? STEP_WRAPPER : 0);
+        uint64_t step = i + 1 < walk->count ? walk->stacks[i + 1] - walk->stacks[i] : 0;
+        if (i + 1 == walk->count)
+            value |= walk->count < WALK_LIMIT ? STEP_LAST : STEP_VARIES;
+        else if (step == 0 || step > STEP_LIMIT || ((uintptr_t *)walk->stacks[i + 1])[-1] != walk->addresses[i + 1])
+            value |= STEP_VARIES;
+        else
+            value |= step << STEP_SHIFT;
+        struct slot *slot = table_place(&process.sites, address);
+        if (slot && slot->value && slot->value != value)
+            value = STEP_KNOWN | STEP_VARIES;
+        if (slot)
+            __atomic_store_n(&slot->value, value, __ATOMIC_RELEASE);
+    }
+}
+#endif
+
 static uint32_t site_of_walk(uintptr_t return_address)
 {
     struct slow_state state;
@@ -377,13 +521,16 @@ static uint32_t site_of_walk(uintptr_t return_address)
         walk.addresses[0] = return_address;
     }
     size_t count = 0;
-    uint64_t key = 0;
+    uint64_t key = unloads;
     for (; count < process.frames && first + count < walk.count; count++)
-        key = mix(key + walk.addresses[first + count]);
+        key = key_of_walk(key, walk.addresses[first + count]);
     struct slot *slot = table_place(&process.sites, key | 1ull << 63);
     uint32_t site = 0;
     if (slot)
         site = slot->value ? (uint32_t)slot->value : site_new(slot, &walk.addresses[first], count);
+#ifdef __x86_64__
+    steps_learn(&walk);
+#endif
     slow_leave(&state);
     return site;
 }
@@ -393,8 +540,28 @@ uint32_t site_slow(uintptr_t return_address, uintptr_t stack)
 #ifdef __x86_64__
     if (process.frames == 1)
         return site_single(return_address, stack);
+    uint32_t site = site_of_steps(return_address, stack);
+    if (site)
+        return site;
 #else
     (void)stack;
 #endif
     return site_of_walk(return_address);
+}
+
+size_t stack_copy(uintptr_t return_address, uint64_t *addresses, size_t most)
+{
+    struct slow_state state;
+    struct walk walk;
+    slow_enter(&state);
+    walk_from(&walk, return_address);
+    size_t count = 0, first = 0;
+    while (first < walk.count && module_known(walk.addresses[first]) && is_wrapper(walk.addresses[first]))
+        first++;
+    for (; count < most && first + count < walk.count; count++) {
+        addresses[count] = walk.addresses[first + count];
+        module_known(addresses[count]);
+    }
+    slow_leave(&state);
+    return count;
 }

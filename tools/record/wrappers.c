@@ -2,8 +2,8 @@
 #define _GNU_SOURCE
 #include <errno.h>
 
+#include "confirm.h"
 #include "real.h"
-#include "recorder.h"
 
 /* Also where the lock's owner died: the lock is held. */
 static inline int took(int result)
@@ -14,13 +14,25 @@ static inline int took(int result)
 /* Each macro below is the body of a wrapper: `lock` is the lock, `call` the real call, and `good` says of
  * the variable `result` whether the call did what it was asked to. */
 
+/* Whether a thread that holds the mutex and locks it again waits for itself. */
+static inline int is_plain(const pthread_mutex_t *lock)
+{
+    int type = lock->__data.__kind & 3;
+    return type != PTHREAD_MUTEX_RECURSIVE_NP && type != PTHREAD_MUTEX_ERRORCHECK_NP;
+}
+
 /* A call that may wait for ever: the acquire is written before it. */
-#define ACQUIRE(lock, class, kind, good, call)                                                  \
+#define ACQUIRE(lock, class, kind, plain, good, call)                                                  \
     struct thread *thread = recording_thread();                                                 \
     if (unlikely(!thread))                                                                      \
         return call;                                                                            \
-    uint64_t *place = acquire_write(thread, kind, call_word(thread, lock, class, CALLER));      \
+    uint64_t word = call_word(thread, lock, class, CALLER);                                     \
+    if (unlikely(confirming))                                                                   \
+        confirm_before(thread, word | kind, lock, (uintptr_t)__builtin_return_address(0), 0);   \
+    uint64_t *place = acquire_write(thread, kind, word, plain);                                 \
     int result = call;                                                                          \
+    if (unlikely(confirming))                                                                   \
+        confirm_after(thread);                                                                  \
     if (unlikely(!(good)))                                                                      \
         acquire_take_back(thread, place);                                                       \
     return result
@@ -32,7 +44,7 @@ static inline int took(int result)
         return call;                                                                            \
     int result = call;                                                                          \
     if (good)                                                                                   \
-        acquire_write(thread, kind, call_word(thread, lock, class, CALLER));                    \
+        acquire_write(thread, kind, call_word(thread, lock, class, CALLER), 0);                 \
     else                                                                                        \
         count_other(thread);                                                                    \
     return result
@@ -84,7 +96,7 @@ EXPORTED int pthread_mutex_destroy(pthread_mutex_t *lock)
 
 EXPORTED int pthread_mutex_lock(pthread_mutex_t *lock)
 {
-    ACQUIRE(lock, LOCK_MUTEX, EVENT_ACQUIRE, took(result), real.pthread_mutex_lock(lock));
+    ACQUIRE(lock, LOCK_MUTEX, EVENT_ACQUIRE, is_plain(lock), took(result), real.pthread_mutex_lock(lock));
 }
 
 EXPORTED int pthread_mutex_trylock(pthread_mutex_t *lock)
@@ -122,7 +134,7 @@ EXPORTED int pthread_rwlock_destroy(pthread_rwlock_t *lock)
 
 EXPORTED int pthread_rwlock_rdlock(pthread_rwlock_t *lock)
 {
-    ACQUIRE(lock, LOCK_RWLOCK, EVENT_SHARED_ACQUIRE, result == 0, real.pthread_rwlock_rdlock(lock));
+    ACQUIRE(lock, LOCK_RWLOCK, EVENT_SHARED_ACQUIRE, 0, result == 0, real.pthread_rwlock_rdlock(lock));
 }
 
 EXPORTED int pthread_rwlock_tryrdlock(pthread_rwlock_t *lock)
@@ -144,7 +156,7 @@ EXPORTED int pthread_rwlock_clockrdlock(pthread_rwlock_t *lock, clockid_t clock,
 
 EXPORTED int pthread_rwlock_wrlock(pthread_rwlock_t *lock)
 {
-    ACQUIRE(lock, LOCK_RWLOCK, EVENT_ACQUIRE, result == 0, real.pthread_rwlock_wrlock(lock));
+    ACQUIRE(lock, LOCK_RWLOCK, EVENT_ACQUIRE, 0, result == 0, real.pthread_rwlock_wrlock(lock));
 }
 
 EXPORTED int pthread_rwlock_trywrlock(pthread_rwlock_t *lock)
@@ -183,7 +195,7 @@ EXPORTED int pthread_spin_destroy(pthread_spinlock_t *lock)
 
 EXPORTED int pthread_spin_lock(pthread_spinlock_t *lock)
 {
-    ACQUIRE((const void *)lock, LOCK_SPIN, EVENT_ACQUIRE, result == 0, real.pthread_spin_lock(lock));
+    ACQUIRE((const void *)lock, LOCK_SPIN, EVENT_ACQUIRE, 1, result == 0, real.pthread_spin_lock(lock));
 }
 
 EXPORTED int pthread_spin_trylock(pthread_spinlock_t *lock)
@@ -218,14 +230,21 @@ static inline void wait_write(struct thread *thread, uint64_t word, int good)
         return;
     }
     release_write(thread, word);
-    acquire_write(thread, EVENT_ACQUIRE, word);
+    acquire_write(thread, EVENT_ACQUIRE, word, 0);
 }
 
 #define WAIT(lock, good, call)                                                   \
     struct thread *thread = recording_thread();                                  \
-    if (likely(thread != NULL))                                                  \
-        wait_write(thread, call_word(thread, lock, LOCK_MUTEX, CALLER), good);   \
-    return call
+    if (unlikely(!thread))                                                       \
+        return call;                                                             \
+    uint64_t word = call_word(thread, lock, LOCK_MUTEX, CALLER);                 \
+    if (unlikely(confirming))                                                    \
+        confirm_before(thread, word | EVENT_ACQUIRE, lock, (uintptr_t)__builtin_return_address(0), 1); \
+    wait_write(thread, word, good);                                              \
+    int result = call;                                                           \
+    if (unlikely(confirming))                                                    \
+        confirm_after(thread);                                                   \
+    return result
 
 EXPORTED int pthread_cond_wait(pthread_cond_t *condition, pthread_mutex_t *lock)
 {
@@ -273,7 +292,8 @@ EXPORTED void mtx_destroy(mtx_t *lock)
 
 EXPORTED int mtx_lock(mtx_t *lock)
 {
-    ACQUIRE(lock, LOCK_MUTEX, EVENT_ACQUIRE, result == thrd_success, real.mtx_lock(lock));
+    ACQUIRE(lock, LOCK_MUTEX, EVENT_ACQUIRE, is_plain((const pthread_mutex_t *)lock), result == thrd_success,
+            real.mtx_lock(lock));
 }
 
 EXPORTED int mtx_trylock(mtx_t *lock)
