@@ -84,6 +84,14 @@ def test_many_reports_are_one_list():
     assert heads(output) == (expected, "2 findings, 4 cycles in 4 reports")
 
 
+def test_a_folder_is_all_reports_below_it():
+    for name in ("night/b/2.json", "night/a/1.json", "night/3.json"):
+        write(name, report(pair(places=(name, "2", "3", "4"))))
+    write("night/run.std", "not a report")
+    assert view("night") == view("night/3.json", "night/a/1.json", "night/b/2.json")
+    assert heads(view("night")[1])[1] == "3 findings, 3 cycles in 3 reports"
+
+
 def test_blank_places_are_told_apart_by_locks_but_not_by_addresses():
     blank = ("", "?", " ", "")
     write("r.json", report(pair("m@0x12", "n@0x7fAB", places=blank), pair("m@0x99", "n@0x3", places=blank)))

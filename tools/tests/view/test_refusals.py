@@ -134,7 +134,7 @@ def test_nothing_is_printed_where_files_are_asked_for():
 def usage_cases():
     yield [], "goodlock-view: the following arguments are required: REPORT"
     yield ["missing.json"], "goodlock-view: missing.json: can't be read: No such file or directory"
-    yield ["folder"], "goodlock-view: folder: can't be read: Is a directory"
+    yield ["folder"], "goodlock-view: folder: no report (*.json) is in this folder"
     yield ["a\nb\x1b\\\u00e9"], "goodlock-view: a\\x0ab\\x1b\\x5c\\xc3\\xa9: can't be read: No such file"
     yield ["r.json", "--nonsense"], "goodlock-view: unrecognized arguments: --nonsense"
     yield ["r.json", "--tex"], "goodlock-view: unrecognized arguments: --tex"

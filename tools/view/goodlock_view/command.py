@@ -8,11 +8,11 @@ import os
 import re
 import sys
 from collections.abc import Callable, Sequence
-from typing import NoReturn
+from typing import Any, NoReturn
 
 from . import TOOL, __version__
 from .dot import dot_of
-from .files import write_files, write_text
+from .files import reports_of, write_files, write_text
 from .findings import Summary, places_of, read_reports
 from .fingerprints import Fingerprints
 from .known import known_text, read_known
@@ -22,6 +22,13 @@ from .refusal import Refusal
 from .sarif import sarif_of
 from .sources import Sources, files_of
 from .text import text_of
+
+
+class _Formatter(argparse.HelpFormatter):
+    """As other programs of the project spell it, and as man pages are made from it."""
+
+    def add_usage(self, usage: Any, actions: Any, groups: Any, prefix: str | None = None) -> None:
+        super().add_usage(usage, actions, groups, "Usage: ")
 
 
 class _Parser(argparse.ArgumentParser):
@@ -45,32 +52,39 @@ def parser() -> argparse.ArgumentParser:
     """What the command line may say."""
     made = _Parser(
         prog=TOOL,
+        usage="%(prog)s [OPTION..] REPORT..",
         allow_abbrev=False,
+        formatter_class=_Formatter,
+        add_help=False,
         description="Groups the cycles of goodlock's JSON reports into findings and shows them.",
-        epilog="status: 0 no (new) finding, 1 (new) findings, 2 input or usage refused, or writing failed",
+        epilog="Status: 0 no (new) finding, 1 (new) findings, 2 input or usage refused, or writing failed.",
     )
-    made.add_argument("reports", nargs="+", metavar="REPORT", help="a JSON report; - is standard input")
-    made.add_argument(
-        "--source", metavar="DIR", help="show source lines of files below DIR, and tell findings by their text"
+    reports = made.add_argument_group("Arguments")
+    reports.add_argument(
+        "reports", nargs="+", metavar="REPORT", help="a JSON report; a folder: all *.json below it; -: standard input"
     )
-    made.add_argument("-o", "--html", metavar="FILE", help="write a page")
-    made.add_argument("--sarif", metavar="FILE", help="write SARIF 2.1.0, for code hosts")
-    made.add_argument(
-        "--category", metavar="NAME", type=_category, default="goodlock", help="of the SARIF run (goodlock)"
-    )
-    made.add_argument("--dot", metavar="FILE", help="write a graph for Graphviz")
-    made.add_argument("--text", action="store_true", help="print the findings (if nothing else is written, always)")
-    made.add_argument("--known", metavar="FILE", help="findings that are accepted: only others give status 1")
-    made.add_argument("--write-known", metavar="FILE", help="write the present findings as accepted ones")
-    made.add_argument(
-        "--most", metavar="N", type=_whole_number, default=200, help="findings drawn in the page and the graph (200)"
-    )
-    made.add_argument("--version", action="version", version=f"{TOOL} {__version__}")
+    options = made.add_argument_group("Options")
+    _add_options(options.add_argument)
     return made
+
+
+def _add_options(add: Callable[..., argparse.Action]) -> None:
+    add("--source", metavar="DIR", help="show source lines of files below DIR, and tell findings by their text")
+    add("-o", "--html", metavar="FILE", help="write a page")
+    add("--sarif", metavar="FILE", help="write SARIF 2.1.0, for code hosts")
+    add("--category", metavar="NAME", type=_category, default="goodlock", help="of the SARIF run (goodlock)")
+    add("--dot", metavar="FILE", help="write a graph for Graphviz")
+    add("--text", action="store_true", help="print the findings (if nothing else is written, always)")
+    add("--known", metavar="FILE", help="findings that are accepted: only others give status 1")
+    add("--write-known", metavar="FILE", help="write the present findings as accepted ones")
+    add("--most", metavar="N", type=_whole_number, default=200, help="findings drawn in the page and the graph (200)")
+    add("-V", "--version", action="version", version=f"{TOOL} {__version__}", help="print version")
+    add("-h", "--help", action="help", help="print help")
 
 
 def _options_of(arguments: Sequence[str]) -> argparse.Namespace:
     options = parser().parse_intermixed_args(arguments)
+    options.reports = [report for path in options.reports for report in reports_of(path)]
     _check_paths(options)
     return options
 

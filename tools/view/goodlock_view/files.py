@@ -9,6 +9,17 @@ from .names import file_name
 from .refusal import Refusal
 
 
+def reports_of(path: str) -> list[str]:
+    """The reports that a word of the command line names: itself, or all those below a folder."""
+    if not os.path.isdir(path):
+        return [path]
+    found = [os.path.join(folder, name) for folder, _, names in os.walk(path) for name in names]
+    reports = sorted(name for name in found if name.endswith(".json"))
+    if not reports:
+        raise Refusal(f"{file_name(path)}: no report (*.json) is in this folder")
+    return reports
+
+
 def bytes_of(path: str, name: str) -> bytes:
     """What the file has; `-` is standard input."""
     try:
