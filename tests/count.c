@@ -60,3 +60,11 @@ __attribute__((destructor)) static void tell(void)
     int size = snprintf(line, sizeof line, "%ld %ld\n", threads, bytes);
     syscall(SYS_write, atoi(to), line, (long)size);
 }
+
+/* The end that runs no destructors. */
+OPEN void _exit(int status)
+{
+    tell();
+    for (;;)
+        syscall(SYS_exit_group, status);
+}
