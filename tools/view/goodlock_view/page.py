@@ -307,7 +307,8 @@ class Page:
             cells = f'<td class="number">{report.listed:,}</td><td>{more}</td><td>{report.mode}</td>'
             name = self._names.short(report.name)
             rows.append(f'<tr><td>{name}</td>{cells}<td class="number">{report.length}</td></tr>\n')
-        head = '<tr><th>Report</th><th class="number">Cycles</th><th></th><th>Mode</th><th class="number">Longest</th></tr>'
+        head = '<tr><th>Report</th><th class="number">Cycles</th><th></th><th>Mode</th>'
+        head += '<th class="number">Longest</th></tr>'
         table = f'<div class="scroll"><table>{head}{"".join(rows)}</table></div>'
         if len(rows) <= 5:
             return f"<h2>Reports</h2>{table}"

@@ -1,7 +1,7 @@
-"""The lock graph of one cycle: locks in a ring, and for each thread an arrow from the lock that it holds to the one that
-it wants.
+"""The lock graph of one cycle.
 
-Two locks stand side by side; three to eight stand in two columns, with their names in boxes; more stand on a circle, with
+Its locks stand in a ring, and for each thread there is an arrow from the lock that it holds to the one that it wants.
+Two locks stand side by side, three to eight in two columns, with their names in boxes; more stand on a circle, with
 numbers.
 """
 
