@@ -1,0 +1,149 @@
+"""`make install`: what is installed runs without the checkout, and all of it can be taken away."""
+
+import os
+import shutil
+
+import pytest
+from installing import COMMANDS, SUBCOMMANDS, TOP, has, run
+
+TRACE = """\
+T0|acq(a)|Main.java:10
+T0|acq(b)|Main.java:11
+T0|rel(b)|Main.java:12
+T0|rel(a)|Main.java:13
+T1|acq(b)|Main.java:20
+T1|acq(a)|Main.java:21
+"""
+
+
+def test_each_command_is_installed_and_has_help_and_this_version(path):
+    version = run(path / "goodlock", "--version")[1].split()[1]
+    for command in COMMANDS:
+        status, output, errors = run(path / command, "--help")
+        assert (status, errors) == (0, "")
+        assert command in output
+    for command in ("goodlock-view", "goodlock-predict-all"):
+        assert run(path / command, "--version")[1] == f"{command} {version}\n"
+    assert f"goodlock ({version}) " in (TOP / "debian" / "changelog").read_text().splitlines()[0]
+
+
+def test_the_installed_commands_need_no_checkout(prefix, path, copy):
+    hidden = copy.with_name("hidden")
+    copy.rename(hidden)
+    try:
+        with open("run.std", "w") as file:
+            file.write(TRACE)
+        assert run("goodlock-predict-all", "run.std")[0] == 0
+        status, output, errors = run("goodlock-view", "reports")
+        assert (status, errors) == (1, "")
+        assert "finding 1: 1 cycle in 1 report" in output
+        assert run("goodlock-record", "-o", "t.std", "true")[0] == 124  # no lock and no thread: no trace
+    finally:
+        hidden.rename(copy)
+
+
+@pytest.mark.skipif(not has("g++"), reason="g++ isn't installed")
+def test_the_installed_recorder_builds_nothing(prefix, path, tmp_path, monkeypatch):
+    run("g++", "-g", "-pthread", TOP / "samples" / "bank.cc", "-o", "bank")
+    # Without make on PATH: the library was built before it was installed, and is newer than its sources.
+    tools = tmp_path / "tools"
+    tools.mkdir()
+    for name in ("sh", "env", "dirname", "readlink", "python3", "addr2line", "c++filt", "nm", "readelf", "objdump"):
+        if shutil.which(name):
+            (tools / name).symlink_to(os.path.realpath(shutil.which(name)))
+    monkeypatch.setenv("PATH", str(tools))
+    assert run(path / "goodlock-record", "-o", "bank.std", "./bank")[0] == 0
+    assert "bank.cc:18" in (tmp_path / "bank.std").read_text()
+
+
+def test_uninstalling_leaves_no_file(copy, tmp_path):
+    place = tmp_path / "place"
+    for goal in ("install", "uninstall"):
+        command = ("make", "-s", "-C", copy, goal, f"DESTDIR={place}", "PREFIX=/usr", "PROGRAM=prebuilt/goodlock")
+        assert run(*command)[0] == 0
+        files = [name for _, _, names in os.walk(place) for name in names]
+        assert (files == []) == (goal == "uninstall")
+
+
+def test_installing_twice_leaves_nothing_of_the_first(copy, tmp_path):
+    command = ("make", "-s", "-C", copy, "install", f"PREFIX={tmp_path}", "PROGRAM=prebuilt/goodlock")
+    assert run(*command)[0] == 0
+    old = tmp_path / "lib" / "goodlock" / "record" / "of_an_earlier_version.py"
+    old.write_text("")
+    assert run(*command)[0] == 0
+    assert not old.exists()
+
+
+def test_installing_without_a_program_fails(copy, tmp_path):
+    status, _, errors = run("make", "-s", "-C", copy, "install", f"PREFIX={tmp_path / 'p'}", "PROGRAM=none/goodlock")
+    assert status != 0
+    assert "none/goodlock" in errors
+    assert not (tmp_path / "p" / "bin").exists()
+
+
+# --- Man pages ----------------------------------------------------------------------------------------
+
+needs_help2man = pytest.mark.skipif(not has("help2man"), reason="help2man isn't installed")
+
+
+@needs_help2man
+def test_each_command_has_a_page_with_all_its_options(prefix, path):
+    from installing import long_options
+
+    words = [[command] for command in COMMANDS] + [["goodlock", command] for command in SUBCOMMANDS]
+    pages = {page.name for page in (prefix / "share/man/man1").iterdir()}
+    assert pages == {"-".join(command) + ".1" for command in words}
+    for command in words:
+        page = (prefix / "share/man/man1" / ("-".join(command) + ".1")).read_text()
+        assert f".SH NAME\n{'-'.join(command)} \\- " in page
+        shown = page.replace("\\", "")
+        for option in long_options(run(path / command[0], *command[1:], "--help")[1]):
+            assert option in shown
+
+
+@needs_help2man
+@pytest.mark.skipif(not has("man"), reason="man isn't installed (Debian: man-db)")
+def test_man_shows_the_pages_without_a_warning(prefix):
+    for page in sorted((prefix / "share/man/man1").iterdir()):
+        status, output, errors = run(
+            "man", "--warnings", "-l", page, env=dict(os.environ, MANWIDTH="80", LC_ALL="C.UTF-8")
+        )
+        assert (status, errors) == (0, "")
+        assert "NAME" in output
+
+
+# --- The Debian package -------------------------------------------------------------------------------
+
+
+@pytest.mark.skipif(
+    not has("dpkg-buildpackage", "dh", "help2man"), reason="debhelper, dpkg-dev or help2man isn't installed"
+)
+def test_the_debian_package_has_all_and_its_recorder_builds_nothing(copy, tmp_path):
+    source = tmp_path / "source"
+    shutil.copytree(copy, source, symlinks=True, ignore=shutil.ignore_patterns("out"))
+    status, output, errors = run("dpkg-buildpackage", "-us", "-uc", "-b", "-d", cwd=source)
+    assert status == 0, output[-2000:] + errors[-2000:]
+    (package,) = tmp_path.glob("goodlock_*_amd64.deb")
+    root = tmp_path / "root"
+    assert run("dpkg-deb", "-x", package, root)[0] == 0
+    for command in COMMANDS:
+        assert os.access(root / "usr/bin" / command, os.X_OK)
+        assert (root / "usr/share/man/man1" / f"{command}.1.gz").exists()
+        assert (root / "usr/share/bash-completion/completions" / command).exists()
+    assert (root / "usr/share/zsh/vendor-completions/_goodlock").exists()
+    assert (root / "usr/bin/goodlock-view").read_bytes().startswith(b"#!/usr/bin/python3\n")
+    library = root / "usr/lib/goodlock/out/goodlock_record.so"
+    sources = [path for path in (root / "usr/lib/goodlock/record").rglob("*") if path.suffix in (".c", ".h")]
+    assert library.stat().st_mtime >= max(path.stat().st_mtime for path in sources)
+
+
+def test_a_carried_program_of_another_sum_is_not_packed(copy, tmp_path):
+    if not has("make", "dh"):
+        pytest.skip("debhelper isn't installed")
+    source = tmp_path / "source"
+    shutil.copytree(copy, source, symlinks=True, ignore=shutil.ignore_patterns("out"))
+    with open(source / "prebuilt" / "goodlock", "ab") as file:
+        file.write(b"\n")
+    status, output, _ = run("debian/rules", "override_dh_auto_build", cwd=source)
+    assert status != 0
+    assert "goodlock: FAILED" in output

@@ -1,0 +1,114 @@
+"""`goodlock-predict-all`: a report for each trace, whole or none, and what is said of those that have none."""
+
+import json
+import os
+import pathlib
+
+import pytest
+from installing import run
+from test_install import TRACE
+
+CLEAN = TRACE.replace("T1|", "T0|")
+BAD = "T0|acq(a)|1\nT0|rel(a|2\n"
+
+
+def write(name, text):
+    path = pathlib.Path(name)
+    path.parent.mkdir(parents=True, exist_ok=True)
+    path.write_text(text)
+
+
+def predict_all(path, *words, **more):
+    return run(path / "goodlock-predict-all", *words, **more)
+
+
+def reports(folder="reports"):
+    """The reports by their names, each as read."""
+    files = [path for path in pathlib.Path(folder).rglob("*") if path.is_file()]
+    return {str(path.relative_to(folder)): json.loads(path.read_text()) for path in files}
+
+
+def test_each_trace_of_a_folder_has_its_report(path):
+    write("traces/one.std", TRACE)
+    write("traces/more/two.std.17", CLEAN)
+    assert predict_all(path, "traces") == (0, "", "")
+    found = reports()
+    assert {name: len(report["cycles"]) for name, report in found.items()} == {
+        "traces/one.std.json": 1,
+        "traces/more/two.std.17.json": 0,
+    }
+
+
+def test_a_refused_trace_is_named_and_the_others_have_their_reports(path):
+    for name in ("a.std", "c.std"):
+        write(name, TRACE)
+    write("b.std", BAD)
+    status, output, errors = predict_all(path, "-o", "out", "-j", "2", "a.std", "b.std", "c.std")
+    assert (status, output) == (1, "")
+    assert errors == "goodlock-predict-all: b.std: goodlock: line 2: bad operand (status 2)\n"
+    assert set(reports("out")) == {"a.std.json", "c.std.json"}  # and no part of another
+
+
+def test_a_trace_that_is_not_there_is_named(path):
+    write("a.std", TRACE)
+    status, _, errors = predict_all(path, "none.std", "a.std")
+    assert status == 1
+    assert "none.std: " in errors
+    assert set(reports()) == {"a.std.json"}
+
+
+def test_names_may_have_anything_in_them(path):
+    names = ["a b.std", 'it\'s "q".std', "$(touch hit).std", "-x.std", "back\\slash.std", "line\nend.std", "é.std"]
+    for name in names:
+        write(f"traces/{name}", TRACE)
+    assert predict_all(path, "traces")[0] == 0
+    assert set(reports()) == {f"traces/{name}.json" for name in names}
+    assert not os.path.exists("hit")
+
+
+def test_a_way_upwards_stays_in_the_folder_of_the_reports(path, tmp_path):
+    write("up/a.std", TRACE)
+    (tmp_path / "here").mkdir()
+    assert predict_all(path, "-o", "out", "../up/a.std", cwd=tmp_path / "here")[0] == 0
+    assert set(reports(tmp_path / "here" / "out")) == {f"{tmp_path}/up/a.std.json".lstrip("/")}
+
+
+def test_names_come_from_standard_input_and_options_go_to_predict(path):
+    for name in ("a.std", "b.std"):
+        write(name, TRACE)
+    assert predict_all(path, "-", "--", "--len", "3", "--mode", "guarded", input="a.std\nb.std\n") == (0, "", "")
+    assert {(report["len"], report["mode"]) for report in reports().values()} == {(3, "guarded")}
+
+
+def test_the_program_may_be_named(path, tmp_path):
+    write("a.std", TRACE)
+    write("stand-in", "#!/bin/sh\ncat >/dev/null\necho '{}'\nexit 1\n")
+    os.chmod("stand-in", 0o755)
+    assert predict_all(path, "--program", "./stand-in", "a.std")[0] == 0
+    assert reports() == {"a.std.json": {}}
+
+
+def test_a_program_that_fails_leaves_no_report(path):
+    write("a.std", TRACE)
+    write("stand-in", "#!/bin/sh\necho '{\"half'\necho 'goodlock: write failed' >&2\nexit 4\n")
+    os.chmod("stand-in", 0o755)
+    status, _, errors = predict_all(path, "--program", "./stand-in", "a.std")
+    assert (status, errors) == (1, "goodlock-predict-all: a.std: goodlock: write failed (status 4)\n")
+    assert reports() == {}
+
+
+USAGE = [
+    ([], "there is no trace"),
+    (["-"], "there is no trace"),
+    (["--jobs", "0", "a.std"], "--jobs takes a number from 1 on"),
+    (["-j", "x", "a.std"], "--jobs takes a number from 1 on"),
+    (["-o"], "-o takes a value"),
+    (["--nonsense", "a.std"], "unknown option --nonsense (--help tells the usage)"),
+]
+
+
+@pytest.mark.parametrize("words, text", USAGE)
+def test_wrong_usage_is_told_in_a_line(path, words, text):
+    write("a.std", TRACE)
+    assert predict_all(path, *words, input="") == (2, "", f"goodlock-predict-all: {text}\n")
+    assert not os.path.exists("reports")
