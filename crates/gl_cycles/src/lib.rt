@@ -36,11 +36,14 @@ mod numbers;
 mod parallel;
 mod parts;
 mod paths;
+mod pieces;
 mod prints;
 mod ranks;
 mod removals;
 mod reports;
 mod rests;
+mod stages;
+mod steps;
 #[cfg(test)]
 mod tests;
 mod trims;

@@ -66,7 +66,7 @@ fn ways_by_parts(rt: HostRuntime) -> Result<(), Fail> {
     let guarded = Sought::of(&known.edges, &known.order, &query);
     let mut left = guarded.on_loops(alloc)?;
     assert!(rt; count_set(left.as_slice()) == 1_020);
-    leave_out_by_parts(&rt, alloc, &guarded, Reason::NoWay, &mut left)?;
+    leave_out_by_parts(&rt, alloc, &guarded, Reason::NoWay, usize::MAX, &mut left)?;
     assert!(rt; count_set(left.as_slice()) == 0);
     Ok(())
 }

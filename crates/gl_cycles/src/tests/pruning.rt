@@ -3,8 +3,9 @@ ghost use Rattle.std.specs.Prelude.{◌<◌};
 
 use super::rings::{add_piece, ring_under_gates, under_gates};
 use super::{acq, expect_first, fork, join, known_of};
-use crate::narrowing::{count_set, kept_edges_parallel};
+use crate::narrowing::count_set;
 use crate::neighbours::Sought;
+use crate::stages::kept_edges_parallel;
 use gl_event::{Event, Memory};
 use gl_filters::Mode;
 use std::alloc::Global;
