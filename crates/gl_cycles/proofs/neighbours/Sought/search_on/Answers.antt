@@ -1,5 +1,4 @@
-use Rattle.std.proofs.Common.{ℕ, ◌<◌, map, sym, ap, subst, arith}
-use Rattle.std.proofs.lemmas.Result.{on_ok_weaker}
+use Rattle.std.proofs.Common.{map, sym, subst}
 use Rattle.gl_cycles.specs.bodies.Searching.{HasFound}
 use Rattle.gl_cycles.proofs.neighbours.Sought.search_on.Goals as goal
 
