@@ -17,5 +17,6 @@ pub mod ByKinds
 pub mod Closing
 pub mod Removing
 pub mod Whole
+pub mod Staged
 pub mod Surviving
 pub mod Joining

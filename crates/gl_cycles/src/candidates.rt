@@ -1,11 +1,11 @@
-//! Which edges a search goes through.
+//! Which edges stay where a search leaves out all that it can.
 ghost use Rattle.std.specs.Prelude.{IfOk};
 ghost use Rattle.gl_segments.specs.Clocks.{is_before};
 ghost use Rattle.gl_filters.specs.Picked.{edges_of_table};
 ghost use Rattle.gl_cycles.specs.OffCycles.{KeepsCycles};
 
-use crate::narrowing::kept_edges_parallel;
 use crate::neighbours::Sought;
+use crate::stages::kept_edges_parallel;
 use gl_edges::EdgeList;
 use gl_event::Memory;
 use gl_filters::Query;
@@ -13,9 +13,9 @@ use gl_segments::Order;
 use std::alloc::Global;
 use std::thread::Threads;
 
-/// Which edges [`search`](crate::search) goes through: for each a flag. Each edge of a cycle of the mode
-/// and of at most as many edges as are asked for has its flag, whether that cycle would be listed or not.
-/// An edge in no such cycle has none, unless it takes too long to see that.
+/// Which edges stay where [`search`](crate::search) leaves out all that it can: for each a flag. Each edge of
+/// a cycle of the mode and of at most as many edges as are asked for has its flag, whether that cycle would
+/// be listed or not. An edge in no such cycle has none, unless it takes too long to see that.
 ///
 /// Err where memory was refused.
 pub fn edges_sought(

@@ -103,6 +103,7 @@ fn kept_by_each(
     alloc: Global,
     sought: &Sought<'_>,
     reason: Reason,
+    effort: usize,
     kept: &[bool],
 ) -> Result<Vec<Vec<bool>>, Memory>
     requires { KeepsSought sought.now kept.now }
@@ -114,7 +115,7 @@ fn kept_by_each(
             |number: usize| -> Result<Vec<bool>, Memory>
                 requires { KeepsSought sought.now kept.now }
                 ensures { IfOk result (λ stay. KeepsSought sought.entry.now stay.items) }
-            { sought.kept_by_part(alloc, reason, Part::one(number, PARTS), kept) },
+            { sought.kept_by_part(alloc, reason, Part::one(number, PARTS).within(effort), kept) },
         )
         .with_min_len(1)
         .collect(rt, alloc)?;
@@ -127,15 +128,16 @@ pub(crate) fn leave_out_by_parts(
     alloc: Global,
     sought: &Sought<'_>,
     reason: Reason,
+    effort: usize,
     kept: &mut Vec<bool>,
 ) -> Result<(), Memory>
     requires kept { KeepsSought sought.now kept.old.items }
     ensures { OnOk result (KeepsSought sought.now kept.new.items) }
 {
     if count_set(kept) <= FEW {
-        return sought.leave_out(alloc, reason, Part::whole(), kept);
+        return sought.leave_out(alloc, reason, Part::whole().within(effort), kept);
     }
-    let parts = kept_by_each(rt, alloc, sought, reason, kept)?;
+    let parts = kept_by_each(rt, alloc, sought, reason, effort, kept)?;
     for i in 0..parts.len() {
         sought.leave_out_others(&parts[i], kept);
     }
@@ -147,6 +149,7 @@ fn narrow(
     rt: &(impl Threads + Sync),
     alloc: Global,
     sought: &Sought<'_>,
+    effort: usize,
     kept: &mut Vec<bool>,
 ) -> Result<(), Memory>
     requires kept { KeepsSought sought.now kept.old.items }
@@ -154,7 +157,7 @@ fn narrow(
 {
     for _ in 0..PASSES {
         let before = count_set(kept);
-        leave_out_by_parts(rt, alloc, sought, Reason::NoWay, kept)?;
+        leave_out_by_parts(rt, alloc, sought, Reason::NoWay, effort, kept)?;
         if count_set(kept) == before {
             return Ok(());
         }
@@ -162,24 +165,20 @@ fn narrow(
     Ok(())
 }
 
-/// The same as [`Sought::kept_edges`], on several threads: which edges may be in a cycle.
-pub(crate) fn kept_edges_parallel(
+/// Leaves out edges for a reason, with so much effort, on several threads.
+pub(crate) fn leave_out_parallel(
     rt: &(impl Threads + Sync),
     alloc: Global,
     sought: &Sought<'_>,
-) -> Result<Vec<bool>, Memory>
-    ensures { IfOk result (λ kept. KeepsSought sought.now kept.items) }
+    reason: Reason,
+    effort: usize,
+    kept: &mut Vec<bool>,
+) -> Result<(), Memory>
+    requires kept { KeepsSought sought.now kept.old.items }
+    ensures { OnOk result (KeepsSought sought.now kept.new.items) }
 {
-    let mut kept = sought.on_loops(alloc)?;
-    leave_out_by_parts(rt, alloc, sought, Reason::Alike(Grain::ByKind), &mut kept)?;
-    narrow(rt, alloc, sought, &mut kept)?;
-    leave_out_by_parts(rt, alloc, sought, Reason::Alike(Grain::ByThread), &mut kept)?;
-    leave_out_by_parts(
-        rt,
-        alloc,
-        sought,
-        Reason::Alike(Grain::BySegment),
-        &mut kept,
-    )?;
-    Ok(kept)
+    match reason {
+        Reason::Alike(_) => leave_out_by_parts(rt, alloc, sought, reason, effort, kept),
+        Reason::NoWay => narrow(rt, alloc, sought, effort, kept),
+    }
 }

@@ -11,9 +11,9 @@ ghost use Rattle.gl_segments.specs.Clocks.{is_before};
 ghost use Rattle.gl_filters.specs.Test.{goes_with};
 ghost use Rattle.gl_filters.specs.Picked.{edges_of_table};
 ghost use Rattle.gl_cycles.specs.bodies.OffCycles.{KeepsSought};
+ghost use Rattle.gl_cycles.specs.declared.paths.TheConstants.{PATH};
 ghost use Rattle.gl_cycles.specs.bodies.Walks.{IsNumbered, label_at, ShowsNoWay};
 
-use crate::grains::Grain;
 use crate::loops::edges_on_loops;
 use crate::numbers::{Ends, Numbers};
 use crate::parts::Part;
@@ -47,6 +47,8 @@ impl<'a> Sought<'a> {
         ensures order { result.order.now ≡ order.now }
         ensures mode { result.mode ≡ query.now.mode }
         ensures len { result.len ≡ query.now.len }
+        ensures some { 0 < result.len }
+        ensures fits { result.len ≤ PATH }
     {
         Sought {
             table: edges.entries(),
@@ -173,21 +175,6 @@ impl Sought<'_> {
         ensures { IfOk result (λ kept. KeepsSought self.now kept.items) }
     {
         let kept = edges_on_loops(alloc, self.table)?;
-        Ok(kept)
-    }
-
-    /// Which edges may be in a cycle: for each a flag. Those that lie on no loop are left out, then
-    /// those that have no way back, and before and after that those to which none of a cycle is
-    /// alike: by kind first, since there may be many edges of each kind.
-    pub(crate) fn kept_edges(&self, alloc: Global) -> Result<Vec<bool>, Memory>
-        ensures { IfOk result (λ kept. KeepsSought self.now kept.items) }
-    {
-        let whole = Part::whole();
-        let mut kept = self.on_loops(alloc)?;
-        self.leave_out_alike(alloc, Grain::ByKind, whole, &mut kept)?;
-        self.narrow(alloc, whole, &mut kept)?;
-        self.leave_out_alike(alloc, Grain::ByThread, whole, &mut kept)?;
-        self.leave_out_alike(alloc, Grain::BySegment, whole, &mut kept)?;
         Ok(kept)
     }
 

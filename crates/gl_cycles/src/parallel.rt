@@ -1,15 +1,16 @@
 //! The search on several threads.
-ghost use Rattle.std.specs.Prelude.{◌≡◌, ◌↔◌, ◌-◌, ◌<◌, ◌≤◌, ◌++◌, ◌∷◌, [], length, map, take, IfOk, OnOk, IsTrue};
+ghost use Rattle.std.specs.Prelude.{◌≡◌, ◌↔◌, ◌-◌, ◌<◌, ◌≤◌, ◌++◌, false, length, map, take, IfOk, OnOk, IsTrue};
 ghost use Rattle.std.specs.List.{flat_map, range_with_len};
 ghost use Rattle.gl_segments.specs.Clocks.{is_before};
 ghost use Rattle.gl_filters.specs.Picked.{edges_of_table};
 ghost use Rattle.gl_cycles.specs.AllCycles.{all_cycles};
-ghost use Rattle.gl_cycles.specs.bodies.Searching.{IsReady, first_from};
+ghost use Rattle.gl_cycles.specs.bodies.Searching.{IsReady, HasFound, first_from, sought_by};
 
 use crate::found::Found;
-use crate::narrowing::kept_edges_parallel;
 use crate::neighbours::Sought;
 use crate::paths::{Searcher, listed};
+use crate::pieces::add_cycles;
+use crate::stages::first_cycles_parallel;
 use gl_edges::EdgeList;
 use gl_event::Memory;
 use gl_filters::Query;
@@ -31,6 +32,7 @@ fn cycles_of_roots(
 ) -> Result<Vec<Vec<Vec<usize>>>, Memory>
     requires some { 0 < search.now.len }
     requires ready { IsReady search.now }
+    requires unbound { search.now.is_bound ≡ false }
     requires within { to ≤ length search.now.table.now }
     ensures { IfOk result (λ pieces. map (λ piece. map (λ cycle. cycle.items) piece.items) pieces.items ≡ map (first_from search.now) (range_with_len from (to - from))) }
 {
@@ -38,47 +40,13 @@ fn cycles_of_roots(
         .into_par_iter()
         .map(
             |root: usize| -> Result<Vec<Vec<usize>>, Memory>
-                requires { (0 < search.now.len) × IsReady search.now × (root < length search.now.table.now) }
+                requires { (0 < search.now.len) × IsReady search.now × (search.now.is_bound ≡ false) × (root < length search.now.table.now) }
                 ensures { IfOk result (λ found. map (λ cycle. cycle.items) found.items ≡ first_from search.entry.now root) }
             { search.cycles_from(alloc, root) },
         )
         .with_min_len(1)
         .collect(rt, alloc)?;
     found
-}
-
-// Adds a cycle, if that are not more than the cap.
-fn add_cycle(
-    alloc: Global,
-    found: &mut Vec<Vec<usize>>,
-    cycle: &[usize],
-    cap: usize,
-) -> Result<(), Memory>
-    requires { length found.old.items ≤ cap }
-    ensures { OnOk result (map (λ cycle. cycle.items) found.new.items ≡ take cap (map (λ cycle. cycle.items) found.old.items ++ cycle.now ∷ [])) }
-{
-    if found.len() >= cap {
-        return Ok(());
-    }
-    let cycle = Vec::from_slice(alloc, cycle)?;
-    found.push(cycle)?;
-    Ok(())
-}
-
-// Adds the cycles of a piece, up to the cap.
-fn add_cycles(
-    alloc: Global,
-    found: &mut Vec<Vec<usize>>,
-    piece: &[Vec<usize>],
-    cap: usize,
-) -> Result<(), Memory>
-    requires { length found.old.items ≤ cap }
-    ensures { OnOk result (map (λ cycle. cycle.items) found.new.items ≡ take cap (map (λ cycle. cycle.items) found.old.items ++ map (λ cycle. cycle.items) piece.now)) }
-{
-    for i in 0..piece.len() {
-        add_cycle(alloc, found, &piece[i], cap)?;
-    }
-    Ok(())
 }
 
 // Adds the cycles of the pieces, one piece after the other, up to the cap.
@@ -108,6 +76,7 @@ fn add_roots(
 ) -> Result<(), Memory>
     requires some { 0 < search.now.len }
     requires ready { IsReady search.now }
+    requires unbound { search.now.is_bound ≡ false }
     requires up { from ≤ to }
     requires within { to ≤ length search.now.table.now }
     requires room { length found.old.items ≤ search.now.cap }
@@ -116,7 +85,7 @@ fn add_roots(
     if found.len() >= search.cap {
         return Ok(());
     }
-    if to <= ALONE {
+    if to - from <= ALONE {
         return add_alone(alloc, search, from, to, found);
     }
     let pieces = cycles_of_roots(rt, alloc, search, from, to)?;
@@ -133,57 +102,60 @@ fn add_alone(
 ) -> Result<(), Memory>
     requires some { 0 < search.now.len }
     requires ready { IsReady search.now }
+    requires unbound { search.now.is_bound ≡ false }
     requires up { from ≤ to }
     requires within { to ≤ length search.now.table.now }
     requires room { length found.old.items ≤ search.now.cap }
     ensures { OnOk result (map (λ cycle. cycle.items) found.new.items ≡ take search.now.cap (map (λ cycle. cycle.items) found.old.items ++ flat_map (first_from search.now) (range_with_len from (to - from)))) }
 {
     for root in from..to {
-        search.grow_from(alloc, root, found)?;
+        search.add_from(alloc, root, found)?;
     }
     Ok(())
 }
 
-// Up to where edges are looked at next: there are as many as before, but not more than there are.
-fn next_end(done: usize, size: usize) -> usize
-    requires { done < size }
+// Up to where edges are looked at next, of which some from one on were: there are as many as before,
+// but not more than there are.
+fn next_end(from: usize, done: usize, size: usize) -> usize
+    requires from { from ≤ done }
+    requires left { done < size }
     ensures later { done < result }
     ensures within { result ≤ size }
 {
+    let before = done - from;
     let left = size - done;
-    if done < ALONE {
-        size.min(ALONE)
-    } else if left < done {
-        size
-    } else {
-        done + done
-    }
+    done + before.max(ALONE).min(left)
 }
 
-// The first cycles, up to the cap.
-fn first_cycles(
+/// The first cycles, up to the cap, of which those that begin with edges before a root were found.
+pub(crate) fn first_cycles(
     rt: &(impl Threads + Sync),
     alloc: Global,
     search: &Searcher<'_>,
+    from: usize,
+    found: Vec<Vec<usize>>,
 ) -> Result<Vec<Vec<usize>>, Memory>
     requires some { 0 < search.now.len }
     requires ready { IsReady search.now }
+    requires unbound { search.now.is_bound ≡ false }
+    requires found { HasFound (sought_by search.now) search.now.cap from (map (λ cycle. cycle.items) found.items) }
     ensures { IfOk result (λ found. map (λ cycle. cycle.items) found.items
         ≡ take search.now.cap (all_cycles (is_before search.now.order.now) search.now.mode search.now.len (edges_of_table search.now.table.now))) }
 {
     let size = search.table.len();
-    let mut found = Vec::new(alloc);
-    let mut done = 0;
+    let mut found = found;
+    let mut done = from;
     while done < size {
-        let end = next_end(done, size);
+        let end = next_end(from, done, size);
         add_roots(rt, alloc, search, done, end, &mut found)?;
         done = end;
     }
     Ok(found)
 }
 
-/// The same as [`search`](crate::search), on several threads. What leaves out edges before the search
-/// deals out the edges to parts, each of which leaves out some of its own. Then each edge in turn is
+/// The same as [`search`](crate::search), on several threads. The steps that a search takes before
+/// more edges are left out are taken in one thread. What leaves out edges deals them out to parts, each
+/// of which leaves out some of its own. At last each edge from the one on where the search stands is
 /// the first of paths, and the edges are dealt out in runs: the first few to one thread, and then each
 /// time as many as were dealt out before, in pieces of one length. The search ends after the run in
 /// which one cycle more than are listed was found. Each run goes to its end, so that what is found and
@@ -200,8 +172,8 @@ pub fn search_parallel(
     ensures cycles { IfOk result (λ found. found.cycles ≡ take query.now.max (all_cycles (is_before order.now) query.now.mode query.now.len (edges_of_table edges.now))) }
     ensures more { IfOk result (λ found. IsTrue found.more ↔ (query.now.max < length (all_cycles (is_before order.now) query.now.mode query.now.len (edges_of_table edges.now)))) }
 {
-    let kept = kept_edges_parallel(rt, alloc, &Sought::of(edges, order, query))?;
-    let search = Searcher::of(alloc, edges, order, query, kept)?;
-    let cycles = first_cycles(rt, alloc, &search)?;
-    Ok(listed(cycles, query.max() as usize))
+    let sought = Sought::of(edges, order, query);
+    let max = query.max() as usize;
+    let cycles = first_cycles_parallel(rt, alloc, &sought, max + 1)?;
+    Ok(listed(cycles, max))
 }

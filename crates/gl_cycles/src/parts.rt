@@ -1,21 +1,32 @@
 //! Parts of a table, for several threads.
 
-/// Each so many-th position of a table, from one on. Nothing relies on which positions these are.
+/// Each so many-th position of a table, from one on, and how much may be done for all parts. Nothing
+/// relies on which positions these are.
 #[derive(Clone, Copy, Debug)]
 pub(crate) struct Part {
     number: usize,
     of: usize,
+    effort: usize,
 }
 
 impl Part {
     /// All positions.
     pub(crate) fn whole() -> Part {
-        Part { number: 0, of: 1 }
+        Part::one(0, 1)
     }
 
     /// One of so many parts, by its number from 0.
     pub(crate) fn one(number: usize, of: usize) -> Part {
-        Part { number, of }
+        Part {
+            number,
+            of,
+            effort: usize::MAX,
+        }
+    }
+
+    /// The same part, where no more than so much may be done for all parts.
+    pub(crate) fn within(self, effort: usize) -> Part {
+        Part { effort, ..self }
     }
 
     /// Whether a position is in this part.
@@ -23,11 +34,12 @@ impl Part {
         self.of == 0 || position % self.of == self.number
     }
 
-    /// What this part has of something that is dealt out evenly.
+    /// What this part has of something that is dealt out evenly, as far as it may be done.
     pub(crate) fn share_of(self, all: usize) -> usize {
+        let some = all.min(self.effort);
         if self.of == 0 {
-            return all;
+            return some;
         }
-        all / self.of
+        some / self.of
     }
 }

@@ -1,5 +1,5 @@
 //! The search for cycles: paths of edges that lead on from each other, grown from each edge.
-ghost use Rattle.std.specs.Prelude.{◌≡◌, ◌+◌, ◌-◌, ◌<◌, ◌≤◌, [], ◌∷◌, ◌++◌, ◌↔◌, true, false, ℕ, List, Some, length, map, take, slice_get, nat_le, if◌then◌else◌, IsTrue, IfOk, OnOk, All};
+ghost use Rattle.std.specs.Prelude.{◌≡◌, ◌+◌, ◌-◌, ◌<◌, ◌≤◌, [], ◌∷◌, ◌++◌, ◌↔◌, true, false, ℕ, List, Some, length, map, take, slice_get, nat_le, if◌then◌else◌, IsTrue, IfOk, IfErr, IfSome, OnOk, All};
 ghost use Rattle.gl_cycles.specs.declared.paths.TheConstants.{PATH};
 ghost use Rattle.gl_segments.specs.Clocks.{is_before};
 ghost use Rattle.std.specs.List.{list_all};
@@ -7,19 +7,22 @@ ghost use Rattle.gl_filters.specs.Test.{can_follow, goes_with, leads_back, is_pa
 ghost use Rattle.gl_filters.specs.Picked.{edges_of_table, picked};
 ghost use Rattle.gl_cycles.specs.AllCycles.{all_cycles};
 ghost use Rattle.gl_cycles.specs.bodies.Blocks.{block};
-ghost use Rattle.gl_cycles.specs.bodies.OffCycles.{KeepsCycles};
-ghost use Rattle.gl_cycles.specs.bodies.Searching.{IsReady, first_from};
+ghost use Rattle.gl_cycles.specs.bodies.OffCycles.{KeepsSought};
+ghost use Rattle.gl_cycles.specs.bodies.Searching.{IsReady, HasFound, first_from, sought_by};
+ghost use Rattle.gl_cycles.specs.declared.steps.Stop.TheVariants.{Memory};
 ghost use Rattle.gl_edges.specs.declared.edge.Edge.{Edge};
 
 use crate::followers::Followers;
 use crate::found::{Cycles, Found};
 use crate::neighbours::Sought;
+use crate::pieces::add_cycles;
+use crate::steps::Stop;
 use arrayvec::ArrayVec;
 use gl_edges::{Edge, EdgeList, Sample};
 use gl_event::Memory;
 use gl_filters::{Mode, Query, goes_with, leads_on};
 use gl_segments::Order;
-use std::alloc::Global;
+use std::alloc::{AllocError, Global};
 
 // How many edges a path may have.
 pub(crate) const PATH: usize = 16;
@@ -37,35 +40,37 @@ pub(crate) struct Searcher<'a> {
     len: usize,
     // how many cycles are looked for: one more than are listed
     pub(crate) cap: usize,
+    // whether the search ends where its steps are taken
+    is_bound: bool,
 }
 
 impl<'a> Searcher<'a> {
-    // The search for what a query asks, among edges of which those that aren't kept are in no cycle.
+    // The search for what is sought, up to a cap, among edges of which those that aren't kept are in
+    // no cycle.
     pub(crate) fn of(
         alloc: Global,
-        edges: &'a EdgeList,
-        order: &'a Order,
-        query: &Query,
+        sought: &Sought<'a>,
+        cap: usize,
+        is_bound: bool,
         kept: Vec<bool>,
     ) -> Result<Searcher<'a>, Memory>
-        requires kept { KeepsCycles (is_before order.now) query.now.mode query.now.len (edges_of_table edges.now) kept.items }
-        ensures some { IfOk result (λ s. 0 < s.len) }
+        requires fits { sought.now.len ≤ PATH }
+        requires kept { KeepsSought sought.now kept.items }
         ensures ready { IfOk result IsReady }
-        ensures cap { IfOk result (λ s. s.cap ≡ query.now.max + 1) }
-        ensures asked { IfOk result (λ s. all_cycles (is_before s.order.now) s.mode s.len (edges_of_table s.table.now) ≡ all_cycles (is_before order.now) query.now.mode query.now.len (edges_of_table edges.now)) }
+        ensures sought { IfOk result (λ s. sought_by s ≡ sought.now) }
+        ensures cap { IfOk result (λ s. s.cap ≡ cap) }
+        ensures bound { IfOk result (λ s. s.is_bound ≡ is_bound) }
     {
-        let table = edges.entries();
-        let mode = query.mode();
-        let len = query.len() as usize;
-        let index = Followers::of(alloc, table, &kept)?;
+        let index = Followers::of(alloc, sought.table, &kept)?;
         Ok(Searcher {
-            table,
-            order,
-            mode,
+            table: sought.table,
+            order: sought.order,
+            mode: sought.mode,
             kept,
             index,
-            len,
-            cap: query.max() as usize + 1,
+            len: sought.len,
+            cap,
+            is_bound,
         })
     }
 }
@@ -115,34 +120,112 @@ impl Searcher<'_> {
         self.goes_with_all(path, edge)
     }
 
-    // The first cycles, up to the cap.
-    fn first_cycles(&self, alloc: Global) -> Result<Vec<Vec<usize>>, Memory>
+    // The first cycles, up to the cap, of which those that begin with edges before a root were found.
+    pub(crate) fn first_cycles(
+        &self,
+        alloc: Global,
+        from: usize,
+        found: Vec<Vec<usize>>,
+    ) -> Result<Vec<Vec<usize>>, Memory>
         requires some { 0 < self.now.len }
         requires ready { IsReady self.now }
+        requires unbound { self.now.is_bound ≡ false }
+        requires found { HasFound (sought_by self.now) self.now.cap from (map (λ cycle. cycle.items) found.items) }
         ensures { IfOk result (λ found. map (λ cycle. cycle.items) found.items
             ≡ take self.now.cap (all_cycles (is_before self.now.order.now) self.now.mode self.now.len (edges_of_table self.now.table.now))) }
     {
-        let mut found = Vec::new(alloc);
-        for root in 0..self.table.len() {
-            self.grow_from(alloc, root, &mut found)?;
+        let mut found = found;
+        for root in from..self.table.len() {
+            self.add_from(alloc, root, &mut found)?;
         }
         Ok(found)
+    }
+
+    // Goes on at a root within so many steps. The root at which it stands then.
+    pub(crate) fn go_on(
+        &self,
+        alloc: Global,
+        effort: usize,
+        from: usize,
+        found: &mut Vec<Vec<usize>>,
+    ) -> Result<usize, Memory>
+        requires some { 0 < self.now.len }
+        requires ready { IsReady self.now }
+        requires found { HasFound (sought_by self.now) self.now.cap from (map (λ cycle. cycle.items) found.old.items) }
+        ensures { IfOk result (λ to. HasFound (sought_by self.now) self.now.cap to (map (λ cycle. cycle.items) found.new.items)) }
+    {
+        let mut steps = effort;
+        for root in from..self.table.len() {
+            if !self.add_root(alloc, root, &mut steps, found)? {
+                return Ok(root);
+            }
+        }
+        Ok(self.table.len())
+    }
+
+    // Adds the cycles that begin with a root, up to the cap. Whether the steps sufficed: nothing is
+    // added where they don't.
+    fn add_root(
+        &self,
+        alloc: Global,
+        root: usize,
+        steps: &mut usize,
+        found: &mut Vec<Vec<usize>>,
+    ) -> Result<bool, Memory>
+        requires some { 0 < self.now.len }
+        requires ready { IsReady self.now }
+        requires there { root < length self.now.table.now }
+        requires found { HasFound (sought_by self.now) self.now.cap root (map (λ cycle. cycle.items) found.old.items) }
+        ensures more { IfOk result (λ is. is ≡ true → HasFound (sought_by self.now) self.now.cap (root + 1) (map (λ cycle. cycle.items) found.new.items)) }
+        ensures same { IfOk result (λ is. is ≡ false → HasFound (sought_by self.now) self.now.cap root (map (λ cycle. cycle.items) found.new.items)) }
+    {
+        if found.len() >= self.cap {
+            return Ok(true);
+        }
+        let Some(cycles) = self.cycles_within(alloc, root, steps)? else {
+            return Ok(false);
+        };
+        add_cycles(alloc, found, &cycles, self.cap)?;
+        Ok(true)
+    }
+
+    // The cycles that begin with the edge at a position, up to the cap. None where the steps don't
+    // suffice.
+    fn cycles_within(
+        &self,
+        alloc: Global,
+        root: usize,
+        steps: &mut usize,
+    ) -> Result<Option<Vec<Vec<usize>>>, Memory>
+        requires some { 0 < self.now.len }
+        requires ready { IsReady self.now }
+        requires there { root < length self.now.table.now }
+        ensures { IfOk result (λ cycles. IfSome cycles (λ found. map (λ cycle. cycle.items) found.items ≡ first_from self.now root)) }
+    {
+        let mut found = Vec::new(alloc);
+        match self.grow_from(alloc, root, steps, &mut found) {
+            Ok(()) => Ok(Some(found)),
+            Err(Stop::Spent) => Ok(None),
+            Err(Stop::Memory) => Err(AllocError),
+        }
     }
 
     // The cycles that begin with the edge at a position, up to the cap.
     pub(crate) fn cycles_from(&self, alloc: Global, root: usize) -> Result<Vec<Vec<usize>>, Memory>
         requires some { 0 < self.now.len }
         requires ready { IsReady self.now }
+        requires unbound { self.now.is_bound ≡ false }
         requires there { root < length self.now.table.now }
         ensures { IfOk result (λ found. map (λ cycle. cycle.items) found.items ≡ first_from self.now root) }
     {
         let mut found = Vec::new(alloc);
-        self.grow_from(alloc, root, &mut found)?;
+        self.add_from(alloc, root, &mut found)?;
         Ok(found)
     }
 
-    // Adds the cycles that begin with the edge at a position, up to the cap.
-    pub(crate) fn grow_from(
+    // Adds the cycles that begin with the edge at a position, up to the cap, in as many steps as it
+    // takes.
+    pub(crate) fn add_from(
         &self,
         alloc: Global,
         root: usize,
@@ -151,44 +234,91 @@ impl Searcher<'_> {
         requires some { 0 < self.now.len }
         requires there { root < length self.now.table.now }
         requires ready { IsReady self.now }
+        requires unbound { self.now.is_bound ≡ false }
         requires room { length found.old.items ≤ self.now.cap }
         ensures { OnOk result (map (λ cycle. cycle.items) found.new.items ≡ take self.now.cap (map (λ cycle. cycle.items) found.old.items
             ++ block (is_before self.now.order.now) self.now.mode (edges_of_table self.now.table.now) (self.now.len - 1) (root ∷ []))) }
     {
+        let mut steps = 0;
+        match self.grow_from(alloc, root, &mut steps, found) {
+            Ok(()) => Ok(()),
+            Err(Stop::Memory) => Err(AllocError),
+            Err(Stop::Spent) => unreachable!(),
+        }
+    }
+
+    // Adds the cycles that begin with the edge at a position, up to the cap.
+    fn grow_from(
+        &self,
+        alloc: Global,
+        root: usize,
+        steps: &mut usize,
+        found: &mut Vec<Vec<usize>>,
+    ) -> Result<(), Stop>
+        requires some { 0 < self.now.len }
+        requires there { root < length self.now.table.now }
+        requires ready { IsReady self.now }
+        requires room { length found.old.items ≤ self.now.cap }
+        ensures grown { OnOk result (map (λ cycle. cycle.items) found.new.items ≡ take self.now.cap (map (λ cycle. cycle.items) found.old.items
+            ++ block (is_before self.now.order.now) self.now.mode (edges_of_table self.now.table.now) (self.now.len - 1) (root ∷ []))) }
+        ensures stopped { IfErr result (λ stop. self.now.is_bound ≡ false → stop ≡ Memory) }
+    {
         if !self.kept[root] {
             return Ok(());
         }
-        self.grow(alloc, &[root], found)
+        self.grow(alloc, &[root], steps, found)
+    }
+
+    // Takes one of the steps. Spent where none is left and the search is bound to them.
+    fn take_step(&self, steps: &mut usize) -> Result<(), Stop>
+        ensures stopped { IfErr result (λ stop. self.now.is_bound ≡ false → stop ≡ Memory) }
+    {
+        if *steps > 0 {
+            *steps -= 1;
+            return Ok(());
+        }
+        if self.is_bound {
+            return Err(Stop::Spent);
+        }
+        Ok(())
     }
 
     // Adds the cycles that begin with the path, up to the cap.
     #[cycle(grow)]
-    fn grow(&self, alloc: Global, path: &[usize], found: &mut Vec<Vec<usize>>) -> Result<(), Memory>
+    fn grow(
+        &self,
+        alloc: Global,
+        path: &[usize],
+        steps: &mut usize,
+        found: &mut Vec<Vec<usize>>,
+    ) -> Result<(), Stop>
         requires some { 0 < length path.now }
         requires short { length path.now ≤ self.now.len }
         requires within { All (λ i. i < length self.now.table.now) path.now }
         requires is_path { is_path (is_before self.now.order.now) self.now.mode (picked (edges_of_table self.now.table.now) path.now) ≡ true }
         requires ready { IsReady self.now }
         requires room { length found.old.items ≤ self.now.cap }
-        ensures { OnOk result (map (λ cycle. cycle.items) found.new.items ≡ take self.now.cap (map (λ cycle. cycle.items) found.old.items
+        ensures grown { OnOk result (map (λ cycle. cycle.items) found.new.items ≡ take self.now.cap (map (λ cycle. cycle.items) found.old.items
             ++ block (is_before self.now.order.now) self.now.mode (edges_of_table self.now.table.now) (self.now.len - length path.now) path.now)) }
+        ensures stopped { IfErr result (λ stop. self.now.is_bound ≡ false → stop ≡ Memory) }
     {
         if found.len() >= self.cap {
             return Ok(());
         }
         if self.is_closed(path) {
-            return keep_closed(alloc, path, found);
+            keep_closed(alloc, path, found)?;
+            return Ok(());
         }
         if path.len() == self.len {
             return Ok(());
         }
         if path.len() + 1 == self.len {
-            return self.close(alloc, path, found);
+            return self.close(alloc, path, steps, found);
         }
         let last = path[path.len() - 1];
         let mut next = self.index.begin(last);
         while let Some(i) = next {
-            self.grow_by(alloc, path, i, found)?;
+            self.grow_by(alloc, path, i, steps, found)?;
             next = self.index.after(i);
         }
         Ok(())
@@ -200,8 +330,9 @@ impl Searcher<'_> {
         &self,
         alloc: Global,
         path: &[usize],
+        steps: &mut usize,
         found: &mut Vec<Vec<usize>>,
-    ) -> Result<(), Memory>
+    ) -> Result<(), Stop>
         requires some { 0 < length path.now }
         requires one_left { length path.now + 1 ≡ self.now.len }
         requires within { All (λ i. i < length self.now.table.now) path.now }
@@ -209,15 +340,16 @@ impl Searcher<'_> {
         requires unclosed { leads_back (picked (edges_of_table self.now.table.now) path.now) ≡ false }
         requires ready { IsReady self.now }
         requires room { length found.old.items ≤ self.now.cap }
-        ensures { OnOk result (map (λ cycle. cycle.items) found.new.items ≡ take self.now.cap (map (λ cycle. cycle.items) found.old.items
+        ensures grown { OnOk result (map (λ cycle. cycle.items) found.new.items ≡ take self.now.cap (map (λ cycle. cycle.items) found.old.items
             ++ block (is_before self.now.order.now) self.now.mode (edges_of_table self.now.table.now) (self.now.len - length path.now) path.now)) }
+        ensures stopped { IfErr result (λ stop. self.now.is_bound ≡ false → stop ≡ Memory) }
     {
         let first = path[0];
         let last = path[path.len() - 1];
         let closers = &self.index.closers;
         let mut next = closers.begin(self.table[last].0.wanted, self.table[first].0.held);
         while let Some(i) = next {
-            self.grow_by(alloc, path, i, found)?;
+            self.grow_by(alloc, path, i, steps, found)?;
             next = closers.after(i);
         }
         Ok(())
@@ -230,8 +362,9 @@ impl Searcher<'_> {
         alloc: Global,
         path: &[usize],
         next: usize,
+        steps: &mut usize,
         found: &mut Vec<Vec<usize>>,
-    ) -> Result<(), Memory>
+    ) -> Result<(), Stop>
         requires some { 0 < length path.now }
         requires short { length path.now < self.now.len }
         requires within { All (λ i. i < length self.now.table.now) path.now }
@@ -239,14 +372,16 @@ impl Searcher<'_> {
         requires is_path { is_path (is_before self.now.order.now) self.now.mode (picked (edges_of_table self.now.table.now) path.now) ≡ true }
         requires ready { IsReady self.now }
         requires room { length found.old.items ≤ self.now.cap }
-        ensures { OnOk result (map (λ cycle. cycle.items) found.new.items ≡ take self.now.cap (map (λ cycle. cycle.items) found.old.items
+        ensures grown { OnOk result (map (λ cycle. cycle.items) found.new.items ≡ take self.now.cap (map (λ cycle. cycle.items) found.old.items
             ++ block (is_before self.now.order.now) self.now.mode (edges_of_table self.now.table.now) (self.now.len - length path.now - 1) (path.now ++ next ∷ []))) }
+        ensures stopped { IfErr result (λ stop. self.now.is_bound ≡ false → stop ≡ Memory) }
     {
+        self.take_step(steps)?;
         if !self.can_join(path, next) {
             return Ok(());
         }
         let longer = longer_path(path, next);
-        self.grow(alloc, longer.as_slice(), found)
+        self.grow(alloc, longer.as_slice(), steps, found)
     }
 }
 
@@ -290,15 +425,19 @@ pub(crate) fn listed(cycles: Vec<Vec<usize>>, max: usize) -> Found
 }
 
 /// The first cycles of a query over these edges, in the order of their edges, and whether there are
-/// more. Each edge in turn is the first of paths, which grow by every edge that may follow, but edges
-/// that lie on no loop of the lock-order graph are left out before, and those that have no way back:
-/// no walk of edges which go with them from the lock that they want to the one that they hold. The
-/// search ends where one cycle more than are listed was found.
+/// more. Each edge in turn is the first of paths, which grow by every edge that may follow. The search
+/// ends where one cycle more than are listed was found.
 ///
-/// To find the edges on loops takes some look-ups for each edge. To find those without a way back
-/// takes time as there are edges on loops, for each that is left out once more, and ends early where
-/// it takes long. There may be as many paths as the edges that stay to the power of the greatest
-/// length of a cycle less one.
+/// Edges that are in no cycle are left out: before the search those that lie on no loop of the
+/// lock-order graph, and others only where the search takes long. Where it has taken some steps for
+/// each edge and isn't through, those are left out that are seen to be in no cycle by their kind, by
+/// having no way back (no walk of edges which go with them from the lock that they want to the one
+/// that they hold), by their kind and thread, and by their segments. Then the search goes on at the
+/// edge where it stood, with more steps to take, and so on in turn.
+///
+/// To find the edges on loops takes some look-ups for each edge. To leave out others takes no more
+/// steps than some for each that the search took before. There may be as many paths as the edges that
+/// stay to the power of the greatest length of a cycle less one.
 ///
 /// Err where memory was refused.
 pub fn search(
@@ -310,8 +449,8 @@ pub fn search(
     ensures cycles { IfOk result (λ found. found.cycles ≡ take query.now.max (all_cycles (is_before order.now) query.now.mode query.now.len (edges_of_table edges.now))) }
     ensures more { IfOk result (λ found. IsTrue found.more ↔ (query.now.max < length (all_cycles (is_before order.now) query.now.mode query.now.len (edges_of_table edges.now)))) }
 {
-    let kept = Sought::of(edges, order, query).kept_edges(alloc)?;
-    let search = Searcher::of(alloc, edges, order, query, kept)?;
-    let cycles = search.first_cycles(alloc)?;
-    Ok(listed(cycles, query.max() as usize))
+    let sought = Sought::of(edges, order, query);
+    let max = query.max() as usize;
+    let cycles = sought.first_cycles(alloc, max + 1)?;
+    Ok(listed(cycles, max))
 }

@@ -10,7 +10,7 @@ use Rattle.gl_cycles.proofs.parallel.add_alone.Goals as goal
 pub loop-root-preserved : goal.loop-root-preserved
 loop-root-preserved c =
     let s = c.args.search.now in
-    root_more s.cap (λ root. block (is_before s.order.now) s.mode (edges_of_table s.table.now) (s.len - 1) (root ∷ [])) _ _ _ c.args.from c.loop-root.root c.loop-root.auto.root c.loop-root.invariant c.in_ok-grow_from.ensures
+    root_more s.cap (λ root. block (is_before s.order.now) s.mode (edges_of_table s.table.now) (s.len - 1) (root ∷ [])) _ _ _ c.args.from c.loop-root.root c.loop-root.auto.root c.loop-root.invariant c.in_ok-add_from.ensures
 
 pub returns : goal.returns
 returns c =

@@ -1,4 +1,4 @@
-use Rattle.std.proofs.Common.{◌<◌, length, map, ap, ◌∙◌, arith}
+use Rattle.std.proofs.Common.{◌≡◌, ◌<◌, false, length, map, ap, ◌∙◌, arith}
 use Rattle.rayon.specs.Numbers.{nat_range}
 use Rattle.rayon.proofs.ToStd.{nat_range-All}
 use Rattle.gl_cycles.specs.bodies.Searching.{IsReady, first_from}
@@ -10,7 +10,7 @@ pub collect-requires-clause-ready : goal.collect-requires-clause-ready
 collect-requires-clause-ready g c κs within =
     let ends = c.into_par_iter.ensures in
     let s = c.args.search.now in
-    let inside = nat_range-All (λ i. (0 < s.len) × IsReady s × (i < length s.table.now)) c.args.from c.args.to (λ i low high. (c.requires.some, c.requires.ready, omega (arith, c.requires.within, high))) in
+    let inside = nat_range-All (λ i. (0 < s.len) × IsReady s × (s.is_bound ≡ false) × (i < length s.table.now)) c.args.from c.args.to (λ i low high. (c.requires.some, c.requires.ready, c.requires.unbound, omega (arith, c.requires.within, high))) in
     rw (c.with_min_len.ensures.base, c.map.ensures.base, c.map.ensures.f, ends.0, ends.1) (λ k d lt. (inside k d lt, λ y p. tt))
 
 pub returns : goal.returns

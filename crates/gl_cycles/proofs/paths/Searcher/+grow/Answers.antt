@@ -4,7 +4,6 @@ use Rattle.std.proofs.lemmas.List.{length-map, length_push}
 use Rattle.std.proofs.lemmas.List.Elements.{All-push}
 use Rattle.std.proofs.Common.{Option, None, take, ◌++◌}
 use Rattle.gl_cycles.specs.bodies.Blocks.{block}
-use Rattle.std.proofs.lemmas.Result.{on_ok_weaker}
 use Rattle.gl_cycles.specs.declared.paths.Searcher.{Searcher}
 use Rattle.gl_segments.specs.Clocks.{is_before}
 use Rattle.gl_edges.specs.declared.edge.Edge.{Edge}
@@ -17,18 +16,16 @@ use Rattle.gl_cycles.proofs.Growing.{HasGrown, OthersAreStray, LeftOutAreStray, 
 use Rattle.gl_cycles.proofs.paths.Searcher.+grow.Goals as goal
 
 -- the path is closed
-pub grow-returns-then-is_closed : goal.grow-returns-then-is_closed
-grow-returns-then-is_closed t c =
+pub grow-returns-then-is_closed-clause-grown : goal.grow-returns-then-is_closed-clause-grown
+grow-returns-then-is_closed-clause-grown t c =
     let s = c.args.self.now in
-    on_ok_weaker c.keep_closed.result
-    (λ kept. grow_closed (is_before s.order.now) s.mode (edges_of_table s.table.now) c.args.path.now s.cap _ (s.len - length c.args.path.now) _
+    grow_closed (is_before s.order.now) s.mode (edges_of_table s.table.now) c.args.path.now s.cap _ (s.len - length c.args.path.now) _
     (omega (arith, c.args.found.now.ok.0, c.len.ensures, length-map c.args.found.now.items (λ cycle. cycle.items)))
-    (within_edges s.table.now c.args.path.now c.requires.within) c.requires.is_path (sym c.if-is_closed.ensures) kept)
-    c.keep_closed.ensures
+    (within_edges s.table.now c.args.path.now c.requires.within) c.requires.is_path (sym c.if-is_closed.ensures) c.in_ok-keep_closed.ensures
 
 -- the path may not be longer
-pub grow-returns-then-path-self : goal.grow-returns-then-path-self
-grow-returns-then-path-self t c =
+pub grow-returns-then-path-self-clause-grown : goal.grow-returns-then-path-self-clause-grown
+grow-returns-then-path-self-clause-grown t c =
     let s = c.args.self.now in
     let none : s.len - length c.args.path.now ≡ 0 = omega arith in
     rw none (grow_short (is_before s.order.now) s.mode (edges_of_table s.table.now) c.args.path.now s.cap _
@@ -131,12 +128,12 @@ grow-loop-next-preserved t c =
     subst (Grown s c.args.path.now (map (λ cycle. cycle.items) c.args.found.now.items) (map (λ cycle. cycle.items) c.loop-next.found.items)) c.in-Some.is c.loop-next.invariant in
     let here = element_at (edges_of_table s.table.now) c.in-Some.i had.holds.0 in
     grow_step (is_before s.order.now) s.mode (edges_of_table s.table.now) (s.len - length c.args.path.now - 1) c.args.path.now s.cap held_lock s.kept.items _
-    (other_lock (is_before s.order.now) s.mode (edges_of_table s.table.now) (s.len - length c.args.path.now - 1) c.args.path.now s.cap (some_picked s.table.now c.args.path.now c.requires.within c.requires.some)) (left_outs s c.args.path.now c.requires.ready (omega (arith, c.requires.short, c.if-path-self.false))) _ _ _ c.in-Some.i _ had c.in_ok-grow_by.ensures
+    (other_lock (is_before s.order.now) s.mode (edges_of_table s.table.now) (s.len - length c.args.path.now - 1) c.args.path.now s.cap (some_picked s.table.now c.args.path.now c.requires.within c.requires.some)) (left_outs s c.args.path.now c.requires.ready (omega (arith, c.requires.short, c.if-path-self.false))) _ _ _ c.in-Some.i _ had c.in_ok-grow_by.ensures.grown
     (subst (λ lock. IsNextWith held_lock (edges_of_table s.table.now) s.kept.items lock (c.in-Some.i + 1) c.after-next.result) (had.holds.1 here.0 here.1) (c.after-next.ensures (edges_of_table s.table.now) s.kept.items here.0 c.requires.ready.indexed here.1))
 
 -- all followers are done
-pub grow-returns : goal.grow-returns
-grow-returns t c =
+pub grow-returns-clause-grown : goal.grow-returns-clause-grown
+grow-returns-clause-grown t c =
     let s = c.args.self.now in
     let had : Grown s c.args.path.now (map (λ cycle. cycle.items) c.args.found.now.items) (map (λ cycle. cycle.items) c.loop-next.found.items) None =
     subst (Grown s c.args.path.now (map (λ cycle. cycle.items) c.args.found.now.items) (map (λ cycle. cycle.items) c.loop-next.found.items)) c.in_default.is c.loop-next.invariant in
@@ -145,8 +142,8 @@ grow-returns t c =
     (grow_end (is_before s.order.now) s.mode (edges_of_table s.table.now) (s.len - length c.args.path.now - 1) c.args.path.now s.cap held_lock _ _ _ had (sym c.if-is_closed.ensures))
 
 -- the edge can't follow
-pub grow_by-returns-then-not-can_join : goal.grow_by-returns-then-not-can_join
-grow_by-returns-then-not-can_join t c =
+pub grow_by-returns-then-not-can_join-clause-grown : goal.grow_by-returns-then-not-can_join-clause-grown
+grow_by-returns-then-not-can_join-clause-grown t c =
     let s = c.args.self.now in
     let here = element_at (edges_of_table s.table.now) c.args.next (omega (arith, c.requires.there, length-map s.table.now (λ pair. pair.0))) in
     grow_stray (is_before s.order.now) s.mode (edges_of_table s.table.now) (s.len - length c.args.path.now - 1) c.args.path.now s.cap _ c.args.next here.0
@@ -252,12 +249,12 @@ close-loop-next-preserved t c =
     let had : Closed s path (map (λ cycle. cycle.items) c.args.found.now.items) (map (λ cycle. cycle.items) c.loop-next.found.items) (Some c.in-Some.i) =
     subst (Closed s path (map (λ cycle. cycle.items) c.args.found.now.items) (map (λ cycle. cycle.items) c.loop-next.found.items)) c.in-Some.is c.loop-next.invariant in
     let here = element_at (edges_of_table s.table.now) c.in-Some.i had.holds.0 in
-    grow_step (is_before s.order.now) s.mode (edges_of_table s.table.now) (s.len - length path - 1) path s.cap both_locks s.kept.items (closing s path) (others s path c.requires.within c.requires.some c.requires.one_left) (left_outs s path c.requires.ready (omega (arith, c.requires.one_left))) _ _ _ c.in-Some.i _ had c.in_ok-grow_by.ensures
+    grow_step (is_before s.order.now) s.mode (edges_of_table s.table.now) (s.len - length path - 1) path s.cap both_locks s.kept.items (closing s path) (others s path c.requires.within c.requires.some c.requires.one_left) (left_outs s path c.requires.ready (omega (arith, c.requires.one_left))) _ _ _ c.in-Some.i _ had c.in_ok-grow_by.ensures.grown
     (subst (λ locks. IsNextWith both_locks (edges_of_table s.table.now) s.kept.items locks (c.in-Some.i + 1) c.after-next.result) (had.holds.1 here.0 here.1) (c.after-next.ensures (edges_of_table s.table.now) s.kept.items here.0 c.requires.ready.indexed.closers here.1))
 
 -- all edges that close it are done
-pub close-returns : goal.close-returns
-close-returns t c =
+pub close-returns-clause-grown : goal.close-returns-clause-grown
+close-returns-clause-grown t c =
     let s = c.args.self.now in
     let path = c.args.path.now in
     let had : Closed s path (map (λ cycle. cycle.items) c.args.found.now.items) (map (λ cycle. cycle.items) c.loop-next.found.items) None =

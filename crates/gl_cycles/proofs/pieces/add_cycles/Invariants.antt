@@ -1,5 +1,5 @@
 use Rattle.std.proofs.Common.{◌≡◌, ◌++◌, map, take}
-use Rattle.gl_cycles.proofs.parallel.add_cycles.Given as goal
+use Rattle.gl_cycles.proofs.pieces.add_cycles.Given as goal
 
 -- the cycles of the piece so far
 abbrev pub invariant-loop-i : goal.invariant-loop-i

@@ -1,0 +1,39 @@
+//! Cycles that were found apart, put together.
+ghost use Rattle.std.specs.Prelude.{◌≡◌, ◌≤◌, ◌++◌, ◌∷◌, [], length, map, take, OnOk};
+
+use gl_event::Memory;
+use std::alloc::Global;
+
+// Adds a cycle, if that are not more than the cap.
+fn add_cycle(
+    alloc: Global,
+    found: &mut Vec<Vec<usize>>,
+    cycle: &[usize],
+    cap: usize,
+) -> Result<(), Memory>
+    requires { length found.old.items ≤ cap }
+    ensures { OnOk result (map (λ cycle. cycle.items) found.new.items ≡ take cap (map (λ cycle. cycle.items) found.old.items ++ cycle.now ∷ [])) }
+{
+    if found.len() >= cap {
+        return Ok(());
+    }
+    let cycle = Vec::from_slice(alloc, cycle)?;
+    found.push(cycle)?;
+    Ok(())
+}
+
+/// Adds the cycles of a piece, up to the cap.
+pub(crate) fn add_cycles(
+    alloc: Global,
+    found: &mut Vec<Vec<usize>>,
+    piece: &[Vec<usize>],
+    cap: usize,
+) -> Result<(), Memory>
+    requires { length found.old.items ≤ cap }
+    ensures { OnOk result (map (λ cycle. cycle.items) found.new.items ≡ take cap (map (λ cycle. cycle.items) found.old.items ++ map (λ cycle. cycle.items) piece.now)) }
+{
+    for i in 0..piece.len() {
+        add_cycle(alloc, found, &piece[i], cap)?;
+    }
+    Ok(())
+}
