@@ -436,8 +436,9 @@ pub(crate) fn listed(cycles: Vec<Vec<usize>>, max: usize) -> Found
 /// edge where it stood, with more steps to take, and so on in turn.
 ///
 /// To find the edges on loops takes some look-ups for each edge. To leave out others takes no more
-/// steps than some for each that the search took before. There may be as many paths as the edges that
-/// stay to the power of the greatest length of a cycle less one.
+/// steps than some for each that the search took before, but in the last round as many as each reason
+/// takes at most. There may be as many paths as the edges that stay to the power of the greatest length
+/// of a cycle less one.
 ///
 /// Err where memory was refused.
 pub fn search(

@@ -7,8 +7,7 @@
 //! search begins among the edges that lie on loops, which are soon found, and takes no more than some
 //! steps for each edge. Where it isn't through by then, edges are left out with about as much effort,
 //! and the search goes on at the root where it stood, among those that stay, with several times the
-//! steps: a round. What was found stays, since what is left out is in no cycle. So no search takes more
-//! than a few times what it would take if edges were never left out, or all at once.
+//! steps: a round. What was found stays, since what is left out is in no cycle.
 //!
 //! In each round edges are left out for one reason after the other, the cheaper ones first: by kind,
 //! since there may be many edges of each kind; those that have no way back; by kind and thread; and
