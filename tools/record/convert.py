@@ -13,6 +13,7 @@ CHUNK_UNIT = 4096
 CHUNK_HEAD = 32
 CHUNK_EVENTS, CHUNK_TABLE = 0x676C6576, 0x676C7462
 RECORD_PROCESS, RECORD_MODULE, RECORD_SITE, RECORD_LOCK, RECORD_THREAD = 1, 2, 3, 4, 5
+RECORD_PLACE, RECORD_LOCK_KIND, RECORD_LOCK_NAME, RECORD_ROUTINE, RECORD_NOTE = 16, 17, 18, 19, 20
 LOCK_CLASSES = {1: "mutex", 2: "rwlock", 3: "spin"}
 LOCK_MADE = 1
 FOREIGN = 0xFFFFFFFF
@@ -57,6 +58,7 @@ class Lock:
         self.site = site
         self.thread = thread
         self.order = order
+        self.name = None  # that its recorder told
 
 
 class Thread:
@@ -67,6 +69,7 @@ class Thread:
         self.words = []
         self.path = None
         self.name = None
+        self.routine_name = None  # that its recorder told
 
 
 class LoadedModule:
@@ -91,6 +94,8 @@ class Process:
         self.sites = {}
         self.locks = {}
         self.threads = {}
+        self.places = {}
+        self.notes = []
         self.names = None
 
     def read_table(self, words, modules):
@@ -124,6 +129,21 @@ class Process:
             )
         elif kind == RECORD_THREAD:
             self.threads[values[0]] = Thread(values.tolist())
+        elif RECORD_PLACE <= kind <= RECORD_NOTE:
+            self.read_text(kind, values[0], text_of(values[1:]))
+
+    def read_text(self, kind, number, text):
+        """A record of a recorder that knows names. It comes after that of the lock or thread."""
+        if kind == RECORD_PLACE:
+            self.places[number] = text.split("\n")
+        elif kind == RECORD_LOCK_KIND:
+            self.locks[number].kind = text
+        elif kind == RECORD_LOCK_NAME:
+            self.locks[number].name = text
+        elif kind == RECORD_ROUTINE:
+            self.threads[number].routine_name = text
+        else:
+            self.notes.append(text.replace("%d", "%d" % number))
 
     def module_of(self, address):
         for loaded in reversed(self.modules):
@@ -218,6 +238,8 @@ class Places:
         return self.known[site]
 
     def find_text(self, site):
+        if site in self.process.places:
+            return clean("<".join(map(self.sources.shortened, self.process.places[site])))
         callers = self.process.sites.get(site)
         if callers is None:
             parent = self.process.parent
@@ -240,7 +262,14 @@ class Sources:
                     if loaded:
                         asked.setdefault(loaded.module, set()).add(address - 1 - loaded.bias)
         self.lines = {module: module.lines_of(addresses) for module, addresses in asked.items()}
-        self.short = short_paths({f[1] for found in self.lines.values() for frames in found.values() for f in frames})
+        paths = {f[1] for found in self.lines.values() for frames in found.values() for f in frames}
+        for process in processes:
+            paths.update(place.rpartition(":")[0] for places in process.places.values() for place in places)
+        self.short = short_paths(paths)
+
+    def shortened(self, place):
+        path, _, line = place.rpartition(":")
+        return "%s:%s" % (self.short[path], line)
 
     def frames(self, process, address):
         """The program's own lines at an address, the innermost first; never empty."""
@@ -288,7 +317,7 @@ class Names:
             path = self.path_of(thread)
             root = "main" if path[0] == 0 else "other"
             name = ".".join([root] + ["%d" % child for child in path[1:]])
-            routine = routine_name(routines[thread.number], readable)
+            routine = thread.routine_name or routine_name(routines[thread.number], readable)
             thread.name = clean(name + (":" + routine if routine else ""))
 
     def symbol_of(self, address, begins=False):
@@ -320,6 +349,7 @@ class Names:
         used = self.used_locks()
         own = self.process.locks
         self.name_static(own)
+        self.name_told(own)
         rank = {thread.number: i for i, thread in enumerate(self.order)}
         made = [lock for lock in own.values() if lock.made]
         for lock in sorted(made, key=lambda lock: (rank.get(lock.thread, len(rank)), lock.order)):
@@ -372,9 +402,18 @@ class Names:
             if shared[name] > 1:
                 name = "%s@%s+0x%x" % (name, place[0].name, place[1])
             for lock in group:
-                self.counts[name] += 1
-                count = self.counts[name]
-                self.locks[lock.number] = clean(name if count == 1 else "%s#%d" % (name, count))
+                self.name_counted(lock, name)
+
+    def name_told(self, locks):
+        """Locks whose whole name was told."""
+        for lock in sorted(locks.values(), key=lambda lock: lock.number):
+            if lock.name:
+                self.name_counted(lock, lock.name)
+
+    def name_counted(self, lock, name):
+        self.counts[name] += 1
+        count = self.counts[name]
+        self.locks[lock.number] = clean(name if count == 1 else "%s#%d" % (name, count))
 
     def name_by_place(self, lock, site, thread):
         """kind@file:line#count, with the thread's name where it isn't the first thread."""
@@ -438,6 +477,8 @@ class Summary:
         process = self.process
         if not self.events:
             yield "process %d (%s): no events, no file" % (process.key[0], shortened(process.command))
+            for note in process.notes:
+                yield "process %d: %s" % (process.key[0], note)
             return
         yield "%s: %d events (and %d of repeats, left out), %d threads, %d locks, %d other calls; process %d (%s)" % (
             self.path, self.events, self.left_out, len(process.threads), len(self.locks), self.others,
@@ -453,6 +494,8 @@ class Summary:
         if self.kinds[BEYOND]:
             yield "%s: %d acquires by threads that held %d locks (`beyond` lines): goodlock skips these" % (
                 self.path, self.kinds[BEYOND], HELD_LIMIT)
+        for note in process.notes:
+            yield "%s: %s" % (self.path, note)
         if len(process.threads) > THREAD_LIMIT:
             yield "%s: goodlock reads at most %d threads, it will refuse this trace" % (self.path, THREAD_LIMIT)
 

@@ -40,8 +40,31 @@ class Failed(Exception):
         self.status = status
 
 
+class Recorder:
+    """What the recorders have each in their own way: this is the one of the C library's locks."""
+
+    name = "goodlock-record"
+
+    def environment(self, settings, directory):
+        return child_environment(settings, directory)
+
+    def advice(self, processes, settings):
+        from runtimes import runtime_lines
+
+        return runtime_lines(processes, settings.command)
+
+    def reason(self, loaded):
+        """Why there is no event."""
+        if loaded:
+            return "the program took no lock and made no thread by a call that can be recorded"
+        return "the recorder wasn't loaded: is the program statically linked, set-user-id or of another machine type?"
+
+
+recorder = Recorder()
+
+
 def say(text):
-    sys.stderr.write("goodlock-record: " + text + "\n")
+    sys.stderr.write(recorder.name + ": " + text + "\n")
     sys.stderr.flush()
 
 
@@ -259,7 +282,7 @@ def wait_for_others(directory, waited):
 
 def record(settings):
     directory = new_directory(settings.trace)
-    environment = child_environment(settings, directory)
+    environment = recorder.environment(settings, directory)
     waited = FORWARDED + (signal.SIGCHLD,)
     mask = signal.pthread_sigmask(signal.SIG_BLOCK, waited)
     try:
@@ -282,47 +305,47 @@ def exit_status(status):
 # --- After the run --------------------------------------------------------------------------------------
 
 
-def convert_all(directory, trace, first):
+def convert_all(directory, settings, first):
     """Writes the traces; whether there is an event in any."""
     from convert import ConvertError, convert_directory
 
     try:
-        summaries = convert_directory(directory, trace, first)
+        summaries = convert_directory(directory, settings.trace, first)
     except (ConvertError, OSError) as error:
         raise Failed("%s (what was recorded is kept in %s)" % (error, directory))
     for summary in summaries:
         for line in summary.lines():
             say(line)
+    for line in recorder.advice([summary.process for summary in summaries], settings):
+        say(line)
     remove(directory)
     return any(summary.events for summary in summaries), bool(summaries)
 
 
-def explain_no_events(loaded, status):
-    if loaded:
-        reason = "the program took no lock and made no thread by a call that can be recorded"
-    else:
-        reason = "the recorder wasn't loaded: is the program statically linked, set-user-id or of another machine type?"
-    say("no events, no trace: %s (the program's own status was %d)" % (reason, status))
-
-
-def main():
-    settings = read_arguments(sys.argv[1:])
+def run(settings):
     if os.path.lexists(settings.trace):
         raise Failed("%s exists already; nothing was run" % settings.trace)
     if settings.convert is not None:
         directory, first, status = settings.convert, None, 0
     else:
         directory, first, status = record(settings)
-    found, loaded = convert_all(directory, settings.trace, first)
+    found, loaded = convert_all(directory, settings, first)
     if not found:
-        explain_no_events(loaded, status)
+        say("no events, no trace: %s (the program's own status was %d)" % (recorder.reason(loaded), status))
         return STATUS_NO_EVENTS
     return status
 
 
-if __name__ == "__main__":
+def main(read, used):
+    """Reads the arguments and runs, with this recorder; the status."""
+    global recorder
+    recorder = used
     try:
-        sys.exit(main())
+        return run(read(sys.argv[1:]))
     except Failed as failure:
         say(str(failure))
-        sys.exit(failure.status)
+        return failure.status
+
+
+if __name__ == "__main__":
+    sys.exit(main(read_arguments, Recorder()))
