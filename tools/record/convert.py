@@ -13,7 +13,7 @@ CHUNK_UNIT = 4096
 CHUNK_HEAD = 32
 CHUNK_EVENTS, CHUNK_TABLE = 0x676C6576, 0x676C7462
 RECORD_PROCESS, RECORD_MODULE, RECORD_SITE, RECORD_LOCK, RECORD_THREAD = 1, 2, 3, 4, 5
-RECORD_PLACE, RECORD_LOCK_KIND, RECORD_LOCK_NAME, RECORD_ROUTINE, RECORD_NOTE = 16, 17, 18, 19, 20
+RECORD_PLACE, RECORD_LOCK_KIND, RECORD_LOCK_NAME, RECORD_ROUTINE, RECORD_NOTE, RECORD_NO_LOCK = 16, 17, 18, 19, 20, 21
 LOCK_CLASSES = {1: "mutex", 2: "rwlock", 3: "spin"}
 LOCK_MADE = 1
 FOREIGN = 0xFFFFFFFF
@@ -96,6 +96,7 @@ class Process:
         self.threads = {}
         self.places = {}
         self.notes = []
+        self.no_locks = set()
         self.names = None
 
     def read_table(self, words, modules):
@@ -129,6 +130,8 @@ class Process:
             )
         elif kind == RECORD_THREAD:
             self.threads[values[0]] = Thread(values.tolist())
+        elif kind == RECORD_NO_LOCK:
+            self.no_locks.add(values[0])
         elif RECORD_PLACE <= kind <= RECORD_NOTE:
             self.read_text(kind, values[0], text_of(values[1:]))
 
@@ -144,6 +147,9 @@ class Process:
             self.threads[number].routine_name = text
         else:
             self.notes.append(text.replace("%d", "%d" % number))
+
+    def is_event(self, word):
+        return word >> OBJECT_SHIFT not in self.no_locks or word & KIND_MASK in (FORK, JOIN)
 
     def module_of(self, address):
         for loaded in reversed(self.modules):
@@ -191,7 +197,7 @@ def read_process(directory, key, extents, modules):
             raise ConvertError("events of an unknown thread in process %d" % key[0])
         process.threads[thread].words.extend(words.tolist())
     for thread in process.threads.values():
-        thread.words = [word for word in thread.words if word]
+        thread.words = [word for word in thread.words if word and process.is_event(word)]
     return process
 
 

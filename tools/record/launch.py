@@ -86,7 +86,7 @@ def read_frames(text):
     return int(text)
 
 
-def read_arguments(arguments):
+def read_arguments(arguments, explanation=__doc__, usage=USAGE):
     settings = Settings()
     rest = list(arguments)
     while rest and rest[0].startswith("-"):
@@ -94,15 +94,15 @@ def read_arguments(arguments):
         if word == "--":
             break
         if word in ("-h", "--help"):
-            print(__doc__.strip())
+            print(explanation.strip())
             sys.exit(0)
         if word == "--all":
             settings.all = True
             continue
         if word not in ("-o", "--frames", "--convert"):
-            raise Failed("unknown option %s\n%s" % (word, USAGE))
+            raise Failed("unknown option %s\n%s" % (word, usage))
         if not rest:
-            raise Failed("%s takes a value\n%s" % (word, USAGE))
+            raise Failed("%s takes a value\n%s" % (word, usage))
         value = rest.pop(0)
         if word == "-o":
             settings.trace = value
@@ -112,7 +112,7 @@ def read_arguments(arguments):
             settings.convert = value
     settings.command = rest
     if not settings.command and settings.convert is None:
-        raise Failed(USAGE)
+        raise Failed(usage)
     return settings
 
 

@@ -62,6 +62,7 @@ enum record_kind {
     RECORD_LOCK_NAME = 18, /* a lock's whole name */
     RECORD_ROUTINE = 19,   /* what stands for a thread's start routine in its name */
     RECORD_NOTE = 20,      /* a line for standard error; the number in it is `%d` in the text */
+    RECORD_NO_LOCK = 21,   /* this number was a lock's and turned out to be none: its events don't count */
 };
 
 struct process_record {
