@@ -297,6 +297,9 @@ def start():
     directory = os.environ.get("GOODLOCK_PYTHON_DIRECTORY")
     if not directory or recorder is not None:
         return
+    if sys.implementation.name != "cpython" or sys.version_info < (3, 9):
+        sys.stderr.write("goodlock-python: this process isn't recorded: it is no CPython 3.9 or later\n")
+        return
     frames = max(1, min(FRAMES_LIMIT, int(os.environ.get("GOODLOCK_PYTHON_FRAMES", "1"))))
     places = goodlock_events.Places(PASSED_OVER, OWN_FILES, frames)
     everything = "GOODLOCK_PYTHON_ALL" in os.environ
