@@ -428,10 +428,13 @@ class Recorder:
                 self.catch_up(state)
 
     def catch_up(self, state):
-        while state.put_off:
-            operation, known, key, text, arguments = state.put_off.pop(0)
+        """Does what was put off. A handler may come before each step here, and do it first."""
+        while state.put_off and not state.busy:
             state.busy = True
             try:
+                if not state.put_off:
+                    continue
+                operation, known, key, text, arguments = state.put_off.pop(0)
                 number = known.number or self.process.number_of(known)
                 site = self.process.new_site(key, text)
                 operation(state, number << OBJECT_SHIFT | site << SITE_SHIFT, *arguments)
@@ -533,11 +536,16 @@ class Recorder:
     # Forks
 
     def before_fork(self):
+        """From here on no event is written, until it is known which process this is."""
+        self.state().busy = True
         self.process.births.acquire()
         self.process.record[PROCESS_FORKS] += 1
 
     def after_fork_in_parent(self):
         self.process.births.release()
+        state = self.state()
+        state.busy = False
+        self.catch_up(state)
 
     def after_fork_in_child(self):
         """The child has one thread. It holds what the forking thread held, and never asked for it."""

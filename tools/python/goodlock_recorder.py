@@ -1,5 +1,6 @@
 """Stands before the locks and threads of the threading module: docs/RECORDING-PYTHON.md says what is recorded as what."""
 
+import functools
 import os
 import sys
 import threading
@@ -35,8 +36,8 @@ recorder = None
 
 
 def made_by(frame):
-    """What makes a lock: the name of the class of the standard library whose constructor does, and whether that is a
-    thread's or semaphore's own lock."""
+    """What makes a lock: the name of the class of the standard library whose constructor does, and whether it is a lock of
+    threads, of semaphores or of the threading module itself."""
     name, inner = None, False
     while frame is not None and frame.f_code.co_filename in PASSED_OVER:
         function = frame.f_code.co_name
@@ -44,6 +45,8 @@ def made_by(frame):
             maker = frame.f_locals.get("self")
             name = type(maker).__name__
             inner = inner or isinstance(maker, (threading.Thread, threading.Semaphore))
+        elif function == "_after_fork":
+            inner = True
         elif function != "RLock":
             break
         frame = frame.f_back
@@ -55,9 +58,16 @@ class RecordedLock:
 
     __slots__ = ("_raw", "_known", "__weakref__")
 
-    def __init__(self, raw, kind, frame):
-        self._raw = raw
-        self._known = recorder.made(kind, frame)
+    def __new__(cls):
+        frame = _getframe(1)
+        name, inner = made_by(frame)
+        raw = cls.make_raw()
+        if inner:
+            return raw
+        lock = object.__new__(cls)
+        lock._raw = raw
+        lock._known = recorder.made(name or cls.__name__, frame)
+        return lock
 
     def acquire(self, blocking=True, timeout=-1):
         raw = self._raw
@@ -100,6 +110,8 @@ class RecordedLock:
     def __getattr__(self, name):
         return getattr(self._raw, name)
 
+    acquire.__qualname__, release.__qualname__ = "lock.acquire", "lock.release"
+
     # What threading.Condition and forks ask for
 
     def _acquire_restore(self, saved):
@@ -113,17 +125,7 @@ class RecordedLock:
 class Lock(RecordedLock):
     __slots__ = ()
 
-    def __new__(cls):
-        frame = _getframe(1)
-        name, inner = made_by(frame)
-        if inner:
-            return allocate_lock()
-        lock = object.__new__(cls)
-        RecordedLock.__init__(lock, allocate_lock(), name or "Lock", frame)
-        return lock
-
-    def __init__(self):
-        pass
+    make_raw = staticmethod(allocate_lock)
 
     acquire_lock = RecordedLock.acquire
     release_lock = RecordedLock.release
@@ -143,10 +145,7 @@ class Lock(RecordedLock):
 
 class RLock(RecordedLock):
     __slots__ = ()
-
-    def __init__(self):
-        frame = _getframe(1)
-        RecordedLock.__init__(self, RawRLock(), made_by(frame)[0] or "RLock", frame)
+    make_raw = RawRLock
 
     def _release_save(self):
         recorder.waits(self._known, _getframe(1))
@@ -167,6 +166,7 @@ real_semaphore_acquire = threading.Semaphore.acquire
 real_releases = {kind: kind.release for kind in (threading.Semaphore, threading.BoundedSemaphore)}
 
 
+@functools.wraps(real_semaphore_start)
 def semaphore_start(self, value=1):
     """A semaphore that is made with the value 1 is a lock, as long as only those release it that acquired it."""
     real_semaphore_start(self, value)
@@ -177,6 +177,7 @@ def semaphore_start(self, value=1):
         recorder.process.note(SEMAPHORES_UNSEEN)
 
 
+@functools.wraps(real_semaphore_acquire)
 def semaphore_acquire(self, blocking=True, timeout=None):
     known = self._goodlock_known
     if known is None:
@@ -199,6 +200,7 @@ def semaphore_acquire(self, blocking=True, timeout=None):
 def semaphore_release_of(kind):
     real_release = real_releases[kind]
 
+    @functools.wraps(real_release)
     def release(self, n=1):
         real_release(self, n)
         known = self._goodlock_known
@@ -230,6 +232,7 @@ def routine_of(thread):
     return name.replace(".<locals>", "").replace("<lambda>", "lambda")
 
 
+@functools.wraps(real_start)
 def thread_start(self):
     plan = None
     if getattr(self, "_initialized", False) and not self._started.is_set():
@@ -242,6 +245,7 @@ def thread_start(self):
         raise
 
 
+@functools.wraps(real_bootstrap)
 def thread_bootstrap(self):
     plan = getattr(self, "_goodlock_plan", None)
     if plan is not None:
@@ -249,6 +253,7 @@ def thread_bootstrap(self):
     real_bootstrap(self)
 
 
+@functools.wraps(real_join)
 def thread_join(self, timeout=None):
     real_join(self, timeout)
     plan = getattr(self, "_goodlock_plan", None)
