@@ -2,14 +2,13 @@ package goodlock.runtime;
 
 import java.io.File;
 import java.io.IOException;
+import java.io.RandomAccessFile;
 import java.nio.ByteBuffer;
 import java.nio.ByteOrder;
 import java.nio.MappedByteBuffer;
+import java.nio.channels.ClosedByInterruptException;
 import java.nio.channels.FileChannel;
 import java.nio.charset.StandardCharsets;
-import java.nio.file.FileAlreadyExistsException;
-import java.nio.file.StandardOpenOption;
-import java.util.Set;
 
 /**
  * The files that a recorded Java process leaves behind: those of tools/record/layout.h, with records of names. Calls come from
@@ -46,7 +45,7 @@ final class Files {
     private final long process;
     private long image;
     private int extents;
-    private FileChannel channel;
+    private RandomAccessFile file;
     private MappedByteBuffer extent;
     private int used;
     private ByteBuffer table;
@@ -66,25 +65,40 @@ final class Files {
 
     /** Opens the next extent; false if there is a first extent of this image already: the process became another program. */
     private boolean openExtent() throws IOException {
-        File file = new File(directory, process + "." + image + "." + extents);
-        FileChannel opened;
-        try {
-            opened = FileChannel.open(file.toPath(),
-                    Set.of(StandardOpenOption.READ, StandardOpenOption.WRITE, StandardOpenOption.CREATE_NEW));
-        } catch (FileAlreadyExistsException exists) {
+        File path = new File(directory, process + "." + image + "." + extents);
+        if (!path.createNewFile()) {
             if (extents > 0) {
-                throw exists;
+                throw new IOException(path + " exists");
             }
             return false;
         }
-        if (channel != null) {
-            channel.close();
+        extent = mapped(path);
+        if (file != null) {
+            file.close();
         }
-        channel = opened;
-        extent = opened.map(FileChannel.MapMode.READ_WRITE, 0, EXTENT_BYTES);
+        file = new RandomAccessFile(path, "rw");
         extents++;
         used = 0;
         return true;
+    }
+
+    /** A thread that is interrupted can't map a file. It is interrupted again afterwards. */
+    private static MappedByteBuffer mapped(File path) throws IOException {
+        boolean interrupted = false;
+        try {
+            while (true) {
+                interrupted |= Thread.interrupted();
+                try (RandomAccessFile opened = new RandomAccessFile(path, "rw")) {
+                    return opened.getChannel().map(FileChannel.MapMode.READ_WRITE, 0, EXTENT_BYTES);
+                } catch (ClosedByInterruptException again) {
+                    interrupted = true;
+                }
+            }
+        } finally {
+            if (interrupted) {
+                Thread.currentThread().interrupt();
+            }
+        }
     }
 
     private ByteBuffer newChunk(int magic, int thread, int order, int bytes, long usedWords) throws IOException {
@@ -103,11 +117,9 @@ final class Files {
     }
 
     /** Room on the disk now: later, a store without it would be an error in the program. */
-    private void reserve(long place, int bytes) throws IOException {
-        ByteBuffer zeros = ByteBuffer.allocateDirect(bytes);
-        while (zeros.hasRemaining()) {
-            channel.write(zeros, place + zeros.position());
-        }
+    private void reserve(int place, int bytes) throws IOException {
+        file.seek(place);
+        file.write(new byte[bytes]);
     }
 
     /** Room for events, all zero. A word of zero is no event: all words count as used from the beginning. */
