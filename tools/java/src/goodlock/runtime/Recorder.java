@@ -93,6 +93,12 @@ public final class Recorder {
         return entry != null && entry.number != 0 ? entry : newEntry(state, object);
     }
 
+    /** The same for an object that is likely to be the lock acquired last: the hash of a locked object is slow to get. */
+    private static LockEntry heldEntryOf(ThreadState state, Object object) {
+        LockEntry entry = state.lastEntry(object);
+        return entry != null ? entry : entryOf(state, object);
+    }
+
     private static LockEntry newEntry(ThreadState state, Object object) {
         state.busy = true;
         try {
@@ -152,7 +158,7 @@ public final class Recorder {
     public static void monitorEnter(Object object, int site) {
         ThreadState state = state();
         if (object != null && !state.isOff()) {
-            state.acquire(ThreadState.ACQUIRE, at(state, site), entryOf(state, object).number);
+            state.acquire(ThreadState.ACQUIRE, at(state, site), entryOf(state, object));
         }
     }
 
@@ -160,7 +166,7 @@ public final class Recorder {
     public static void monitorExit(Object object, int site) {
         ThreadState state = state();
         if (object != null && !state.isOff()) {
-            state.release(at(state, site), entryOf(state, object).number);
+            state.release(at(state, site), heldEntryOf(state, object).number);
         }
     }
 
@@ -189,7 +195,7 @@ public final class Recorder {
 
     private static void acquires(ThreadState state, Object lock, int site) {
         LockEntry entry = entryOf(state, lock);
-        state.acquire(entry.shared ? ThreadState.SHARED_ACQUIRE : ThreadState.ACQUIRE, at(state, site), entry.number);
+        state.acquire(entry.shared ? ThreadState.SHARED_ACQUIRE : ThreadState.ACQUIRE, at(state, site), entry);
     }
 
     /** A class of the program's that stands before a lock's methods with its own calls them by `super`: that is where they are
@@ -253,7 +259,7 @@ public final class Recorder {
         if (isOff(state, lock, site, Kinds.UNLOCK)) {
             return;
         }
-        int number = entryOf(state, lock).number;
+        int number = heldEntryOf(state, lock).number;
         if (state.holds(number)) {
             state.release(at(state, site), number);
         } else {

@@ -27,6 +27,7 @@ final class ThreadState {
 
     /** A lock that the thread holds, and what lies above it: `struct held` and `struct level` in tools/record/recorder.h. */
     private static final class Held {
+        LockEntry entry;
         int lock;
         boolean shared;
         long word;
@@ -194,6 +195,12 @@ final class ThreadState {
         return index;
     }
 
+    /** The entry of the lock that was acquired last, if it was by this object; else null. */
+    LockEntry lastEntry(Object object) {
+        LockEntry entry = heldCount > 0 ? held[heldCount - 1].entry : null;
+        return entry != null && entry.get() == object ? entry : null;
+    }
+
     boolean holds(int lock) {
         return find(lock) >= 0;
     }
@@ -209,6 +216,13 @@ final class ThreadState {
         }
     }
 
+    void acquire(int kind, int site, LockEntry entry) {
+        acquire(kind, site, entry.number);
+        if (held[heldCount - 1].lock == entry.number) {
+            held[heldCount - 1].entry = entry;
+        }
+    }
+
     void acquire(int kind, int site, int lock) {
         int index = find(lock);
         if (index >= 0 || heldCount == HELD_LIMIT) {
@@ -220,6 +234,7 @@ final class ThreadState {
         }
         long word = word(kind, site, lock);
         Held top = held[heldCount];
+        top.entry = null;
         top.lock = lock;
         top.shared = kind == SHARED_ACQUIRE || kind == TRY_SHARED_ACQUIRE;
         top.word = word;
