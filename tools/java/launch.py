@@ -39,24 +39,28 @@ def read_arguments(arguments):
 class JavaRecorder(recording.Recorder):
     name = "goodlock-java"
 
-    def environment(self, settings, directory):
-        from build import BuildFailed, agent_option
+    def prepare(self):
+        from agent import AgentError, agent_option
 
         try:
-            option = agent_option()
-        except BuildFailed as failure:
-            os.rmdir(directory)
-            raise recording.Failed(str(failure))
+            self.option = agent_option()
+        except AgentError as error:
+            raise recording.Failed(str(error))
+
+    def environment(self, settings, directory):
         environment = dict(os.environ)
         # The JVM takes words in quotes together.
-        given = environment.get("JAVA_TOOL_OPTIONS", "")
-        environment["JAVA_TOOL_OPTIONS"] = "'%s' %s" % (option, given) if " " in option else "%s %s" % (option, given)
+        option = "'%s'" % self.option if " " in self.option else self.option
+        environment["JAVA_TOOL_OPTIONS"] = " ".join([option] + environment.get("JAVA_TOOL_OPTIONS", "").split(None, 0))
         environment["GOODLOCK_JAVA_DIRECTORY"] = directory
         environment["GOODLOCK_JAVA_FRAMES"] = str(settings.frames)
         for name, wanted in (("GOODLOCK_JAVA_ALL", settings.all), ("GOODLOCK_JAVA_JDK", settings.jdk)):
             if wanted:
                 environment[name] = "1"
         return environment
+
+    def clean_up(self):
+        pass
 
     def advice(self, processes, settings):
         return []

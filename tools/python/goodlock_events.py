@@ -80,10 +80,11 @@ class ThreadState:
         return True
 
     def leave_out(self, start):
-        """Takes the words from here on away."""
+        """Takes the words from here on away, the last one first: if the process is killed in between, what stays is the front
+        of what happened."""
         end = self.place
         words = self.words
-        for place in range(start, end):
+        for place in range(end - 1, start - 1, -1):
             words[place] = 0
         self.place = start
         self.record[THREAD_LEFT_OUT] += end - start + 1

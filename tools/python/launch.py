@@ -59,6 +59,12 @@ def read_arguments(arguments):
 class PythonRecorder(recording.Recorder):
     name = "goodlock-python"
 
+    def prepare(self):
+        pass
+
+    def clean_up(self):
+        pass
+
     def environment(self, settings, directory):
         environment = dict(os.environ)
         earlier = environment.get("PYTHONPATH")

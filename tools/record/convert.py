@@ -1,11 +1,15 @@
-"""Turns the files of recorded processes (layout.h) into traces."""
+"""Turns the files of recorded processes (layout.h) into traces. The events are read by goodlock_lines (convert/lines.c);
+here are the tables and the names."""
 
+import bisect
 import mmap
 import os
 import re
 import struct
+from array import array
 from collections import Counter
 
+from build import built
 from symbols import Module, demangled, is_wrapper_source, short_paths
 
 LAYOUT_VERSION = 1
@@ -13,27 +17,17 @@ CHUNK_UNIT = 4096
 CHUNK_HEAD = 32
 CHUNK_EVENTS, CHUNK_TABLE = 0x676C6576, 0x676C7462
 RECORD_PROCESS, RECORD_MODULE, RECORD_SITE, RECORD_LOCK, RECORD_THREAD = 1, 2, 3, 4, 5
+RECORD_START, RECORD_UNLOADED, RECORD_LOSSES = 6, 7, 8
 RECORD_PLACE, RECORD_LOCK_KIND, RECORD_LOCK_NAME, RECORD_ROUTINE, RECORD_NOTE, RECORD_NO_LOCK = 16, 17, 18, 19, 20, 21
-LOCK_CLASSES = {1: "mutex", 2: "rwlock", 3: "spin"}
+LOCK_CLASSES = {1: "mutex", 2: "rwlock", 3: "spin", 4: "once", 5: "static"}
 LOCK_MADE = 1
 FOREIGN = 0xFFFFFFFF
 
-KIND_MASK = 31
 SITE_SHIFT, SITE_MASK = 5, (1 << 27) - 1
 OBJECT_SHIFT = 32
-WORDS = {
-    1: "acq",
-    2: "rel",
-    3: "racq",
-    4: "rrel",
-    5: "tryacq",
-    6: "tryracq",
-    7: "fork",
-    8: "join",
-    9: "upgrade",
-    10: "beyond",
-}
-FORK, JOIN, UPGRADE, BEYOND = 7, 8, 9, 10
+KINDS = 32
+UPGRADE, BEYOND, AGAIN = 9, 10, 11
+NO_THREAD = 0xFFFFFFFFFFFFFFFF
 THREAD_LIMIT = 1024  # goodlock reads no more threads
 HELD_LIMIT = 64
 
@@ -50,34 +44,71 @@ class ConvertError(Exception):
 
 
 class Lock:
-    def __init__(self, number, kind, made, address, site, thread, order):
-        self.number = number
-        self.kind = kind
-        self.made = made
-        self.address = address
-        self.site = site
-        self.thread = thread
-        self.order = order
+    __slots__ = ("number", "kind", "made", "address", "site", "thread", "order", "when", "name")
+
+    def __init__(self, values, when):
+        self.number, kinds, self.address, self.site, thread = values
+        self.kind = LOCK_CLASSES.get(kinds & 0xFFFFFFFF, "lock")
+        self.made = kinds >> 32 == LOCK_MADE
+        self.thread, self.order = thread & 0xFFFFFFFF, thread >> 32
+        self.when = when
         self.name = None  # that its recorder told
 
 
 class Thread:
-    def __init__(self, values):
+    def __init__(self, values, when):
         (self.number, self.parent, self.child, self.routine, self.unmade) = values[:5]
         (self.left_out, self.lost, self.others) = values[8:11]
         self.object = values[11:]
-        self.words = []
+        self.when = when
+        self.chunks = []  # (order, path, offset of the words, how many)
+        self.kinds = [0] * KINDS
         self.path = None
         self.name = None
         self.routine_name = None  # that its recorder told
 
 
 class LoadedModule:
-    def __init__(self, bias, start, end, module):
-        self.bias = bias
-        self.start = start
-        self.end = end
+    def __init__(self, values, module, since):
+        self.bias, self.start, self.end = values
         self.module = module
+        self.since = since  # counts the loads and unloads of modules before it
+        self.until = None
+
+
+class Modules:
+    """The modules of a process, by address and by when they were there."""
+
+    def __init__(self):
+        self.loaded = []
+        self.when = 0
+        self.borders = None
+
+    def load(self, values, module):
+        self.loaded.append(LoadedModule(values, module, self.when))
+        self.when += 1
+
+    def unload(self, start):
+        for loaded in self.loaded:
+            if loaded.start == start and loaded.until is None:
+                loaded.until = self.when
+        self.when += 1
+
+    def at(self, address, when):
+        """The module that an address lay in when so many loads and unloads had been told; a module may be told of only after
+        the first lock in it."""
+        if self.borders is None:
+            self.borders = sorted({m.start for m in self.loaded} | {m.end for m in self.loaded})
+            self.parts = [[m for m in self.loaded if m.start <= border < m.end] for border in self.borders]
+        place = bisect.bisect_right(self.borders, address) - 1
+        there = self.parts[place] if place >= 0 else ()
+        for loaded in reversed(there):
+            if loaded.since < when and (loaded.until is None or when <= loaded.until):
+                return loaded
+        for loaded in there:
+            if loaded.since >= when:
+                return loaded
+        return None
 
 
 class Process:
@@ -90,13 +121,14 @@ class Process:
         self.first_lock = 1
         self.first_site = 1
         self.frames = 1
-        self.modules = []
-        self.sites = {}
+        self.modules = Modules()
+        self.sites = {}  # number: (return addresses, when)
         self.locks = {}
         self.threads = {}
-        self.places = {}
+        self.lost = Counter()
+        self.places = {}  # number: lines `path:line`, of a recorder that knows names
         self.notes = []
-        self.no_locks = set()
+        self.no_locks = []
         self.names = None
 
     def read_table(self, words, modules):
@@ -112,26 +144,25 @@ class Process:
     def read_record(self, kind, values, modules):
         if kind == RECORD_PROCESS:
             if values[0] != LAYOUT_VERSION:
-                raise ConvertError("recorded by another version of the recorder")
+                raise ConvertError("process %d was recorded by another version of the recorder" % self.key[0])
             self.parent = (values[3], values[4]) if values[3] else None
             self.first_lock, self.first_site, self.frames = values[5:8]
             self.command = text_of(values[9:])
         elif kind == RECORD_MODULE:
             path = text_of(values[3:])
-            module = modules.setdefault(path, Module(path))
-            self.modules.append(LoadedModule(values[0], values[1], values[2], module))
+            self.modules.load(values[:3].tolist(), modules.setdefault(path, Module(path)))
+        elif kind == RECORD_UNLOADED:
+            self.modules.unload(values[0])
         elif kind == RECORD_SITE:
-            self.sites[values[0]] = values[1:].tolist()
+            self.sites[values[0]] = values[1:].tolist(), self.modules.when
         elif kind == RECORD_LOCK:
-            number, kinds, address, site, thread = values.tolist()
-            made = kinds >> 32 == LOCK_MADE
-            self.locks[number] = Lock(
-                number, LOCK_CLASSES[kinds & 0xFFFFFFFF], made, address, site, thread & 0xFFFFFFFF, thread >> 32
-            )
+            self.locks[values[0]] = Lock(values.tolist(), self.modules.when)
         elif kind == RECORD_THREAD:
-            self.threads[values[0]] = Thread(values.tolist())
+            self.threads[values[0]] = Thread(values.tolist(), self.modules.when)
+        elif kind == RECORD_LOSSES:
+            self.lost = Counter(dict(zip(("events", "locks", "places", "threads"), values.tolist())))
         elif kind == RECORD_NO_LOCK:
-            self.no_locks.add(values[0])
+            self.no_locks.append(values[0])
         elif RECORD_PLACE <= kind <= RECORD_NOTE:
             self.read_text(kind, values[0], text_of(values[1:]))
 
@@ -148,24 +179,15 @@ class Process:
         else:
             self.notes.append(text.replace("%d", "%d" % number))
 
-    def is_event(self, word):
-        return word >> OBJECT_SHIFT not in self.no_locks or word & KIND_MASK in (FORK, JOIN)
-
-    def module_of(self, address):
-        for loaded in reversed(self.modules):
-            if loaded.start <= address < loaded.end:
-                return loaded
-        return None
-
 
 def text_of(words):
     return words.tobytes().split(b"\0", 1)[0].decode("utf-8", "backslashreplace")
 
 
 def read_chunks(path):
-    """(magic, thread, order, words) of each chunk of an extent."""
+    """(magic, thread, order, offset of the words, the words in use) of each chunk of an extent."""
     with open(path, "rb") as file:
-        size = os.fstat(file.fileno()).st_size
+        size = os.fstat(file.fileno()).st_size // 8 * 8
         if size == 0:
             return
         data = memoryview(mmap.mmap(file.fileno(), size, access=mmap.ACCESS_READ))
@@ -177,43 +199,99 @@ def read_chunks(path):
                 return  # chunks follow one another: nothing comes after the first free place
             place += CHUNK_UNIT
             continue
-        used = min(used, (length - CHUNK_HEAD) // 8)
-        words = data[place + CHUNK_HEAD : place + CHUNK_HEAD + 8 * used].cast("Q")
-        yield magic, thread, order, words
+        offset = place + CHUNK_HEAD
+        end = max(offset, min(place + length, size))
+        yield magic, thread, order, offset, data[offset : min(offset + 8 * used, end)].cast("Q")
         place += max(length, CHUNK_UNIT)
 
 
-def read_process(directory, key, extents, modules):
-    process = Process(key)
-    tables, events = [], []
-    for extent in sorted(extents):
-        path = os.path.join(directory, "%d.%d.%d" % (key[0], key[1], extent))
-        for magic, thread, order, words in read_chunks(path):
-            (tables if magic == CHUNK_TABLE else events).append((thread, order, words))
-    for _, _, words in sorted(tables, key=lambda chunk: chunk[:2]):
-        process.read_table(words, modules)
-    for thread, _, words in sorted(events, key=lambda chunk: chunk[:2]):
-        if thread not in process.threads:
-            raise ConvertError("events of an unknown thread in process %d" % key[0])
-        process.threads[thread].words.extend(words.tolist())
-    for thread in process.threads.values():
-        thread.words = [word for word in thread.words if word and process.is_event(word)]
-    return process
-
-
-def read_directory(directory):
-    """All processes, by (pid, image)."""
-    found = {}
-    for name in os.listdir(directory):
-        match = re.fullmatch(r"(\d+)\.(\d+)\.(\d+)", name)
-        if match:
-            pid, image, extent = map(int, match.groups())
-            found.setdefault((pid, image), []).append(extent)
-    modules = {}
-    processes = {key: read_process(directory, key, found[key], modules) for key in sorted(found)}
+def read_processes(recording):
+    """All processes, by (pid, image), and what is damaged. The events that are there are found before the tables are read: of a
+    process that still runs, the tables then have all that these events name."""
+    events = {}
+    for pid, image, _, path in recording.extents():
+        found = events.setdefault((pid, image), [])
+        for magic, thread, order, offset, words in read_chunks(path):
+            if magic == CHUNK_EVENTS and len(words):
+                found.append((thread, order, path, offset, len(words)))
+    processes, modules, faults = {}, {}, []
+    for key, tables in read_tables(recording, events).items():
+        process = Process(key)
+        try:
+            for words in tables:
+                process.read_table(words, modules)
+            for thread, order, path, offset, count in sorted(events[key]):
+                process.threads[thread].chunks.append((path, offset, count))
+            processes[key] = process
+        except (ConvertError, KeyError, IndexError, ValueError) as error:
+            faults.append(str(error) if isinstance(error, ConvertError) else "the files of process %d are damaged" % key[0])
     for process in processes.values():
         process.parent = processes.get(process.parent)
-    return processes
+    return processes, faults
+
+
+def read_tables(recording, wanted):
+    """The words of the tables of each of these processes, in order."""
+    tables = {key: [] for key in wanted}
+    for pid, image, _, path in recording.extents():
+        if (pid, image) in tables:
+            for magic, _, order, _, words in read_chunks(path):
+                if magic == CHUNK_TABLE:
+                    tables[pid, image].append((order, words))
+    return {key: [words for _, words in sorted(found, key=lambda table: table[0])] for key, found in tables.items()}
+
+
+# --- Events -------------------------------------------------------------------------------------------
+
+
+def packed_text(text):
+    data = text.encode("utf-8", "backslashreplace")
+    return array("Q", [len(data)]).tobytes() + data + bytes(-len(data) % 8)
+
+
+def packed_texts(texts):
+    return array("Q", [len(texts)]).tobytes() + b"".join(
+        array("Q", [number]).tobytes() + packed_text(text) for number, text in texts.items()
+    )
+
+
+def event_request(process, threads, tables=()):
+    """What goodlock_lines reads: the files, which locks are none, texts, and the chunks of these threads."""
+    files = {}
+    chunks = array("Q")
+    for thread in threads:
+        for path, offset, count in thread.chunks:
+            chunks.extend((files.setdefault(path, len(files)), thread.number, offset, count))
+    parts = [array("Q", [len(files)]).tobytes()]
+    parts += map(packed_text, files)
+    parts.append(array("Q", [len(process.no_locks), *process.no_locks]).tobytes())
+    parts += map(packed_texts, tables)
+    parts += [array("Q", [len(chunks) // 4]).tobytes(), chunks.tobytes()]
+    return b"".join(parts)
+
+
+def run_lines(way, request, output):
+    """goodlock_lines, whose output goes to this file."""
+    import subprocess
+
+    done = subprocess.run([built("goodlock_lines"), way], input=request, stdout=output, stderr=subprocess.PIPE)
+    if done.returncode != 0:
+        raise ConvertError(done.stderr.decode(errors="replace").strip() or "goodlock_lines ended by signal %d" % -done.returncode)
+    return done.stdout
+
+
+def scan_events(process, threads):
+    """Counts each thread's events by kind; the thread and word of each lock's first event, in the order of these threads."""
+    import subprocess
+
+    answer = array("Q")
+    answer.frombytes(run_lines("scan", event_request(process, threads), subprocess.PIPE))
+    place = 0
+    while answer[place] != NO_THREAD:
+        process.threads[answer[place]].kinds = answer[place + 1 : place + 1 + KINDS].tolist()
+        place += 1 + KINDS
+    firsts = answer[place + 1 + KINDS :].tolist()
+    return zip(firsts[::2], firsts[1::2])
 
 
 # --- Names --------------------------------------------------------------------------------------------
@@ -246,14 +324,22 @@ class Places:
     def find_text(self, site):
         if site in self.process.places:
             return clean("<".join(map(self.sources.shortened, self.process.places[site])))
-        callers = self.process.sites.get(site)
-        if callers is None:
+        if site not in self.process.sites:
             parent = self.process.parent
             return parent.names.places.text(site) if parent and parent.names and site else "?"
+        callers, when = self.process.sites[site]
         parts = []
         for address in callers:
-            parts.extend(self.sources.frames(self.process, address - 1))
+            parts.extend(self.sources.frames(self.process, address - 1, when))
         return clean("<".join(parts[: self.process.frames]))
+
+    def all(self):
+        """The texts of all sites that an event may have."""
+        process, numbers = self.process, set()
+        while process:
+            numbers.update(process.sites, process.places)
+            process = process.parent
+        return {number: self.text(number) for number in sorted(numbers)}
 
 
 class Sources:
@@ -262,9 +348,9 @@ class Sources:
     def __init__(self, processes):
         asked = {}
         for process in processes:
-            for callers in process.sites.values():
+            for callers, when in process.sites.values():
                 for address in callers:
-                    loaded = process.module_of(address - 1)
+                    loaded = process.modules.at(address - 1, when)
                     if loaded:
                         asked.setdefault(loaded.module, set()).add(address - 1 - loaded.bias)
         self.lines = {module: module.lines_of(addresses) for module, addresses in asked.items()}
@@ -277,9 +363,9 @@ class Sources:
         path, _, line = place.rpartition(":")
         return "%s:%s" % (self.short[path], line)
 
-    def frames(self, process, address):
+    def frames(self, process, address, when):
         """The program's own lines at an address, the innermost first; never empty."""
-        loaded = process.module_of(address)
+        loaded = process.modules.at(address, when)
         if not loaded:
             return ["?"]
         offset = address - loaded.bias
@@ -326,9 +412,9 @@ class Names:
             routine = thread.routine_name or routine_name(routines[thread.number], readable)
             thread.name = clean(name + (":" + routine if routine else ""))
 
-    def symbol_of(self, address, begins=False):
+    def symbol_of(self, address, when, begins=False):
         """The name of the symbol at an address in memory; with `begins`, only of one that begins there."""
-        loaded = self.process.module_of(address) if address else None
+        loaded = self.process.modules.at(address, when) if address else None
         symbol = loaded.module.symbol_at(address - loaded.bias) if loaded else None
         if symbol is None or (begins and symbol.start != address - loaded.bias):
             return ""
@@ -338,11 +424,11 @@ class Names:
         """The symbol of the start routine. A thread of the C++ library's runs an object: a function that it points to,
         else its class."""
         if not any(thread.object):
-            return self.symbol_of(thread.routine)
-        table = self.symbol_of(thread.object[0])
+            return self.symbol_of(thread.routine, thread.when)
+        table = self.symbol_of(thread.object[0], thread.when)
         if LAMBDA_CLASS not in table:
             for word in thread.object[1:]:
-                name = self.symbol_of(word, begins=True)
+                name = self.symbol_of(word, thread.when, begins=True)
                 if name and not name.startswith("_ZT"):
                     return name
         return table
@@ -352,8 +438,8 @@ class Names:
     def name_locks(self):
         """Names the locks in an order that no schedule decides: first those that were made, by thread and by the order in
         which the thread made them, then those found, by the first event of the first thread that used them."""
-        used = self.used_locks()
         own = self.process.locks
+        firsts = scan_events(self.process, self.order)
         self.name_static(own)
         self.name_told(own)
         rank = {thread.number: i for i, thread in enumerate(self.order)}
@@ -361,20 +447,15 @@ class Names:
         for lock in sorted(made, key=lambda lock: (rank.get(lock.thread, len(rank)), lock.order)):
             if lock.number not in self.locks:
                 self.locks[lock.number] = self.name_by_place(lock, lock.site, self.thread_name(lock.thread))
-        for number, (site, thread) in used.items():
-            if number in self.locks:
-                continue
-            lock = own.get(number) or self.parents_lock(number)
-            self.locks[number] = self.inherited(number) or self.name_by_place(lock, site, thread.name)
+        for thread, word in firsts:
+            number = word >> OBJECT_SHIFT
+            if number not in self.locks:
+                lock = own.get(number) or self.parents_lock(number)
+                site = word >> SITE_SHIFT & SITE_MASK
+                self.locks[number] = self.inherited(number) or self.name_by_place(lock, site, self.thread_name(thread))
+            self.used += 1
 
-    def used_locks(self):
-        """Each lock with the site and thread of its first event, threads in order."""
-        used = {}
-        for thread in self.order:
-            for word in dict.fromkeys(thread.words):
-                if word & KIND_MASK not in (FORK, JOIN):
-                    used.setdefault(word >> OBJECT_SHIFT, (word >> SITE_SHIFT & SITE_MASK, thread))
-        return used
+    used = 0  # how many locks have an event
 
     def thread_name(self, number):
         thread = self.process.threads.get(number)
@@ -396,7 +477,7 @@ class Names:
         """Locks in the memory of a module: its symbol. A lock made again there is told by a number."""
         found = {}
         for lock in sorted(locks.values(), key=lambda lock: lock.number):
-            loaded = self.process.module_of(lock.address)
+            loaded = self.process.modules.at(lock.address, lock.when)
             if loaded:
                 found.setdefault((loaded.module, lock.address - loaded.bias), []).append(lock)
         symbols = {place: place[0].symbol_at(place[1]) for place in found}
@@ -423,7 +504,7 @@ class Names:
 
     def name_by_place(self, lock, site, thread):
         """kind@file:line#count, with the thread's name where it isn't the first thread."""
-        base = "%s@%s#" % (lock.kind if lock else "mutex", self.places.text(site))
+        base = "%s@%s#" % (lock.kind if lock else "lock", self.places.text(site))
         if thread != "main":
             base += thread.split(":", 1)[0] + ":"
         self.counts[base] += 1
@@ -459,51 +540,59 @@ class Summary:
     """What was written of one process."""
 
     def __init__(self, process, path):
+        threads = process.threads.values()
         self.path = path
         self.process = process
-        self.kinds = Counter()
-        self.locks = set()
-        self.left_out = sum(t.left_out for t in process.threads.values())
-        self.lost = sum(t.lost for t in process.threads.values())
-        self.others = sum(t.others for t in process.threads.values())
-
-    def add(self, counts):
-        """Counts the events of a thread, given how often each word is there."""
-        for word, count in counts.items():
-            kind = word & KIND_MASK
-            self.kinds[kind] += count
-            if kind not in (FORK, JOIN):
-                self.locks.add(word >> OBJECT_SHIFT)
-
-    @property
-    def events(self):
-        return sum(self.kinds.values())
+        self.kinds = [sum(counts) for counts in zip(*(t.kinds for t in threads))] or [0] * KINDS
+        self.events = sum(self.kinds)
+        self.locks = process.names.used
+        self.left_out = sum(t.left_out for t in threads)
+        self.others = sum(t.others for t in threads)
+        self.lost = Counter(process.lost)
+        self.lost["events"] += sum(t.lost for t in threads)
 
     def lines(self):
         process = self.process
+        if self.events:
+            yield "%s: %d events (and %d of repeats, left out), %d threads, %d locks, %d other calls; %s" % (
+                self.path, self.events, self.left_out, len(process.threads), self.locks, self.others, self.name())
+        for what, count in self.lost.items():
+            if count:
+                yield "%s: %d %s were lost: there was no room for them" % (self.path if self.events else self.name(), count, what)
+        for note in process.notes:
+            yield "%s: %s" % (self.path if self.events else self.name(), note)
         if not self.events:
-            yield "process %d (%s): no events, no file" % (process.key[0], shortened(process.command))
-            for note in process.notes:
-                yield "process %d: %s" % (process.key[0], note)
             return
-        yield "%s: %d events (and %d of repeats, left out), %d threads, %d locks, %d other calls; process %d (%s)" % (
-            self.path, self.events, self.left_out, len(process.threads), len(self.locks), self.others,
-            process.key[0], shortened(process.command),
-        )
         if not self.locks:
             yield "%s: threads, but no lock: does the program have locks of its own?" % self.path
-        if self.lost:
-            yield "%s: %d events were lost: there was no room for them" % (self.path, self.lost)
+        yield from self.special_lines()
+
+    def special_lines(self):
+        if self.kinds[AGAIN]:
+            yield "%s: %d times a thread asked for a lock that isn't recursive and that it held (`again` lines): it waits for itself" % (
+                self.path, self.kinds[AGAIN])
         if self.kinds[UPGRADE]:
             yield "%s: %d times a thread asked for a lock exclusively that it held shared (`upgrade` lines): it waits for itself" % (
                 self.path, self.kinds[UPGRADE])
         if self.kinds[BEYOND]:
             yield "%s: %d acquires by threads that held %d locks (`beyond` lines): goodlock skips these" % (
                 self.path, self.kinds[BEYOND], HELD_LIMIT)
-        for note in process.notes:
-            yield "%s: %s" % (self.path, note)
-        if len(process.threads) > THREAD_LIMIT:
+        if len(self.process.threads) > THREAD_LIMIT:
             yield "%s: goodlock reads at most %d threads, it will refuse this trace" % (self.path, THREAD_LIMIT)
+
+    def name(self):
+        return "process %d (%s)" % (self.process.key[0], shortened(self.process.command))
+
+
+def summary_lines(summaries):
+    """What is said of the traces; processes without events are counted."""
+    found = [line for summary in summaries for line in summary.lines()]
+    silent = [summary for summary in summaries if not summary.events]
+    if len(silent) == 1:
+        found.append("%s: no events, no file" % silent[0].name())
+    elif silent:
+        found.append("%d processes: no events, no file" % len(silent))
+    return found
 
 
 def shortened(command):
@@ -511,33 +600,10 @@ def shortened(command):
     return command if len(command) <= 60 else command[:57] + "..."
 
 
-def write_trace(process, path):
-    summary = Summary(process, path)
-    if not any(thread.words for thread in process.threads.values()):
-        return summary
-    descriptor = os.open(path, os.O_WRONLY | os.O_CREAT | os.O_EXCL, 0o666)
-    with os.fdopen(descriptor, "wb") as file:
-        for thread in process.names.order:
-            counts = Counter(thread.words)
-            texts = line_texts(process, thread, counts)
-            file.write("".join(map(texts.__getitem__, thread.words)).encode("utf-8", "backslashreplace"))
-            summary.add(counts)
-    return summary
-
-
-def line_texts(process, thread, words):
-    """The line of each of these words of a thread. There may be many: what they share is looked up once."""
+def write_trace(process, file):
     names = process.names
-    starts = {kind: "%s|%s(" % (thread.name, word) for kind, word in WORDS.items()}
-    places = {}
-    texts = {}
-    for word in words:
-        kind, site, number = word & KIND_MASK, word >> SITE_SHIFT & SITE_MASK, word >> OBJECT_SHIFT
-        if site not in places:
-            places[site] = ")|%s\n" % names.places.text(site)
-        operand = names.thread_name(number) if kind in (FORK, JOIN) else names.locks[number]
-        texts[word] = starts[kind] + operand + places[site]
-    return texts
+    threads = {thread.number: thread.name for thread in process.threads.values()}
+    run_lines("write", event_request(process, names.order, (names.locks, names.places.all(), threads)), file)
 
 
 def trace_paths(processes, trace, first):
@@ -556,9 +622,44 @@ def trace_paths(processes, trace, first):
     return paths
 
 
-def convert_directory(directory, trace, first=None):
-    """Writes the trace of each process; their summaries, the first process's first. `first`: its number, else the least."""
-    processes = read_directory(directory)
+def write_traces(summaries):
+    """Writes all traces aside, and gives them their names when all are whole: none is there in part or alone."""
+    aside, named = [], []
+    ending = ".part.%s" % os.urandom(4).hex()
+    try:
+        for summary in summaries:
+            if summary.events:
+                path = summary.path + ending
+                with open(os.open(path, os.O_WRONLY | os.O_CREAT | os.O_EXCL | os.O_CLOEXEC, 0o666), "wb") as file:
+                    aside.append((path, summary.path))
+                    write_trace(summary.process, file)
+        for path, name in aside:
+            take_name(path, name)
+            named.append(name)
+    except BaseException:
+        for name in named:
+            os.unlink(name)
+        raise
+    finally:
+        for path, _ in aside:
+            if os.path.lexists(path):
+                os.unlink(path)
+
+
+def take_name(path, name):
+    """Renames a file, but over none. Where the file system knows no second names, the name was free a moment ago."""
+    try:
+        os.link(path, name)
+    except FileExistsError:
+        raise ConvertError("%s exists already" % name)
+    except OSError:
+        os.rename(path, name)
+
+
+def convert_recording(recording, trace, first=None):
+    """Writes the trace of each process; their summaries, the first process's first, and what was damaged. `first`: its number,
+    else the least."""
+    processes, faults = read_processes(recording)
     if first is None and processes:
         first = min(processes)[0]
     paths = trace_paths(processes, trace, first)
@@ -566,7 +667,9 @@ def convert_directory(directory, trace, first=None):
     order = sorted(processes.values(), key=lambda process: (process.key[0] != first, process.key))
     for process in order:
         name_process(process, sources)
-    return [write_trace(process, paths[process.key]) for process in order]
+    summaries = [Summary(process, paths[process.key]) for process in order]
+    write_traces(summaries)
+    return summaries, faults
 
 
 def name_process(process, sources):

@@ -8,9 +8,7 @@ docs/RECORDING.md explains it.
 
 import os
 import signal
-import struct
 import sys
-import time
 
 SOURCES = os.path.dirname(os.path.realpath(__file__))
 TOOLS = os.path.dirname(SOURCES)
@@ -22,12 +20,9 @@ STATUS_FAILED = 125
 STATUS_NOT_EXECUTABLE = 126
 STATUS_NOT_FOUND = 127
 FRAMES_LIMIT = 16
-FORWARDED = (signal.SIGINT, signal.SIGTERM, signal.SIGHUP, signal.SIGQUIT, signal.SIGUSR1, signal.SIGUSR2)
-# A signal that the kernel sent, as a terminal does on Ctrl-C: the program got it already.
-FROM_KERNEL = 128
-# Seconds.
-MOMENT = 0.02
-FORK_LIMIT = 2
+# The loader takes these in the path of a preload library as separators and variables.
+PRELOAD_SEPARATORS = " :$\t\n"
+LINK_DIRECTORIES = ("/tmp", "/var/tmp", "/dev/shm")
 
 USAGE = "usage: goodlock-record [-o TRACE] [--frames N] [--all] [--] PROGRAM [ARGUMENT..]"
 
@@ -45,10 +40,19 @@ class Recorder:
 
     name = "goodlock-record"
 
+    def prepare(self):
+        """Before anything is made."""
+        self.preload = Preload()
+
     def environment(self, settings, directory):
-        return child_environment(settings, directory)
+        """The program's."""
+        return child_environment(settings, directory, self.preload.path)
+
+    def clean_up(self):
+        self.preload.remove()
 
     def advice(self, processes, settings):
+        """Lines on what another recorder would see."""
         from runtimes import runtime_lines
 
         return runtime_lines(processes, settings.command)
@@ -56,7 +60,7 @@ class Recorder:
     def reason(self, loaded):
         """Why there is no event."""
         if loaded:
-            return "the program took no lock and made no thread by a call that can be recorded"
+            return "the program took no lock and made no thread by a call that can be recorded, or there was no room"
         return "the recorder wasn't loaded: is the program statically linked, set-user-id or of another machine type?"
 
 
@@ -64,8 +68,23 @@ recorder = Recorder()
 
 
 def say(text):
-    sys.stderr.write(recorder.name + ": " + text + "\n")
-    sys.stderr.flush()
+    """A line on standard error. Where that is closed, or on a full disk, nobody hears it."""
+    try:
+        if sys.stderr:
+            sys.stderr.write(recorder.name + ": " + text + "\n")
+            sys.stderr.flush()
+    except OSError:
+        pass
+
+
+def fill_closed_descriptors():
+    """Standard input, output and error that are closed: /dev/null stands in their place here, so that no other file gets their
+    numbers. The program finds them closed as they were."""
+    for number in range(3):
+        try:
+            os.fstat(number)
+        except OSError:
+            os.open(os.devnull, os.O_RDWR | os.O_CLOEXEC)
 
 
 # --- Arguments --------------------------------------------------------------------------------------
@@ -120,45 +139,51 @@ def read_arguments(arguments, explanation=__doc__, usage=USAGE):
 
 
 def library():
-    """The preload library's path; built here if it is missing or older than its sources."""
-    path = os.path.join(TOOLS, "out", "goodlock_record.so")
-    names = [os.path.join(SOURCES, n) for n in os.listdir(SOURCES) if n.endswith((".c", ".h"))]
-    newest = max(os.stat(n).st_mtime for n in names)
-    if not os.path.exists(path) or os.stat(path).st_mtime < newest:
-        import subprocess
+    """The preload library's path."""
+    from build import BuildError, built
 
-        try:
-            made = subprocess.run(["make", "-s", "-C", TOOLS], stdout=subprocess.PIPE, stderr=subprocess.STDOUT)
-        except OSError as error:
-            raise Failed("the preload library isn't built, and make can't be run: %s" % error)
-        if made.returncode != 0:
-            raise Failed("building the preload library failed:\n" + made.stdout.decode(errors="replace"))
-    return path
-
-
-def new_directory(trace):
-    """A fresh directory beside the trace. A server that gives up root's rights must still be able to make files
-    there, so root's directory lets others make files (but not list or delete them)."""
-    directory = "%s.raw.%s" % (trace, os.urandom(8).hex())
     try:
-        os.mkdir(directory, 0o700)
-    except OSError as error:
-        raise Failed("can't write beside %s: %s" % (trace, error.strerror))
-    if os.geteuid() == 0:
-        os.chmod(directory, 0o1733)
-    return os.path.realpath(directory)
+        return built("goodlock_record.so")
+    except BuildError as error:
+        raise Failed(str(error))
 
 
-def remove(directory):
-    for name in os.listdir(directory):
-        os.unlink(os.path.join(directory, name))
-    os.rmdir(directory)
+class Preload:
+    """The preload library under a path that the loader can read: a link, where its own has spaces or colons in it."""
+
+    def __init__(self):
+        self.path = library()
+        self.directory = None
+        if any(mark in self.path for mark in PRELOAD_SEPARATORS):
+            self.directory = self.make_directory()
+            link = os.path.join(self.directory, os.path.basename(self.path))
+            os.symlink(self.path, link)
+            self.path = link
+
+    def make_directory(self):
+        for place in LINK_DIRECTORIES:
+            path = "%s/goodlock-record.%s" % (place, os.urandom(8).hex())
+            try:
+                os.mkdir(path, 0o755)
+                return path
+            except OSError:
+                continue
+        raise Failed("%s: the loader can't preload a path with spaces or colons, and no link to it can be made in %s"
+                     % (self.path, " or ".join(LINK_DIRECTORIES)))
+
+    def remove(self):
+        if self.directory:
+            os.unlink(self.path)
+            os.rmdir(self.directory)
 
 
-def child_environment(settings, directory):
+def child_environment(settings, directory, preload):
     environment = dict(os.environ)
     earlier = environment.get("LD_PRELOAD")
-    environment["LD_PRELOAD"] = library() + (":" + earlier if earlier else "")
+    environment["LD_PRELOAD"] = preload + (":" + earlier if earlier else "")
+    # A program built with AddressSanitizer wants its own library to be the first one; it works as the second too.
+    sanitizer = environment.get("ASAN_OPTIONS")
+    environment["ASAN_OPTIONS"] = (sanitizer + ":" if sanitizer else "") + "verify_asan_link_order=0"
     environment["GOODLOCK_RECORD_DIRECTORY"] = directory
     environment["GOODLOCK_RECORD_FRAMES"] = str(settings.frames)
     if settings.all:
@@ -169,131 +194,42 @@ def child_environment(settings, directory):
 # --- The run ------------------------------------------------------------------------------------------
 
 
-def start(command, environment, mask):
-    """Starts the program, with the signals blocked that were so before; its number. A program that can't be
-    started is told of over a pipe."""
-    reading, writing = os.pipe()
-    process = os.fork()
-    if process == 0:
-        try:
-            os.close(reading)
-            for number in (signal.SIGPIPE, signal.SIGXFSZ):  # Python ignores these
-                signal.signal(number, signal.SIG_DFL)
-            signal.pthread_sigmask(signal.SIG_SETMASK, mask)
-            os.execvpe(command[0], command, environment)
-        except OSError as error:
-            os.write(writing, b"%d" % error.errno)
-        finally:
-            os._exit(STATUS_FAILED)
-    os.close(writing)
-    with os.fdopen(reading, "rb") as pipe:
-        fault = pipe.read()
-    if fault:
-        os.waitpid(process, 0)
-        number = int(fault)
-        missing = number in (2, 20)
-        raise Failed("%s: %s" % (command[0], os.strerror(number)), STATUS_NOT_FOUND if missing else STATUS_NOT_EXECUTABLE)
+def started_program(settings, environment, mask):
+    from family import start
+
+    process, fault = start(settings.command, environment, mask)
+    if process is None:
+        status = STATUS_NOT_FOUND if fault in (2, 20) else STATUS_NOT_EXECUTABLE
+        raise Failed("%s: %s" % (settings.command[0], os.strerror(fault)), status)
     return process
 
 
-def is_running(process):
-    try:
-        with open("/proc/%d/stat" % process, "rb") as status:
-            return status.read().rsplit(b")", 1)[1].split()[0] not in (b"Z", b"X")
-    except (OSError, IndexError):
-        return False
-
-
-def recorded_processes(directory):
-    return sorted({int(name.split(".")[0]) for name in os.listdir(directory)})
-
-
-# Where the first extent of a process has its record (layout.h), and the numbers in it that are needed here.
-PROCESS_RECORD = struct.Struct("=QQQQQQQQQQ")
-PROCESS_RECORD_PLACE = 32
-
-
-def forks_to_come(directory):
-    """Whether a process was about to fork and a child of it hasn't begun its files yet."""
-    forks = {}
-    for name in os.listdir(directory):
-        if not name.endswith(".0"):
-            continue
-        with open(os.path.join(directory, name), "rb") as file:
-            file.seek(PROCESS_RECORD_PLACE)
-            data = file.read(PROCESS_RECORD.size)
-        if len(data) == PROCESS_RECORD.size:
-            _, _, pid, image, parent, parent_image, _, _, _, begun = PROCESS_RECORD.unpack(data)
-            forks[pid, image] = forks.get((pid, image), 0) + begun
-            forks[parent, parent_image] = forks.get((parent, parent_image), 0) - 1
-    return any(count > 0 for count in forks.values())
-
-
-def wait_for_beginnings(directory):
-    """Gives a process that was just made the time to begin its files: a forked one until it has, but not for ever, as a
-    fork may fail; one that was made in another way only a moment."""
-    time.sleep(MOMENT)
-    limit = time.monotonic() + FORK_LIMIT
-    while forks_to_come(directory) and time.monotonic() < limit:
-        time.sleep(MOMENT)
-
-
-def send(process, number):
-    try:
-        os.kill(process, number)
-    except OSError:
-        pass
-
-
-def wait_for_first(process, waited):
-    """Waits for the program, and hands signals on to it; its wait status."""
-    while True:
-        ended, status = os.waitpid(process, os.WNOHANG)
-        if ended == process:
-            return status
-        info = signal.sigwaitinfo(waited)
-        if info.si_signo != signal.SIGCHLD and info.si_code != FROM_KERNEL:
-            send(process, info.si_signo)
-
-
-def wait_for_others(directory, waited):
-    """Waits for the further processes, as those of a server that went into the background. A signal is handed on to
-    them; at a second one they are no longer waited for."""
-    told = False
-    stop = False
-    while True:
-        running = [p for p in recorded_processes(directory) if is_running(p)]
-        if not running:
-            return
-        if not told:
-            say("waiting for %s" % ", ".join("process %d" % p for p in running))
-            told = True
-        info = signal.sigtimedwait(waited, 0.05)
-        if info is None or info.si_signo == signal.SIGCHLD:
-            continue
-        if stop:
-            say("not waiting any longer; their traces are what they did so far")
-            return
-        stop = True
-        for process in running:
-            if info.si_code != FROM_KERNEL:
-                send(process, info.si_signo)
-
-
 def record(settings):
-    directory = new_directory(settings.trace)
-    environment = recorder.environment(settings, directory)
-    waited = FORWARDED + (signal.SIGCHLD,)
-    mask = signal.pthread_sigmask(signal.SIG_BLOCK, waited)
+    """Runs the program; the recording, the program's number and status, and which processes still run."""
+    from family import WAITED, Family, adopt_orphans
+    from recording import new_recording
+
+    recorder.prepare()
     try:
-        process = start(settings.command, environment, mask)
+        recording = new_recording(settings.trace)
+    except OSError as error:
+        recorder.clean_up()
+        raise Failed("can't write beside %s: %s" % (settings.trace, error.strerror))
+    environment = recorder.environment(settings, recording.directory)
+    if not adopt_orphans():
+        say("processes that outlive their parents aren't waited for: Python's ctypes is missing")
+    family = Family(recording, say)
+    mask = signal.pthread_sigmask(signal.SIG_BLOCK, WAITED)
+    try:
+        process = started_program(settings, environment, mask)
+        status = family.wait_for_first(process)
+        running = [] if family.wait_for_others() else family.recorded()
     except Failed:
-        remove(directory)
+        recording.remove()
         raise
-    status = wait_for_first(process, waited)
-    wait_for_beginnings(directory)
-    wait_for_others(directory, waited)
-    return directory, process, exit_status(status)
+    finally:
+        recorder.clean_up()
+    return recording, process, exit_status(status), running
 
 
 def exit_status(status):
@@ -305,31 +241,61 @@ def exit_status(status):
 # --- After the run --------------------------------------------------------------------------------------
 
 
-def convert_all(directory, settings, first):
-    """Writes the traces; whether there is an event in any."""
-    from convert import ConvertError, convert_directory
+def recording_at(path):
+    """The recording that was left in a directory."""
+    from recording import CONVERTED, Recording
+
+    if not os.path.isdir(path):
+        raise Failed("%s: %s" % (path, "not a directory" if os.path.exists(path) else "no such directory"))
+    recording = Recording(os.path.realpath(path))
+    if recording.directory.endswith(CONVERTED):
+        raise Failed("%s: its traces were written already" % path)
+    if not recording.is_recording():
+        raise Failed("%s holds no files of a recording; nothing was changed" % path)
+    return recording
+
+
+def convert_all(recording, settings, first, running):
+    """Writes the traces; whether there is an event in any, and whether any process began its files. `running`: the processes
+    that still write, as was seen before anything is read."""
+    from build import BuildError
+    from convert import ConvertError, convert_recording, summary_lines
 
     try:
-        summaries = convert_directory(directory, settings.trace, first)
-    except (ConvertError, OSError) as error:
-        raise Failed("%s (what was recorded is kept in %s)" % (error, directory))
-    for summary in summaries:
-        for line in summary.lines():
-            say(line)
+        summaries, faults = convert_recording(recording, settings.trace, first)
+    except (BuildError, ConvertError, OSError) as error:
+        raise Failed("%s (what was recorded is kept in %s)" % (error, recording.directory))
+    for line in summary_lines(summaries) + faults:
+        say(line)
     for line in recorder.advice([summary.process for summary in summaries], settings):
         say(line)
-    remove(directory)
-    return any(summary.events for summary in summaries), bool(summaries)
+    unrecorded = recording.unrecorded()
+    if unrecorded:
+        say("%d processes weren't recorded: there was no room for their files" % unrecorded)
+    keep_or_remove(recording, running, faults)
+    return any(summary.events for summary in summaries), bool(summaries) or unrecorded > 0
+
+
+def keep_or_remove(recording, running, faults):
+    """What was recorded is removed once it is all in traces."""
+    if running:
+        say("still running: %s; this is what they did so far, and %s is kept" % (
+            ", ".join("process %s" % process for process in running), recording.directory))
+    elif faults:
+        say("%s is kept" % recording.directory)
+    elif not recording.remove():
+        say("%s is kept: it holds files that aren't the recorder's" % recording.directory)
 
 
 def run(settings):
     if os.path.lexists(settings.trace):
         raise Failed("%s exists already; nothing was run" % settings.trace)
     if settings.convert is not None:
-        directory, first, status = settings.convert, None, 0
+        recording, first, status = recording_at(settings.convert), None, 0
+        running = recording.writers()
     else:
-        directory, first, status = record(settings)
-    found, loaded = convert_all(directory, settings, first)
+        recording, first, status, running = record(settings)
+    found, loaded = convert_all(recording, settings, first, running)
     if not found:
         say("no events, no trace: %s (the program's own status was %d)" % (recorder.reason(loaded), status))
         return STATUS_NO_EVENTS
@@ -340,6 +306,7 @@ def main(read, used):
     """Reads the arguments and runs, with this recorder; the status."""
     global recorder
     recorder = used
+    fill_closed_descriptors()
     try:
         return run(read(sys.argv[1:]))
     except Failed as failure:

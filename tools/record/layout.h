@@ -2,11 +2,16 @@
  * The files that a recorded process leaves behind. `convert.py` reads the same layout.
  *
  * A process writes extents: files `PID.IMAGE.0`, `PID.IMAGE.1`, .. in the directory that the launcher
- * named. IMAGE counts the programs that the process ran one after the other (by exec). Extents are
- * mapped shared, so that what is stored is in the file at once, however the process ends.
+ * named, or in its subdirectory `uUID` once the process has become that user. IMAGE counts the programs that the
+ * process ran one after the other (by exec). Extents are mapped shared, so that what is stored is in the file at
+ * once, however the process ends; they may have any size, and are regular files of the directory's owner.
  *
  * An extent is a row of chunks, each a multiple of CHUNK_UNIT bytes. A chunk holds either words of one
  * thread's events or records of the tables. All numbers have the machine's byte order.
+ *
+ * The tables are read in the order of their chunks, whatever comes first in time: a record of a module holds for the sites, locks
+ * and threads after it, until RECORD_UNLOADED takes it away. RECORD_PROCESS is the first record; RECORD_START, RECORD_UNLOADED
+ * and RECORD_LOSSES may be missing. Records of other kinds are skipped. A lock without a record has a name of its own too.
  */
 #ifndef GOODLOCK_LAYOUT_H
 #define GOODLOCK_LAYOUT_H
@@ -15,6 +20,8 @@
 
 #define LAYOUT_VERSION 1
 #define CHUNK_UNIT 4096u
+/* Sizes of extents: the first one's, and the most; each is four times as large as the one before. */
+#define EXTENT_FIRST_BYTES (256u << 10)
 #define EXTENT_BYTES (64u << 20)
 
 #define CHUNK_EVENTS 0x676c6576u
@@ -47,6 +54,7 @@ enum event_kind {
     EVENT_JOIN = 8,
     EVENT_UPGRADE = 9, /* exclusive acquire of a lock that the thread holds shared */
     EVENT_BEYOND = 10, /* acquire by a thread that holds HELD_LIMIT locks */
+    EVENT_AGAIN = 11,  /* acquire of a lock that the thread holds and that isn't recursive */
 };
 
 /* A record begins with a word: its kind in bits 0-31, its size in words (this one included) above. */
@@ -56,6 +64,9 @@ enum record_kind {
     RECORD_SITE = 3,
     RECORD_LOCK = 4,
     RECORD_THREAD = 5,
+    RECORD_START = 6,
+    RECORD_UNLOADED = 7,
+    RECORD_LOSSES = 8,
     /* Of recorders that know names and no addresses, as those of Java and Python. */
     RECORD_PLACE = 16,     /* a site's text: lines `path:line`, the innermost first */
     RECORD_LOCK_KIND = 17, /* what stands for a lock's class in its name */
@@ -79,6 +90,21 @@ struct process_record {
     char command[]; /* ended by a zero byte */
 };
 
+/* Follows the process's record. */
+struct start_record {
+    uint64_t head;
+    uint64_t moment; /* when the process began: field 22 of /proc/PID/stat */
+};
+
+/* What there was no room for; counted on while the process runs. */
+struct losses_record {
+    uint64_t head;
+    uint64_t events; /* of threads without a record; others count their own */
+    uint64_t locks;  /* records of locks: they have names by their first use */
+    uint64_t places; /* sites */
+    uint64_t threads;
+};
+
 struct module_record {
     uint64_t head;
     uint64_t bias; /* address in memory less address in the module's file */
@@ -87,13 +113,25 @@ struct module_record {
     char path[];
 };
 
+/* The module that begins here is gone. */
+struct unloaded_record {
+    uint64_t head;
+    uint64_t start;
+};
+
 struct site_record {
     uint64_t head;
     uint64_t site;
     uint64_t callers[]; /* return addresses, the innermost first */
 };
 
-enum lock_class { LOCK_MUTEX = 1, LOCK_RWLOCK = 2, LOCK_SPIN = 3 };
+enum lock_class {
+    LOCK_MUTEX = 1,
+    LOCK_RWLOCK = 2,
+    LOCK_SPIN = 3,
+    LOCK_ONCE = 4,   /* of pthread_once, call_once */
+    LOCK_STATIC = 5, /* the guard of a static variable's initialisation */
+};
 enum lock_origin { LOCK_MADE = 1, LOCK_FOUND = 2 };
 
 struct lock_record {

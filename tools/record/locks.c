@@ -1,7 +1,6 @@
 /* Numbers of locks, what a thread holds, and what is known already. */
 #define _GNU_SOURCE
 #include <string.h>
-#include <sys/mman.h>
 
 #include "process.h"
 
@@ -16,10 +15,15 @@ uint32_t lock_number_new(struct thread *thread, const void *address, enum lock_c
     struct slot *slot = table_place(&process.locks, (uint64_t)(uintptr_t)address);
     if (slot && slot->value && origin == LOCK_FOUND) {
         number = slot->value; /* another thread was faster */
+    } else if (slot && class == LOCK_ONCE && in_compiler_module((uintptr_t)address)) {
+        slot->value = number = LOCK_IGNORED;
     } else {
+        /* Without a record it still has a number of its own. */
         struct lock_record *record = slot ? record_new(RECORD_LOCK, sizeof *record) : NULL;
+        number = slot ? process.next_lock++ : 0;
+        if (!record)
+            count_loss(&process.losses->locks);
         if (record) {
-            number = process.next_lock++;
             record->lock = number;
             record->class_and_origin = (uint64_t)class | (uint64_t)origin << 32;
             record->address = (uint64_t)(uintptr_t)address;
@@ -28,10 +32,13 @@ uint32_t lock_number_new(struct thread *thread, const void *address, enum lock_c
             if (origin == LOCK_MADE)
                 thread->record->made++;
             record_done(record);
-            __atomic_store_n(&slot->value, number, __ATOMIC_RELEASE);
-            if (origin == LOCK_MADE)
-                __atomic_fetch_add(&process.generation, 1, __ATOMIC_RELEASE);
         }
+        if (slot) {
+            __atomic_store_n(&slot->value, number, __ATOMIC_RELEASE);
+            memory_note(thread, (uintptr_t)address);
+        }
+        if (origin == LOCK_MADE)
+            __atomic_fetch_add(&process.generation, 1, __ATOMIC_RELEASE);
     }
     slow_leave(&state);
     return (uint32_t)number;
@@ -66,7 +73,7 @@ static void keep_above(struct thread *thread, const struct held *held)
         thread->levels[level].place = NULL;
 }
 
-uint64_t *acquire_write_further(struct thread *thread, uint64_t word, struct held *held)
+uint64_t *acquire_write_further(struct thread *thread, uint64_t word, struct held *held, int plain)
 {
     uint64_t call = word - word_kind(word);
     uint64_t context = thread->held[thread->held_count - 1].context;
@@ -74,6 +81,8 @@ uint64_t *acquire_write_further(struct thread *thread, uint64_t word, struct hel
         word = call | EVENT_BEYOND;
     else if (is_shared(held->word) && !is_shared(word))
         word = call | EVENT_UPGRADE;
+    else if (plain)
+        word = call | EVENT_AGAIN;
     else
         held->depth++;
     if (held)
@@ -105,7 +114,7 @@ void acquire_take_back(struct thread *thread, uint64_t *place)
 {
     unsigned kind = word_kind(*place);
     struct held *held = held_find(thread, word_object(*place));
-    if (kind == EVENT_UPGRADE || kind == EVENT_BEYOND)
+    if (kind == EVENT_UPGRADE || kind == EVENT_BEYOND || kind == EVENT_AGAIN)
         held = NULL;
     if (held && held->depth > 1) {
         held->depth--;
@@ -158,7 +167,7 @@ static void keys_grow(struct thread *thread)
         if (old[i] > KEY_GONE)
             key_insert(thread, old[i]);
     if (old != thread->first_keys)
-        munmap(old, size * sizeof *old);
+        pages_drop(old, size * sizeof *old);
 }
 
 int key_is_news_further(struct thread *thread, uint64_t key)
@@ -196,7 +205,7 @@ void segment_end(struct thread *thread)
     thread->changing = 1;
     __atomic_signal_fence(__ATOMIC_SEQ_CST);
     if (thread->keys != thread->first_keys) {
-        munmap(thread->keys, sizeof *thread->keys * (thread->key_mask + 1));
+        pages_drop(thread->keys, sizeof *thread->keys * (thread->key_mask + 1));
         thread->keys = thread->first_keys;
         thread->key_mask = KEYS_FIRST - 1;
     }

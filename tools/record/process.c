@@ -8,6 +8,8 @@
 #include <stdlib.h>
 #include <string.h>
 #include <sys/mman.h>
+#include <sys/resource.h>
+#include <sys/stat.h>
 #include <sys/syscall.h>
 #include <unistd.h>
 
@@ -68,6 +70,12 @@ void *pages_new(size_t bytes)
     return pages == MAP_FAILED ? NULL : pages;
 }
 
+/* Past the recorder's own munmap, as pages of its own hold no locks. */
+void pages_drop(void *pages, size_t bytes)
+{
+    syscall(SYS_munmap, pages, bytes);
+}
+
 /* Makes pages zero in a forked child. A kernel before 4.14 can't; the handlers of a fork don't need it. */
 static void wipe_on_fork(void *pages, size_t bytes)
 {
@@ -86,24 +94,70 @@ void *pages_new_wiped(size_t bytes)
     return pages;
 }
 
-/* Creates the extent's file and maps it; NULL if that fails, with EEXIST in errno if there is such a file. */
-static char *extent_map(uint64_t image, uint64_t number)
+/* Opens a new file of this process: in the recording's directory, or, where the user that this process became may not make
+ * files there, in the directory that was made for that user. */
+static int extent_open(char *path, size_t size, uint64_t image, uint64_t number)
+{
+    unsigned long long pid = process.pid, images = image, numbers = number;
+    int flags = O_RDWR | O_CREAT | O_EXCL | O_CLOEXEC | O_NOFOLLOW;
+    snprintf(path, size, "%s/%llu.%llu.%llu", process.directory, pid, images, numbers);
+    int file = open(path, flags, 0600);
+    if (file < 0 && errno == EACCES) {
+        snprintf(path, size, "%s/u%u/%llu.%llu.%llu", process.directory, (unsigned)geteuid(), pid, images, numbers);
+        file = open(path, flags, 0600);
+    }
+    return file;
+}
+
+/* Gives the file its room on the disk now: were it missing when a word is stored, the program would end with SIGBUS. */
+static int file_fill(int file, uint64_t bytes)
+{
+    static const char zeros[CHUNK_UNIT];
+    if (fallocate(file, 0, 0, (off_t)bytes) == 0)
+        return 1;
+    if (errno != EOPNOTSUPP && errno != ENOSYS)
+        return 0;
+    for (uint64_t place = 0; place < bytes; place += sizeof zeros)
+        if (pwrite(file, zeros, sizeof zeros, (off_t)place) != (ssize_t)sizeof zeros)
+            return 0;
+    return 1;
+}
+
+/* Extents grow, but stay below the limit of a file's size: at it the system would end the program with SIGXFSZ. */
+static uint64_t extent_bytes(uint64_t number)
+{
+    uint64_t bytes = number < 4 ? (uint64_t)EXTENT_FIRST_BYTES << 2 * number : EXTENT_BYTES;
+    struct rlimit limit;
+    if (getrlimit(RLIMIT_FSIZE, &limit) == 0 && limit.rlim_cur < bytes)
+        bytes = limit.rlim_cur / CHUNK_UNIT * CHUNK_UNIT;
+    return bytes;
+}
+
+/* Creates an extent's file with room for so many bytes at least, and maps it; NULL if that fails, with EEXIST in errno if
+ * there is such a file. */
+static char *extent_map(uint64_t image, uint64_t number, uint64_t least)
 {
     char path[4096];
-    snprintf(path, sizeof path, "%s/%llu.%llu.%llu", process.directory, (unsigned long long)process.pid,
-             (unsigned long long)image, (unsigned long long)number);
-    int file = open(path, O_RDWR | O_CREAT | O_EXCL | O_CLOEXEC | O_NOFOLLOW, 0600);
+    int file = extent_open(path, sizeof path, image, number);
     if (file < 0)
         return NULL;
     void *pages = MAP_FAILED;
-    if (ftruncate(file, EXTENT_BYTES) == 0)
-        pages = mmap(NULL, EXTENT_BYTES, PROT_READ | PROT_WRITE, MAP_SHARED, file, 0);
+    uint64_t bytes = extent_bytes(number);
+    while (bytes >= least && !file_fill(file, bytes))
+        bytes = bytes / 4 / CHUNK_UNIT * CHUNK_UNIT;
+    if (bytes >= least && bytes > 0)
+        pages = mmap(NULL, bytes, PROT_READ | PROT_WRITE, MAP_SHARED, file, 0);
     close(file);
-    return pages == MAP_FAILED ? NULL : pages;
+    if (pages == MAP_FAILED) {
+        unlink(path);
+        errno = ENOSPC;
+        return NULL;
+    }
+    process.extent_bytes = bytes;
+    return pages;
 }
 
-/* Gets the pages now: on a full disk a later store would end the program with SIGBUS. An old kernel
- * doesn't know the request; then the pages come one by one. */
+/* Some file systems find out only here that there is no room. An old kernel doesn't know the request. */
 static int populate(void *start, size_t bytes)
 {
     return madvise(start, bytes, MADV_POPULATE_WRITE) == 0 || errno == EINVAL;
@@ -111,8 +165,8 @@ static int populate(void *start, size_t bytes)
 
 struct chunk *chunk_new(uint32_t magic, uint32_t thread, uint32_t order, uint32_t bytes)
 {
-    if (!process.extent || process.extent_used + bytes > EXTENT_BYTES) {
-        char *extent = extent_map(process.image, process.extents);
+    if (!process.extent || process.extent_used + bytes > process.extent_bytes) {
+        char *extent = extent_map(process.image, process.extents, bytes);
         if (!extent)
             return NULL;
         process.extent = extent;
@@ -130,18 +184,28 @@ struct chunk *chunk_new(uint32_t magic, uint32_t thread, uint32_t order, uint32_
     return chunk;
 }
 
+/* A chunk of the tables, a small one where there is no room for more. */
+static struct chunk *table_chunk_new(void)
+{
+    struct chunk *chunk = NULL;
+    for (uint32_t bytes = TABLE_CHUNK_BYTES; !chunk && bytes >= CHUNK_UNIT; bytes /= 4)
+        chunk = chunk_new(CHUNK_TABLE, 0, (uint32_t)process.table_chunks, bytes);
+    if (!chunk)
+        return NULL;
+    process.table_chunks++;
+    process.table_chunk = chunk;
+    process.table_room = (chunk->bytes - sizeof *chunk) / 8;
+    return chunk;
+}
+
 void *record_new(enum record_kind kind, size_t bytes)
 {
     uint64_t words = (bytes + 7) / 8;
     struct chunk *chunk = process.table_chunk;
-    if (!chunk || chunk->used + words > process.table_room) {
-        chunk = chunk_new(CHUNK_TABLE, 0, (uint32_t)process.table_chunks, TABLE_CHUNK_BYTES);
-        if (!chunk)
-            return NULL;
-        process.table_chunks++;
-        process.table_chunk = chunk;
-        process.table_room = (TABLE_CHUNK_BYTES - sizeof *chunk) / 8;
-    }
+    if (!chunk || chunk->used + words > process.table_room)
+        chunk = table_chunk_new();
+    if (!chunk || words > process.table_room)
+        return NULL;
     uint64_t *record = &chunk->words[chunk->used];
     record[0] = (uint64_t)kind | words << 32;
     return record;
@@ -214,6 +278,22 @@ static void command_read(char *command, size_t size)
     command[length] = 0;
 }
 
+/* When this process began, in the kernel's ticks: field 22, counted behind the name in brackets. */
+static uint64_t process_moment(void)
+{
+    char text[1024];
+    int file = open("/proc/self/stat", O_RDONLY | O_CLOEXEC);
+    ssize_t length = file < 0 ? 0 : read(file, text, sizeof text - 1);
+    if (file >= 0)
+        close(file);
+    text[length > 0 ? length : 0] = 0;
+    char *at = strrchr(text, ')');
+    for (int field = 2; at && field < 22; field++)
+        at = strchr(at + 1, ' ');
+    return at ? strtoull(at + 1, NULL, 10) : 0;
+}
+
+/* The records of the process itself. They fit into the smallest chunk. */
 static int process_describe(const struct process *parent)
 {
     char command[512];
@@ -232,6 +312,11 @@ static int process_describe(const struct process *parent)
     strcpy(record->command, command);
     record_done(record);
     process.record = record;
+    struct start_record *start = record_new(RECORD_START, sizeof *start);
+    start->moment = process_moment();
+    record_done(start);
+    process.losses = record_new(RECORD_LOSSES, sizeof *process.losses);
+    record_done(process.losses);
     return 1;
 }
 
@@ -239,7 +324,7 @@ static int process_describe(const struct process *parent)
 static int process_open(void)
 {
     for (uint64_t image = 0; image < 100000; image++) {
-        process.extent = extent_map(image, 0);
+        process.extent = extent_map(image, 0, CHUNK_UNIT);
         if (process.extent) {
             process.image = image;
             process.extents = 1;
@@ -249,6 +334,28 @@ static int process_open(void)
             return 0;
     }
     return 0;
+}
+
+/* There is no room for this process's files: it is counted in the mark that the launcher made (recording.py). */
+#define MARK_BYTES 4096
+#define UNRECORDED_PLACE 64
+
+static void process_unrecorded(void)
+{
+    char path[4096];
+    snprintf(path, sizeof path, "%s/recording", process.directory);
+    int file = open(path, O_RDWR | O_CLOEXEC | O_NOFOLLOW | O_NONBLOCK);
+    struct stat status;
+    if (file < 0)
+        return;
+    char *mark = MAP_FAILED;
+    if (fstat(file, &status) == 0 && S_ISREG(status.st_mode) && status.st_size == MARK_BYTES)
+        mark = mmap(NULL, MARK_BYTES, PROT_READ | PROT_WRITE, MAP_SHARED, file, 0);
+    close(file);
+    if (mark == MAP_FAILED)
+        return;
+    __atomic_fetch_add((uint64_t *)(mark + UNRECORDED_PLACE), 1, __ATOMIC_RELAXED);
+    pages_drop(mark, MARK_BYTES);
 }
 
 static void process_settings(void)
@@ -275,6 +382,7 @@ static void process_start(const struct process *parent)
     if (parent) {
         process.locks = parent->locks;
         process.sites = parent->sites;
+        process.lock_pages = parent->lock_pages;
         process.frames = parent->frames;
         process.all = parent->all;
         strcpy(process.directory, parent->directory);
@@ -283,6 +391,24 @@ static void process_start(const struct process *parent)
     }
     int opened = process.directory[0] && process_open() && process_describe(parent);
     process.state = opened ? PROCESS_RECORDED : PROCESS_OFF;
+    if (!opened && process.directory[0])
+        process_unrecorded();
+}
+
+/* --- Other users ---------------------------------------------------------------------------------------- */
+
+/* A process that gives up root's rights may make no more files in root's directory: it gets one of its own in there, as long
+ * as this process may make it. */
+void user_directory(uid_t user)
+{
+    char path[4096];
+    if (user == 0 || user == (uid_t)-1 || geteuid() != 0 || !process_ready())
+        return;
+    int error = errno;
+    snprintf(path, sizeof path, "%s/u%u", process.directory, (unsigned)user);
+    if (chmod(process.directory, 0711) == 0 && mkdir(path, 0700) == 0 && chown(path, user, (gid_t)-1) != 0)
+        rmdir(path);
+    errno = error;
 }
 
 /* --- Fork ----------------------------------------------------------------------------------------------- */
@@ -327,7 +453,7 @@ static void fork_in_child(void)
         struct held *held = &parent_held[i];
         enum event_kind kind = is_shared(held->word) ? EVENT_TRY_SHARED_ACQUIRE : EVENT_TRY_ACQUIRE;
         for (uint64_t depth = 0; depth < held->depth; depth++)
-            acquire_write(thread, kind, held->word - word_kind(held->word));
+            acquire_write(thread, kind, held->word - word_kind(held->word), 0);
     }
 }
 

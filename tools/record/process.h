@@ -2,6 +2,8 @@
 #ifndef GOODLOCK_PROCESS_H
 #define GOODLOCK_PROCESS_H
 
+#include <sys/types.h>
+
 #include "recorder.h"
 
 #define FRAMES_LIMIT 16
@@ -11,6 +13,9 @@
 /* Whether this process is recorded; begins its files if it has none yet. */
 int process_ready(void);
 
+/* Before this process becomes that user. */
+void user_directory(uid_t user);
+
 /* Whether the present thread is between slow_enter and slow_leave. */
 int slow_inside(void);
 
@@ -19,6 +24,16 @@ void *pages_new_wiped(size_t bytes);
 
 /* Whether the address lies in the C++ library. Called between slow_enter and slow_leave. */
 int in_wrapper_module(uint64_t address);
+
+/* After a library may have gone: ends what is known of those that have. */
+void modules_check(void);
+
+/* Ends the locks in this range of memory; `_inside` between slow_enter and slow_leave. */
+void memory_end(uintptr_t start, uintptr_t end);
+void memory_end_inside(uintptr_t start, uintptr_t end);
+
+/* Whether the address lies in the compiler's own library. Called between slow_enter and slow_leave. */
+int in_compiler_module(uint64_t address);
 
 /* In a forked child: the present thread is the first thread of the new process. */
 void thread_forget(void);

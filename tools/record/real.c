@@ -5,7 +5,7 @@
 #include <errno.h>
 
 static int finding;
-static int found;
+int real_found;
 
 /* dlsym may allocate, and an allocator may take a lock. It comes here before its lock's function is found
  * (`finding`); no second thread runs that early, so the lock may be passed over. */
@@ -20,10 +20,21 @@ struct real_functions real = {
 #undef REAL_STAND_IN
 };
 
+/* The function that knows the sizes of blocks, if it is of the same library as this one that frees them. */
+static size_t (*usable_size_of(void *frees))(void *)
+{
+    Dl_info free_place, size_place;
+    void *function = dlsym(RTLD_NEXT, "malloc_usable_size");
+    if (!function || !dladdr(frees, &free_place) || !dladdr(function, &size_place) ||
+        free_place.dli_fbase != size_place.dli_fbase)
+        return NULL;
+    return (size_t(*)(void *))function;
+}
+
 int real_find(void)
 {
-    if (found || finding)
-        return found;
+    if (real_found || finding)
+        return real_found;
     finding = 1;
     /* All at once, so that no lock is really taken while its release isn't found yet. */
     struct real_functions all = real;
@@ -43,8 +54,9 @@ int real_find(void)
     if (timed_wait)
         all.pthread_cond_timedwait = (int (*)(pthread_cond_t *, pthread_mutex_t *, deadline_t))timed_wait;
 #endif
+    all.malloc_usable_size = usable_size_of((void *)all.free);
     real = all;
-    found = 1;
+    real_found = 1;
     finding = 0;
     return 1;
 }

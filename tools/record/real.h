@@ -3,6 +3,8 @@
 #define GOODLOCK_REAL_H
 
 #include <pthread.h>
+#include <stddef.h>
+#include <sys/types.h>
 #include <threads.h>
 #include <time.h>
 
@@ -50,7 +52,17 @@ typedef const struct timespec *deadline_t;
     X(int, cnd_wait, (cnd_t *, mtx_t *))                                                         \
     X(int, cnd_timedwait, (cnd_t *, mtx_t *, deadline_t))                                        \
     X(int, thrd_create, (thrd_t *, thrd_start_t, void *))                                        \
-    X(int, thrd_join, (thrd_t, int *))
+    X(int, thrd_join, (thrd_t, int *))                                                           \
+    X(void, free, (void *))                                                                      \
+    X(void *, realloc, (void *, size_t))                                                         \
+    X(int, munmap, (void *, size_t))                                                             \
+    X(int, dlclose, (void *))                                                                    \
+    X(int, setuid, (uid_t))                                                                      \
+    X(int, seteuid, (uid_t))                                                                     \
+    X(int, setreuid, (uid_t, uid_t))                                                             \
+    X(int, setresuid, (uid_t, uid_t, uid_t))                                                     \
+    X(int, pthread_once, (pthread_once_t *, void (*)(void)))                                     \
+    X(void, call_once, (once_flag *, void (*)(void)))
 
 #pragma GCC visibility push(hidden)
 
@@ -58,9 +70,11 @@ struct real_functions {
 #define REAL_MEMBER(result, name, parameters) result(*name) parameters;
     REAL_FUNCTIONS(REAL_MEMBER)
 #undef REAL_MEMBER
+    size_t (*malloc_usable_size)(void *); /* of the library that frees; NULL: it has none */
 };
 
 extern struct real_functions real;
+extern int real_found;
 
 /* Finds the functions, the first time; whether they are found. Until then, and where there is none, a stand-in
  * is called that does nothing. */

@@ -73,10 +73,11 @@ struct process {
     struct address_table locks;   /* address of a lock: its number, 0 after it was destroyed */
     struct address_table sites;   /* return address: its site or step to the caller, see sites.c */
     struct address_table threads; /* pthread_t: number of the thread, plus one */
+    struct address_table lock_pages; /* pages of memory: where locks are in them, see memory.c */
     uint64_t generation; /* counts locks made and destroyed: then an address may stand for another lock */
     uint64_t next_lock, next_site, next_thread;
     char *extent;
-    uint64_t extent_used, extents;
+    uint64_t extent_used, extent_bytes, extents;
     struct chunk *table_chunk;
     uint64_t table_room, table_chunks;
     uint64_t modules;
@@ -87,6 +88,7 @@ struct process {
     int all;  /* nothing is to be left out */
     unsigned frames;
     struct process_record *record;
+    struct losses_record *losses;
     char directory[3000];
 } __attribute__((aligned(4096))); /* on pages of its own, which the kernel empties in a forked child */
 
@@ -111,6 +113,7 @@ struct chunk *chunk_new(uint32_t magic, uint32_t thread, uint32_t order, uint32_
 void *record_new(enum record_kind kind, size_t bytes);
 void record_done(void *record);
 void *pages_new(size_t bytes);
+void pages_drop(void *pages, size_t bytes);
 
 /* --- Threads -------------------------------------------------------------------------------------------- */
 
@@ -154,6 +157,7 @@ struct thread {
     struct thread_record *record;
     uint32_t number;
     uint32_t exit_rounds;
+    uintptr_t stack_top, stack_low; /* where its stack begins, and the lowest lock in it; 0: not known, none */
     struct thread *next_free;
     uint64_t sink; /* takes what there is no room for */
     struct held held[HELD_LIMIT];
@@ -295,6 +299,9 @@ void segment_end(struct thread *thread);
 
 /* --- Locks ---------------------------------------------------------------------------------------------- */
 
+/* The number of locks whose calls aren't recorded: those by which the unwinder of the compiler's library starts. */
+#define LOCK_IGNORED UINT32_MAX
+
 /* Slow inside: a number for a lock that is made here, or that is met for the first time. */
 uint32_t lock_number_new(struct thread *thread, const void *address, enum lock_class class, enum lock_origin origin,
                          uint32_t site);
@@ -310,8 +317,13 @@ static inline uint32_t lock_number(struct thread *thread, const void *address, e
     return lock_number_new(thread, address, class, LOCK_FOUND, 0);
 }
 
+/* Where locks are in memory (memory.c). */
+void memory_note(struct thread *thread, uintptr_t address);
+void memory_forget(uintptr_t address);
+
 static inline void lock_forget(const void *address)
 {
+    memory_forget((uintptr_t)address);
     struct slot *slot = table_find(&process.locks, (uint64_t)(uintptr_t)address);
     if (slot)
         __atomic_store_n(&slot->value, 0, __ATOMIC_RELEASE);
@@ -369,7 +381,7 @@ static inline int is_shared(uint64_t word)
 }
 
 /* Acquires of a lock that is held already, or where too many are held. */
-uint64_t *acquire_write_further(struct thread *thread, uint64_t word, struct held *held);
+uint64_t *acquire_write_further(struct thread *thread, uint64_t word, struct held *held, int plain);
 
 /* Adds a held lock. A signal handler that comes before the count is raised puts a lock of its own there. */
 static inline void held_add(struct thread *thread, uint32_t count, uint64_t word, uint64_t context)
@@ -386,9 +398,10 @@ static inline void held_add(struct thread *thread, uint32_t count, uint64_t word
     } while (unlikely(held->word != word));
 }
 
-/* Writes an acquire; gives its place. `call` has site and lock, `kind` is one of the four acquires. The lock
+/* Writes an acquire; gives its place. `call` has site and lock, `kind` is one of the four acquires; `plain`: a thread that
+ * holds the lock would wait for itself. The lock
  * counts as held before the word is stored, so that a signal handler's events lie between its acquire and release. */
-static inline __attribute__((always_inline)) uint64_t *acquire_write(struct thread *thread, enum event_kind kind, uint64_t call)
+static inline __attribute__((always_inline)) uint64_t *acquire_write(struct thread *thread, enum event_kind kind, uint64_t call, int plain)
 {
     uint64_t word = call | kind;
     uint64_t context = 0;
@@ -396,7 +409,7 @@ static inline __attribute__((always_inline)) uint64_t *acquire_write(struct thre
     if (count > 0) {
         struct held *held = held_find(thread, word_object(word));
         if (unlikely(held != NULL || count == HELD_LIMIT))
-            return acquire_write_further(thread, word, held);
+            return acquire_write_further(thread, word, held, plain);
         context = thread->held[count - 1].context;
     }
     context = key_of(context, word);
@@ -426,6 +439,12 @@ static inline __attribute__((always_inline)) void release_write(struct thread *t
     } else {
         release_write_further(thread, call);
     }
+}
+
+/* Counts what there was no room for. */
+static inline void count_loss(uint64_t *losses)
+{
+    __atomic_fetch_add(losses, 1, __ATOMIC_RELAXED);
 }
 
 static inline void count_other(struct thread *thread)

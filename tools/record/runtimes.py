@@ -73,7 +73,7 @@ def runtime_lines(processes, command):
     found = {}
     known = {}
     for process in processes:
-        for loaded in process.modules:
+        for loaded in process.modules.loaded:
             path = loaded.module.path
             if path not in known:
                 known[path] = runtimes_in(path)

@@ -30,6 +30,8 @@ struct range {
 struct module {
     uintptr_t bias, start, end;
     int all_wrappers; /* the C++ library itself */
+    int gone;         /* unloaded */
+    int present;
     struct range *wrappers;
     size_t wrapper_count;
     char path[1024];
@@ -42,8 +44,8 @@ static size_t module_count;
 
 static struct module *module_of(uintptr_t address)
 {
-    for (size_t i = module_count; i-- > 0;) /* the newest first: an older one may have been unloaded */
-        if (address >= modules[i]->start && address < modules[i]->end)
+    for (size_t i = module_count; i-- > 0;)
+        if (!modules[i]->gone && address >= modules[i]->start && address < modules[i]->end)
             return modules[i];
     return NULL;
 }
@@ -105,7 +107,7 @@ static int is_wrapper_name(const char *symbol)
         return 0;
     if (length == 6 && memcmp(name, "thread", 6) == 0)
         return is_thread_wrapper(at);
-    return contains(name, length, "mutex") || contains(name, length, "lock") ||
+    return contains(name, length, "mutex") || contains(name, length, "lock") || contains(name, length, "call_once") ||
            contains(name, length, "condition_variable") || (length == 7 && memcmp(name, "jthread", 7) == 0);
 }
 
@@ -169,7 +171,7 @@ static void module_find_wrappers(struct module *module)
             module->wrapper_count = count;
         }
     }
-    munmap((void *)bytes, size);
+    pages_drop((void *)bytes, size);
 }
 
 static int is_wrapper(uintptr_t return_address)
@@ -220,29 +222,49 @@ static void module_add(struct dl_phdr_info *info, uintptr_t start, uintptr_t end
     module->all_wrappers = strncmp(base, "libstdc++.so", 12) == 0 || strncmp(base, "libc++.so", 9) == 0;
     if (!module->all_wrappers)
         module_find_wrappers(module);
+    module->present = 1;
     modules[module_count++] = module;
 }
 
-static int module_visit(struct dl_phdr_info *info, size_t size, void *unused)
+/* The range of addresses that a module's parts lie in; whether there is one. */
+static int module_range(const struct dl_phdr_info *info, uintptr_t *start, uintptr_t *end)
 {
-    (void)size, (void)unused;
-    uintptr_t start = UINTPTR_MAX, end = 0;
+    *start = UINTPTR_MAX, *end = 0;
     for (unsigned i = 0; i < info->dlpi_phnum; i++) {
         const ElfW(Phdr) *part = &info->dlpi_phdr[i];
         if (part->p_type != PT_LOAD)
             continue;
         uintptr_t from = info->dlpi_addr + part->p_vaddr;
-        if (from < start)
-            start = from;
-        if (from + part->p_memsz > end)
-            end = from + part->p_memsz;
+        if (from < *start)
+            *start = from;
+        if (from + part->p_memsz > *end)
+            *end = from + part->p_memsz;
     }
-    if (end == 0)
+    return *end != 0;
+}
+
+static int module_visit(struct dl_phdr_info *info, size_t size, void *unused)
+{
+    (void)size, (void)unused;
+    uintptr_t start, end;
+    if (!module_range(info, &start, &end))
         return 0;
     struct module *known = module_of(start);
-    if (!known || known->start != start || known->end != end || known->bias != info->dlpi_addr)
+    if (known && known->start == start && known->end == end && known->bias == info->dlpi_addr)
+        known->present = 1;
+    else
         module_add(info, start, end);
     return 0;
+}
+
+static void modules_describe(void)
+{
+    while (process.modules < module_count) {
+        struct module *module = modules[process.modules];
+        if (!module->gone && !module_describe(module))
+            return;
+        process.modules++;
+    }
 }
 
 /* Makes the module that holds an address known, and all modules written to this process's file. */
@@ -253,9 +275,60 @@ static struct module *module_known(uintptr_t address)
         dl_iterate_phdr(module_visit, NULL);
         module = module_of(address);
     }
-    while (process.modules < module_count && module_describe(modules[process.modules]))
-        process.modules++;
+    modules_describe();
     return module;
+}
+
+int in_compiler_module(uint64_t address)
+{
+    struct module *module = module_known(address);
+    const char *base = module ? strrchr(module->path, '/') : NULL;
+    int own = module && module == module_known((uintptr_t)&process); /* has a copy of it */
+    return own || (base && strncmp(base, "/libgcc_s.so", 12) == 0);
+}
+
+/* --- Unloading -------------------------------------------------------------------------------------------- */
+
+/* Counts unloads: sites of several callers from before are other ones. */
+static uint64_t unloads;
+
+static void sites_end(const struct module *module)
+{
+    for (unsigned level = 0; level < TABLE_LEVELS && process.sites.levels[level]; level++)
+        for (size_t i = 0; i < (size_t)1 << (TABLE_FIRST_BITS + 2 * level); i++) {
+            struct slot *slot = &process.sites.levels[level][i];
+            if (slot->key >= module->start && slot->key <= module->end)
+                __atomic_store_n(&slot->value, 0, __ATOMIC_RELEASE);
+        }
+}
+
+static void module_end(struct module *module)
+{
+    struct unloaded_record *record = record_new(RECORD_UNLOADED, sizeof *record);
+    if (record) {
+        record->start = module->start;
+        record_done(record);
+    }
+    module->gone = 1;
+    unloads++;
+    sites_end(module);
+    memory_end_inside(module->start, module->end);
+    __atomic_fetch_add(&process.generation, 1, __ATOMIC_RELEASE);
+}
+
+void modules_check(void)
+{
+    struct slow_state state;
+    slow_enter(&state);
+    size_t count = module_count;
+    for (size_t i = 0; i < count; i++)
+        modules[i]->present = 0;
+    dl_iterate_phdr(module_visit, NULL);
+    modules_describe();
+    for (size_t i = 0; i < count; i++)
+        if (!modules[i]->gone && !modules[i]->present)
+            module_end(modules[i]);
+    slow_leave(&state);
 }
 
 int in_wrapper_module(uint64_t address)
@@ -298,16 +371,19 @@ static void walk_from(struct walk *walk, uintptr_t return_address)
 
 static uint32_t site_new(struct slot *slot, const uintptr_t *callers, size_t count)
 {
-    if (process.next_site == SITE_LIMIT)
+    for (size_t i = 0; i < count; i++)
+        module_known(callers[i]); /* its record stands before the site's */
+    struct site_record *record = NULL;
+    if (process.next_site < SITE_LIMIT)
+        record = record_new(RECORD_SITE, sizeof *record + count * sizeof callers[0]);
+    if (!record) {
+        count_loss(&process.losses->places);
+        __atomic_store_n(&slot->value, SITE_PLAIN, __ATOMIC_RELEASE);
         return 0;
-    struct site_record *record = record_new(RECORD_SITE, sizeof *record + count * sizeof callers[0]);
-    if (!record)
-        return 0;
-    record->site = process.next_site++;
-    for (size_t i = 0; i < count; i++) {
-        module_known(callers[i]);
-        record->callers[i] = callers[i];
     }
+    record->site = process.next_site++;
+    for (size_t i = 0; i < count; i++)
+        record->callers[i] = callers[i];
     record_done(record);
     __atomic_store_n(&slot->value, SITE_PLAIN | record->site, __ATOMIC_RELEASE);
     return (uint32_t)record->site;
@@ -377,7 +453,7 @@ static uint32_t site_of_walk(uintptr_t return_address)
         walk.addresses[0] = return_address;
     }
     size_t count = 0;
-    uint64_t key = 0;
+    uint64_t key = unloads;
     for (; count < process.frames && first + count < walk.count; count++)
         key = mix(key + walk.addresses[first + count]);
     struct slot *slot = table_place(&process.sites, key | 1ull << 63);

@@ -42,15 +42,18 @@ static struct thread *thread_pages(void)
     return thread;
 }
 
+/* Chunks grow; where there is no room for a large one it is a small one. */
 static int thread_chunk(struct thread *thread)
 {
     uint64_t order = thread->record->chunks;
     uint32_t bytes = CHUNK_UNIT << (order < CHUNK_DOUBLINGS ? order : CHUNK_DOUBLINGS);
-    struct chunk *chunk = chunk_new(CHUNK_EVENTS, thread->number, (uint32_t)order, bytes);
+    struct chunk *chunk = NULL;
+    for (; !chunk && bytes >= CHUNK_UNIT; bytes /= 2)
+        chunk = chunk_new(CHUNK_EVENTS, thread->number, (uint32_t)order, bytes);
     if (!chunk)
         return 0;
     thread->record->chunks++;
-    thread->room = (bytes - sizeof *chunk) / 8;
+    thread->room = (chunk->bytes - sizeof *chunk) / 8;
     thread->chunk = chunk;
     return 1;
 }
@@ -68,6 +71,7 @@ static void object_copy(uint64_t *words, const void *object)
 
 static struct thread_record *thread_record_new(uint64_t parent, uint64_t child, uint64_t routine, void *argument)
 {
+    int object = argument && in_wrapper_module(routine); /* may write records itself */
     struct thread_record *record = record_new(RECORD_THREAD, sizeof *record);
     if (!record)
         return NULL;
@@ -75,7 +79,7 @@ static struct thread_record *thread_record_new(uint64_t parent, uint64_t child, 
     record->parent = parent;
     record->child = child;
     record->routine = routine;
-    if (argument && in_wrapper_module(routine))
+    if (object)
         object_copy(record->object, argument);
     record_done(record);
     return record;
@@ -123,8 +127,7 @@ struct thread *thread_enter(void)
     if (!process_ready())
         return NULL;
     if (process.full) {
-        if (own_record)
-            own_record->lost++;
+        count_loss(own_record ? &own_record->lost : &process.losses->events);
         return NULL;
     }
     struct slow_state state;
@@ -157,8 +160,10 @@ static void thread_exit(void *value)
     }
     struct slow_state state;
     slow_enter(&state);
+    if (thread->stack_low)
+        memory_end_inside(thread->stack_low, thread->stack_top);
     if (thread->keys != thread->first_keys)
-        munmap(thread->keys, sizeof *thread->keys * (thread->key_mask + 1));
+        pages_drop(thread->keys, sizeof *thread->keys * (thread->key_mask + 1));
     thread->next_free = process.free_threads;
     process.free_threads = thread;
     state.thread = &thread_none;
@@ -174,12 +179,15 @@ __attribute__((constructor(102))) static void exit_key_start(void)
 
 uint64_t *word_store_slow(struct thread *thread, uint64_t word)
 {
-    struct slow_state state;
-    slow_enter(&state);
-    thread->chunk->used = thread->room;
-    int room = !process.full && thread_chunk(thread);
-    process.full = !room;
-    slow_leave(&state);
+    int room = 0;
+    if (!process.full) {
+        struct slow_state state;
+        slow_enter(&state);
+        thread->chunk->used = thread->room;
+        room = thread_chunk(thread);
+        process.full = !room;
+        slow_leave(&state);
+    }
     if (room)
         return word_store(thread, word);
     thread->record->lost++;
@@ -251,6 +259,7 @@ static struct beginning *beginning_plan(struct thread *thread, uint64_t routine,
                                               argument);
     }
     if (beginning && !beginning->record) {
+        count_loss(&process.losses->threads);
         beginning->users = 1;
         beginning_drop(beginning);
         beginning = NULL;
@@ -275,11 +284,14 @@ static void beginning_undo(struct thread *thread, struct beginning *beginning, u
     count_other(thread);
 }
 
-static void thread_adopt(struct beginning *beginning)
+/* The frames of what the thread runs lie below the one here. */
+static void thread_adopt(struct beginning *beginning, void *frame)
 {
     own_record = beginning->record;
     beginning_map(beginning, pthread_self());
-    recording_thread();
+    struct thread *thread = recording_thread();
+    if (thread)
+        thread->stack_top = (uintptr_t)frame;
 }
 
 static void *thread_begin(void *value)
@@ -287,7 +299,7 @@ static void *thread_begin(void *value)
     struct beginning *beginning = value;
     void *(*routine)(void *) = beginning->routine;
     void *argument = beginning->argument;
-    thread_adopt(beginning);
+    thread_adopt(beginning, __builtin_frame_address(0));
     return routine(argument);
 }
 
@@ -296,7 +308,7 @@ static int thread_begin_c11(void *value)
     struct beginning *beginning = value;
     thrd_start_t routine = beginning->c11_routine;
     void *argument = beginning->argument;
-    thread_adopt(beginning);
+    thread_adopt(beginning, __builtin_frame_address(0));
     return routine(argument);
 }
 

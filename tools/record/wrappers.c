@@ -14,12 +14,19 @@ static inline int took(int result)
 /* Each macro below is the body of a wrapper: `lock` is the lock, `call` the real call, and `good` says of
  * the variable `result` whether the call did what it was asked to. */
 
+/* Whether a thread that holds the mutex and locks it again waits for itself. */
+static inline int is_plain(const pthread_mutex_t *lock)
+{
+    int type = lock->__data.__kind & 3;
+    return type != PTHREAD_MUTEX_RECURSIVE_NP && type != PTHREAD_MUTEX_ERRORCHECK_NP;
+}
+
 /* A call that may wait for ever: the acquire is written before it. */
-#define ACQUIRE(lock, class, kind, good, call)                                                  \
+#define ACQUIRE(lock, class, kind, plain, good, call)                                                  \
     struct thread *thread = recording_thread();                                                 \
     if (unlikely(!thread))                                                                      \
         return call;                                                                            \
-    uint64_t *place = acquire_write(thread, kind, call_word(thread, lock, class, CALLER));      \
+    uint64_t *place = acquire_write(thread, kind, call_word(thread, lock, class, CALLER), plain); \
     int result = call;                                                                          \
     if (unlikely(!(good)))                                                                      \
         acquire_take_back(thread, place);                                                       \
@@ -32,7 +39,7 @@ static inline int took(int result)
         return call;                                                                            \
     int result = call;                                                                          \
     if (good)                                                                                   \
-        acquire_write(thread, kind, call_word(thread, lock, class, CALLER));                    \
+        acquire_write(thread, kind, call_word(thread, lock, class, CALLER), 0);                 \
     else                                                                                        \
         count_other(thread);                                                                    \
     return result
@@ -84,7 +91,7 @@ EXPORTED int pthread_mutex_destroy(pthread_mutex_t *lock)
 
 EXPORTED int pthread_mutex_lock(pthread_mutex_t *lock)
 {
-    ACQUIRE(lock, LOCK_MUTEX, EVENT_ACQUIRE, took(result), real.pthread_mutex_lock(lock));
+    ACQUIRE(lock, LOCK_MUTEX, EVENT_ACQUIRE, is_plain(lock), took(result), real.pthread_mutex_lock(lock));
 }
 
 EXPORTED int pthread_mutex_trylock(pthread_mutex_t *lock)
@@ -122,7 +129,7 @@ EXPORTED int pthread_rwlock_destroy(pthread_rwlock_t *lock)
 
 EXPORTED int pthread_rwlock_rdlock(pthread_rwlock_t *lock)
 {
-    ACQUIRE(lock, LOCK_RWLOCK, EVENT_SHARED_ACQUIRE, result == 0, real.pthread_rwlock_rdlock(lock));
+    ACQUIRE(lock, LOCK_RWLOCK, EVENT_SHARED_ACQUIRE, 0, result == 0, real.pthread_rwlock_rdlock(lock));
 }
 
 EXPORTED int pthread_rwlock_tryrdlock(pthread_rwlock_t *lock)
@@ -144,7 +151,7 @@ EXPORTED int pthread_rwlock_clockrdlock(pthread_rwlock_t *lock, clockid_t clock,
 
 EXPORTED int pthread_rwlock_wrlock(pthread_rwlock_t *lock)
 {
-    ACQUIRE(lock, LOCK_RWLOCK, EVENT_ACQUIRE, result == 0, real.pthread_rwlock_wrlock(lock));
+    ACQUIRE(lock, LOCK_RWLOCK, EVENT_ACQUIRE, 0, result == 0, real.pthread_rwlock_wrlock(lock));
 }
 
 EXPORTED int pthread_rwlock_trywrlock(pthread_rwlock_t *lock)
@@ -183,7 +190,7 @@ EXPORTED int pthread_spin_destroy(pthread_spinlock_t *lock)
 
 EXPORTED int pthread_spin_lock(pthread_spinlock_t *lock)
 {
-    ACQUIRE((const void *)lock, LOCK_SPIN, EVENT_ACQUIRE, result == 0, real.pthread_spin_lock(lock));
+    ACQUIRE((const void *)lock, LOCK_SPIN, EVENT_ACQUIRE, 1, result == 0, real.pthread_spin_lock(lock));
 }
 
 EXPORTED int pthread_spin_trylock(pthread_spinlock_t *lock)
@@ -218,7 +225,7 @@ static inline void wait_write(struct thread *thread, uint64_t word, int good)
         return;
     }
     release_write(thread, word);
-    acquire_write(thread, EVENT_ACQUIRE, word);
+    acquire_write(thread, EVENT_ACQUIRE, word, 0);
 }
 
 #define WAIT(lock, good, call)                                                   \
@@ -273,7 +280,8 @@ EXPORTED void mtx_destroy(mtx_t *lock)
 
 EXPORTED int mtx_lock(mtx_t *lock)
 {
-    ACQUIRE(lock, LOCK_MUTEX, EVENT_ACQUIRE, result == thrd_success, real.mtx_lock(lock));
+    ACQUIRE(lock, LOCK_MUTEX, EVENT_ACQUIRE, is_plain((const pthread_mutex_t *)lock), result == thrd_success,
+            real.mtx_lock(lock));
 }
 
 EXPORTED int mtx_trylock(mtx_t *lock)

@@ -74,6 +74,11 @@ def build_all():
     build("gcc", C_FLAGS + ["-O1", "-o", "random", os.path.join(SOURCES, "random.c")])
     build("g++", C_FLAGS + ["-std=c++17", "-O0", "-o", "wrappers-O0", wrappers])
     build("g++", C_FLAGS + ["-std=c++17", "-O2", "-o", "wrappers-O2", wrappers])
+    build("g++", C_FLAGS + ["-std=c++17", "-O0", "-o", "once", os.path.join(SOURCES, "once.cc")])
+    build("gcc", C_FLAGS + ["-O1", "-o", "memory", os.path.join(SOURCES, "memory.c"), "-ldl"])
+    for name, line in (("one", 100), ("two", 200)):
+        build("gcc", C_FLAGS + ["-shared", "-fPIC", "-DNAME=" + name, "-DLINE=%d" % line, "-o", "plugin-%s.so" % name,
+                                os.path.join(SOURCES, "plugin.c")])
     build("gcc", C_FLAGS + ["-shared", "-fPIC", "-o", "liblibrary.so", os.path.join(SOURCES, "library.c")])
     build("gcc", C_FLAGS + ["-o", "uses-library", os.path.join(SOURCES, "uses_library.c"), "-L.", "-Wl,--no-as-needed",
                             "-llibrary", "-Wl,-rpath," + os.getcwd()])
@@ -585,6 +590,14 @@ def exclusive_acquire_of_a_lock_held_shared():
 
 
 @test
+def plain_mutex_locked_twice():
+    run = expect("again_plain", """
+        main|acq(a)|@again_a
+        main|again(a)|@again_twice""", status=128 + signal.SIGALRM)
+    check("1 times a thread asked for a lock that isn't recursive and that it held" in run.said, run.said)
+
+
+@test
 def more_locks_than_goodlock_reads():
     text = []
     for i in range(66):
@@ -768,6 +781,435 @@ def process_in_the_background():
     check(len(run.lines(files[1][len("t.std"):])) == 4, files[1])
 
 
+# --- Memory that is given back ----------------------------------------------------------------------------
+
+
+def memory(name, text):
+    run = Run(["./memory", name])
+    check(run.status == 0, "status %d: %s" % (run.status, run.said))
+    compare(run.lines(), expand(text, "memory.c"))
+
+
+@test
+def lock_in_freed_memory_is_at_its_end():
+    memory("freed", """
+        main|acq(mutex@@freed_first#1)|@freed_first
+        main|acq(b)|@freed_first_b
+        main|rel(b)|@freed_first_b_end
+        main|rel(mutex@@freed_first#1)|@freed_first_end
+        main|acq(b)|@freed_second_b
+        main|acq(mutex@@freed_second#1)|@freed_second
+        main|rel(mutex@@freed_second#1)|@freed_second_end
+        main|rel(b)|@freed_second_b_end""")
+
+
+def uses(*numbers):
+    return "\n".join("main|acq(mutex@@use#%d)|@use\nmain|rel(mutex@@use#%d)|@use_end" % (n, n) for n in numbers)
+
+
+@test
+def lock_in_memory_that_moves_or_is_unmapped():
+    """A use of a lock that was used before is left out: so there are as many as there are locks."""
+    memory("moved", uses(1, 2, 3, 4))
+    memory("unmapped", uses(1, 2, 3))
+
+
+@test
+def lock_on_the_stack_of_a_thread_that_ended():
+    memory("stacks", "\n".join(
+        ["main|fork(main.%d:uses_stack)|@stack_fork\nmain|join(main.%d:uses_stack)|@stack_join" % (i, i) for i in (1, 2)] +
+        ["main.%d:uses_stack|%s(mutex@@stack#main.%d:1)|@stack%s" % (i, word, i, end) for i in (1, 2)
+         for word, end in (("acq", ""), ("rel", "_end"))]))
+
+
+@test
+def library_in_the_place_of_another():
+    memory("plugins", """
+        main|acq(lock_of_one)|plugin.c:100
+        main|rel(lock_of_one)|plugin.c:100
+        main|acq(lock_of_two)|plugin.c:200
+        main|rel(lock_of_two)|plugin.c:200""")
+
+
+# --- What runs once ----------------------------------------------------------------------------------------
+
+
+def once(name, text, status=0, options=()):
+    run = Run(["./once", name], options)
+    check(run.status == status, "status %d: %s" % (run.status, run.said))
+    compare(run.lines(), expand(text, "once.cc"))
+    return run
+
+
+USE_A = """
+        main|acq(a)|@use_a
+        main|rel(a)|@use_a_end"""
+
+
+@test
+def routines_that_run_once():
+    once("routine", """
+        main|acq(control)|@once_first""" + USE_A + """
+        main|rel(control)|@once_first
+        main|acq(a)|@once_lock
+        main|acq(control)|@once_second
+        main|rel(control)|@once_second
+        main|rel(a)|@once_unlock""")
+    once("throws", """
+        main|acq(flag)|@call_first""" + USE_A + """
+        main|rel(flag)|@call_first
+        main|acq(flag)|@call_second""" + USE_A + """
+        main|rel(flag)|@call_second""")
+
+
+GUARD = "guard variable for has_static::variable"
+
+
+@test
+def static_variables_that_are_initialised():
+    """The first one fails, the second one succeeds, the third needs none."""
+    once("initialises", """
+        main|acq(GUARD)|@static""".replace("GUARD", GUARD) + USE_A + """
+        main|rel(GUARD)|@static
+        main|acq(GUARD)|@static""".replace("GUARD", GUARD) + USE_A + """
+        main|rel(GUARD)|@static""".replace("GUARD", GUARD), options=["--all"])
+
+
+@test
+def lock_and_static_variable_that_wait_for_each_other():
+    once("hangs", """
+        main|fork(main.1:other_way)|@hang_fork
+        main|acq(GUARD)|@static
+        main|acq(a)|@use_a
+        main.1:other_way|acq(a)|@hang_lock
+        main.1:other_way|acq(GUARD)|@static""".replace("GUARD", GUARD), status=128 + signal.SIGALRM)
+    check(cycles("t.std") == 1, "the cycle isn't predicted")
+
+
+def cycles(trace):
+    """How many the reference finds."""
+    with open(trace, "rb") as lines:
+        report = subprocess.run([sys.executable, REFERENCE], stdin=lines, stdout=subprocess.PIPE).stdout.decode()
+    return int(report.rstrip().rsplit("cycles: ", 1)[1])
+
+
+# --- Converting later -------------------------------------------------------------------------------------
+
+
+def convert(directory, trace):
+    if os.path.exists(trace):
+        os.unlink(trace)
+    return subprocess.run([RECORD, "-o", trace, "--convert", directory], stdout=subprocess.PIPE, stderr=subprocess.PIPE,
+                          timeout=20)
+
+
+def raw_directory(trace="t.std"):
+    found = [n for n in os.listdir(".") if n.startswith(trace + ".raw.")]
+    check(len(found) == 1, "directories: %s" % found)
+    return found[0]
+
+
+def remove_raw():
+    for name in os.listdir("."):
+        if ".raw." in name:
+            shutil.rmtree(name)
+
+
+def orphan(name="waits_for_signal"):
+    """A program that runs, its recorder killed: the program's number and the directory."""
+    remove_raw()
+    running = start(name)
+    program = child_of(running.pid)
+    running.kill()
+    running.wait()
+    running.stdout.close()
+    running.stderr.close()
+    return program, raw_directory()
+
+
+def end(process):
+    os.kill(process, signal.SIGKILL)
+    for _ in range(500):
+        try:
+            with open("/proc/%d/stat" % process) as file:
+                if file.read().rsplit(")", 1)[1].split()[0] in "ZX":
+                    return
+        except OSError:
+            return
+        time.sleep(0.01)
+    raise Failure("process %d doesn't end" % process)
+
+
+@test
+def convert_takes_recordings_only():
+    os.mkdir("precious")
+    for name in ("kept", "1.0.0"):
+        with open("precious/" + name, "w") as file:
+            file.write("text of somebody")
+    os.mkdir("empty")
+    for directory, text in (("precious", "no files of a recording"), ("empty", "no files of a recording"),
+                            ("missing", "no such directory"), ("precious/kept", "not a directory")):
+        done = convert(directory, "none.std")
+        check(done.returncode == REFUSED, "%s: %d" % (directory, done.returncode))
+        said = done.stderr.decode()
+        check(text in said and "kept in" not in said and said.count("\n") == 1, said)
+    check(sorted(os.listdir("precious")) == ["1.0.0", "kept"] and os.path.isdir("empty"), "something was removed")
+    check(open("precious/1.0.0").read() == "text of somebody", "a file was changed")
+
+
+@test
+def convert_removes_its_own_files_only():
+    program, directory = orphan()
+    end(program)
+    os.mkfifo(directory + "/7.0.0")
+    os.symlink("/etc/passwd", directory + "/8.0.0")
+    with open(directory + "/notes", "w") as file:
+        file.write("text")
+    done = convert(directory, "t.std")
+    check(done.returncode == 0 and b"is kept: it holds files that aren't" in done.stderr, done.stderr.decode())
+    compare(read_trace(), expand(PAIR, "locks.c"))
+    check(sorted(os.listdir(directory + ".converted")) == ["7.0.0", "8.0.0", "notes"], str(os.listdir(directory + ".converted")))
+    check(convert(directory + ".converted", "other.std").returncode == REFUSED, "converted twice")
+    remove_raw()
+
+
+@test
+def convert_while_the_program_runs():
+    program, directory = orphan()
+    done = convert(directory, "t.std")
+    check(done.returncode == 0, done.stderr.decode())
+    check(b"still running: process %d; this is what they did so far" % program in done.stderr, done.stderr.decode())
+    compare(read_trace(), expand(PAIR, "locks.c"))
+    check(os.path.isdir(directory), "the directory is gone")
+    end(program)
+    done = convert(directory, "t.std")
+    check(done.returncode == 0 and b"still running" not in done.stderr, done.stderr.decode())
+    compare(read_trace(), expand(PAIR, "locks.c"))
+    check(not [n for n in os.listdir(".") if ".raw." in n], "the directory is still there")
+
+
+@test
+def convert_while_the_recorder_runs():
+    remove_raw()
+    running = start("waits_for_signal")
+    done = convert(raw_directory(), "so-far.std")
+    check(done.returncode == 0 and b"of the recorder" in done.stderr, done.stderr.decode())
+    compare(read_trace("so-far.std"), expand(PAIR, "locks.c"))
+    running.terminate()
+    running.communicate(timeout=20)
+    compare(read_trace(), expand(PAIR, "locks.c"))
+
+
+@test
+def killed_while_it_converts():
+    """At any moment there is the whole trace, or what was recorded, from which it comes."""
+    program, directory = orphan("volume_and_wait")
+    end(program)
+    whole = None
+    for delay in [0.01 * i for i in range(0, 40, 3)] + [20]:
+        for name in ("t.std", "other.std"):
+            if os.path.exists(name):
+                os.unlink(name)
+        running = subprocess.Popen([RECORD, "-o", "t.std", "--convert", directory], stderr=subprocess.PIPE)
+        try:
+            running.communicate(timeout=delay)
+        except subprocess.TimeoutExpired:
+            running.kill()
+            running.communicate()
+        if os.path.exists("t.std"):
+            whole = whole or read_trace()
+            check(len(whole) == 200706 and read_trace() == whole, "a part of the trace is there")
+        if not os.path.exists(directory):
+            check(whole is not None, "neither trace nor recording is there")
+            break
+    check(not os.path.exists(directory), "it was never converted")
+    for name in os.listdir("."):
+        if ".part." in name:
+            os.unlink(name)
+    remove_raw()
+
+
+# --- Nobody else ------------------------------------------------------------------------------------------
+
+
+@test
+def the_directory_is_nobody_elses():
+    remove_raw()
+    running = start("waits_for_signal")
+    mode = os.stat(raw_directory()).st_mode & 0o777
+    running.terminate()
+    running.communicate(timeout=20)
+    check(mode == 0o700, "mode %o" % mode)
+
+
+@test
+def foreign_files_are_left_alone():
+    """Names of files aren't taken for processes: a pipe isn't waited for, and another process gets no signal."""
+    remove_raw()
+    stranger = subprocess.Popen(["sleep", "60"])
+    running = subprocess.Popen([RECORD, "-o", "t2.std", "./locks", "waits_in_background"], stdout=subprocess.PIPE,
+                               stderr=subprocess.PIPE)
+    background = int(running.stdout.readline())
+    directory = raw_directory("t2.std")
+    os.mkfifo(directory + "/1.0.0")
+    with open(directory + "/%d.0.0" % stranger.pid, "wb") as file:
+        file.write(bytes(4096))
+    try:
+        check(b"waiting for process %d" % background in running.stderr.readline(), "it doesn't wait")
+        running.terminate()
+        _, said = running.communicate(timeout=20)
+        check(stranger.poll() is None, "another process was ended")
+        check(running.returncode == 0, said.decode())
+        compare(read_trace("t2.std"), expand(PAIR, "locks.c"))
+        compare(read_trace("t2.std.%d" % background), expand(PAIR, "locks.c"))
+    finally:
+        stranger.kill()
+        stranger.wait()
+        remove_raw()
+        for name in ("t2.std", "t2.std.%d" % background):
+            if os.path.exists(name):
+                os.unlink(name)
+
+
+@test
+def second_signal_leaves_what_runs():
+    remove_raw()
+    running = subprocess.Popen([RECORD, "-o", "t2.std", "sh", "-c", "trap '' HUP; ./locks waits_in_background"], stdout=subprocess.PIPE,
+                               stderr=subprocess.PIPE)
+    background = int(running.stdout.readline())
+    check(b"waiting for process" in running.stderr.readline(), "it doesn't wait")
+    for _ in range(2):
+        time.sleep(0.1)
+        running.send_signal(signal.SIGHUP)
+    _, said = running.communicate(timeout=20)
+    directory = raw_directory("t2.std")
+    check(b"still running: process %d" % background in said, said.decode())
+    end(background)
+    done = convert(directory, "t3.std")
+    check(done.returncode == 0, done.stderr.decode())
+    compare(read_trace("t3.std.%d" % background), expand(PAIR, "locks.c"))
+    for name in os.listdir("."):
+        if name.startswith(("t2.std", "t3.std")):
+            os.unlink(name)
+
+
+@test
+def program_in_a_namespace_of_its_own():
+    command = ["unshare", "-pf", "--mount-proc"]
+    if subprocess.run(command + ["true"], stderr=subprocess.DEVNULL).returncode != 0:
+        return "skipped: no namespaces of processes here"
+    run = Run(command + ["./locks", "goes_to_background"])
+    check(run.status == 0, run.said)
+    traces = [run.lines(name[len("t.std"):]) for name in run.files()]
+    check(expand(PAIR, "locks.c") in traces, str(run.files()))
+    return None
+
+
+@test
+def program_that_gives_up_root():
+    if os.geteuid() != 0:
+        return "skipped: not root"
+    os.chmod(".", 0o755)
+    run = Run(["./locks", "gives_up_root"])
+    os.chmod(".", 0o700)
+    check(run.status == 0 and "lost" not in run.said, run.said)
+    check(len(run.lines()) >= 2 + 4 * 224 * 224, "%d lines" % len(run.lines()))
+    check(run.files() == ["t.std"], str(run.files()))
+    return None
+
+
+# --- No room ----------------------------------------------------------------------------------------------
+
+
+class SmallDisk:
+    def __init__(self, size):
+        self.size = size
+
+    def __enter__(self):
+        os.mkdir("small")
+        made = subprocess.run(["mount", "-t", "tmpfs", "-o", "size=" + self.size, "tmpfs", "small"], stderr=subprocess.DEVNULL)
+        self.mounted = made.returncode == 0
+        return self.mounted
+
+    def __exit__(self, *_):
+        if self.mounted:
+            subprocess.run(["umount", "small"], check=True)
+        os.rmdir("small")
+
+
+NO_DISK = "skipped: no disk can be mounted here"
+
+
+@test
+def full_disk():
+    """What was recorded of a program that goes on is whole up to where the room ended, and it is said what is missing."""
+    with SmallDisk("1500k") as mounted:
+        if not mounted:
+            return NO_DISK
+        done = subprocess.run([RECORD, "-o", "small/t.std", "./locks", "volume"], stderr=subprocess.PIPE, timeout=60)
+        check(done.returncode == REFUSED, "%d: %s" % (done.returncode, done.stderr.decode()))
+        check(b"No space left" in done.stderr, done.stderr.decode())
+        names = os.listdir("small")
+        check(len(names) == 1 and ".raw." in names[0], str(names))
+        done = convert("small/" + names[0], "t.std")
+        check(done.returncode == 0, done.stderr.decode())
+        lines = len(read_trace())
+        lost = int(re.search(r"(\d+) events were lost", done.stderr.decode()).group(1))
+        check(lines > 10000 and lines + lost == 2 * 4 * 224 * 224, "%d lines, %d lost" % (lines, lost))
+        check(os.listdir("small") == [], str(os.listdir("small")))
+    return None
+
+
+@test
+def disk_that_is_full_at_once():
+    with SmallDisk("64k") as mounted:
+        if not mounted:
+            return NO_DISK
+        for room in (0, 8, 16, 40):
+            with open("small/filler", "wb", buffering=0) as file:
+                try:
+                    while True:
+                        file.write(bytes(4096))
+                except OSError:
+                    file.truncate(max(0, os.fstat(file.fileno()).st_size - 1024 * room))
+            done = subprocess.run([RECORD, "-o", "small/t.std", "./locks", "volume"], stderr=subprocess.PIPE, timeout=60)
+            check(done.returncode in (REFUSED, NO_EVENTS), "%d: %s" % (done.returncode, done.stderr.decode()))
+            check(b"room" in done.stderr or b"No space left" in done.stderr, done.stderr.decode())
+            check(not os.path.exists("small/t.std"), "there is a trace")
+            for name in os.listdir("small"):
+                if name != "filler":
+                    shutil.rmtree("small/" + name)
+    return None
+
+
+@test
+def locks_without_records_keep_their_own_names():
+    with SmallDisk("1200k") as mounted:
+        if not mounted:
+            return NO_DISK
+        subprocess.run([RECORD, "-o", "small/t.std", "./locks", "many_locks"], stderr=subprocess.PIPE, timeout=60)
+        names = [name for name in os.listdir("small") if ".raw." in name]
+        if names:
+            done = convert("small/" + names[0], "t.std")
+            check(b"locks were lost" in done.stderr, done.stderr.decode())
+            locks = [re.search(r"\|acq\((.*)\)\|", line).group(1) for line in read_trace() if "|acq(" in line]
+            check(len(locks) > 1000 and len(locks) == len(set(locks)), "%d acquires of %d locks" % (len(locks), len(set(locks))))
+        check(bool(names), "the disk was large enough")
+    return None
+
+
+@test
+def limit_of_file_sizes():
+    for limit, wanted in ((64, 0), (1000, 0), (1, NO_EVENTS)):
+        run = Run(["sh", "-c", "ulimit -f %d; exec ./locks volume" % limit])
+        check(run.status == (0 if wanted == 0 else wanted), "%d: %s" % (run.status, run.said))
+        if wanted == 0:
+            lines = run.lines(run.files()[-1][len("t.std"):])
+            check(len(lines) >= 4 * 224 * 224 and "lost" not in run.said, "%d lines: %s" % (len(lines), run.said))
+        else:
+            check("there was no room for their files" in run.said, run.said)
+
+
 # --- Statuses ---------------------------------------------------------------------------------------------
 
 
@@ -815,6 +1257,50 @@ def wrong_arguments():
         done = subprocess.run([RECORD] + arguments, stdout=subprocess.PIPE, stderr=subprocess.PIPE)
         check(done.returncode == REFUSED, "%s: %d" % (arguments, done.returncode))
         check(done.stderr != b"" and b"Traceback" not in done.stderr, done.stderr.decode())
+
+
+@test
+def checkout_whose_path_has_a_space():
+    place = "with space: and colon"
+    shutil.copytree(TOOLS, place + "/tools", ignore=shutil.ignore_patterns("tests", "__pycache__"))
+    done = subprocess.run([place + "/tools/goodlock-record", "-o", place + "/t.std", "./locks", "table"], stderr=subprocess.PIPE)
+    check(done.returncode == 0, done.stderr.decode())
+    check(len(read_trace(place + "/t.std")) == 2, done.stderr.decode())
+    left = [name for name in os.listdir("/tmp") if name.startswith("goodlock-record.")]
+    check(not left, "left in /tmp: %s" % left)
+    shutil.rmtree(place)
+
+
+@test
+def program_with_address_sanitizer():
+    source = os.path.join(SOURCES, "locks.c")
+    made = subprocess.run(["gcc", "-fsanitize=address"] + C_FLAGS + ["-o", "locks-asan", source], stderr=subprocess.PIPE)
+    if made.returncode != 0:
+        return "skipped: no AddressSanitizer here"
+    run = Run(["./locks-asan", "mutexes"])
+    check(run.status == 0 and "ERROR" not in run.said, run.said)
+    check(len(run.lines()) == 8, str(run.lines()))
+    return None
+
+
+@test
+def closed_standard_files():
+    """The program finds them closed, and its trace is there."""
+    for name in os.listdir("."):
+        if name.startswith("t.std"):
+            os.unlink(name)
+    script = '"$0" -o t.std sh -c "test ! -e /proc/self/fd/0 -a ! -e /proc/self/fd/1 && exec ./locks table" <&- >&- 2>&-'
+    done = subprocess.run(["sh", "-c", script, RECORD], timeout=20)
+    check(done.returncode == 0, "status %d" % done.returncode)
+    traces = [name for name in os.listdir(".") if name.startswith("t.std")]
+    check(len(traces) == 1 and len(read_trace(traces[0])) == 2, str(traces))
+
+
+@test
+def many_processes_without_events_are_counted():
+    run = Run(["sh", "-c", "for i in 1 2 3 4 5 6 7 8; do ./locks nothing; done; ./locks table"])
+    check(run.status == 0, run.said)
+    check(run.said.count("\n") == 2 and "9 processes: no events, no file" in run.said, run.said)
 
 
 @test

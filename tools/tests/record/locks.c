@@ -452,6 +452,14 @@ static void upgrade(void)
     pthread_rwlock_wrlock(&rw);                                                /* @upgrade_write */
 }
 
+/* A plain mutex, locked by the thread that holds it. */
+static void again_plain(void)
+{
+    pthread_mutex_lock(&a);                                                    /* @again_a */
+    alarm(1);
+    pthread_mutex_lock(&a);                                                    /* @again_twice */
+}
+
 static void beyond(void)
 {
     for (int i = 0; i < 66; i++)
@@ -569,6 +577,15 @@ static void volume(void)
         }
 }
 
+static void volume_and_wait(void)
+{
+    volume();
+    one_pair();
+    puts("ready");
+    fflush(stdout);
+    pause();
+}
+
 static void many_threads(void)
 {
     for (int i = 0; i < 1100; i++) {
@@ -649,6 +666,39 @@ static void goes_to_background(void)
     _exit(0);
 }
 
+/* Many events, and then no rights to make files in the directory of the recording. */
+static void gives_up_root(void)
+{
+    one_pair();
+    MUST(setuid(65534) == 0);
+    volume();
+}
+
+/* As many locks as this, each taken once. */
+static void many_locks(void)
+{
+    pthread_mutex_t *locks = calloc(20000, sizeof *locks);
+    for (int i = 0; i < 20000; i++) {
+        pthread_mutex_lock(&locks[i]);
+        pthread_mutex_unlock(&locks[i]);
+    }
+}
+
+/* Outlives its parent, and ends by the signal. */
+static void waits_in_background(void)
+{
+    one_pair();
+    if (fork() == 0) {
+        one_pair();
+        printf("%d\n", getpid());
+        fflush(stdout);
+        fclose(stdout);
+        close(2);
+        pause();
+    }
+    fclose(stdout);
+}
+
 static void waits_for_signal(void)
 {
     one_pair();
@@ -697,8 +747,9 @@ static const struct {
     {"owner_died", owner_died}, {"made_again", made_again}, {"rwlocks", rwlocks}, {"spins", spins}, {"c11", c11},
     {"conditions", conditions}, {"cancel", cancel}, {"threads", threads}, {"two_makers", two_makers},
     {"racing", racing}, {"deadlock", deadlock}, {"aborts", aborts}, {"leaves_at_once", leaves_at_once},
-    {"upgrade", upgrade}, {"beyond", beyond}, {"stray", stray}, {"keys", keys}, {"signals", signals}, {"signal_storm", signal_storm},
-    {"repeats", repeats}, {"volume", volume}, {"many_threads", many_threads}, {"forks", forks},
+    {"upgrade", upgrade}, {"again_plain", again_plain}, {"beyond", beyond}, {"gives_up_root", gives_up_root},
+    {"many_locks", many_locks}, {"waits_in_background", waits_in_background}, {"stray", stray}, {"keys", keys}, {"signals", signals}, {"signal_storm", signal_storm},
+    {"repeats", repeats}, {"volume", volume}, {"volume_and_wait", volume_and_wait}, {"many_threads", many_threads}, {"forks", forks},
     {"raw_fork", raw_fork}, {"executes", executes}, {"clears_environment", clears_environment},
     {"goes_to_background", goes_to_background}, {"waits_for_signal", waits_for_signal}, {"frames", frames},
     {"table", table}, {"nothing", nothing},

@@ -100,8 +100,9 @@ final class ThreadState {
         return true;
     }
 
+    /** The last word first: if the process is killed in between, what stays is the front of what happened. */
     private void leaveOut(int start) {
-        for (int place = start; place < used; place++) {
+        for (int place = used - 1; place >= start; place--) {
             words.putLong(8 * place, 0);
         }
         count(Files.LEFT_OUT, used - start + 1);

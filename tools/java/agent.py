@@ -18,7 +18,7 @@ Can-Retransform-Classes: true
 """
 
 
-class BuildFailed(Exception):
+class AgentError(Exception):
     pass
 
 
@@ -26,7 +26,7 @@ def asm_path():
     paths = [os.path.join(LIBRARIES, name) for name in ASM]
     for path in paths:
         if not os.path.exists(path):
-            raise BuildFailed("%s is missing (Debian: libasm-java)" % path)
+            raise AgentError("%s is missing (Debian: libasm-java)" % path)
     return ":".join(paths)
 
 
@@ -44,12 +44,12 @@ def tool_of_java(name):
 def compile_sources(*arguments):
     path = tool_of_java("javac")
     if path is None:
-        raise BuildFailed("javac is missing (Debian: openjdk-17-jdk-headless)")
+        raise AgentError("javac is missing (Debian: openjdk-17-jdk-headless)")
     # Options that the environment has for the program's own JVMs aren't meant for this one.
     environment = {k: v for k, v in os.environ.items() if k not in ("JAVA_TOOL_OPTIONS", "JDK_JAVAC_OPTIONS", "_JAVA_OPTIONS")}
     done = subprocess.run([path, *arguments], stdout=subprocess.PIPE, stderr=subprocess.STDOUT, env=environment)
     if done.returncode != 0:
-        raise BuildFailed("building the agent failed:\n" + done.stdout.decode(errors="replace"))
+        raise AgentError("building the agent failed:\n" + done.stdout.decode(errors="replace"))
 
 
 def write_jar(folder, classes, part, manifest):

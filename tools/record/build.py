@@ -1,0 +1,36 @@
+"""What is built of the C sources here: the preload libraries and the program that reads events."""
+
+import os
+
+SOURCES = os.path.dirname(os.path.realpath(__file__))
+TOOLS = os.path.dirname(SOURCES)
+
+
+class BuildError(Exception):
+    pass
+
+
+def newest_source():
+    newest = os.stat(os.path.join(TOOLS, "Makefile")).st_mtime
+    for directory, _, names in os.walk(SOURCES):
+        for name in names:
+            if name.endswith((".c", ".h")):
+                newest = max(newest, os.stat(os.path.join(directory, name)).st_mtime)
+    return newest
+
+
+def built(name):
+    """The path of what is built under this name; it is built here if it is missing or older than a source."""
+    path = os.path.join(TOOLS, "out", name)
+    if not os.path.exists(path) or os.stat(path).st_mtime < newest_source():
+        import subprocess
+
+        try:
+            made = subprocess.run(
+                ["make", "-s", "-C", TOOLS, "out/" + name], stdout=subprocess.PIPE, stderr=subprocess.STDOUT
+            )
+        except OSError as error:
+            raise BuildError("%s isn't built, and make can't be run: %s" % (name, error))
+        if made.returncode != 0:
+            raise BuildError("building %s failed:\n%s" % (name, made.stdout.decode(errors="replace")))
+    return path

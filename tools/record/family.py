@@ -1,0 +1,152 @@
+"""The processes that a recording waits for: what the program starts, also what outlives it."""
+
+import os
+import signal
+import sys
+import time
+
+from recording import maps_file
+
+PR_SET_CHILD_SUBREAPER = 36
+FORWARDED = (signal.SIGINT, signal.SIGTERM, signal.SIGHUP, signal.SIGQUIT, signal.SIGUSR1, signal.SIGUSR2)
+WAITED = FORWARDED + (signal.SIGCHLD,)
+# A signal that the kernel sent, as a terminal does on Ctrl-C: the program got it already.
+FROM_KERNEL = 128
+# Seconds: between two looks at processes whose end sends no signal, and for a process that was just made to begin its files.
+LOOK = 0.5
+MOMENT = 0.01
+BEGIN_LIMIT = 2
+
+
+def adopt_orphans():
+    """Processes whose parent ends become children of this one. Whether the system can do that."""
+    try:
+        import ctypes
+
+        return ctypes.CDLL(None).prctl(PR_SET_CHILD_SUBREAPER, 1, 0, 0, 0) == 0
+    except (ImportError, OSError, AttributeError):
+        return False
+
+
+def descendants(root, strangers=()):
+    """The living processes below this one, but not these children and theirs."""
+    children = {}
+    for name in os.listdir("/proc"):
+        if not name.isdigit():
+            continue
+        try:
+            with open("/proc/%s/stat" % name, "rb") as status:
+                fields = status.read().rsplit(b")", 1)[1].split()
+        except (OSError, IndexError):
+            continue
+        if fields[0] not in (b"Z", b"X"):
+            children.setdefault(int(fields[1]), []).append(int(name))
+    found, waiting = [], [root]
+    while waiting:
+        for child in children.get(waiting.pop(), []):
+            if child not in strangers:
+                found.append(child)
+                waiting.append(child)
+    return found
+
+
+class Family:
+    """The program and what it starts. Nothing else is ever waited for or sent a signal."""
+
+    def __init__(self, recording, say):
+        self.token = os.fsencode(os.path.basename(recording.directory)) + b"/"
+        self.say = say
+        self.strangers = frozenset(descendants(os.getpid()))  # children from before: an exec may bring some
+
+    def recorded(self):
+        """Those that write files of the recording, or may."""
+        return [p for p in descendants(os.getpid(), self.strangers) if maps_file(p, self.token) is not False]
+
+    def reap(self, first=None):
+        """Takes the ends of children; the wait status of the first one if it is among them."""
+        status = None
+        while True:
+            try:
+                ended, how = os.waitpid(-1, os.WNOHANG)
+            except ChildProcessError:
+                return status
+            if ended == 0:
+                return status
+            if ended == first:
+                status = how
+
+    def wait_for_first(self, process):
+        """Waits for the program, and hands signals on to it; its wait status."""
+        while True:
+            status = self.reap(process)
+            if status is not None:
+                return status
+            info = signal.sigwaitinfo(WAITED)
+            if info.si_signo != signal.SIGCHLD and info.si_code != FROM_KERNEL:
+                os.kill(process, info.si_signo)  # not waited for yet: its number is its own
+
+    def hand_on(self, number):
+        """Sends a signal to the recorded processes, each held fast before it is looked at again."""
+        for process in self.recorded():
+            try:
+                holder = os.pidfd_open(process)
+            except OSError:
+                continue
+            try:
+                if process in self.recorded():
+                    signal.pidfd_send_signal(holder, number)
+            except OSError:
+                pass
+            finally:
+                os.close(holder)
+
+    def wait_for_others(self):
+        """Waits for the further processes, as those of a server that went into the background. A signal is handed on to
+        them; at a second one they are no longer waited for. Whether all have ended."""
+        told = stop = False
+        limit = time.monotonic() + BEGIN_LIMIT
+        while True:
+            self.reap()
+            family = descendants(os.getpid(), self.strangers)
+            running = [p for p in family if maps_file(p, self.token) is not False]
+            if not running and (not family or time.monotonic() > limit):
+                return True
+            if running:
+                limit = time.monotonic() + BEGIN_LIMIT
+            if running and not told:
+                self.say("waiting for process %s, which runs on" % ", ".join(map(str, sorted(running))))
+                told = True
+            info = signal.sigtimedwait(WAITED, LOOK if running else MOMENT)
+            if info is None or info.si_signo == signal.SIGCHLD:
+                continue
+            if stop:
+                return False
+            stop = True
+            if info.si_code != FROM_KERNEL:
+                self.hand_on(info.si_signo)
+
+
+def start(command, environment, mask):
+    """Starts the program, with the signals blocked that were so before; its number, or the error that it wasn't started for,
+    which comes over a pipe."""
+    reading, writing = os.pipe()
+    sys.stdout.flush() if sys.stdout else None
+    process = os.fork()
+    if process == 0:
+        try:
+            os.close(reading)
+            for number in (signal.SIGPIPE, signal.SIGXFSZ):  # Python ignores these
+                signal.signal(number, signal.SIG_DFL)
+            signal.pthread_sigmask(signal.SIG_SETMASK, mask)
+            os.execvpe(command[0], command, environment)
+        except OSError as error:
+            os.write(writing, b"%d" % error.errno)
+        finally:
+            os._exit(125)
+    os.close(writing)
+    with os.fdopen(reading, "rb") as pipe:
+        fault = pipe.read()
+    if fault:
+        os.waitpid(process, 0)
+        return None, int(fault)
+    return process, 0

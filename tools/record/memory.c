@@ -1,0 +1,213 @@
+/*
+ * Memory that is given back. A lock in it is at its end, though nobody destroyed it: what is made later at its address is
+ * another lock.
+ *
+ * Each page of memory in which a lock was met has a map of the places where one is; a filter of bytes says fast of most pages
+ * that there is none. Places are set and cleared in slow parts, and read by anybody.
+ */
+#define _GNU_SOURCE
+#include <dlfcn.h>
+#include <malloc.h>
+#include <stdlib.h>
+#include <sys/mman.h>
+#include <unistd.h>
+
+#include "process.h"
+#include "real.h"
+
+#define PAGE_BITS 12
+#define PAGE_BYTES (1ul << PAGE_BITS)
+#define PLACE_BYTES 4ul /* as a spin lock */
+#define PAGE_WORDS (PAGE_BYTES / PLACE_BYTES / 64)
+#define FILTER_BITS 14
+
+struct lock_page {
+    uintptr_t page;
+    struct lock_page *next;
+    uint64_t places[PAGE_WORDS];
+};
+
+/* Kept over forks, as the addresses of locks are. */
+static struct lock_page *lock_pages;
+static uint64_t lock_page_count;
+static struct lock_page *page_room;
+static size_t page_room_count;
+static uint8_t page_filter[1 << FILTER_BITS];
+
+static inline uint8_t *filter_of(uintptr_t page)
+{
+    return &page_filter[mix(page) >> (64 - FILTER_BITS)];
+}
+
+static struct lock_page *page_find(uintptr_t page)
+{
+    struct slot *slot = table_find(&process.lock_pages, page);
+    return slot ? (struct lock_page *)__atomic_load_n(&slot->value, __ATOMIC_ACQUIRE) : NULL;
+}
+
+static struct lock_page *page_new(uintptr_t page)
+{
+    struct slot *slot = table_place(&process.lock_pages, page);
+    if (!slot)
+        return NULL;
+    if (slot->value)
+        return (struct lock_page *)slot->value;
+    if (page_room_count == 0) {
+        page_room = pages_new(16 * CHUNK_UNIT);
+        page_room_count = page_room ? 16 * CHUNK_UNIT / sizeof *page_room : 0;
+    }
+    if (page_room_count == 0)
+        return NULL;
+    struct lock_page *made = &page_room[--page_room_count];
+    made->page = page;
+    made->next = lock_pages;
+    lock_pages = made;
+    lock_page_count++;
+    __atomic_store_n(&slot->value, (uint64_t)(uintptr_t)made, __ATOMIC_RELEASE);
+    __atomic_store_n(filter_of(page), 1, __ATOMIC_RELEASE);
+    return made;
+}
+
+void memory_note(struct thread *thread, uintptr_t address)
+{
+    uintptr_t page = address >> PAGE_BITS;
+    struct lock_page *found = page_find(page);
+    if (!found)
+        found = page_new(page);
+    size_t place = address % PAGE_BYTES / PLACE_BYTES;
+    if (found)
+        __atomic_fetch_or(&found->places[place / 64], 1ull << place % 64, __ATOMIC_RELEASE);
+    uintptr_t here = (uintptr_t)__builtin_frame_address(0);
+    if (address > here && address < thread->stack_top && (thread->stack_low == 0 || address < thread->stack_low))
+        thread->stack_low = address;
+}
+
+void memory_forget(uintptr_t address)
+{
+    struct lock_page *page = page_find(address >> PAGE_BITS);
+    size_t place = address % PAGE_BYTES / PLACE_BYTES;
+    if (page)
+        __atomic_fetch_and(&page->places[place / 64], ~(1ull << place % 64), __ATOMIC_RELEASE);
+}
+
+/* Those of a word's places that lie in the range. */
+static uint64_t places_within(const struct lock_page *page, size_t word, uintptr_t start, uintptr_t end)
+{
+    uint64_t places = __atomic_load_n(&page->places[word], __ATOMIC_ACQUIRE);
+    uintptr_t first = (page->page << PAGE_BITS) + word * 64 * PLACE_BYTES;
+    for (uint64_t left = places; left; left &= left - 1) {
+        unsigned bit = (unsigned)__builtin_ctzll(left);
+        uintptr_t address = first + bit * PLACE_BYTES;
+        if (address < start || address >= end)
+            places &= ~(1ull << bit);
+    }
+    return places;
+}
+
+static int page_holds(const struct lock_page *page, uintptr_t start, uintptr_t end)
+{
+    for (size_t word = 0; word < PAGE_WORDS; word++)
+        if (page->places[word] && places_within(page, word, start, end))
+            return 1;
+    return 0;
+}
+
+static void page_end(struct lock_page *page, uintptr_t start, uintptr_t end)
+{
+    for (size_t word = 0; word < PAGE_WORDS; word++)
+        for (uint64_t places = places_within(page, word, start, end); places; places &= places - 1) {
+            uintptr_t first = (page->page << PAGE_BITS) + word * 64 * PLACE_BYTES;
+            lock_forget((const void *)(first + (unsigned)__builtin_ctzll(places) * PLACE_BYTES));
+        }
+}
+
+/* Calls `use` for the pages of a range that have ever held a lock, until it says yes. */
+#define FOR_PAGES(start, end, use)                                                                 \
+    uintptr_t from = (start) >> PAGE_BITS, to = ((end) - 1) >> PAGE_BITS;                          \
+    if (to - from < lock_page_count) {                                                             \
+        for (uintptr_t at = from; at <= to; at++) {                                                \
+            struct lock_page *page = *filter_of(at) ? page_find(at) : NULL;                        \
+            if (page) {                                                                            \
+                use;                                                                               \
+            }                                                                                      \
+        }                                                                                          \
+    } else {                                                                                       \
+        struct lock_page *page = __atomic_load_n(&lock_pages, __ATOMIC_ACQUIRE);                   \
+        for (; page; page = page->next)                                                            \
+            if (page->page >= from && page->page <= to) {                                          \
+                use;                                                                               \
+            }                                                                                      \
+    }
+
+static int range_holds(uintptr_t start, uintptr_t end)
+{
+    FOR_PAGES(start, end, if (page_holds(page, start, end)) return 1)
+    return 0;
+}
+
+void memory_end_inside(uintptr_t start, uintptr_t end)
+{
+    FOR_PAGES(start, end, page_end(page, start, end))
+}
+
+void memory_end(uintptr_t start, uintptr_t end)
+{
+    if (lock_page_count == 0 || start >= end || slow_inside() || process.state != PROCESS_RECORDED || !range_holds(start, end))
+        return;
+    struct slow_state state;
+    slow_enter(&state);
+    memory_end_inside(start, end);
+    slow_leave(&state);
+}
+
+/* --- The functions that give memory back ---------------------------------------------------------------- */
+
+/* The sizes of blocks are asked of the library that frees them. */
+static size_t block_size(void *block)
+{
+    return real.malloc_usable_size ? real.malloc_usable_size(block) : 1;
+}
+
+static inline int block_may_hold(void *block)
+{
+    return unlikely(lock_page_count > 0) && block;
+}
+
+EXPORTED void free(void *block)
+{
+    if (unlikely(!real_found))
+        real_find();
+    if (block_may_hold(block))
+        memory_end((uintptr_t)block, (uintptr_t)block + block_size(block));
+    real.free(block);
+}
+
+/* A block that moves or becomes smaller ends the locks in what is left of the old one. */
+EXPORTED void *realloc(void *block, size_t bytes)
+{
+    if (unlikely(!real_found))
+        real_find();
+    size_t size = block_may_hold(block) ? block_size(block) : 0;
+    void *result = real.realloc(block, bytes);
+    if (unlikely(size > 0 && (result || bytes == 0))) {
+        uintptr_t start = (uintptr_t)block;
+        memory_end(result == block ? start + block_size(result) : start, start + size);
+    }
+    return result;
+}
+
+EXPORTED int munmap(void *start, size_t bytes)
+{
+    if (unlikely(!real_found))
+        real_find();
+    memory_end((uintptr_t)start, (uintptr_t)start + bytes);
+    return real.munmap(start, bytes);
+}
+
+EXPORTED int dlclose(void *handle)
+{
+    int result = real.dlclose(handle);
+    if (result == 0 && process.state == PROCESS_RECORDED && !slow_inside())
+        modules_check();
+    return result;
+}

@@ -1,0 +1,142 @@
+/* Memory that is given back with locks in it, which nobody destroyed: the first argument names a program. */
+#define _GNU_SOURCE
+#include <dlfcn.h>
+#include <malloc.h>
+#include <pthread.h>
+#include <stdint.h>
+#include <stdio.h>
+#include <stdlib.h>
+#include <string.h>
+#include <sys/mman.h>
+#include <unistd.h>
+
+#define MUST(condition)                                                         \
+    do {                                                                        \
+        if (!(condition)) {                                                     \
+            fprintf(stderr, "memory.c:%d: not so: %s\n", __LINE__, #condition); \
+            _exit(99);                                                          \
+        }                                                                       \
+    } while (0)
+
+static pthread_mutex_t b = PTHREAD_MUTEX_INITIALIZER;
+
+struct node {
+    char text[72];
+    pthread_mutex_t lock;
+};
+
+/* The second node's lock, at the address of the first one's, is taken the other way round. */
+static void freed(void)
+{
+    struct node *node = calloc(1, sizeof *node);
+    uintptr_t address = (uintptr_t)node;
+    pthread_mutex_lock(&node->lock);   /* @freed_first */
+    pthread_mutex_lock(&b);            /* @freed_first_b */
+    pthread_mutex_unlock(&b);          /* @freed_first_b_end */
+    pthread_mutex_unlock(&node->lock); /* @freed_first_end */
+    free(node);
+    node = malloc(sizeof *node);
+    MUST((uintptr_t)node == address);
+    memset(node, 0, sizeof *node);
+    pthread_mutex_lock(&b);            /* @freed_second_b */
+    pthread_mutex_lock(&node->lock);   /* @freed_second */
+    pthread_mutex_unlock(&node->lock); /* @freed_second_end */
+    pthread_mutex_unlock(&b);          /* @freed_second_b_end */
+}
+
+static void use(pthread_mutex_t *lock)
+{
+    pthread_mutex_lock(lock);   /* @use */
+    pthread_mutex_unlock(lock); /* @use_end */
+}
+
+/* Large blocks, that the system takes back, and one that moves. A block that stays keeps its lock. */
+static void moved(void)
+{
+    struct node *nodes = calloc(2, sizeof *nodes);
+    static void *volatile other;
+    other = malloc(3000); /* stands behind it */
+    use(&nodes[1].lock);
+    nodes = realloc(nodes, 2 * sizeof *nodes);
+    use(&nodes[1].lock);
+    uintptr_t address = (uintptr_t)nodes;
+    struct node *far = realloc(nodes, 100000);
+    MUST((uintptr_t)far != address);
+    nodes = malloc(2 * sizeof *nodes);
+    MUST((uintptr_t)nodes == address);
+    memset(nodes, 0, 2 * sizeof *nodes);
+    use(&nodes[1].lock);
+    free(other);
+    mallopt(M_MMAP_THRESHOLD, 1 << 17); /* and not higher later */
+    struct node *large = calloc(100000, sizeof *large);
+    address = (uintptr_t)large;
+    use(&large[99999].lock);
+    free(large);
+    large = calloc(100000, sizeof *large);
+    MUST((uintptr_t)large == address);
+    use(&large[99999].lock);
+}
+
+static void unmapped(void)
+{
+    char *pages = mmap(NULL, 1 << 20, PROT_READ | PROT_WRITE, MAP_PRIVATE | MAP_ANONYMOUS, -1, 0);
+    use((pthread_mutex_t *)(pages + 500000));
+    use((pthread_mutex_t *)(pages + 1000000));
+    munmap(pages + (1 << 19), 1 << 19);
+    char *again = mmap(pages + (1 << 19), 1 << 19, PROT_READ | PROT_WRITE, MAP_PRIVATE | MAP_ANONYMOUS | MAP_FIXED, -1, 0);
+    MUST(again == pages + (1 << 19));
+    use((pthread_mutex_t *)(pages + 500000));
+    use((pthread_mutex_t *)(pages + 1000000));
+}
+
+static uintptr_t stack_lock;
+
+static void *uses_stack(void *unused)
+{
+    pthread_mutex_t lock = PTHREAD_MUTEX_INITIALIZER;
+    MUST(stack_lock == 0 || stack_lock == (uintptr_t)&lock);
+    stack_lock = (uintptr_t)&lock;
+    pthread_mutex_lock(&lock);   /* @stack */
+    pthread_mutex_unlock(&lock); /* @stack_end */
+    return unused;
+}
+
+/* The second thread has the stack of the first one. */
+static void stacks(void)
+{
+    for (int i = 0; i < 2; i++) {
+        pthread_t thread;
+        pthread_create(&thread, NULL, uses_stack, NULL); /* @stack_fork */
+        pthread_join(thread, NULL);                      /* @stack_join */
+    }
+}
+
+/* Two libraries, one after the other at the same place. */
+static void plugins(void)
+{
+    static const char *const names[] = {"./plugin-one.so", "./plugin-two.so"};
+    for (int i = 0; i < 2; i++) {
+        void *library = dlopen(names[i], RTLD_NOW);
+        MUST(library != NULL);
+        void (*run)(void) = (void (*)(void))(uintptr_t)dlsym(library, "run");
+        static uintptr_t place;
+        MUST(place == 0 || place == (uintptr_t)run);
+        place = (uintptr_t)run;
+        run();
+        MUST(dlclose(library) == 0);
+    }
+}
+
+int main(int count, char **arguments)
+{
+    static const struct {
+        const char *name;
+        void (*run)(void);
+    } programs[] = {{"freed", freed}, {"moved", moved}, {"unmapped", unmapped}, {"stacks", stacks}, {"plugins", plugins}};
+    for (size_t i = 0; count > 1 && i < sizeof programs / sizeof programs[0]; i++)
+        if (strcmp(programs[i].name, arguments[1]) == 0) {
+            programs[i].run();
+            return 0;
+        }
+    return 98;
+}
