@@ -356,12 +356,12 @@ class Sources:
         self.lines = {module: module.lines_of(addresses) for module, addresses in asked.items()}
         paths = {f[1] for found in self.lines.values() for frames in found.values() for f in frames}
         for process in processes:
-            paths.update(place.rpartition(":")[0] for places in process.places.values() for place in places)
+            paths.update(place.rpartition(":")[0] for places in process.places.values() for place in places if ":" in place)
         self.short = short_paths(paths)
 
     def shortened(self, place):
-        path, _, line = place.rpartition(":")
-        return "%s:%s" % (self.short[path], line)
+        path, colon, line = place.rpartition(":")
+        return self.short[path] + colon + line if colon else line
 
     def frames(self, process, address, when):
         """The program's own lines at an address, the innermost first; never empty."""

@@ -68,7 +68,7 @@ enum record_kind {
     RECORD_UNLOADED = 7,
     RECORD_LOSSES = 8,
     /* Of recorders that know names and no addresses, as those of Java and Python. */
-    RECORD_PLACE = 16,     /* a site's text: lines `path:line`, the innermost first */
+    RECORD_PLACE = 16,     /* a site's text: lines `path:line` or without a colon, the innermost first */
     RECORD_LOCK_KIND = 17, /* what stands for a lock's class in its name */
     RECORD_LOCK_NAME = 18, /* a lock's whole name */
     RECORD_ROUTINE = 19,   /* what stands for a thread's start routine in its name */

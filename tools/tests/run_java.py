@@ -371,6 +371,16 @@ def more_callers():
 
 
 @test
+def without_line_numbers():
+    """The place is a method and the number of an instruction in it."""
+    done = subprocess.run(["javac", "-g:none", "-d", "no-lines", os.path.join(SOURCES, "Locks.java")])
+    check(done.returncode == 0, "javac failed")
+    lines = record(None, command=["java", "-cp", "no-lines", "Locks", "monitors"]).lines()
+    words = [re.fullmatch(r"main\|(\w+)\(Object@Locks\.<clinit>\+\d+#1\)\|Locks\.monitors\+\d+", line) for line in lines]
+    check(all(words) and [word.group(1) for word in words] == ["acq", "acq", "rel", "rel"], str(lines))
+
+
+@test
 def more_locks_than_goodlock_reads():
     text = ["main|%s(ReentrantLock@@beyond_made#%d)|@beyond" % ("acq" if i < 65 else "beyond", i) for i in range(1, 67)]
     text += ["main|rel(ReentrantLock@@beyond_made#%d)|@beyond_end" % i for i in range(64, 0, -1)]

@@ -35,13 +35,18 @@ final class Places {
         int count = 0;
         for (Iterator<StackFrame> at = stack.iterator(); at.hasNext() && count < frames;) {
             StackFrame frame = at.next();
-            if (frame.getClassName().startsWith("goodlock.") || programOnly && count == 0 && isOfJdk(frame)) {
+            if (count == 0 && (isStart(frame) || programOnly && isOfJdk(frame))) {
                 continue;
             }
             text.append(count == 0 ? "" : "\n").append(textOf(frame));
             count++;
         }
         return text.toString();
+    }
+
+    /** A frame of the recorder's, or of Thread.start that called it. */
+    private static boolean isStart(StackFrame frame) {
+        return frame.getClassName().startsWith("goodlock.") || frame.getClassName().equals("java.lang.Thread");
     }
 
     private static boolean isOfJdk(StackFrame frame) {
@@ -53,7 +58,7 @@ final class Places {
         String name = frame.getClassName();
         String file = frame.getFileName();
         if (file == null || frame.getLineNumber() < 0) {
-            return name + "." + frame.getMethodName() + ":" + frame.getByteCodeIndex();
+            return name + "." + frame.getMethodName() + "+" + frame.getByteCodeIndex();
         }
         return name.substring(0, name.lastIndexOf('.') + 1).replace('.', '/') + file + ":" + frame.getLineNumber();
     }

@@ -78,7 +78,7 @@ final class MethodInstrumenter {
 
     private String place(int number) {
         if (owner.sourceFile == null || number < 0) {
-            return owner.name.replace('/', '.') + "." + method.name + ":" + count;
+            return owner.name.replace('/', '.') + "." + method.name + "+" + count;
         }
         return owner.name.substring(0, owner.name.lastIndexOf('/') + 1) + owner.sourceFile + ":" + number;
     }
