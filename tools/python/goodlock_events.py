@@ -12,7 +12,7 @@ from goodlock_files import (
     RECORD_ROUTINE, THREAD_LEFT_OUT, THREAD_LOST, THREAD_OTHERS, THREAD_UNMADE,
 )
 
-ACQUIRE, RELEASE, TRY_ACQUIRE, FORK, JOIN, BEYOND = 1, 2, 5, 7, 8, 10
+ACQUIRE, RELEASE, TRY_ACQUIRE, FORK, JOIN, BEYOND, AGAIN = 1, 2, 5, 7, 8, 10, 11
 KIND_MASK = 31
 SITE_SHIFT, OBJECT_SHIFT = 5, 32
 CALL_MASK = ~KIND_MASK
@@ -135,13 +135,13 @@ class ThreadState:
         for held in self.held[index + 1 :]:
             held.place = None
 
-    def acquire(self, call, kind):
+    def acquire(self, call, kind, reentrant=True):
         """Writes an acquire; what to take back if it fails."""
         lock = call >> OBJECT_SHIFT
         if self.held:
             held = self.find(lock)
             if held is not None or len(self.held) == HELD_LIMIT:
-                return self.acquire_further(call, kind, held)
+                return self.acquire_further(call, kind, held, reentrant)
             before = self.held[-1].context
         else:
             before = 0
@@ -155,14 +155,18 @@ class ThreadState:
         held.chunk = self.words
         return held, held.chunk, held.place
 
-    def acquire_further(self, call, kind, held):
-        """An acquire of a lock that is held already, or where too many are held."""
+    def acquire_further(self, call, kind, held, reentrant):
+        """An acquire of a lock that is held already, or where too many are held. Who holds a lock that isn't reentrant waits for
+        itself, or for another thread to release it."""
         before = self.held[-1].context
-        if held is not None:
-            held.depth += 1
-            self.keep_above(self.held.index(held))
-        else:
+        if held is None:
             kind = BEYOND
+        else:
+            self.keep_above(self.held.index(held))
+            if reentrant:
+                held.depth += 1
+            else:
+                held, kind = None, AGAIN
         word = call | kind
         if self.is_news(self.context_of(before, word)):
             self.news += 1
@@ -230,10 +234,11 @@ class ThreadState:
 class Known:
     """A lock as it was made. It gets its number at its first event."""
 
-    __slots__ = ("number", "kind", "site", "maker", "order")
+    __slots__ = ("number", "kind", "site", "maker", "order", "reentrant")
 
-    def __init__(self, kind, site, maker, order):
+    def __init__(self, kind, reentrant, site, maker, order):
         self.number = 0
+        self.reentrant = reentrant
         self.kind = kind
         self.site = site
         self.maker = maker
@@ -444,25 +449,25 @@ class Recorder:
 
     # Locks
 
-    def made(self, kind, frame):
+    def made(self, kind, reentrant, frame):
         """A lock that is made in this frame."""
         state = self.state()
         if state.busy or state.record is None:
-            return Known(kind, 0, 0, 0)
+            return Known(kind, reentrant, 0, 0, 0)
         state.busy = True
         try:
             state.made += 1
-            return Known(kind, self.process.site_of(frame), state.number, state.made)
+            return Known(kind, reentrant, self.process.site_of(frame), state.number, state.made)
         finally:
             state.busy = False
             if state.put_off:
                 self.catch_up(state)
 
     def wants(self, known, frame):
-        return self.do(ThreadState.acquire, known, frame, ACQUIRE)
+        return self.do(ThreadState.acquire, known, frame, ACQUIRE, known.reentrant)
 
     def took(self, known, frame):
-        self.do(ThreadState.acquire, known, frame, TRY_ACQUIRE)
+        self.do(ThreadState.acquire, known, frame, TRY_ACQUIRE, known.reentrant)
 
     def did_not_take(self):
         state = self.state()

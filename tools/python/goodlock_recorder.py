@@ -66,7 +66,7 @@ class RecordedLock:
             return raw
         lock = object.__new__(cls)
         lock._raw = raw
-        lock._known = recorder.made(name or cls.__name__, frame)
+        lock._known = recorder.made(name or cls.__name__, cls is RLock, frame)
         return lock
 
     def acquire(self, blocking=True, timeout=-1):
@@ -172,7 +172,7 @@ def semaphore_start(self, value=1):
     real_semaphore_start(self, value)
     self._goodlock_known = None
     if value == 1:
-        self._goodlock_known = recorder.made(type(self).__name__, _getframe(1))
+        self._goodlock_known = recorder.made(type(self).__name__, False, _getframe(1))
     else:
         recorder.process.note(SEMAPHORES_UNSEEN)
 

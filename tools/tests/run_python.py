@@ -362,6 +362,22 @@ def acquire_that_an_exception_ends():
 
 
 @test
+def acquire_that_an_exception_ends_at_last():
+    run = record("interrupted_at_last")
+    check(run.status == 5, run.said)
+    lines = [line for line in run.lines() if line.startswith("main|acq")]
+    compare(lines, expand("main|acq(Lock@@a#1)|@last_a", MARKS))
+
+
+@test
+def lock_that_its_thread_holds():
+    lines = killed(PYTHON_RECORD, [INTERPRETER, LOCKS, "waits_for_itself"], 0.2)
+    compare(lines, expand("""
+        main|acq(Lock@@a#1)|@itself_1
+        main|again(Lock@@a#1)|@itself_2""", MARKS))
+
+
+@test
 def locks_at_any_moment():
     """Handlers of signals and finalizers come between any two steps of the recorder, and all stays balanced."""
     run = record("storm")

@@ -351,6 +351,13 @@ def deadlock():
 
 
 @program
+def waits_for_itself():
+    a.acquire()  # @itself_1
+    print("ready", os.getpid(), flush=True)
+    a.acquire()  # @itself_2
+
+
+@program
 def busy():
     """Runs until it is killed."""
 
@@ -383,6 +390,21 @@ def interrupted():
             pass
         with again:  # @interrupted_again
             pass
+
+
+@program
+def interrupted_at_last():
+    signal.signal(signal.SIGALRM, lambda *_: 1 / 0)
+    held_by_another = threading.Lock()
+    thread = threading.Thread(target=held_by_another.acquire)
+    thread.start()
+    thread.join()
+    with a:  # @last_a
+        signal.setitimer(signal.ITIMER_REAL, 0.05)
+        try:
+            held_by_another.acquire()
+        except ZeroDivisionError:
+            os._exit(5)
 
 
 @program
