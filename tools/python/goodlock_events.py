@@ -9,7 +9,7 @@ from _thread import RLock, _local
 
 from goodlock_files import (
     FOREIGN, LOCK_MADE, LOCK_MUTEX, PROCESS_FORKS, RECORD_LOCK, RECORD_LOCK_KIND, RECORD_NOTE, RECORD_NO_LOCK, RECORD_PLACE,
-    RECORD_ROUTINE, THREAD_LEFT_OUT, THREAD_LOST, THREAD_OTHERS, THREAD_UNMADE,
+    RECORD_ROUTINE, THREAD_CHILDREN, THREAD_LEFT_OUT, THREAD_LOST, THREAD_OTHERS, THREAD_UNMADE,
 )
 
 ACQUIRE, RELEASE, TRY_ACQUIRE, FORK, JOIN, BEYOND, AGAIN = 1, 2, 5, 7, 8, 10, 11
@@ -504,6 +504,7 @@ class Recorder:
             if record is None:
                 return None
             state.children += 1
+            state.record[THREAD_CHILDREN] = state.children
             state.end_segment()
             place = state.store(FORK | site << SITE_SHIFT | number << OBJECT_SHIFT)
             return ThreadState(self.process, record, number), state.words, place
@@ -516,6 +517,7 @@ class Recorder:
         new, words, place = plan
         state = self.state()
         state.children -= 1
+        state.record[THREAD_CHILDREN] = state.children
         new.record[THREAD_UNMADE] = 1
         if place is not None:
             words[place] = 0

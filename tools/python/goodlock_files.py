@@ -24,7 +24,7 @@ USED = 2
 
 # Words of a process's and a thread's record, from the record's head on.
 PROCESS_FORKS = 9
-THREAD_UNMADE, THREAD_LEFT_OUT, THREAD_LOST, THREAD_OTHERS = 5, 9, 10, 11
+THREAD_UNMADE, THREAD_CHILDREN, THREAD_LEFT_OUT, THREAD_LOST, THREAD_OTHERS = 5, 7, 9, 10, 11
 
 
 class Files:

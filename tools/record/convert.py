@@ -58,6 +58,7 @@ class Lock:
 class Thread:
     def __init__(self, values, when):
         (self.number, self.parent, self.child, self.routine, self.unmade) = values[:5]
+        self.children = values[6]
         (self.left_out, self.lost, self.others) = values[8:11]
         self.object = values[11:]
         self.when = when
@@ -579,6 +580,8 @@ class Summary:
                 self.path, self.kinds[BEYOND], HELD_LIMIT)
         if len(self.process.threads) > THREAD_LIMIT:
             yield "%s: goodlock reads at most %d threads, it will refuse this trace" % (self.path, THREAD_LIMIT)
+            yield "%s.window1 to .window%d have at most %d threads each, born one after the other: a cycle is seen only where all its threads are in one" % (
+                self.path, len(windows(self.process)), THREAD_LIMIT)
 
     def name(self):
         return "process %d (%s)" % (self.process.key[0], shortened(self.process.command))
@@ -600,10 +603,28 @@ def shortened(command):
     return command if len(command) <= 60 else command[:57] + "..."
 
 
-def write_trace(process, file):
+def write_trace(process, file, members=None):
+    """The lines of all threads, or of these alone; then without forks and joins of others."""
     names = process.names
-    threads = {thread.number: thread.name for thread in process.threads.values()}
-    run_lines("write", event_request(process, names.order, (names.locks, names.places.all(), threads)), file)
+    order = [thread for thread in names.order if members is None or thread.number in members]
+    threads = {thread.number: thread.name for thread in order}
+    run_lines("write", event_request(process, order, (names.locks, names.places.all(), threads)), file)
+
+
+def windows(process):
+    """Sets of threads that goodlock reads, for a process that has too many: in each the first thread and those that made threads, and
+    others that were born one after the other. Half of a window's are in the next one too, so that all that were born close to each
+    other are in one together."""
+    threads = process.threads
+    if len(threads) <= THREAD_LIMIT:
+        return []
+    kept = {number for number, thread in threads.items() if thread.child == 0 or thread.children}
+    if len(kept) > THREAD_LIMIT // 2:
+        kept = {number for number, thread in threads.items() if thread.child == 0 and thread.parent != FOREIGN}
+    others = sorted(set(threads) - kept)
+    room = THREAD_LIMIT - len(kept)
+    starts = range(0, max(1, len(others) - room + room // 2), room // 2)
+    return [kept.union(others[start : start + room]) for start in starts]
 
 
 def trace_paths(processes, trace, first):
@@ -616,10 +637,20 @@ def trace_paths(processes, trace, first):
             paths[key] = trace
         else:
             paths[key] = "%s.%d" % (trace, pid) + (".%d" % image if image else "")
-    for path in paths.values():
-        if os.path.lexists(path):
-            raise ConvertError("%s exists already" % path)
+    for key, path in paths.items():
+        for taken in [path] + ["%s.window%d" % (path, i + 1) for i in range(len(windows(processes[key])))]:
+            if os.path.lexists(taken):
+                raise ConvertError("%s exists already" % taken)
     return paths
+
+
+def traces_of(summaries):
+    """The name of each trace, the process and the threads that it is of."""
+    for summary in summaries:
+        if summary.events:
+            yield summary.path, summary.process, None
+            for number, members in enumerate(windows(summary.process), 1):
+                yield "%s.window%d" % (summary.path, number), summary.process, members
 
 
 def write_traces(summaries):
@@ -627,12 +658,11 @@ def write_traces(summaries):
     aside, named = [], []
     ending = ".part.%s" % os.urandom(4).hex()
     try:
-        for summary in summaries:
-            if summary.events:
-                path = summary.path + ending
-                with open(os.open(path, os.O_WRONLY | os.O_CREAT | os.O_EXCL | os.O_CLOEXEC, 0o666), "wb") as file:
-                    aside.append((path, summary.path))
-                    write_trace(summary.process, file)
+        for name, process, members in traces_of(summaries):
+            path = name + ending
+            with open(os.open(path, os.O_WRONLY | os.O_CREAT | os.O_EXCL | os.O_CLOEXEC, 0o666), "wb") as file:
+                aside.append((path, name))
+                write_trace(process, file, members)
         for path, name in aside:
             take_name(path, name)
             named.append(name)

@@ -312,6 +312,9 @@ def main(read, used):
     except Failed as failure:
         say(str(failure))
         return failure.status
+    except Exception as failure:  # Python's own status 1 could be the program's
+        say("internal error: %r" % failure)
+        return STATUS_FAILED
 
 
 if __name__ == "__main__":

@@ -50,6 +50,8 @@ uint64_t call_word_slow(struct thread *thread, const void *address, enum lock_cl
     uint64_t generation = __atomic_load_n(&process.generation, __ATOMIC_ACQUIRE);
     uint32_t lock = lock_number(thread, address, class);
     uint64_t word = event_word(0, site_number(return_address, stack), lock);
+    if (process.frames > 1)
+        return word; /* the return address alone doesn't tell the site */
     uint64_t key = (uint64_t)(uintptr_t)address;
     struct slot *slot = table_find(&process.sites, return_address);
     int plain = slot && (slot->value & SITE_PLAIN); /* else the return address doesn't tell the site */

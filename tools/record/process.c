@@ -13,6 +13,7 @@
 #include <sys/syscall.h>
 #include <unistd.h>
 
+#include "confirm.h"
 #include "process.h"
 #include "real.h"
 
@@ -121,6 +122,17 @@ static int file_fill(int file, uint64_t bytes)
         if (pwrite(file, zeros, sizeof zeros, (off_t)place) != (ssize_t)sizeof zeros)
             return 0;
     return 1;
+}
+
+void *file_map(const char *path, uint64_t bytes)
+{
+    int file = open(path, O_RDWR | O_CREAT | O_EXCL | O_CLOEXEC | O_NOFOLLOW, 0600);
+    void *pages = MAP_FAILED;
+    if (file >= 0 && file_fill(file, bytes))
+        pages = mmap(NULL, bytes, PROT_READ | PROT_WRITE, MAP_SHARED, file, 0);
+    if (file >= 0)
+        close(file);
+    return pages == MAP_FAILED ? NULL : pages;
 }
 
 /* Extents grow, but stay below the limit of a file's size: at it the system would end the program with SIGXFSZ. */
@@ -391,6 +403,8 @@ static void process_start(const struct process *parent)
     }
     int opened = process.directory[0] && process_open() && process_describe(parent);
     process.state = opened ? PROCESS_RECORDED : PROCESS_OFF;
+    if (opened)
+        confirm_start();
     if (!opened && process.directory[0])
         process_unrecorded();
 }

@@ -19,6 +19,9 @@ void user_directory(uid_t user);
 /* Whether the present thread is between slow_enter and slow_leave. */
 int slow_inside(void);
 
+/* A new file with room for so many bytes, mapped; NULL if there is none. */
+void *file_map(const char *path, uint64_t bytes);
+
 /* Pages that are zero in a forked child. */
 void *pages_new_wiped(size_t bytes);
 

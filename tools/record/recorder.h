@@ -157,6 +157,7 @@ struct thread {
     struct thread_record *record;
     uint32_t number;
     uint32_t exit_rounds;
+    uint32_t holds; /* how often it was held back in vain (confirm.c) */
     uintptr_t stack_top, stack_low; /* where its stack begins, and the lowest lock in it; 0: not known, none */
     struct thread *next_free;
     uint64_t sink; /* takes what there is no room for */
@@ -341,6 +342,8 @@ uint32_t site_slow(uintptr_t return_address, uintptr_t stack);
 /* `stack`: the stack pointer just before the call pushed `return_address`. */
 static inline uint32_t site_number(uintptr_t return_address, uintptr_t stack)
 {
+    if (unlikely(process.frames > 1))
+        return site_slow(return_address, stack);
     struct slot *slot = table_find(&process.sites, return_address);
     if (likely(slot && (slot->value & SITE_PLAIN)))
         return (uint32_t)slot->value;

@@ -17,6 +17,7 @@
 #include <unistd.h>
 #include <unwind.h>
 
+#include "confirm.h"
 #include "process.h"
 
 #define WALK_LIMIT 24
@@ -385,6 +386,9 @@ static uint32_t site_new(struct slot *slot, const uintptr_t *callers, size_t cou
     for (size_t i = 0; i < count; i++)
         record->callers[i] = callers[i];
     record_done(record);
+    struct module *module = confirming ? module_of(callers[0] - 1) : NULL;
+    if (module)
+        confirm_site(record->site, module->path, callers[0] - 1 - module->bias);
     __atomic_store_n(&slot->value, SITE_PLAIN | record->site, __ATOMIC_RELEASE);
     return (uint32_t)record->site;
 }
@@ -436,8 +440,72 @@ static uint32_t site_single(uintptr_t return_address, uintptr_t stack)
 }
 #endif
 
-/* Sites of several callers, and of machines where return addresses don't lie at the ends of frames: the
- * stack is unwound at each visit. The site's key is a mix of its addresses, told from a single address by its top bit. */
+/*
+ * Sites of several callers, and of machines where return addresses don't lie at the ends of frames: the stack is unwound. The site's
+ * key is a mix of its addresses, told from a single address by its top bit.
+ *
+ * Unwinding is slow, so the table of sites also has what was found at each return address: how far up the next one lies, and whether
+ * this is a call inside a wrapper. Following these steps leads to a site that is known, or the stack is unwound again. An
+ * address at which two distances were found (of a function whose frame has no fixed size) is never used so.
+ */
+#define STEP_KNOWN 1u
+#define STEP_WRAPPER 2u
+#define STEP_LAST 4u
+#define STEP_VARIES 8u
+#define STEP_SHIFT 8
+#define STEP_LIMIT 4096u
+
+static uint64_t key_of_walk(uint64_t key, uintptr_t address)
+{
+    return mix(key + address);
+}
+
+#ifdef __x86_64__
+static uint32_t site_of_steps(uintptr_t return_address, uintptr_t stack)
+{
+    uint64_t key = unloads;
+    unsigned count = 0;
+    for (unsigned i = 0; i < WALK_LIMIT; i++) {
+        struct slot *slot = table_find(&process.sites, return_address);
+        uint64_t value = slot ? __atomic_load_n(&slot->value, __ATOMIC_ACQUIRE) : 0;
+        if (!(value & STEP_KNOWN) || value & STEP_VARIES)
+            return 0;
+        if (count > 0 || !(value & STEP_WRAPPER)) {
+            key = key_of_walk(key, return_address);
+            count++;
+        }
+        if (count == process.frames || value & STEP_LAST) {
+            slot = table_find(&process.sites, key | 1ull << 63);
+            return slot ? (uint32_t)__atomic_load_n(&slot->value, __ATOMIC_ACQUIRE) : 0;
+        }
+        stack += value >> STEP_SHIFT;
+        return_address = ((uintptr_t *)stack)[-1];
+    }
+    return 0;
+}
+
+/* Keeps the steps of a walk. */
+static void steps_learn(const struct walk *walk)
+{
+    for (size_t i = 0; i < walk->count; i++) {
+        uintptr_t address = walk->addresses[i];
+        uint64_t value = STEP_KNOWN | (is_wrapper(address) ? STEP_WRAPPER : 0);
+        uint64_t step = i + 1 < walk->count ? walk->stacks[i + 1] - walk->stacks[i] : 0;
+        if (i + 1 == walk->count)
+            value |= walk->count < WALK_LIMIT ? STEP_LAST : STEP_VARIES;
+        else if (step == 0 || step > STEP_LIMIT || ((uintptr_t *)walk->stacks[i + 1])[-1] != walk->addresses[i + 1])
+            value |= STEP_VARIES;
+        else
+            value |= step << STEP_SHIFT;
+        struct slot *slot = table_place(&process.sites, address);
+        if (slot && slot->value && slot->value != value)
+            value = STEP_KNOWN | STEP_VARIES;
+        if (slot)
+            __atomic_store_n(&slot->value, value, __ATOMIC_RELEASE);
+    }
+}
+#endif
+
 static uint32_t site_of_walk(uintptr_t return_address)
 {
     struct slow_state state;
@@ -455,11 +523,14 @@ static uint32_t site_of_walk(uintptr_t return_address)
     size_t count = 0;
     uint64_t key = unloads;
     for (; count < process.frames && first + count < walk.count; count++)
-        key = mix(key + walk.addresses[first + count]);
+        key = key_of_walk(key, walk.addresses[first + count]);
     struct slot *slot = table_place(&process.sites, key | 1ull << 63);
     uint32_t site = 0;
     if (slot)
         site = slot->value ? (uint32_t)slot->value : site_new(slot, &walk.addresses[first], count);
+#ifdef __x86_64__
+    steps_learn(&walk);
+#endif
     slow_leave(&state);
     return site;
 }
@@ -469,8 +540,28 @@ uint32_t site_slow(uintptr_t return_address, uintptr_t stack)
 #ifdef __x86_64__
     if (process.frames == 1)
         return site_single(return_address, stack);
+    uint32_t site = site_of_steps(return_address, stack);
+    if (site)
+        return site;
 #else
     (void)stack;
 #endif
     return site_of_walk(return_address);
+}
+
+size_t stack_copy(uintptr_t return_address, uint64_t *addresses, size_t most)
+{
+    struct slow_state state;
+    struct walk walk;
+    slow_enter(&state);
+    walk_from(&walk, return_address);
+    size_t count = 0, first = 0;
+    while (first < walk.count && module_known(walk.addresses[first]) && is_wrapper(walk.addresses[first]))
+        first++;
+    for (; count < most && first + count < walk.count; count++) {
+        addresses[count] = walk.addresses[first + count];
+        module_known(addresses[count]);
+    }
+    slow_leave(&state);
+    return count;
 }

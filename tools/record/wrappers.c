@@ -2,8 +2,8 @@
 #define _GNU_SOURCE
 #include <errno.h>
 
+#include "confirm.h"
 #include "real.h"
-#include "recorder.h"
 
 /* Also where the lock's owner died: the lock is held. */
 static inline int took(int result)
@@ -26,8 +26,13 @@ static inline int is_plain(const pthread_mutex_t *lock)
     struct thread *thread = recording_thread();                                                 \
     if (unlikely(!thread))                                                                      \
         return call;                                                                            \
-    uint64_t *place = acquire_write(thread, kind, call_word(thread, lock, class, CALLER), plain); \
+    uint64_t word = call_word(thread, lock, class, CALLER);                                     \
+    if (unlikely(confirming))                                                                   \
+        confirm_before(thread, word | kind, lock, (uintptr_t)__builtin_return_address(0), 0);   \
+    uint64_t *place = acquire_write(thread, kind, word, plain);                                 \
     int result = call;                                                                          \
+    if (unlikely(confirming))                                                                   \
+        confirm_after(thread);                                                                  \
     if (unlikely(!(good)))                                                                      \
         acquire_take_back(thread, place);                                                       \
     return result
@@ -230,9 +235,16 @@ static inline void wait_write(struct thread *thread, uint64_t word, int good)
 
 #define WAIT(lock, good, call)                                                   \
     struct thread *thread = recording_thread();                                  \
-    if (likely(thread != NULL))                                                  \
-        wait_write(thread, call_word(thread, lock, LOCK_MUTEX, CALLER), good);   \
-    return call
+    if (unlikely(!thread))                                                       \
+        return call;                                                             \
+    uint64_t word = call_word(thread, lock, LOCK_MUTEX, CALLER);                 \
+    if (unlikely(confirming))                                                    \
+        confirm_before(thread, word | EVENT_ACQUIRE, lock, (uintptr_t)__builtin_return_address(0), 1); \
+    wait_write(thread, word, good);                                              \
+    int result = call;                                                           \
+    if (unlikely(confirming))                                                    \
+        confirm_after(thread);                                                   \
+    return result
 
 EXPORTED int pthread_cond_wait(pthread_cond_t *condition, pthread_mutex_t *lock)
 {

@@ -481,6 +481,16 @@ def more_callers():
         main|rel(a)|@frames_unlock""", "locks.c"))
 
 
+@test
+def callers_of_frames_without_a_fixed_size():
+    run = Run(["./locks", "frames_vary"], ["--frames", "3"])
+    check(run.status == 0, run.said)
+    compare(run.lines(), expand("".join("""
+        main|acq(a)|@frames_lock<@varies<@vary_%s
+        main|rel(a)|@varies_unlock<@vary_%s<@frames_main""" % (way, way) for way in ("one", "two"))
+                                .replace("@frames_main", MAIN_CALL()), "locks.c"))
+
+
 def MAIN_CALL():
     with open(os.path.join(SOURCES, "locks.c")) as file:
         for number, line in enumerate(file, 1):
@@ -611,10 +621,16 @@ def more_locks_than_goodlock_reads():
 
 @test
 def more_threads_than_goodlock_reads():
+    """Windows of 1,024 threads, the first one in each; the second begins with the 512th of the others."""
     run = Run(["./locks", "many_threads"])
     check(run.status == 0, run.said)
     check("goodlock reads at most 1024 threads" in run.said, run.said)
     check(len(run.lines()) == 2 * 1100 + 2, "%d lines" % len(run.lines()))
+    check(run.files() == ["t.std", "t.std.window1", "t.std.window2"], str(run.files()))
+    for number, first, last in ((1, 1, 1023), (2, 512, 1100)):
+        compare([line.rsplit("|", 1)[0] for line in run.lines(".window%d" % number)],
+                ["main|%s(main.%d:quick)" % (word, i) for i in range(first, last + 1) for word in ("fork", "join")] +
+                ["main|acq(a)", "main|rel(a)"])
 
 
 @test

@@ -12,7 +12,7 @@
  *     `write` alone, for locks, places and threads: number of texts;   each: its number, a text
  *     number of chunks;  each: file, thread, offset of its words in the file, how many
  *
- * `scan` answers, for each thread in the order of the chunks, its number and how many events of each of the 32 kinds it has,
+ * `write` leaves out forks and joins of threads without a text. `scan` answers, for each thread in the order of the chunks, its number and how many events of each of the 32 kinds it has,
  * then a row of NO_THREAD words of the same length, then for each lock the thread and word of its first event.
  */
 #define _GNU_SOURCE
@@ -110,7 +110,7 @@ static struct texts next_texts(struct request *request)
             uint64_t count = number + number / 2 + 16;
             texts.of = memory(texts.of, count * sizeof *texts.of);
             for (; texts.count < count; texts.count++)
-                texts.of[texts.count] = (struct text){"?", 1};
+                texts.of[texts.count] = (struct text){NULL, 0};
         }
         texts.of[number] = next_text(request);
     }
@@ -313,9 +313,14 @@ struct lines {
     struct texts locks, places, threads;
 };
 
+static int has_text(const struct texts *texts, uint64_t number)
+{
+    return number < texts->count && texts->of[number].bytes;
+}
+
 static void put_text(const struct texts *texts, uint64_t number)
 {
-    struct text text = number < texts->count ? texts->of[number] : (struct text){"?", 1};
+    struct text text = has_text(texts, number) ? texts->of[number] : (struct text){"?", 1};
     output_put(text.bytes, text.size);
 }
 
@@ -326,6 +331,8 @@ static void lines_use(void *state, uint64_t thread, const uint64_t *words, size_
         uint64_t word = words[i];
         const char *operation = operations[word % KINDS];
         if (!operation)
+            continue;
+        if (is_of_thread(word) && !has_text(&lines->threads, word >> OBJECT_SHIFT))
             continue;
         put_text(&lines->threads, thread);
         output_put(operation, strlen(operation));

@@ -729,6 +729,23 @@ static void frames(void)
     outer(2);                                                                  /* @frames_outer_2 */
 }
 
+/* Its frame has another size each time. */
+static __attribute__((noinline)) void varies(size_t size)
+{
+    volatile char *room = __builtin_alloca(size);
+    room[0] = room[size - 1] = 1;
+    inner();                                                                   /* @varies */
+    pthread_mutex_unlock(&a);                                                  /* @varies_unlock */
+}
+
+static void frames_vary(void)
+{
+    for (int i = 0; i < 40; i++) {
+        varies(16 + 112 * (size_t)(i % 7));                                    /* @vary_one */
+        varies(16 + 240 * (size_t)(i % 5));                                    /* @vary_two */
+    }
+}
+
 static void table(void)
 {
     pthread_mutex_lock(&many[3]);                                              /* @table */
@@ -751,7 +768,7 @@ static const struct {
     {"many_locks", many_locks}, {"waits_in_background", waits_in_background}, {"stray", stray}, {"keys", keys}, {"signals", signals}, {"signal_storm", signal_storm},
     {"repeats", repeats}, {"volume", volume}, {"volume_and_wait", volume_and_wait}, {"many_threads", many_threads}, {"forks", forks},
     {"raw_fork", raw_fork}, {"executes", executes}, {"clears_environment", clears_environment},
-    {"goes_to_background", goes_to_background}, {"waits_for_signal", waits_for_signal}, {"frames", frames},
+    {"goes_to_background", goes_to_background}, {"waits_for_signal", waits_for_signal}, {"frames", frames}, {"frames_vary", frames_vary},
     {"table", table}, {"nothing", nothing},
 };
 

@@ -24,7 +24,8 @@ final class Files {
     static final int ROUTINE = 19;
     static final int NOTE = 20;
 
-    /** The word of a process's record that counts forks, and words of a thread's record, from the head on. */
+    /** Words of a thread's record, from the head on. */
+    static final int CHILDREN = 7;
     static final int LEFT_OUT = 9;
     static final int LOST = 10;
     static final int OTHERS = 11;

@@ -388,7 +388,6 @@ public final class Recorder {
                 ThreadState started = process.newThread(state.number, state.children + 1, Places.routineOf(thread));
                 if (!started.isOff()) {
                     THREADS.add(new ThreadEntry(thread, started, THREADS.gone));
-                    state.children++;
                     state.fork(process.place(Places.ofCaller()), started.number);
                 }
             }

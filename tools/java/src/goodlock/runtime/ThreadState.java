@@ -352,6 +352,8 @@ final class ThreadState {
     // --- Threads
 
     void fork(int site, int thread) {
+        children++;
+        count(Files.CHILDREN, 1);
         endSegment();
         store(word(FORK, site, thread));
     }

@@ -1,0 +1,475 @@
+"""Tries to make a predicted deadlock happen.
+
+    goodlock-confirm [--finding N] [--tries N] [--seconds S] [-o FILE] REPORT.json -- PROGRAM [ARGUMENT..]
+
+docs/CONFIRMING.md explains it.
+"""
+
+import json
+import mmap
+import os
+import shutil
+import signal
+import struct
+import subprocess
+import sys
+import tempfile
+import time
+import traceback
+
+SOURCES = os.path.dirname(os.path.realpath(__file__))
+sys.path.insert(0, SOURCES)
+sys.pycache_prefix = os.path.join(os.path.dirname(SOURCES), "out", "python")
+
+from build import BuildError  # noqa: E402
+from convert import ConvertError, Sources, clean, name_process, read_processes, without_parameters  # noqa: E402
+from family import Family, adopt_orphans, descendants  # noqa: E402
+from findings import ReportError, pair_of, read_findings  # noqa: E402
+from launch import Failed, Preload, child_environment, fill_closed_descriptors  # noqa: E402
+from recording import new_recording  # noqa: E402
+from symbols import demangled  # noqa: E402
+
+STATUS_NOT_SEEN, STATUS_DEADLOCKED, STATUS_ERROR = 0, 1, 125
+EDGE_LIMIT = 16
+# How long a thread is held back, by try; the last one for all further tries.
+HOLDS = (300, 300, 1000, 1000, 3000)
+# Seconds between two looks at what the threads wait for. A cycle counts if it is the same in two of them.
+LOOK = 0.1
+
+# confirm.c has this layout.
+HELD_LIMIT, STACK_LIMIT = 64, 16
+WAIT_WORDS = 6 + HELD_LIMIT + STACK_LIMIT + EDGE_LIMIT * STACK_LIMIT
+HELD, WANTED_STACK, HELD_STACKS = 6, 6 + HELD_LIMIT, 6 + HELD_LIMIT + STACK_LIMIT
+OBJECT_SHIFT, SITE_SHIFT, SITE_MASK, KIND_MASK = 32, 5, (1 << 27) - 1, 31
+SHARED = (3, 6)
+# Where in a mutex of glibc its owner stands.
+MUTEX_OWNER = 8
+
+USAGE = "usage: goodlock-confirm [--finding N] [--tries N] [--seconds S] [-o FILE] REPORT.json -- PROGRAM [ARGUMENT..]"
+
+
+def say(text):
+    sys.stderr.write("goodlock-confirm: " + text + "\n")
+    sys.stderr.flush()
+
+
+# --- Arguments --------------------------------------------------------------------------------------
+
+
+class Settings:
+    def __init__(self):
+        self.finding = 1
+        self.tries = 5
+        self.seconds = 30
+        self.output = None
+        self.report = None
+        self.command = []
+
+
+def read_number(word, text):
+    if not text.isdigit() or not 1 <= int(text) <= 1000000:
+        raise Failed("%s takes a number from 1 to 1000000" % word)
+    return int(text)
+
+
+def read_arguments(arguments):
+    settings = Settings()
+    if arguments in (["-h"], ["--help"]):
+        print(__doc__.strip())
+        sys.exit(0)
+    rest = list(arguments)
+    while rest and rest[0] != "--":
+        word = rest.pop(0)
+        if word in ("--finding", "--tries", "--seconds", "-o") and rest:
+            value = rest.pop(0)
+            if word == "-o":
+                settings.output = value
+            else:
+                setattr(settings, word[2:], read_number(word, value))
+        elif word.startswith("-") or settings.report is not None:
+            raise Failed("wrong word %s\n%s" % (word, USAGE))
+        else:
+            settings.report = word
+    settings.command = rest[1:]
+    if settings.report is None or not settings.command:
+        raise Failed(USAGE)
+    if settings.output is not None and os.path.lexists(settings.output):
+        raise Failed("%s exists already; nothing was run" % settings.output)
+    return settings
+
+
+# --- What the threads wait for ----------------------------------------------------------------------
+
+
+class Wait:
+    """A thread that waits for a lock."""
+
+    def __init__(self, process, thread, words):
+        self.process = process  # (pid, image)
+        self.thread = thread
+        self.turns, self.task, self.wanted, self.address, self.condition, count = words[:6]
+        self.held = words[HELD : HELD + min(count, HELD_LIMIT)]
+        self.stacks = words[WANTED_STACK:]
+
+    def key(self):
+        return self.process, self.thread, self.turns, self.wanted
+
+    def held_word(self, lock):
+        """The acquire by which it holds the lock, or None."""
+        return next((word for word in self.held if word >> OBJECT_SHIFT == lock), None)
+
+    def is_for(self, other):
+        """Whether it waits for a lock that the other one holds, and can't share."""
+        word = other.held_word(self.wanted >> OBJECT_SHIFT)
+        return word is not None and not (word & KIND_MASK in SHARED and self.wanted & KIND_MASK in SHARED)
+
+    def mutex_owner(self):
+        """The thread that has the mutex, as the C library keeps it in there; None if it can't be read."""
+        try:
+            with open("/proc/%d/mem" % self.process[0], "rb", buffering=0) as memory:
+                memory.seek(self.address + MUTEX_OWNER)
+                return struct.unpack("=i", memory.read(4))[0]
+        except (OSError, ValueError, struct.error):
+            return None
+
+    def is_blocked(self):
+        """Who waits for a condition waits for the lock only where the kernel says so."""
+        if not self.condition:
+            return True
+        try:
+            with open("/proc/%d/task/%d/syscall" % (self.process[0], self.task)) as file:
+                return file.read().split()[1] == "0x%x" % self.address
+        except (OSError, IndexError):
+            return False
+
+
+def read_waits(directory):
+    """The threads that wait, of all processes."""
+    found = []
+    for name in os.listdir(directory):
+        if name.endswith(".waits"):
+            pid, image = map(int, name.split(".")[:2])
+            with open(os.path.join(directory, name), "rb") as file:
+                if os.fstat(file.fileno()).st_size == 0:
+                    continue  # just made
+                data = mmap.mmap(file.fileno(), 0, access=mmap.ACCESS_READ)
+            for thread in range(len(data) // (8 * WAIT_WORDS)):
+                place = 8 * WAIT_WORDS * thread
+                if struct.unpack_from("=Q", data, place + 16)[0]:
+                    found.append(Wait((pid, image), thread, struct.unpack_from("=%dQ" % WAIT_WORDS, data, place)))
+            data.close()
+    return found
+
+
+def waiting_cycle(waits):
+    """Threads each of which waits for a lock that the next one holds, the last one's next being the first; [] if there are
+    none."""
+    nexts = {}
+    for wait in waits:
+        if wait.is_blocked():
+            nexts[wait] = [other for other in waits if other is not wait and other.process == wait.process and wait.is_for(other)]
+    for start in nexts:
+        way, seen = [start], {start}
+        while True:
+            further = [other for other in nexts.get(way[-1], ()) if other in nexts]
+            if start in further and len(way) > 1:
+                return way
+            further = [other for other in further if other not in seen]
+            if not further:
+                break
+            way.append(further[0])
+            seen.add(further[0])
+    return []
+
+
+# --- Places -----------------------------------------------------------------------------------------
+
+
+def first_place(text):
+    return text.split("<", 1)[0]
+
+
+def same_place(one, other):
+    """Places of two runs: a file has as many directories before its name as tell it from others in its run."""
+    one, other = first_place(one), first_place(other)
+    return one == other or one.endswith("/" + other) or other.endswith("/" + one)
+
+
+class Places:
+    """Where in the modules the places of the cycle are: found in what was recorded."""
+
+    def __init__(self, edges):
+        self.edges = edges
+        self.known = set()  # (role, offset, path)
+        self.missing = set()
+
+    def learn(self, processes):
+        for process in processes.values():
+            for number, (callers, when) in process.sites.items():
+                loaded = process.modules.at(callers[0] - 1, when)
+                text = process.names.places.text(number)
+                for role, place in self.roles() if loaded else ():
+                    if same_place(place, text):
+                        self.known.add((role, callers[0] - 1 - loaded.bias, loaded.module.path))
+        seen = {role for role, _, _ in self.known}
+        self.missing = {place for role, place in self.roles() if role not in seen}
+
+    def roles(self):
+        for number, edge in enumerate(self.edges):
+            yield number, edge["wanted_at"]
+            yield EDGE_LIMIT + number, edge["held_at"]
+
+    def plan(self, milliseconds):
+        lines = ["%d %d" % (len(self.edges), milliseconds)]
+        lines += ["%d %x %s" % place for place in sorted(self.known)]
+        return "\n".join(lines) + "\n"
+
+
+# --- A run ------------------------------------------------------------------------------------------
+
+
+class Run:
+    """One run of the program."""
+
+    def __init__(self, settings, directory, preload, plan):
+        self.recording = new_recording(os.path.join(directory, "run"))
+        plan_path = os.path.join(directory, "plan")
+        with open(plan_path, "w") as file:
+            file.write(plan)
+        settings.frames, settings.all = 1, False
+        environment = child_environment(settings, self.recording.directory, preload.path)
+        environment["GOODLOCK_CONFIRM_PLAN"] = plan_path
+        self.family = Family(self.recording, say)
+        self.cycle = []
+        self.in_time = True
+        self.limit = time.monotonic() + settings.seconds
+        quiet = subprocess.DEVNULL
+        self.program = subprocess.Popen(settings.command, env=environment, stdin=quiet, stdout=quiet, stderr=quiet)
+        try:
+            self.watch()
+        finally:
+            self.kill()
+
+    def members(self):
+        return descendants(os.getpid(), self.family.strangers)
+
+    def watch(self):
+        """Until the program and all that it started have ended, hang in a cycle, or took too long."""
+        before = None
+        while self.members():
+            self.family.reap()
+            cycle = waiting_cycle(read_waits(self.recording.directory))
+            keys = {wait.key() for wait in cycle}
+            if cycle and keys == before:
+                self.cycle = cycle
+                self.owners = [wait.mutex_owner() for wait in cycle]
+                return
+            before = keys
+            if time.monotonic() > self.limit:
+                self.in_time = False
+                return
+            time.sleep(LOOK)
+
+    def kill(self):
+        """Ends the program and what it started: each is held fast, and looked at again, before it is sent the signal."""
+        while True:
+            members = self.members()
+            if not members:
+                break
+            for process in members:
+                try:
+                    holder = os.pidfd_open(process)
+                except OSError:
+                    continue
+                try:
+                    if process in self.members():
+                        signal.pidfd_send_signal(holder, signal.SIGKILL)
+                except OSError:
+                    pass
+                finally:
+                    os.close(holder)
+            self.family.reap()
+            time.sleep(0.01)
+        self.family.reap()
+        self.program.returncode = 0  # it was waited for
+
+    def processes(self):
+        processes, _ = read_processes(self.recording)
+        addresses = [address for wait in self.cycle for address in wait.stacks if address]
+        for process in processes.values():
+            process.sites[SITE_MASK + 1] = addresses or [0], process.modules.when
+        self.sources = Sources(processes.values())
+        for process in processes.values():
+            del process.sites[SITE_MASK + 1]
+            name_process(process, self.sources)
+        return processes
+
+
+# --- A deadlock -------------------------------------------------------------------------------------
+
+
+class Deadlock:
+    """The threads of a cycle, in words."""
+
+    def __init__(self, run, processes, places):
+        self.process = processes[run.cycle[0].process]
+        self.sources = run.sources
+        self.places = places
+        self.owners = run.owners
+        self.steps = []
+        for i, wait in enumerate(run.cycle):
+            wanted_by_last = run.cycle[i - 1].wanted >> OBJECT_SHIFT
+            self.steps.append((wait, wait.held_word(wanted_by_last)))
+
+    def place(self, word):
+        return self.process.names.places.text(word >> SITE_SHIFT & SITE_MASK)
+
+    def pairs(self):
+        return [(self.place(held), self.place(wait.wanted)) for wait, held in self.steps]
+
+    def is_true(self):
+        """Whether each mutex of the cycle belongs to the thread that acquired it: another one may have unlocked it."""
+        for i, (wait, _) in enumerate(self.steps):
+            number = wait.wanted >> OBJECT_SHIFT
+            lock = self.process.locks.get(number) or self.process.names.parents_lock(number)
+            if lock and lock.kind == "mutex" and self.owners[i] != self.steps[(i + 1) % len(self.steps)][0].task:
+                return False
+        return True
+
+    def is_of(self, finding):
+        """Whether its pairs of places are those of the finding."""
+        def covers(ones, others):
+            return all(any(same_place(a, c) and same_place(b, d) for c, d in others) for a, b in ones)
+
+        return covers(self.pairs(), finding.pairs) and covers(finding.pairs, self.pairs())
+
+    def stack(self, addresses):
+        parts = []
+        for address in addresses:
+            if not address:
+                break
+            loaded = self.process.modules.at(address - 1, self.process.modules.when)
+            symbol = loaded.module.symbol_at(address - 1 - loaded.bias) if loaded else None
+            name = without_parameters(demangled([symbol.name]).get(symbol.name, symbol.name)) if symbol else "?"
+            place = self.sources.frames(self.process, address - 1, self.process.modules.when)[0]
+            parts.append(clean("%s (%s)" % (name, place)))
+        return parts
+
+    def held_stack(self, wait, held):
+        """The stack of the acquire of a held lock, where it was at a place of the cycle."""
+        for number, edge in enumerate(self.places.edges):
+            if same_place(edge["held_at"], self.place(held)):
+                return self.stack(wait.stacks[STACK_LIMIT * (number + 1) : STACK_LIMIT * (number + 2)])
+        return []
+
+    def lines(self):
+        names = self.process.names
+        for wait, held in self.steps:
+            yield "  %s holds %s since %s and waits for %s at %s" % (
+                names.thread_name(wait.thread), names.locks.get(held >> OBJECT_SHIFT, "?"), self.place(held),
+                names.locks.get(wait.wanted >> OBJECT_SHIFT, "?"), self.place(wait.wanted))
+            for word, stack in (("since", self.held_stack(wait, held)), ("at", self.stack(wait.stacks[:STACK_LIMIT]))):
+                for number, frame in enumerate(stack):
+                    yield "    %-5s %s" % (word if number == 0 else "", frame)
+
+
+# --- All tries --------------------------------------------------------------------------------------
+
+
+def outcome_of(settings, finding, directory, preload):
+    """A deadlock and the number of the run in which it came (0: the first one, that finds the places), or None. Also how many
+    runs took too long."""
+    places = Places(finding.sample)
+    late = 0
+    for number in range(settings.tries + 1):
+        hold = HOLDS[min(number, len(HOLDS)) - 1] if number else 0
+        own = os.path.join(directory, "%d" % number)
+        os.mkdir(own)
+        run = Run(settings, own, preload, places.plan(hold))
+        processes = run.processes()
+        if not processes:
+            raise Failed("nothing was recorded: is the program statically linked, set-user-id or of another machine type?")
+        if run.cycle:
+            deadlock = Deadlock(run, processes, places)
+            if deadlock.is_true() and deadlock.is_of(finding):
+                return deadlock, number, late
+            what = "hung in another cycle" if deadlock.is_true() else "waited for a mutex that another thread had unlocked"
+            say("run %d: the program %s:" % (number, what))
+            for line in deadlock.lines():
+                say(line)
+        late += not run.in_time
+        places.learn(processes)
+        shutil.rmtree(own)
+    for place in sorted(places.missing):
+        say("no run came to %s" % place)
+    return None, settings.tries, late
+
+
+def write_output(path, finding, deadlock, number, lines):
+    """For tools: what came about, whole or not at all."""
+    value = {
+        "outcome": "deadlocked" if deadlock else "not seen",
+        "pairs": [list(pair) for pair in finding.pairs],
+        "text": lines,
+        "tries": number,
+    }
+    text = json.dumps(value, sort_keys=True, separators=(",", ":")) + "\n"
+    aside = path + ".part.%s" % os.urandom(4).hex()
+    try:
+        with open(aside, "x") as file:
+            file.write(text)
+        os.rename(aside, path)
+    except OSError as error:
+        if os.path.exists(aside):
+            os.unlink(aside)
+        raise Failed("%s: %s" % (path, error.strerror))
+
+
+def confirm(settings, finding):
+    preload = Preload()
+    directory = tempfile.mkdtemp(prefix="goodlock-confirm.")
+    try:
+        deadlock, number, late = outcome_of(settings, finding, directory, preload)
+    finally:
+        preload.remove()
+        shutil.rmtree(directory, ignore_errors=True)
+    if deadlock:
+        lines = ["deadlocked in try %d" % number if number else "deadlocked in the first run"] + list(deadlock.lines())
+    else:
+        lines = ["not seen in %d tries" % number if number > 1 else "not seen in 1 try"]
+        if late:
+            lines[0] += ", %d runs ended after %d seconds" % (late, settings.seconds)
+    print("\n".join(lines))
+    if settings.output is not None:
+        write_output(settings.output, finding, deadlock, number, lines)
+    return STATUS_DEADLOCKED if deadlock else STATUS_NOT_SEEN
+
+
+def main():
+    fill_closed_descriptors()
+    settings = read_arguments(sys.argv[1:])
+    findings = read_findings(settings.report)
+    if settings.finding > len(findings):
+        raise Failed("%s has %d findings" % (settings.report, len(findings)))
+    finding = findings[settings.finding - 1]
+    if len(finding.sample) > EDGE_LIMIT:
+        raise Failed("a cycle of more than %d edges" % EDGE_LIMIT)
+    if not adopt_orphans():
+        raise Failed("Python's ctypes is missing")
+    for number in (signal.SIGTERM, signal.SIGHUP):
+        signal.signal(number, lambda *_: sys.exit(STATUS_ERROR))
+    return confirm(settings, finding)
+
+
+if __name__ == "__main__":
+    try:
+        sys.exit(main())
+    except (Failed, ReportError, ConvertError, BuildError) as failure:
+        say(str(failure))
+    except OSError as error:
+        say("%s: %s" % (error.filename, error.strerror) if error.filename else str(error))
+    except KeyboardInterrupt:
+        say("interrupted")
+    except Exception:  # its own status 1 would say that there is a deadlock
+        traceback.print_exc()
+    sys.exit(STATUS_ERROR)

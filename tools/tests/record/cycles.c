@@ -1,0 +1,317 @@
+/* Programs with a predicted cycle, for goodlock-confirm: the first argument names one. The runs end well by themselves, as the
+ * threads come one after the other; of those whose names begin with `false_` no schedule deadlocks. */
+#define _GNU_SOURCE
+#include <pthread.h>
+#include <semaphore.h>
+#include <stdio.h>
+#include <stdlib.h>
+#include <string.h>
+#include <unistd.h>
+
+static pthread_mutex_t a = PTHREAD_MUTEX_INITIALIZER, b = PTHREAD_MUTEX_INITIALIZER, gate = PTHREAD_MUTEX_INITIALIZER;
+static pthread_mutex_t ring[3] = {PTHREAD_MUTEX_INITIALIZER, PTHREAD_MUTEX_INITIALIZER, PTHREAD_MUTEX_INITIALIZER};
+static pthread_rwlock_t reads = PTHREAD_RWLOCK_INITIALIZER;
+static pthread_cond_t condition = PTHREAD_COND_INITIALIZER;
+static sem_t first_done;
+static int ready, done;
+
+static void run_threads(void *(*const *routines)(void *), int count, useconds_t between)
+{
+    pthread_t threads[8];
+    for (int i = 0; i < count; i++) {
+        pthread_create(&threads[i], NULL, routines[i], (void *)(long)i);
+        usleep(between);
+    }
+    for (int i = 0; i < count; i++)
+        pthread_join(threads[i], NULL);
+}
+
+static void both(pthread_mutex_t *first, pthread_mutex_t *second)
+{
+    pthread_mutex_lock(first);
+    pthread_mutex_lock(second);
+    pthread_mutex_unlock(second);
+    pthread_mutex_unlock(first);
+}
+
+/* Two threads, two orders. */
+static void *one_way(void *unused)
+{
+    pthread_mutex_lock(&a);   /* @one_a */
+    pthread_mutex_lock(&b);   /* @one_b */
+    pthread_mutex_unlock(&b);
+    pthread_mutex_unlock(&a);
+    return unused;
+}
+
+static void *other_way(void *unused)
+{
+    pthread_mutex_lock(&b);   /* @other_b */
+    pthread_mutex_lock(&a);   /* @other_a */
+    pthread_mutex_unlock(&a);
+    pthread_mutex_unlock(&b);
+    return unused;
+}
+
+static void opposite(void)
+{
+    run_threads((void *(*[])(void *)){one_way, other_way}, 2, 50000);
+}
+
+/* Three threads that run the same lines. */
+static void *philosopher(void *number)
+{
+    both(&ring[(long)number], &ring[((long)number + 1) % 3]);
+    return NULL;
+}
+
+static void philosophers(void)
+{
+    run_threads((void *(*[])(void *)){philosopher, philosopher, philosopher}, 3, 50000);
+}
+
+/* Readers and a writer. */
+static void *reader(void *unused)
+{
+    pthread_rwlock_rdlock(&reads);
+    pthread_mutex_lock(&a);
+    pthread_mutex_unlock(&a);
+    pthread_rwlock_unlock(&reads);
+    return unused;
+}
+
+static void *writer(void *unused)
+{
+    pthread_mutex_lock(&a);
+    pthread_rwlock_wrlock(&reads);
+    pthread_rwlock_unlock(&reads);
+    pthread_mutex_unlock(&a);
+    return unused;
+}
+
+static void readers(void)
+{
+    run_threads((void *(*[])(void *)){reader, reader, writer}, 3, 50000);
+}
+
+/* The one holds a lock while it waits for the condition, the other one takes that lock after it gave the signal. */
+static void *waits(void *unused)
+{
+    pthread_mutex_lock(&a);
+    pthread_mutex_lock(&b);
+    while (!ready)
+        pthread_cond_wait(&condition, &b);
+    pthread_mutex_unlock(&b);
+    pthread_mutex_unlock(&a);
+    return unused;
+}
+
+static void *signals(void *unused)
+{
+    if (done)
+        return unused;
+    pthread_mutex_lock(&b);
+    ready = 1;
+    pthread_cond_signal(&condition);
+    if (pthread_mutex_trylock(&a) == 0)
+        pthread_mutex_unlock(&a);
+    pthread_mutex_unlock(&b);
+    return unused;
+}
+
+static void *wants_later(void *unused)
+{
+    usleep(100000);
+    both(&b, &a);
+    return unused;
+}
+
+static void conditions(void)
+{
+    run_threads((void *(*[])(void *)){waits, signals, wants_later}, 3, 50000);
+}
+
+/* The lock is asked for again within the wait, after the signal, while the one who gave it wants the other lock. */
+static void *sleeps(void *unused)
+{
+    pthread_mutex_lock(&b);
+    pthread_mutex_lock(&a);
+    while (!ready)
+        pthread_cond_wait(&condition, &b);
+    pthread_mutex_unlock(&b);
+    pthread_mutex_unlock(&a);
+    return unused;
+}
+
+static void *takes_both(void *unused)
+{
+    both(&b, &a);
+    return unused;
+}
+
+/* ORDER says when the signal comes: `late`, when the other thread has the lock already and waits for the second one; `never`;
+ * else before that thread begins. */
+static void wakes(void)
+{
+    const char *order = getenv("ORDER") ? getenv("ORDER") : "first";
+    pthread_t sleeper, other;
+    pthread_create(&sleeper, NULL, sleeps, NULL);
+    usleep(50000);
+    if (strcmp(order, "first") == 0) {
+        ready = 1;
+        pthread_cond_signal(&condition);
+        usleep(50000);
+    }
+    pthread_create(&other, NULL, takes_both, NULL);
+    usleep(200000);
+    if (strcmp(order, "late") == 0) {
+        ready = 1;
+        pthread_cond_signal(&condition);
+    }
+    pthread_join(sleeper, NULL);
+    pthread_join(other, NULL);
+}
+
+/* A pool whose workers take tasks; two tasks have opposite orders. */
+static int next_task;
+
+static void *worker(void *unused)
+{
+    int task;
+    while ((task = __atomic_fetch_add(&next_task, 1, __ATOMIC_RELAXED)) < 40) {
+        usleep(2000);
+        if (task % 8 == 3)
+            both(&a, &b);
+        if (task % 8 == 7)
+            both(&b, &a);
+    }
+    return unused;
+}
+
+static void pool(void)
+{
+    run_threads((void *(*[])(void *)){worker, worker, worker, worker}, 4, 100);
+}
+
+/* The second thread begins only when the first one has finished: nothing that the analysis knows of. */
+static void *posts(void *unused)
+{
+    one_way(NULL);
+    sem_post(&first_done);
+    return unused;
+}
+
+static void *waits_for_post(void *unused)
+{
+    sem_wait(&first_done);
+    other_way(NULL);
+    return unused;
+}
+
+static void false_semaphore(void)
+{
+    run_threads((void *(*[])(void *)){posts, waits_for_post}, 2, 1000);
+}
+
+/* A flag under a lock decides that the other order comes later. */
+static void *sets_flag(void *unused)
+{
+    one_way(NULL);
+    pthread_mutex_lock(&gate);
+    done = 1;
+    pthread_mutex_unlock(&gate);
+    return unused;
+}
+
+static void *waits_for_flag(void *unused)
+{
+    for (int seen = 0; !seen; usleep(1000)) {
+        pthread_mutex_lock(&gate);
+        seen = done;
+        pthread_mutex_unlock(&gate);
+    }
+    other_way(NULL);
+    return unused;
+}
+
+static void false_flag(void)
+{
+    run_threads((void *(*[])(void *)){sets_flag, waits_for_flag}, 2, 1000);
+}
+
+/* The same lines with other locks in each thread. */
+static void *own_locks(void *number)
+{
+    static pthread_mutex_t locks[2][2];
+    both(&locks[(long)number][0], &locks[(long)number][1]);
+    both(&locks[(long)number][1], &locks[(long)number][0]);
+    if ((long)number == 0)
+        one_way(NULL), sem_post(&first_done);
+    else
+        sem_wait(&first_done), other_way(NULL);
+    return NULL;
+}
+
+static void false_own_locks(void)
+{
+    run_threads((void *(*[])(void *)){own_locks, own_locks}, 2, 1000);
+}
+
+/* A mutex that another thread unlocks than has locked it: the first one doesn't hold it any more, though it never unlocked it. */
+static sem_t taken, given, other_holds;
+
+static void *locks_only(void *unused)
+{
+    pthread_mutex_lock(&gate);
+    sem_post(&taken);
+    sem_wait(&given);
+    usleep(100000);
+    pthread_mutex_lock(&a);
+    pthread_mutex_unlock(&a);
+    return unused;
+}
+
+static void *unlocks_first(void *unused)
+{
+    sem_wait(&taken);
+    pthread_mutex_unlock(&gate);
+    sem_wait(&other_holds);
+    pthread_mutex_lock(&a);
+    sem_post(&given);
+    pthread_mutex_lock(&gate);
+    pthread_mutex_unlock(&gate);
+    pthread_mutex_unlock(&a);
+    return unused;
+}
+
+static void *holds_long(void *unused)
+{
+    pthread_mutex_lock(&gate);
+    sem_post(&other_holds);
+    usleep(1500000);
+    pthread_mutex_unlock(&gate);
+    return unused;
+}
+
+static void false_handed_over(void)
+{
+    run_threads((void *(*[])(void *)){locks_only, unlocks_first, holds_long}, 3, 20000);
+}
+
+int main(int count, char **arguments)
+{
+    static const struct {
+        const char *name;
+        void (*run)(void);
+    } programs[] = {
+        {"opposite", opposite}, {"philosophers", philosophers}, {"readers", readers}, {"conditions", conditions},
+        {"wakes", wakes}, {"pool", pool}, {"false_semaphore", false_semaphore}, {"false_flag", false_flag},
+        {"false_own_locks", false_own_locks}, {"false_handed_over", false_handed_over},
+    };
+    for (size_t i = 0; count > 1 && i < sizeof programs / sizeof programs[0]; i++)
+        if (strcmp(programs[i].name, arguments[1]) == 0) {
+            programs[i].run();
+            return 0;
+        }
+    return 98;
+}
