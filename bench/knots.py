@@ -4,7 +4,7 @@ were chosen to collide.
 
     bench/knots.py [--seconds N] [--cores LIST] [--shapes LIST] [--query WORDS] [--sizes small|large] [--runs N] [PROGRAM]
 
-PROGRAM is goodlock's (crates/goodlock/out/goodlock unless given). The output is a table with a row for each shape and its
+PROGRAM is goodlock's (what ./goodlock runs unless given). The output is a table with a row for each shape and its
 parameters. Each run ends after --seconds (20). --cores, as `1,2,4`, gives goodlock one column for each number of cores; the
 peers run on one thread always. Of --runs (1), which the programs take in turn, the least time counts. --query is what all
 three are asked (--mode full --len 4 --max 1000). BENCH_DIR is the folder for the Rust programs (/tmp/goodlock-bench).
@@ -21,7 +21,7 @@ import time
 import typing
 
 HERE = os.path.dirname(os.path.realpath(__file__))
-BUILT = os.path.join(os.path.dirname(HERE), "crates", "goodlock", "out", "goodlock")
+LAUNCHER = os.path.join(os.path.dirname(HERE), "goodlock")
 FOLDER = os.environ.get("BENCH_DIR", "/tmp/goodlock-bench")
 
 # The options of bench/make_trace.py for each shape, by size; behind `ask` what is asked in place of --query.
@@ -120,6 +120,12 @@ def shown(results, limit):
     return f"{seconds}, {megabytes:.0f} MB" if megabytes > 0 else seconds
 
 
+def program_at_hand():
+    """The path of the program that ./goodlock runs."""
+    which = {**os.environ, "GOODLOCK_WHICH": "1"}
+    return subprocess.run([LAUNCHER], env=which, stdout=subprocess.PIPE, text=True, check=True).stdout.strip()
+
+
 def main():
     parser = argparse.ArgumentParser(description=__doc__, formatter_class=argparse.RawDescriptionHelpFormatter)
     parser.add_argument("--seconds", type=float, default=20)
@@ -128,15 +134,16 @@ def main():
     parser.add_argument("--sizes", choices=["small", "large"], help="both unless given")
     parser.add_argument("--query", default="--mode full --len 4 --max 1000")
     parser.add_argument("--runs", type=int, default=1)
-    parser.add_argument("program", nargs="?", default=BUILT)
+    parser.add_argument("program", nargs="?", default="")
     options = parser.parse_args()
-    if not os.access(options.program, os.X_OK):
-        parser.error(f"there is no program at {options.program}; ./goodlock predict </dev/null builds it")
+    program = options.program or program_at_hand()
+    if not os.access(program, os.X_OK):
+        parser.error(f"there is no program at {program}")
     os.makedirs(FOLDER, exist_ok=True)
     for peer in ("plain", "tuned"):
         source, built = os.path.join(HERE, peer, "main.rs"), os.path.join(FOLDER, peer)
         subprocess.run(["rustc", "--edition", "2021", "-C", "opt-level=3", "-o", built, source], check=True)
-    goodlock = [os.path.abspath(options.program), "predict"]
+    goodlock = [os.path.abspath(program), "predict"]
     cores = [int(n) for n in options.cores.split(",") if n]
     programs = [(f"goodlock, {n} core{'s' * (n > 1)}", goodlock, n) for n in cores] or [("goodlock", goodlock, None)]
     programs += [(peer, [os.path.join(FOLDER, peer)], None) for peer in ("plain", "tuned")]

@@ -3,11 +3,12 @@
 #
 #     bench/run.sh [PROGRAM [ARGUMENT..]]
 #
-# PROGRAM is goodlock's (crates/goodlock/out/goodlock with `predict` unless given); ARGUMENTs go to it, as `live` or
+# PROGRAM is goodlock's (what ./goodlock runs, with `predict`, unless given); ARGUMENTs go to it, as `live` or
 # `live --stream --threads 1024`, which print the same.
 # BENCH_DIR   folder for the two Rust programs and the traces   (/tmp/goodlock-bench)
 # EVENTS      about how many lines a trace has              (1000000)
 # SHAPES      which shapes of bench/make_trace.py           (all)
+# FILES       which traces of files, .std or .std.xz        (bench/traces, recorded servers)
 # STAGE       full: mode full, length 4; first: mode basic, length 2, forks and joins skipped  (full)
 # RUNS        runs of each program; the best counts         (3)
 set -u
@@ -17,18 +18,18 @@ top=$(dirname "$here")
 folder=${BENCH_DIR:-/tmp/goodlock-bench}
 events=${EVENTS:-1000000}
 shapes=${SHAPES:-few-locks many-locks long-names deep-nesting many-cycles none readers forks}
+files=${FILES-$(echo "$here"/traces/*.std.xz)}
 runs=${RUNS:-3}
 case ${STAGE:-full} in
     full) options="--mode full --len 4 --max 1000" ;;
     first) options="--mode basic --len 2 --max 1000 --skip-forks" ;;
     *) echo "run.sh: STAGE is first or full" >&2; exit 2 ;;
 esac
-program=${1:-$top/crates/goodlock/out/goodlock}
+program=${1:-$(GOODLOCK_WHICH=1 "$top/goodlock")}
 if [ $# -gt 0 ]; then shift; else set -- predict; fi
 
 if [ ! -x "$program" ]; then
     echo "run.sh: there is no program at $program" >&2
-    echo "run.sh: build it with: (cd $top && ./goodlock </dev/null)" >&2
     exit 2
 fi
 mkdir -p "$folder"
@@ -63,17 +64,35 @@ compare() {
     return "$is_equal"
 }
 
-echo "user and system seconds, best of $runs; stage ${STAGE:-full}; about $events lines a trace"
+# trace_of SHAPE|FILE: the path of the trace, which is made or unpacked where that wasn't done yet.
+trace_of() {
+    local trace
+    case $1 in
+        *.xz)
+            trace=$folder/$(basename "$1" .xz)
+            [ "$trace" -nt "$1" ] || xz -dc "$1" >"$trace" || exit 2
+            ;;
+        *.std) trace=$1 ;;
+        *)
+            trace=$folder/$1-$events.std
+            if [ ! -s "$trace" ] || [ "$here/make_trace.py" -nt "$trace" ]; then
+                python3 "$here/make_trace.py" --shape "$1" --events "$events" --seed 1 >"$trace.new" || exit 2
+                mv "$trace.new" "$trace"
+            fi
+            ;;
+    esac
+    echo "$trace"
+}
+
+echo "user and system seconds, best of $runs; stage ${STAGE:-full}; about $events lines a shape"
 echo "/plain and /tuned: goodlock's time over the peer's"
 printf '%-13s %7s %8s  %8s %5s  %7s %5s  %7s %5s  %6s %6s  %s\n' \
     shape MB lines goodlock MB/s plain MB/s tuned MB/s /plain /tuned answers
 differ=0
-for shape in $shapes; do
-    trace=$folder/$shape-$events.std
-    if [ ! -s "$trace" ] || [ "$here/make_trace.py" -nt "$trace" ]; then
-        python3 "$here/make_trace.py" --shape "$shape" --events "$events" --seed 1 >"$trace.new" || exit 2
-        mv "$trace.new" "$trace"
-    fi
+for source in $shapes $files; do
+    trace=$(trace_of "$source") || exit 2
+    shape=$(basename "$source")
+    shape=${shape%.std*}
     goodlock="" plain="" tuned=""
     for ((run = 0; run < runs; run++)); do
         # shellcheck disable=SC2086  # the options are words

@@ -3,7 +3,7 @@
 #
 #     bench/soak.sh [PROGRAM]
 #
-# PROGRAM is goodlock's (crates/goodlock/out/goodlock unless given). The trace goes from bench/make_trace.py into the program
+# PROGRAM is goodlock's (what ./goodlock runs unless given). The trace goes from bench/make_trace.py into the program
 # without a file, once for each command.
 # EVENTS    about how many lines it has                     (10000000)
 # SHAPE     its shape, and further options of make_trace.py (many-locks)
@@ -15,13 +15,13 @@
 set -u
 
 top=$(cd "$(dirname "$0")/.." && pwd)
-program=${1:-$top/crates/goodlock/out/goodlock}
+program=${1:-$(GOODLOCK_WHICH=1 "$top/goodlock")}
 events=${EVENTS:-10000000}
 work=$(mktemp -d)
 trap 'rm -rf "$work"' EXIT
 
 if [ ! -x "$program" ]; then
-    echo "soak.sh: there is no program at $program; ./goodlock predict </dev/null builds it" >&2
+    echo "soak.sh: there is no program at $program" >&2
     exit 2
 fi
 

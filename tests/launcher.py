@@ -1,5 +1,5 @@
 #!/usr/bin/env python3
-"""Tests ./goodlock, which builds the program on first use, with a stand-in for the toolchain.
+"""Tests ./goodlock, which runs the carried program or builds its own, with a stand-in for the toolchain.
 
     launcher.py
 
@@ -7,86 +7,157 @@ The stand-in tells what it was asked and leaves a program that shows its words a
 `N passed, N failed`.
 """
 
+import hashlib
 import os
 import pathlib
 import shutil
 import subprocess
 import sys
 import tempfile
-import time
 import traceback
 
 TOP = pathlib.Path(__file__).resolve().parent.parent
-CRATES = "low:\nside:\nmiddle: low bstr  # with a library of the toolchain's\ngoodlock: clap middle low\n"
+CRATES = "low:\nside:\nmiddle: low bstr  # with a library of the toolchain's\ntwin: low\ngoodlock: clap middle twin low\n"
+LIBRARIES = ("low", "middle", "twin")
+WORDS = ("predict", "--len", "a b")
 
 PROGRAM = r"""#!/bin/sh
 for word; do printf '<%s>' "$word"; done
 cat
-echo said >&2
+echo "said by {0}" >&2
 exit 1
 """
 
-# As the toolchain: `all check` tells of each crate once it is done, and `run` leaves the program and runs it.
+# As the toolchain: `run` leaves the program and runs it.
 STAND_IN = r"""#!/bin/sh
-echo "$PWD: $*" >>"$CALLS"
 cat
-case "$1 $2" in
-    "all check")
-        printf 'rt: chose\n== low\nproved\n== middle\n%s\n== goodlock\n== summary\nlow: ok\n' "$SAYS"
-        exit "$CHECKED" ;;
-    "run --")
-        [ "$3" = predict ] || exit 2
-        [ -x out/goodlock ] || cp "$MADE" out/goodlock
+case "$1 $2 $3" in
+    "version  ") echo "a toolchain" ;;
+    "run -- predict")
+        echo "run" >>"$CALLS"
+        [ "$BUILT" = 0 ] && cp "$MADE" out/goodlock
         echo "no program ran" >&2
         exit "$BUILT" ;;
+    *) exit 2 ;;
 esac
-exit 2
 """
 
+# As the library that the toolchain's command is written over; a crate is proved where it isn't named in UNPROVED.
+LIBRARY = r'''
+import os
 
-class Copy:
-    """A repository with ./goodlock, a few empty crates and the stand-in for rt, which builds only what isn't there."""
+RATTLE = KIT = KEPT = None
+TOP = os.environ["CLONE"]
+
+
+class Crate:
+    known = {}
+
+    def __init__(self, name, uses):
+        self.name, self.folder = name, f"{TOP}/crates/{name}"
+        self.deps = [Crate.known[it] for it in uses if it in Crate.known]
+        Crate.known[name] = self
+
+    def below(self):
+        found = []
+        for it in self.deps:
+            found += [one for one in [*it.below(), it] if one not in found]
+        return found
+
+    def makes_rlib(self):
+        return self.name != "goodlock"
+
+    def count(self, pattern):
+        return 10
+
+    def build_rlib(self, flags, anew):
+        with open(os.environ["CALLS"], "a") as calls:
+            calls.write(f"{self.name} {' '.join(flags)}\n")
+        if self.name in os.environ["UNPROVED"].split():
+            print("an open goal", file=self.out)
+            return 1
+        return 0
+
+
+def crates_below(top):
+    with open(f"{top}/crates.txt") as lines:
+        for line in lines:
+            name, _, uses = line.partition("#")[0].partition(":")
+            Crate(name.strip(), uses.split())
+    return [*Crate.known.values()]
+
+
+def guarded():
+    return []
+
+
+def lock(crates):
+    return []
+
+
+def fmt(*words):
+    return 0
+
+
+def stop_on_text(crate, verb):
+    pass
+'''
+
+
+class Clone:
+    """A repository with ./goodlock, a few empty crates, a carried program, and the stand-in for the toolchain."""
 
     def __init__(self, folder):
         self.top = folder / "a clone"
-        self.later = time.time() - 5_000  # what a run makes is newer than what a test touches
-        for crate in ("low", "side", "middle", "goodlock"):
-            (self.top / "crates" / crate / "src").mkdir(parents=True)
-            (self.top / "crates" / crate / "must-fail").mkdir()
-            self.touch(f"crates/{crate}/src/lib.rt")
-        (self.top / "crates.txt").write_text(CRATES)
-        self.touch("crates.txt")
+        for crate in ("low", "side", "middle", "twin", "goodlock"):
+            self.write(f"crates/{crate}/src/{'main' if crate == 'goodlock' else 'lib'}.rt", "fn f() {}\n")
+        self.write("crates/low/must-fail/wrong.edit", "")
+        self.write("crates.txt", CRATES)
+        (self.top / "tools").mkdir()
+        shutil.copytree(TOP / "tools/gate", self.top / "tools/gate", ignore=shutil.ignore_patterns("__pycache__"))
         shutil.copy(TOP / "goodlock", self.top / "goodlock")
         self.tools = folder / "bin"
         self.tools.mkdir()
-        for name, text in (("rt", STAND_IN), ("made", PROGRAM)):
+        for name, text in (("rt", STAND_IN), ("rtlib.py", LIBRARY), ("made", PROGRAM.replace("{0}", "the built one"))):
             (self.tools / name).write_text(text)
             (self.tools / name).chmod(0o755)
         self.calls = folder / "calls"
+        self.carry()
 
-    def touch(self, name):
-        """The file is newer than all others."""
+    def write(self, name, text):
         path = self.top / name
-        path.touch()
-        self.later += 10
-        os.utime(path, (self.later, self.later))
+        path.parent.mkdir(parents=True, exist_ok=True)
+        path.write_text(text)
 
-    def run(self, *words, text="", with_rt=True, checked=0, built=0, says="proved", **settings):
+    def carry(self):
+        """Carries a program, as built from the sources at hand."""
+        text = PROGRAM.replace("{0}", "the carried one")
+        self.write("prebuilt/goodlock", text)
+        (self.top / "prebuilt/goodlock").chmod(0o755)
+        self.write("prebuilt/SHA256SUMS", f"{hashlib.sha256(text.encode()).hexdigest()}  goodlock\n")
+        of = subprocess.run([self.top / "tools/gate/sources"], stdout=subprocess.PIPE, text=True, check=True).stdout
+        self.write("prebuilt/built-from", f"sources {of}toolchain kit 7\n")
+
+    def run(self, *words, text="", with_rt=True, unproved="", built=0, **settings):
         self.calls.write_text("")
-        folders = [str(self.tools)] * with_rt + ["/usr/bin", "/bin"]
-        own = {"CHECKED": str(checked), "BUILT": str(built), "SAYS": says, "MADE": str(self.tools / "made")}
+        folders = [str(self.tools)] * with_rt + [os.path.dirname(sys.executable), "/usr/bin", "/bin"]
+        if not with_rt:
+            folders = self.without_rt(folders)
+        own = {"CLONE": str(self.top), "UNPROVED": unproved, "BUILT": str(built), "MADE": str(self.tools / "made")}
         done = subprocess.run(
             ["./goodlock", *words], cwd=self.top, input=text, capture_output=True, text=True, timeout=60,
             env={"PATH": ":".join(folders), "CALLS": str(self.calls), **own, **settings},
         )  # fmt: skip
-        calls = [line.removeprefix(f"{self.top}/crates/goodlock: ") for line in self.calls.read_text().splitlines()]
-        return done.stdout, done.stderr, done.returncode, calls
+        return done.stdout, done.stderr, done.returncode, self.calls.read_text().splitlines()
 
-    def built(self):
-        """Built, and newer than all sources; what a run says then."""
-        self.run()
-        self.touch("crates/goodlock/out/goodlock")
-        return "<predict><--len><a b>text", "said\n", 1, []
+    @staticmethod
+    def without_rt(folders):
+        return [folder for folder in folders if not os.path.exists(os.path.join(folder, "rt"))]
+
+
+OUT = "<predict><--len><a b>text"
+CARRIED = OUT, "said by the carried one\n", 1, []
+BUILT = OUT, "said by the built one\n", 1, []
 
 
 def equal(got, expected):
@@ -100,70 +171,131 @@ def has(text, *parts):
             raise AssertionError(f"expected {part!r} in\n{text}")
 
 
-def first_use(copy):
-    out, err, status, calls = copy.run("predict", "--len", "a b", text="text", JOBS="3")
-    equal((out, status, calls), ("<predict><--len><a b>text", 1, ["all check --jobs 3", "run -- predict"]))
-    lines = err.splitlines()
-    has(lines[0], "goodlock: proving 3 crates, 3 at a time")
-    for line, part in zip(lines[1:4], ("1 of 3: low (", "2 of 3: middle (", "3 of 3: goodlock (")):
-        has(line, "goodlock: " + part)
-    built = f"goodlock: built {copy.top}/crates/goodlock/out/goodlock"
-    equal(lines[4:], ["goodlock: building the program", built, "said"])
+def names(calls):
+    return [call.split()[0] for call in calls]
 
 
-def jobs_are_chosen(copy):
-    calls = copy.run()[3]
-    jobs = int(calls[0].removeprefix("all check --jobs "))
-    if not 1 <= jobs <= os.cpu_count():
-        raise AssertionError(f"{jobs} at a time")
+def carried_program(clone):
+    equal(clone.run(*WORDS, text="text"), CARRIED)
+    equal(clone.run(*WORDS, text="text", with_rt=False), CARRIED)
+    out, err, _, _ = clone.run("--version", with_rt=False)
+    equal(out, "<--version>")
+    has(err, f"goodlock: this is {clone.top}/prebuilt/goodlock", "said by the carried one")
+    equal(clone.run("predict", GOODLOCK_WHICH="1"), (f"{clone.top}/prebuilt/goodlock\n", "", 0, []))
 
 
-def later_use(copy):
-    after = copy.built()
-    equal(copy.run("predict", "--len", "a b", text="text"), after)
-    equal(copy.run("predict", "--len", "a b", text="text", with_rt=False), after)
-    equal(copy.run()[0], "")
+def built_where_asked(clone):
+    out, err, status, calls = clone.run(*WORDS, text="text", GOODLOCK_BUILD="1", JOBS="3")
+    equal((out, status, calls[-1]), (OUT, 1, "run"))
+    equal(sorted(names(calls[:-1])), sorted(LIBRARIES))
+    has(err, "goodlock: proving 3 crates", "goodlock: building the program")
+    has(err, f"goodlock: built {clone.top}/crates/goodlock/out/goodlock", "said by the built one")
+    equal(clone.run(*WORDS, text="text", GOODLOCK_BUILD="1"), BUILT)
+    equal(clone.run(*WORDS, text="text", with_rt=False, GOODLOCK_BUILD="1"), BUILT)
+    equal(clone.run(*WORDS, text="text"), CARRIED)
 
 
-def what_is_newer(copy):
-    after = copy.built()
+def jobs_that_are_free(clone):
+    """Alone, a crate has all processes; two that are ready share them."""
+    calls = clone.run(*WORDS, GOODLOCK_BUILD="1", JOBS="2")[3]
+    equal(calls[0], "low --jobs 2")
+    equal(sorted(calls[1:]), ["middle --jobs 1", "run", "twin --jobs 1"])
+
+
+def progress_is_told(clone):
+    err = clone.run(*WORDS, GOODLOCK_BUILD="1")[1]
+    lines = [line for line in err.splitlines() if " of 3: " in line]
+    equal([line.split(" (")[0] for line in lines[:1]], ["goodlock: 1 of 3: low proved"])
+    equal(len(lines), 3)
+
+
+def changed_source(clone):
+    """What differs by content is built, and then neither carried nor old."""
+    clone.write("crates/low/src/lib.rt", "fn f() { }\n")
+    equal(clone.run(*WORDS, text="text")[3][-1], "run")
+    equal(clone.run(*WORDS, text="text"), BUILT)
+    clone.write("crates/middle/specs/New.antt", "")
+    equal(clone.run(*WORDS, text="text")[3][-1], "run")
+    (clone.top / "crates/middle/specs/New.antt").rename(clone.top / "crates/middle/specs/Newer.antt")
+    equal(clone.run(*WORDS, text="text")[3][-1], "run")
+    clone.write("crates.txt", CRATES.replace("bstr", "bstr itoa"))
+    equal(clone.run(*WORDS, text="text")[3][-1], "run")
+    clone.write("crates.txt", CRATES)
+    (clone.top / "crates/middle/specs/Newer.antt").unlink()
+    clone.write("crates/low/src/lib.rt", "fn f() {}\n")
+    equal(clone.run(*WORDS, text="text"), CARRIED)
+
+
+def what_is_no_source(clone):
     for name in ("crates/side/src/lib.rt", "crates/low/must-fail/wrong.edit", "crates/low/out/kept", "README.md"):
-        (copy.top / name).parent.mkdir(exist_ok=True)
-        copy.touch(name)
-        equal(copy.run("predict", "--len", "a b", text="text"), after)
-    for name in ("crates/low/src/lib.rt", "crates/goodlock/src/new.rt", "crates.txt"):
-        copy.touch(name)
-        equal(len(copy.run()[3]), 2)
-        equal(copy.run("predict", "--len", "a b", text="text"), after)
-        copy.built()
+        clone.write(name, "changed")
+    clone.write("crates.txt", CRATES + "# a comment\nmore:\n")
+    (clone.top / "crates/low/src/lib.rt").touch()
+    equal(clone.run(*WORDS, text="text"), CARRIED)
 
 
-def without_toolchain(copy):
-    out, err, status, calls = copy.run("predict", with_rt=False)
+def another_carried_program(clone):
+    """It isn't run where its bytes aren't those that are said."""
+    with open(clone.top / "prebuilt/goodlock", "a") as file:
+        file.write("\n")
+    out, err, status, calls = clone.run(*WORDS, text="text", with_rt=False)
     equal((out, status, calls), ("", 125, []))
-    has(err, "rt isn't on PATH", "crates/goodlock/out/goodlock")
+    has(err, "goodlock: prebuilt/goodlock isn't the file that prebuilt/SHA256SUMS names, so it isn't used")
+    equal(clone.run(*WORDS, text="text")[3][-1], "run")
 
 
-def unproved(copy):
-    out, err, status, calls = copy.run("predict", text="text", checked=1, says="an open goal")
-    equal((out, status, calls), ("", 125, calls[:1]))
-    has(err, "2 of 3: middle", "an open goal", "couldn't be built")
+def without_toolchain(clone):
+    shutil.rmtree(clone.top / "prebuilt")
+    equal(clone.run("predict", with_rt=False)[2:], (125, []))
+    clone.carry()
+    clone.write("crates/low/src/lib.rt", "fn g() {}\n")
+    out, err, status, calls = clone.run("predict", with_rt=False)
+    equal((out, status, calls), ("", 125, []))
+    has(err, "rt isn't on PATH", "Get the Rattle toolchain (kit 7)")
+
+
+def without_its_library(clone):
+    """An rt that isn't written over the library that is known here builds all by itself."""
+    (clone.tools / "rtlib.py").unlink()
+    out, err, status, calls = clone.run(*WORDS, text="text", GOODLOCK_BUILD="1")
+    equal((out, status, calls), (OUT, 1, ["run"]))
+
+
+def unproved(clone):
+    out, err, status, calls = clone.run("predict", text="text", unproved="middle", GOODLOCK_BUILD="1")
+    equal((out, status, "run" in calls), ("", 125, False))
+    has(err, "an open goal", "couldn't be built")
     log = err.splitlines()[-1].split(" is in ")[1]
-    has(pathlib.Path(log).read_text(), "== low\nproved\n== middle\nan open goal\n")
+    has(pathlib.Path(log).read_text(), "== low proved", "== middle NOT PROVED", "an open goal\n")
 
 
-def unbuilt(copy):
-    out, err, status, calls = copy.run("predict", text="text", built=1)
-    equal((out, status, len(calls)), ("", 125, 2))
+def unbuilt(clone):
+    out, err, status, calls = clone.run("predict", text="text", built=1, GOODLOCK_BUILD="1")
+    equal((out, status, calls[-1]), ("", 125, "run"))
     has(err, "no program ran", "couldn't be built")
+
+
+TESTS = (
+    carried_program,
+    built_where_asked,
+    jobs_that_are_free,
+    progress_is_told,
+    changed_source,
+    what_is_no_source,
+    another_carried_program,
+    without_toolchain,
+    without_its_library,
+    unproved,
+    unbuilt,
+)
 
 
 def main():
     passed = failed = 0
-    for test in (first_use, jobs_are_chosen, later_use, what_is_newer, without_toolchain, unproved, unbuilt):
+    for test in TESTS:
         with tempfile.TemporaryDirectory() as folder:
             try:
-                test(Copy(pathlib.Path(folder).resolve()))
+                test(Clone(pathlib.Path(folder).resolve()))
                 passed += 1
             except Exception:
                 failed += 1
