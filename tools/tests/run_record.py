@@ -608,6 +608,18 @@ def plain_mutex_locked_twice():
 
 
 @test
+def mutex_that_another_thread_unlocked():
+    """The second acquire came through: the thread didn't wait for itself."""
+    run = expect("handed_over", """
+        main|acq(a)|@handed_first
+        main|fork(main.1:unlocks_a)|@handed_fork
+        main|join(main.1:unlocks_a)|@handed_join
+        main|rel(a)|@handed_end
+        main.1:unlocks_a|rel(a)|@handed_unlock""")
+    check("waits for itself" not in run.said, run.said)
+
+
+@test
 def more_locks_than_goodlock_reads():
     text = []
     for i in range(66):
