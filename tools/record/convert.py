@@ -256,26 +256,32 @@ def packed_texts(texts):
     )
 
 
-def event_request(process, threads, tables=()):
-    """What goodlock_lines reads: the files, which locks are none, texts, and the chunks of these threads."""
+def packed_files(threads):
+    """The files of these threads' events, and their numbers."""
     files = {}
+    for thread in threads:
+        for path, _, _ in thread.chunks:
+            files.setdefault(path, len(files))
+    return files, array("Q", [len(files)]).tobytes() + b"".join(map(packed_text, files))
+
+
+def packed_numbers(numbers):
+    return array("Q", [len(numbers), *numbers]).tobytes()
+
+
+def packed_chunks(threads, files):
     chunks = array("Q")
     for thread in threads:
         for path, offset, count in thread.chunks:
-            chunks.extend((files.setdefault(path, len(files)), thread.number, offset, count))
-    parts = [array("Q", [len(files)]).tobytes()]
-    parts += map(packed_text, files)
-    parts.append(array("Q", [len(process.no_locks), *process.no_locks]).tobytes())
-    parts += map(packed_texts, tables)
-    parts += [array("Q", [len(chunks) // 4]).tobytes(), chunks.tobytes()]
-    return b"".join(parts)
+            chunks.extend((files[path], thread.number, offset, count))
+    return array("Q", [len(chunks) // 4]).tobytes() + chunks.tobytes()
 
 
-def run_lines(way, request, output):
-    """goodlock_lines, whose output goes to this file."""
+def run_lines(way, request):
+    """What goodlock_lines answers."""
     import subprocess
 
-    done = subprocess.run([built("goodlock_lines"), way], input=request, stdout=output, stderr=subprocess.PIPE)
+    done = subprocess.run([built("goodlock_lines"), way], input=request, stdout=subprocess.PIPE, stderr=subprocess.PIPE)
     if done.returncode != 0:
         raise ConvertError(done.stderr.decode(errors="replace").strip() or "goodlock_lines ended by signal %d" % -done.returncode)
     return done.stdout
@@ -283,10 +289,9 @@ def run_lines(way, request, output):
 
 def scan_events(process, threads):
     """Counts each thread's events by kind; the thread and word of each lock's first event, in the order of these threads."""
-    import subprocess
-
+    files, packed = packed_files(threads)
     answer = array("Q")
-    answer.frombytes(run_lines("scan", event_request(process, threads), subprocess.PIPE))
+    answer.frombytes(run_lines("scan", packed + packed_numbers(process.no_locks) + packed_chunks(threads, files)))
     place = 0
     while answer[place] != NO_THREAD:
         process.threads[answer[place]].kinds = answer[place + 1 : place + 1 + KINDS].tolist()
@@ -603,12 +608,17 @@ def shortened(command):
     return command if len(command) <= 60 else command[:57] + "..."
 
 
-def write_trace(process, file, members=None):
-    """The lines of all threads, or of these alone; then without forks and joins of others."""
+def write_lines(process, traces):
+    """Writes traces of one process: for each the path of its file, and the threads that it is of, or None for all. Forks and joins of
+    other threads are left out."""
     names = process.names
-    order = [thread for thread in names.order if members is None or thread.number in members]
-    threads = {thread.number: thread.name for thread in order}
-    run_lines("write", event_request(process, order, (names.locks, names.places.all(), threads)), file)
+    files, packed = packed_files(names.order)
+    parts = [packed, packed_numbers(process.no_locks), packed_texts(names.locks), packed_texts(names.places.all())]
+    parts.append(array("Q", [len(traces)]).tobytes())
+    for path, members in traces:
+        order = [thread for thread in names.order if members is None or thread.number in members]
+        parts += [packed_text(path), packed_texts({thread.number: thread.name for thread in order}), packed_chunks(order, files)]
+    run_lines("write", b"".join(parts))
 
 
 def windows(process):
@@ -644,13 +654,11 @@ def trace_paths(processes, trace, first):
     return paths
 
 
-def traces_of(summaries):
-    """The name of each trace, the process and the threads that it is of."""
-    for summary in summaries:
-        if summary.events:
-            yield summary.path, summary.process, None
-            for number, members in enumerate(windows(summary.process), 1):
-                yield "%s.window%d" % (summary.path, number), summary.process, members
+def traces_of(summary):
+    """The name of each trace of a process, and the threads that it is of."""
+    yield summary.path, None
+    for number, members in enumerate(windows(summary.process), 1):
+        yield "%s.window%d" % (summary.path, number), members
 
 
 def write_traces(summaries):
@@ -658,11 +666,13 @@ def write_traces(summaries):
     aside, named = [], []
     ending = ".part.%s" % os.urandom(4).hex()
     try:
-        for name, process, members in traces_of(summaries):
-            path = name + ending
-            with open(os.open(path, os.O_WRONLY | os.O_CREAT | os.O_EXCL | os.O_CLOEXEC, 0o666), "wb") as file:
-                aside.append((path, name))
-                write_trace(process, file, members)
+        for summary in summaries:
+            traces = list(traces_of(summary)) if summary.events else []
+            for name, _ in traces:
+                os.close(os.open(name + ending, os.O_WRONLY | os.O_CREAT | os.O_EXCL | os.O_CLOEXEC, 0o666))
+                aside.append((name + ending, name))
+            if traces:
+                write_lines(summary.process, [(name + ending, members) for name, members in traces])
         for path, name in aside:
             take_name(path, name)
             named.append(name)

@@ -283,8 +283,12 @@ def keep_or_remove(recording, running, faults):
             ", ".join("process %s" % process for process in running), recording.directory))
     elif faults:
         say("%s is kept" % recording.directory)
-    elif not recording.remove():
-        say("%s is kept: it holds files that aren't the recorder's" % recording.directory)
+    else:
+        try:
+            if not recording.remove():
+                say("%s is kept: it holds files that aren't the recorder's" % recording.directory)
+        except OSError as error:
+            say("%s can't be removed: %s" % (recording.directory, error.strerror))
 
 
 def run(settings):

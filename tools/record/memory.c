@@ -168,17 +168,22 @@ static size_t block_size(void *block)
     return real.malloc_usable_size ? real.malloc_usable_size(block) : 1;
 }
 
-static inline int block_may_hold(void *block)
+/* Of most blocks the filter says at once that no lock is in their pages. */
+static inline int pages_may_hold(uintptr_t start, uintptr_t end)
 {
-    return unlikely(lock_page_count > 0) && block;
+    uintptr_t first = start >> PAGE_BITS, last = (end - 1) >> PAGE_BITS;
+    return last - first > 1 || *filter_of(first) || *filter_of(last);
 }
 
 EXPORTED void free(void *block)
 {
     if (unlikely(!real_found))
         real_find();
-    if (block_may_hold(block))
-        memory_end((uintptr_t)block, (uintptr_t)block + block_size(block));
+    if (lock_page_count > 0 && block) {
+        uintptr_t start = (uintptr_t)block, end = start + block_size(block);
+        if (unlikely(pages_may_hold(start, end)))
+            memory_end(start, end);
+    }
     real.free(block);
 }
 
@@ -187,7 +192,7 @@ EXPORTED void *realloc(void *block, size_t bytes)
 {
     if (unlikely(!real_found))
         real_find();
-    size_t size = block_may_hold(block) ? block_size(block) : 0;
+    size_t size = lock_page_count > 0 && block ? block_size(block) : 0;
     void *result = real.realloc(block, bytes);
     if (unlikely(size > 0 && (result || bytes == 0))) {
         uintptr_t start = (uintptr_t)block;

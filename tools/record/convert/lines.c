@@ -2,14 +2,16 @@
  * Reads the events of a recording, in memory that doesn't grow with their number. convert.py runs it twice:
  *
  *     goodlock_lines scan  < REQUEST     which events there are, and where each lock is used first
- *     goodlock_lines write < REQUEST     the lines of a trace
+ *     goodlock_lines write < REQUEST     the lines of traces
  *
  * A request is a row of words of 8 bytes in the machine's byte order; a text is its length in bytes and then its bytes,
  * filled up with zeros to a whole word:
  *
  *     number of files;   a text each: the path
  *     number of locks that turned out to be none: their events don't count;   each: its number
- *     `write` alone, for locks, places and threads: number of texts;   each: its number, a text
+ *     `write` alone, for locks and places: number of texts;   each: its number, a text
+ *     `write` alone: number of traces;   each: a text, the path of its file, and as follows
+ *     `write` alone, for threads: number of texts;   each: its number, a text
  *     number of chunks;  each: file, thread, offset of its words in the file, how many
  *
  * `write` leaves out forks and joins of threads without a text. `scan` answers, for each thread in the order of the chunks, its number and how many events of each of the 32 kinds it has,
@@ -206,11 +208,12 @@ static void events_read(struct request *request, const int *files, void (*use)(v
 
 static char output[OUTPUT_BYTES];
 static size_t output_used;
+static int output_file = 1;
 
 static void output_flush(void)
 {
     for (size_t done = 0; done < output_used;) {
-        ssize_t put = write(1, output + done, output_used - done);
+        ssize_t put = write(output_file, output + done, output_used - done);
         if (put < 0)
             fail("writing");
         done += (size_t)put;
@@ -343,6 +346,12 @@ static void lines_use(void *state, uint64_t thread, const uint64_t *words, size_
     }
 }
 
+static void texts_drop(struct texts *texts)
+{
+    free(texts->of);
+    *texts = (struct texts){NULL, 0};
+}
+
 static void lines_all(struct request *request)
 {
     struct lines lines;
@@ -350,8 +359,20 @@ static void lines_all(struct request *request)
     no_locks_read(request);
     lines.locks = next_texts(request);
     lines.places = next_texts(request);
-    lines.threads = next_texts(request);
-    events_read(request, files, lines_use, &lines);
+    for (uint64_t left = next_word(request); left > 0; left--) {
+        struct text path = next_text(request);
+        char *name = strndup(path.bytes, path.size);
+        output_file = open(name, O_WRONLY | O_CLOEXEC);
+        if (output_file < 0)
+            fail(name);
+        free(name);
+        lines.threads = next_texts(request);
+        events_read(request, files, lines_use, &lines);
+        texts_drop(&lines.threads);
+        output_flush();
+        if (close(output_file) != 0)
+            fail("writing");
+    }
 }
 
 int main(int count, char **arguments)
