@@ -18,6 +18,7 @@ CHUNK_HEAD = 32
 CHUNK_EVENTS, CHUNK_TABLE = 0x676C6576, 0x676C7462
 RECORD_PROCESS, RECORD_MODULE, RECORD_SITE, RECORD_LOCK, RECORD_THREAD = 1, 2, 3, 4, 5
 RECORD_START, RECORD_UNLOADED, RECORD_LOSSES = 6, 7, 8
+RECORD_PLACE, RECORD_LOCK_KIND, RECORD_LOCK_NAME, RECORD_ROUTINE, RECORD_NOTE, RECORD_NO_LOCK = 16, 17, 18, 19, 20, 21
 LOCK_CLASSES = {1: "mutex", 2: "rwlock", 3: "spin", 4: "once", 5: "static"}
 LOCK_MADE = 1
 FOREIGN = 0xFFFFFFFF
@@ -43,7 +44,7 @@ class ConvertError(Exception):
 
 
 class Lock:
-    __slots__ = ("number", "kind", "made", "address", "site", "thread", "order", "when")
+    __slots__ = ("number", "kind", "made", "address", "site", "thread", "order", "when", "name")
 
     def __init__(self, values, when):
         self.number, kinds, self.address, self.site, thread = values
@@ -51,6 +52,7 @@ class Lock:
         self.made = kinds >> 32 == LOCK_MADE
         self.thread, self.order = thread & 0xFFFFFFFF, thread >> 32
         self.when = when
+        self.name = None  # that its recorder told
 
 
 class Thread:
@@ -64,6 +66,7 @@ class Thread:
         self.kinds = [0] * KINDS
         self.path = None
         self.name = None
+        self.routine_name = None  # that its recorder told
 
 
 class LoadedModule:
@@ -124,6 +127,9 @@ class Process:
         self.locks = {}
         self.threads = {}
         self.lost = Counter()
+        self.places = {}  # number: lines `path:line`, of a recorder that knows names
+        self.notes = []
+        self.no_locks = []
         self.names = None
 
     def read_table(self, words, modules):
@@ -156,6 +162,23 @@ class Process:
             self.threads[values[0]] = Thread(values.tolist(), self.modules.when)
         elif kind == RECORD_LOSSES:
             self.lost = Counter(dict(zip(("events", "locks", "places", "threads"), values.tolist())))
+        elif kind == RECORD_NO_LOCK:
+            self.no_locks.append(values[0])
+        elif RECORD_PLACE <= kind <= RECORD_NOTE:
+            self.read_text(kind, values[0], text_of(values[1:]))
+
+    def read_text(self, kind, number, text):
+        """A record of a recorder that knows names. It comes after that of the lock or thread."""
+        if kind == RECORD_PLACE:
+            self.places[number] = text.split("\n")
+        elif kind == RECORD_LOCK_KIND:
+            self.locks[number].kind = text
+        elif kind == RECORD_LOCK_NAME:
+            self.locks[number].name = text
+        elif kind == RECORD_ROUTINE:
+            self.threads[number].routine_name = text
+        else:
+            self.notes.append(text.replace("%d", "%d" % number))
 
 
 def text_of(words):
@@ -242,6 +265,10 @@ def packed_files(threads):
     return files, array("Q", [len(files)]).tobytes() + b"".join(map(packed_text, files))
 
 
+def packed_numbers(numbers):
+    return array("Q", [len(numbers), *numbers]).tobytes()
+
+
 def packed_chunks(threads, files):
     chunks = array("Q")
     for thread in threads:
@@ -264,7 +291,7 @@ def scan_events(process, threads):
     """Counts each thread's events by kind; the thread and word of each lock's first event, in the order of these threads."""
     files, packed = packed_files(threads)
     answer = array("Q")
-    answer.frombytes(run_lines("scan", packed + packed_chunks(threads, files)))
+    answer.frombytes(run_lines("scan", packed + packed_numbers(process.no_locks) + packed_chunks(threads, files)))
     place = 0
     while answer[place] != NO_THREAD:
         process.threads[answer[place]].kinds = answer[place + 1 : place + 1 + KINDS].tolist()
@@ -301,6 +328,8 @@ class Places:
         return self.known[site]
 
     def find_text(self, site):
+        if site in self.process.places:
+            return clean("<".join(map(self.sources.shortened, self.process.places[site])))
         if site not in self.process.sites:
             parent = self.process.parent
             return parent.names.places.text(site) if parent and parent.names and site else "?"
@@ -314,7 +343,7 @@ class Places:
         """The texts of all sites that an event may have."""
         process, numbers = self.process, set()
         while process:
-            numbers.update(process.sites)
+            numbers.update(process.sites, process.places)
             process = process.parent
         return {number: self.text(number) for number in sorted(numbers)}
 
@@ -331,7 +360,14 @@ class Sources:
                     if loaded:
                         asked.setdefault(loaded.module, set()).add(address - 1 - loaded.bias)
         self.lines = {module: module.lines_of(addresses) for module, addresses in asked.items()}
-        self.short = short_paths({f[1] for found in self.lines.values() for frames in found.values() for f in frames})
+        paths = {f[1] for found in self.lines.values() for frames in found.values() for f in frames}
+        for process in processes:
+            paths.update(place.rpartition(":")[0] for places in process.places.values() for place in places if ":" in place)
+        self.short = short_paths(paths)
+
+    def shortened(self, place):
+        path, colon, line = place.rpartition(":")
+        return self.short[path] + colon + line if colon else line
 
     def frames(self, process, address, when):
         """The program's own lines at an address, the innermost first; never empty."""
@@ -379,7 +415,7 @@ class Names:
             path = self.path_of(thread)
             root = "main" if path[0] == 0 else "other"
             name = ".".join([root] + ["%d" % child for child in path[1:]])
-            routine = routine_name(routines[thread.number], readable)
+            routine = thread.routine_name or routine_name(routines[thread.number], readable)
             thread.name = clean(name + (":" + routine if routine else ""))
 
     def symbol_of(self, address, when, begins=False):
@@ -411,6 +447,7 @@ class Names:
         own = self.process.locks
         firsts = scan_events(self.process, self.order)
         self.name_static(own)
+        self.name_told(own)
         rank = {thread.number: i for i, thread in enumerate(self.order)}
         made = [lock for lock in own.values() if lock.made]
         for lock in sorted(made, key=lambda lock: (rank.get(lock.thread, len(rank)), lock.order)):
@@ -458,9 +495,18 @@ class Names:
             if shared[name] > 1:
                 name = "%s@%s+0x%x" % (name, place[0].name, place[1])
             for lock in group:
-                self.counts[name] += 1
-                count = self.counts[name]
-                self.locks[lock.number] = clean(name if count == 1 else "%s#%d" % (name, count))
+                self.name_counted(lock, name)
+
+    def name_told(self, locks):
+        """Locks whose whole name was told."""
+        for lock in sorted(locks.values(), key=lambda lock: lock.number):
+            if lock.name:
+                self.name_counted(lock, lock.name)
+
+    def name_counted(self, lock, name):
+        self.counts[name] += 1
+        count = self.counts[name]
+        self.locks[lock.number] = clean(name if count == 1 else "%s#%d" % (name, count))
 
     def name_by_place(self, lock, site, thread):
         """kind@file:line#count, with the thread's name where it isn't the first thread."""
@@ -519,6 +565,8 @@ class Summary:
         for what, count in self.lost.items():
             if count:
                 yield "%s: %d %s were lost: there was no room for them" % (self.path if self.events else self.name(), count, what)
+        for note in process.notes:
+            yield "%s: %s" % (self.path if self.events else self.name(), note)
         if not self.events:
             return
         if not self.locks:
@@ -565,7 +613,8 @@ def write_lines(process, traces):
     other threads are left out."""
     names = process.names
     files, packed = packed_files(names.order)
-    parts = [packed, packed_texts(names.locks), packed_texts(names.places.all()), array("Q", [len(traces)]).tobytes()]
+    parts = [packed, packed_numbers(process.no_locks), packed_texts(names.locks), packed_texts(names.places.all())]
+    parts.append(array("Q", [len(traces)]).tobytes())
     for path, members in traces:
         order = [thread for thread in names.order if members is None or thread.number in members]
         parts += [packed_text(path), packed_texts({thread.number: thread.name for thread in order}), packed_chunks(order, files)]

@@ -35,11 +35,43 @@ class Failed(Exception):
         self.status = status
 
 
+class Recorder:
+    """What the recorders have each in their own way: this is the one of the C library's locks."""
+
+    name = "goodlock-record"
+
+    def prepare(self):
+        """Before anything is made."""
+        self.preload = Preload()
+
+    def environment(self, settings, directory):
+        """The program's."""
+        return child_environment(settings, directory, self.preload.path)
+
+    def clean_up(self):
+        self.preload.remove()
+
+    def advice(self, processes, settings):
+        """Lines on what another recorder would see."""
+        from runtimes import runtime_lines
+
+        return runtime_lines(processes, settings.command)
+
+    def reason(self, loaded):
+        """Why there is no event."""
+        if loaded:
+            return "the program took no lock and made no thread by a call that can be recorded, or there was no room"
+        return "the recorder wasn't loaded: is the program statically linked, set-user-id or of another machine type?"
+
+
+recorder = Recorder()
+
+
 def say(text):
     """A line on standard error. Where that is closed, or on a full disk, nobody hears it."""
     try:
         if sys.stderr:
-            sys.stderr.write("goodlock-record: " + text + "\n")
+            sys.stderr.write(recorder.name + ": " + text + "\n")
             sys.stderr.flush()
     except OSError:
         pass
@@ -73,7 +105,7 @@ def read_frames(text):
     return int(text)
 
 
-def read_arguments(arguments):
+def read_arguments(arguments, explanation=__doc__, usage=USAGE):
     settings = Settings()
     rest = list(arguments)
     while rest and rest[0].startswith("-"):
@@ -81,15 +113,15 @@ def read_arguments(arguments):
         if word == "--":
             break
         if word in ("-h", "--help"):
-            print(__doc__.strip())
+            print(explanation.strip())
             sys.exit(0)
         if word == "--all":
             settings.all = True
             continue
         if word not in ("-o", "--frames", "--convert"):
-            raise Failed("unknown option %s\n%s" % (word, USAGE))
+            raise Failed("unknown option %s\n%s" % (word, usage))
         if not rest:
-            raise Failed("%s takes a value\n%s" % (word, USAGE))
+            raise Failed("%s takes a value\n%s" % (word, usage))
         value = rest.pop(0)
         if word == "-o":
             settings.trace = value
@@ -99,7 +131,7 @@ def read_arguments(arguments):
             settings.convert = value
     settings.command = rest
     if not settings.command and settings.convert is None:
-        raise Failed(USAGE)
+        raise Failed(usage)
     return settings
 
 
@@ -177,13 +209,13 @@ def record(settings):
     from family import WAITED, Family, adopt_orphans
     from recording import new_recording
 
-    preload = Preload()
+    recorder.prepare()
     try:
         recording = new_recording(settings.trace)
     except OSError as error:
-        preload.remove()
+        recorder.clean_up()
         raise Failed("can't write beside %s: %s" % (settings.trace, error.strerror))
-    environment = child_environment(settings, recording.directory, preload.path)
+    environment = recorder.environment(settings, recording.directory)
     if not adopt_orphans():
         say("processes that outlive their parents aren't waited for: Python's ctypes is missing")
     family = Family(recording, say)
@@ -196,7 +228,7 @@ def record(settings):
         recording.remove()
         raise
     finally:
-        preload.remove()
+        recorder.clean_up()
     return recording, process, exit_status(status), running
 
 
@@ -223,17 +255,19 @@ def recording_at(path):
     return recording
 
 
-def convert_all(recording, trace, first, running):
+def convert_all(recording, settings, first, running):
     """Writes the traces; whether there is an event in any, and whether any process began its files. `running`: the processes
     that still write, as was seen before anything is read."""
     from build import BuildError
     from convert import ConvertError, convert_recording, summary_lines
 
     try:
-        summaries, faults = convert_recording(recording, trace, first)
+        summaries, faults = convert_recording(recording, settings.trace, first)
     except (BuildError, ConvertError, OSError) as error:
         raise Failed("%s (what was recorded is kept in %s)" % (error, recording.directory))
     for line in summary_lines(summaries) + faults:
+        say(line)
+    for line in recorder.advice([summary.process for summary in summaries], settings):
         say(line)
     unrecorded = recording.unrecorded()
     if unrecorded:
@@ -249,21 +283,15 @@ def keep_or_remove(recording, running, faults):
             ", ".join("process %s" % process for process in running), recording.directory))
     elif faults:
         say("%s is kept" % recording.directory)
-    elif not recording.remove():
-        say("%s is kept: it holds files that aren't the recorder's" % recording.directory)
-
-
-def explain_no_events(loaded, status):
-    if loaded:
-        reason = "the program took no lock and made no thread by a call that can be recorded, or there was no room"
     else:
-        reason = "the recorder wasn't loaded: is the program statically linked, set-user-id or of another machine type?"
-    say("no events, no trace: %s (the program's own status was %d)" % (reason, status))
+        try:
+            if not recording.remove():
+                say("%s is kept: it holds files that aren't the recorder's" % recording.directory)
+        except OSError as error:
+            say("%s can't be removed: %s" % (recording.directory, error.strerror))
 
 
-def main():
-    fill_closed_descriptors()
-    settings = read_arguments(sys.argv[1:])
+def run(settings):
     if os.path.lexists(settings.trace):
         raise Failed("%s exists already; nothing was run" % settings.trace)
     if settings.convert is not None:
@@ -271,19 +299,27 @@ def main():
         running = recording.writers()
     else:
         recording, first, status, running = record(settings)
-    found, loaded = convert_all(recording, settings.trace, first, running)
+    found, loaded = convert_all(recording, settings, first, running)
     if not found:
-        explain_no_events(loaded, status)
+        say("no events, no trace: %s (the program's own status was %d)" % (recorder.reason(loaded), status))
         return STATUS_NO_EVENTS
     return status
 
 
-if __name__ == "__main__":
+def main(read, used):
+    """Reads the arguments and runs, with this recorder; the status."""
+    global recorder
+    recorder = used
+    fill_closed_descriptors()
     try:
-        sys.exit(main())
+        return run(read(sys.argv[1:]))
     except Failed as failure:
         say(str(failure))
-        sys.exit(failure.status)
+        return failure.status
     except Exception as failure:  # Python's own status 1 could be the program's
         say("internal error: %r" % failure)
-        sys.exit(STATUS_FAILED)
+        return STATUS_FAILED
+
+
+if __name__ == "__main__":
+    sys.exit(main(read_arguments, Recorder()))

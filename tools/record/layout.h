@@ -67,6 +67,13 @@ enum record_kind {
     RECORD_START = 6,
     RECORD_UNLOADED = 7,
     RECORD_LOSSES = 8,
+    /* Of recorders that know names and no addresses, as those of Java and Python. */
+    RECORD_PLACE = 16,     /* a site's text: lines `path:line` or without a colon, the innermost first */
+    RECORD_LOCK_KIND = 17, /* what stands for a lock's class in its name */
+    RECORD_LOCK_NAME = 18, /* a lock's whole name */
+    RECORD_ROUTINE = 19,   /* what stands for a thread's start routine in its name */
+    RECORD_NOTE = 20,      /* a line for standard error; the number in it is `%d` in the text */
+    RECORD_NO_LOCK = 21,   /* this number was a lock's and turned out to be none: its events don't count */
 };
 
 struct process_record {
@@ -134,6 +141,12 @@ struct lock_record {
     uint64_t address;
     uint64_t site;             /* of the call that made it */
     uint64_t thread_and_order; /* who made it in bits 0-31; how many locks that thread had made before */
+};
+
+struct text_record {
+    uint64_t head;
+    uint64_t number; /* of the site, lock or thread */
+    char text[];     /* ended by a zero byte */
 };
 
 #define THREAD_FOREIGN 0xffffffffu

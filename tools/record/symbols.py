@@ -13,6 +13,8 @@ NT_GNU_BUILD_ID = 3
 
 # Sources of the C++ library: what is inlined from them isn't the program's own line.
 WRAPPER_SOURCE = re.compile(r"/c\+\+/(v1|\d+(\.\d+)*)/|libstdc\+\+-v3/|/gthr-[a-z]+\.h$")
+# Names of Python's that say nothing without a directory.
+PACKAGE_FILES = ("__init__.py", "__main__.py")
 DISCRIMINATOR = re.compile(r" \(discriminator \d+\)$")
 
 
@@ -161,7 +163,8 @@ def short_paths(paths):
             groups.setdefault("/".join(parts[path][-length:]), []).append(path)
         waiting = []
         for name, group in groups.items():
-            if len(group) == 1 or all(len(parts[p]) <= length for p in group):
+            whole = all(len(parts[p]) <= length for p in group)
+            if whole or len(group) == 1 and name not in PACKAGE_FILES:
                 for path in group:
                     short[path] = name
             else:

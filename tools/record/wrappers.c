@@ -21,7 +21,8 @@ static inline int is_plain(const pthread_mutex_t *lock)
     return type != PTHREAD_MUTEX_RECURSIVE_NP && type != PTHREAD_MUTEX_ERRORCHECK_NP;
 }
 
-/* A call that may wait for ever: the acquire is written before it. */
+/* A call that may wait for ever: the acquire is written before it. If that of a plain mutex which the thread holds comes back,
+ * another thread had unlocked it: it is held as before. */
 #define ACQUIRE(lock, class, kind, plain, good, call)                                                  \
     struct thread *thread = recording_thread();                                                 \
     if (unlikely(!thread))                                                                      \
@@ -33,7 +34,7 @@ static inline int is_plain(const pthread_mutex_t *lock)
     int result = call;                                                                          \
     if (unlikely(confirming))                                                                   \
         confirm_after(thread);                                                                  \
-    if (unlikely(!(good)))                                                                      \
+    if (unlikely(!(good) || word_kind(*place) == EVENT_AGAIN))                                  \
         acquire_take_back(thread, place);                                                       \
     return result
 

@@ -608,6 +608,18 @@ def plain_mutex_locked_twice():
 
 
 @test
+def mutex_that_another_thread_unlocked():
+    """The second acquire came through: the thread didn't wait for itself."""
+    run = expect("handed_over", """
+        main|acq(a)|@handed_first
+        main|fork(main.1:unlocks_a)|@handed_fork
+        main|join(main.1:unlocks_a)|@handed_join
+        main|rel(a)|@handed_end
+        main.1:unlocks_a|rel(a)|@handed_unlock""")
+    check("waits for itself" not in run.said, run.said)
+
+
+@test
 def more_locks_than_goodlock_reads():
     text = []
     for i in range(66):
@@ -1331,41 +1343,44 @@ def an_earlier_preload_library_stays():
 
 
 def run_one(function):
-    """Whether it passed."""
+    """`passed`, `failed` or `skipped`: a test that can't run here gives back why."""
     try:
         note = function()
     except Failure as failure:
         print("%s: FAILED\n    %s" % (function.__name__, failure))
-        return False
+        return "failed"
     except Exception:
         print("%s: FAILED\n%s" % (function.__name__, traceback.format_exc()))
-        return False
+        return "failed"
     if note:
         print("%s: %s" % (function.__name__, note))
-    return True
+        return "skipped"
+    return "passed"
+
+
+def run_all(tests, wanted):
+    """Runs those that are wanted; the status."""
+    counts = {"passed": 0, "failed": 0, "skipped": 0}
+    for function in tests:
+        if not wanted or function.__name__ in wanted:
+            counts[run_one(function)] += 1
+    if counts["skipped"]:
+        print("%d skipped" % counts["skipped"])
+    print("%d passed, %d failed" % (counts["passed"], counts["failed"]))
+    return 1 if counts["failed"] or counts["passed"] == 0 else 0
 
 
 def main():
     # Where the tests run in the background this signal may be ignored, and programs inherit that.
     signal.signal(signal.SIGINT, signal.default_int_handler)
-    wanted = sys.argv[1:]
     directory = os.path.realpath(tempfile.mkdtemp(prefix="goodlock-record-tests."))
     os.chdir(directory)
-    passed = failed = 0
     try:
         build_all()
-        for function in RUN_TESTS:
-            if wanted and function.__name__ not in wanted:
-                continue
-            if run_one(function):
-                passed += 1
-            else:
-                failed += 1
+        return run_all(RUN_TESTS, sys.argv[1:])
     finally:
         os.chdir("/")
         shutil.rmtree(directory)
-    print("%d passed, %d failed" % (passed, failed))
-    return 1 if failed or passed == 0 else 0
 
 
 if __name__ == "__main__":

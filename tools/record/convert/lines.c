@@ -8,6 +8,7 @@
  * filled up with zeros to a whole word:
  *
  *     number of files;   a text each: the path
+ *     number of locks that turned out to be none: their events don't count;   each: its number
  *     `write` alone, for locks and places: number of texts;   each: its number, a text
  *     `write` alone: number of traces;   each: a text, the path of its file, and as follows
  *     `write` alone, for threads: number of texts;   each: its number, a text
@@ -135,6 +136,50 @@ static int *files_open(struct request *request)
     return files;
 }
 
+/* A set of locks, as bits. */
+struct locks {
+    uint64_t *bits;
+    uint64_t words;
+};
+
+static int locks_have(const struct locks *locks, uint64_t lock)
+{
+    return lock / 64 < locks->words && (locks->bits[lock / 64] >> lock % 64 & 1);
+}
+
+static void locks_add(struct locks *locks, uint64_t lock)
+{
+    uint64_t place = lock / 64;
+    if (place >= locks->words) {
+        uint64_t count = place + place / 2 + 64;
+        locks->bits = memory(locks->bits, count * sizeof *locks->bits);
+        memset(locks->bits + locks->words, 0, (count - locks->words) * sizeof *locks->bits);
+        locks->words = count;
+    }
+    locks->bits[place] |= 1ull << lock % 64;
+}
+
+static struct locks no_locks;
+
+static void no_locks_read(struct request *request)
+{
+    for (uint64_t left = next_word(request); left > 0; left--)
+        locks_add(&no_locks, next_word(request));
+}
+
+static int is_of_thread(uint64_t word)
+{
+    return word % KINDS == EVENT_FORK || word % KINDS == EVENT_JOIN;
+}
+
+/* Events of locks that are none become zeros, which stand for no event. */
+static void no_locks_leave_out(uint64_t *words, size_t count)
+{
+    for (size_t i = 0; no_locks.words > 0 && i < count; i++)
+        if (!is_of_thread(words[i]) && locks_have(&no_locks, words[i] >> OBJECT_SHIFT))
+            words[i] = 0;
+}
+
 /* Calls `use` with the words of each chunk, in pieces. */
 static void events_read(struct request *request, const int *files, void (*use)(void *, uint64_t, const uint64_t *, size_t),
                         void *state)
@@ -151,6 +196,7 @@ static void events_read(struct request *request, const int *files, void (*use)(v
             if (got < (ssize_t)sizeof piece[0])
                 break;
             size_t count = (size_t)got / sizeof piece[0];
+            no_locks_leave_out(piece, count);
             use(state, thread, piece, count);
             offset += count * sizeof piece[0];
             words -= count;
@@ -192,8 +238,7 @@ static void output_put(const char *bytes, size_t size)
 /* --- Scanning --------------------------------------------------------------------------------------------- */
 
 struct scan {
-    uint64_t *bits; /* of locks that were met */
-    uint64_t bit_words;
+    struct locks met;
     uint64_t *firsts;
     size_t first_count, first_room;
     uint64_t thread, counts[KINDS];
@@ -210,16 +255,9 @@ static void scan_thread_end(struct scan *scan)
 
 static void scan_lock(struct scan *scan, uint64_t word)
 {
-    uint64_t lock = word >> OBJECT_SHIFT, place = lock / 64;
-    if (place >= scan->bit_words) {
-        uint64_t count = place + place / 2 + 64;
-        scan->bits = memory(scan->bits, count * sizeof *scan->bits);
-        memset(scan->bits + scan->bit_words, 0, (count - scan->bit_words) * sizeof *scan->bits);
-        scan->bit_words = count;
-    }
-    if (scan->bits[place] >> lock % 64 & 1)
+    if (locks_have(&scan->met, word >> OBJECT_SHIFT))
         return;
-    scan->bits[place] |= 1ull << lock % 64;
+    locks_add(&scan->met, word >> OBJECT_SHIFT);
     if (scan->first_count + 2 > scan->first_room) {
         scan->first_room = 2 * scan->first_room + 1024;
         scan->firsts = memory(scan->firsts, scan->first_room * sizeof *scan->firsts);
@@ -240,7 +278,7 @@ static void scan_use(void *state, uint64_t thread, const uint64_t *words, size_t
         if (words[i] == 0)
             continue;
         scan->counts[kind]++;
-        if (kind != EVENT_FORK && kind != EVENT_JOIN)
+        if (!is_of_thread(words[i]))
             scan_lock(scan, words[i]);
     }
 }
@@ -249,6 +287,7 @@ static void scan_all(struct request *request)
 {
     struct scan scan = {.thread = NO_THREAD};
     int *files = files_open(request);
+    no_locks_read(request);
     events_read(request, files, scan_use, &scan);
     scan_thread_end(&scan);
     uint64_t end[KINDS + 1];
@@ -296,12 +335,11 @@ static void lines_use(void *state, uint64_t thread, const uint64_t *words, size_
         const char *operation = operations[word % KINDS];
         if (!operation)
             continue;
-        int of_threads = word % KINDS == EVENT_FORK || word % KINDS == EVENT_JOIN;
-        if (of_threads && !has_text(&lines->threads, word >> OBJECT_SHIFT))
+        if (is_of_thread(word) && !has_text(&lines->threads, word >> OBJECT_SHIFT))
             continue;
         put_text(&lines->threads, thread);
         output_put(operation, strlen(operation));
-        put_text(of_threads ? &lines->threads : &lines->locks, word >> OBJECT_SHIFT);
+        put_text(is_of_thread(word) ? &lines->threads : &lines->locks, word >> OBJECT_SHIFT);
         output_put(")|", 2);
         put_text(&lines->places, word >> SITE_SHIFT & (SITE_LIMIT - 1));
         output_put("\n", 1);
@@ -318,6 +356,7 @@ static void lines_all(struct request *request)
 {
     struct lines lines;
     int *files = files_open(request);
+    no_locks_read(request);
     lines.locks = next_texts(request);
     lines.places = next_texts(request);
     for (uint64_t left = next_word(request); left > 0; left--) {

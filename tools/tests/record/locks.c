@@ -460,6 +460,23 @@ static void again_plain(void)
     pthread_mutex_lock(&a);                                                    /* @again_twice */
 }
 
+static void *unlocks_a(void *unused)
+{
+    pthread_mutex_unlock(&a);                                                  /* @handed_unlock */
+    return unused;
+}
+
+/* The mutex that the thread locks twice was unlocked by another one in between. */
+static void handed_over(void)
+{
+    pthread_t thread;
+    pthread_mutex_lock(&a);                                                    /* @handed_first */
+    pthread_create(&thread, NULL, unlocks_a, NULL);                            /* @handed_fork */
+    pthread_join(thread, NULL);                                                /* @handed_join */
+    pthread_mutex_lock(&a);
+    pthread_mutex_unlock(&a);                                                  /* @handed_end */
+}
+
 static void beyond(void)
 {
     for (int i = 0; i < 66; i++)
@@ -764,7 +781,7 @@ static const struct {
     {"owner_died", owner_died}, {"made_again", made_again}, {"rwlocks", rwlocks}, {"spins", spins}, {"c11", c11},
     {"conditions", conditions}, {"cancel", cancel}, {"threads", threads}, {"two_makers", two_makers},
     {"racing", racing}, {"deadlock", deadlock}, {"aborts", aborts}, {"leaves_at_once", leaves_at_once},
-    {"upgrade", upgrade}, {"again_plain", again_plain}, {"beyond", beyond}, {"gives_up_root", gives_up_root},
+    {"upgrade", upgrade}, {"again_plain", again_plain}, {"handed_over", handed_over}, {"beyond", beyond}, {"gives_up_root", gives_up_root},
     {"many_locks", many_locks}, {"waits_in_background", waits_in_background}, {"stray", stray}, {"keys", keys}, {"signals", signals}, {"signal_storm", signal_storm},
     {"repeats", repeats}, {"volume", volume}, {"volume_and_wait", volume_and_wait}, {"many_threads", many_threads}, {"forks", forks},
     {"raw_fork", raw_fork}, {"executes", executes}, {"clears_environment", clears_environment},

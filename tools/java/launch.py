@@ -1,0 +1,75 @@
+"""Records the monitors and locks of a Java program, unchanged, as a trace that goodlock reads.
+
+    goodlock-java [-o TRACE] [--frames N] [--all] [--jdk] [--] java [ARGUMENT..]
+    goodlock-java [-o TRACE] --convert DIRECTORY
+
+In java's place may stand whatever starts a JVM. docs/RECORDING-JAVA.md explains it.
+"""
+
+import os
+import sys
+
+HERE = os.path.dirname(os.path.realpath(__file__))
+sys.path[:0] = [os.path.join(os.path.dirname(HERE), "record"), HERE]
+sys.pycache_prefix = os.path.join(os.path.dirname(HERE), "out", "python")
+
+import launch as recording  # noqa: E402
+
+USAGE = __doc__.split("\n\n")[1]
+
+
+def read_arguments(arguments):
+    """The options of all recorders, and --jdk."""
+    rest = []
+    jdk = False
+    arguments = list(arguments)
+    while arguments and arguments[0].startswith("-") and arguments[0] != "--":
+        word = arguments.pop(0)
+        if word == "--jdk":
+            jdk = True
+            continue
+        rest.append(word)
+        if word in ("-o", "--frames", "--convert") and arguments:
+            rest.append(arguments.pop(0))
+    settings = recording.read_arguments(rest + arguments, __doc__, USAGE)
+    settings.jdk = jdk
+    return settings
+
+
+class JavaRecorder(recording.Recorder):
+    name = "goodlock-java"
+
+    def prepare(self):
+        from agent import AgentError, agent_option
+
+        try:
+            self.option = agent_option()
+        except AgentError as error:
+            raise recording.Failed(str(error))
+
+    def environment(self, settings, directory):
+        environment = dict(os.environ)
+        # The JVM takes words in quotes together.
+        option = "'%s'" % self.option if " " in self.option else self.option
+        environment["JAVA_TOOL_OPTIONS"] = " ".join([option] + environment.get("JAVA_TOOL_OPTIONS", "").split(None, 0))
+        environment["GOODLOCK_JAVA_DIRECTORY"] = directory
+        environment["GOODLOCK_JAVA_FRAMES"] = str(settings.frames)
+        for name, wanted in (("GOODLOCK_JAVA_ALL", settings.all), ("GOODLOCK_JAVA_JDK", settings.jdk)):
+            if wanted:
+                environment[name] = "1"
+        return environment
+
+    def clean_up(self):
+        pass
+
+    def advice(self, processes, settings):
+        return []
+
+    def reason(self, loaded):
+        if loaded:
+            return "the program took no monitor or lock and started no thread, in classes that aren't the JDK's"
+        return "no JVM was recorded: Java 17 or later reads JAVA_TOOL_OPTIONS, which loads the recorder"
+
+
+if __name__ == "__main__":
+    sys.exit(recording.main(read_arguments, JavaRecorder()))

@@ -1,0 +1,88 @@
+package goodlock.runtime;
+
+import java.lang.StackWalker.StackFrame;
+import java.lang.reflect.Field;
+import java.util.Iterator;
+import java.util.stream.Stream;
+
+/** Places that only the stack tells, and what a thread runs. */
+final class Places {
+    private static final StackWalker WALKER = StackWalker.getInstance(StackWalker.Option.RETAIN_CLASS_REFERENCE);
+    private static final Field TARGET = Kinds.field(Thread.class, "target");
+    private static final Field HOLDER = Kinds.field(Thread.class, "holder");
+    private static int frames;
+
+    private Places() {
+    }
+
+    static void start(int wanted) {
+        frames = wanted;
+    }
+
+    /** The innermost frame of the program's own that called the recorder, with its callers. */
+    static String withCallers() {
+        return WALKER.walk(stack -> text(stack, false));
+    }
+
+    /** The same, where classes of the JDK stand for their callers, if there is any of the program's. */
+    static String ofCaller() {
+        String text = WALKER.walk(stack -> text(stack, true));
+        return text.isEmpty() ? WALKER.walk(stack -> text(stack, false)) : text;
+    }
+
+    private static String text(Stream<StackFrame> stack, boolean programOnly) {
+        StringBuilder text = new StringBuilder();
+        int count = 0;
+        for (Iterator<StackFrame> at = stack.iterator(); at.hasNext() && count < frames;) {
+            StackFrame frame = at.next();
+            if (count == 0 && (isStart(frame) || programOnly && isOfJdk(frame))) {
+                continue;
+            }
+            text.append(count == 0 ? "" : "\n").append(textOf(frame));
+            count++;
+        }
+        return text.toString();
+    }
+
+    /** A frame of the recorder's, or of Thread.start that called it. */
+    private static boolean isStart(StackFrame frame) {
+        return frame.getClassName().startsWith("goodlock.") || frame.getClassName().equals("java.lang.Thread");
+    }
+
+    private static boolean isOfJdk(StackFrame frame) {
+        ClassLoader loader = frame.getDeclaringClass().getClassLoader();
+        return loader == null || loader == ClassLoader.getPlatformClassLoader();
+    }
+
+    private static String textOf(StackFrame frame) {
+        String name = frame.getClassName();
+        String file = frame.getFileName();
+        if (file == null || frame.getLineNumber() < 0) {
+            return name + "." + frame.getMethodName() + "+" + frame.getByteCodeIndex();
+        }
+        return name.substring(0, name.lastIndexOf('.') + 1).replace('.', '/') + file + ":" + frame.getLineNumber();
+    }
+
+    /** A thread's name if the program chose one, else the class of what it runs, or nothing. */
+    static String routineOf(Thread thread) {
+        String name = thread.getName();
+        if (!name.matches("Thread-\\d+") && !name.isEmpty()) {
+            return name;
+        }
+        Object target = thread.getClass() != Thread.class ? thread : targetOf(thread);
+        return target == null ? null : Kinds.nameOf(target);
+    }
+
+    private static Object targetOf(Thread thread) {
+        try {
+            if (TARGET != null) {
+                return TARGET.get(thread);
+            }
+            Object holder = HOLDER == null ? null : HOLDER.get(thread);
+            Field task = holder == null ? null : Kinds.field(holder.getClass(), "task");
+            return task == null ? null : task.get(holder);
+        } catch (IllegalAccessException refused) {
+            return null;
+        }
+    }
+}

@@ -1,0 +1,148 @@
+package goodlock.transform;
+
+import goodlock.runtime.Recorder;
+import java.lang.instrument.ClassFileTransformer;
+import java.lang.instrument.Instrumentation;
+import java.lang.instrument.UnmodifiableClassException;
+import java.security.ProtectionDomain;
+import java.util.ArrayList;
+import java.util.List;
+import org.objectweb.asm.ClassReader;
+import org.objectweb.asm.ClassVisitor;
+import org.objectweb.asm.ClassWriter;
+import org.objectweb.asm.Opcodes;
+import org.objectweb.asm.commons.SerialVersionUIDAdder;
+import org.objectweb.asm.tree.ClassNode;
+import org.objectweb.asm.tree.MethodNode;
+
+/** Instruments the program's classes as they are loaded, and java.lang.Thread. */
+public final class Transformer implements ClassFileTransformer {
+    private static final String THREAD = "java/lang/Thread";
+    private static final String LEFT_AS_IT_IS = "%d classes couldn't be instrumented: their locks aren't recorded (the first: ";
+
+    /** The newest class files that this ASM reads. Newer ones differ in nothing that matters here but their number. */
+    private static final int NEWEST_READ = Opcodes.V19;
+    private static final int VERSION_PLACE = 6;
+
+    /** Classes of the JDK that are never instrumented: the recorder and the JVM's own work stand on them. */
+    private static final String[] NEVER = {"java/lang/", "java/util/concurrent/locks/", "java/util/concurrent/atomic/", "jdk/",
+        "sun/", "java/nio/", "java/security/", "com/sun/jndi/", "java/util/zip/", "java/util/jar/", "java/util/logging/Logger$"};
+
+    private final boolean withJdk;
+    private String firstLeft;
+
+    private Transformer(boolean withJdk) {
+        this.withJdk = withJdk;
+    }
+
+    public static void install(Instrumentation instrumentation, boolean withJdk) throws UnmodifiableClassException {
+        instrumentation.addTransformer(new Transformer(withJdk), true);
+        List<Class<?>> loaded = new ArrayList<>(List.of(Thread.class));
+        for (Class<?> type : withJdk ? instrumentation.getAllLoadedClasses() : new Class<?>[0]) {
+            if (instrumentation.isModifiableClass(type) && !type.isArray() && type != Thread.class
+                    && isWanted(type.getName().replace('.', '/'), type.getClassLoader(), true)) {
+                loaded.add(type);
+            }
+        }
+        instrumentation.retransformClasses(loaded.toArray(new Class<?>[0]));
+    }
+
+    private static boolean isWanted(String name, ClassLoader loader, boolean withJdk) {
+        if (name.startsWith("goodlock/") || loader == Transformer.class.getClassLoader()) {
+            return false;
+        }
+        if (loader != null && loader != ClassLoader.getPlatformClassLoader()) {
+            return true;
+        }
+        boolean wanted = withJdk;
+        for (String prefix : NEVER) {
+            wanted = wanted && !name.startsWith(prefix);
+        }
+        return wanted;
+    }
+
+    @Override
+    public byte[] transform(ClassLoader loader, String name, Class<?> loaded, ProtectionDomain domain, byte[] code) {
+        if (name == null || !name.equals(THREAD) && !isWanted(name, loader, withJdk)) {
+            return null;
+        }
+        try {
+            return instrumented(name, loaded != null, code);
+        } catch (RuntimeException | Error failure) {
+            leave(name, failure);
+            return null;
+        }
+    }
+
+    private synchronized void leave(String name, Throwable failure) {
+        if (firstLeft == null) {
+            firstLeft = name.replace('/', '.') + ": " + failure;
+        }
+        Recorder.note(LEFT_AS_IT_IS + firstLeft + ")");
+    }
+
+    private static byte[] instrumented(String name, boolean loaded, byte[] code) {
+        byte[] read = code.clone();
+        int version = (read[VERSION_PLACE] & 0xff) << 8 | read[VERSION_PLACE + 1] & 0xff;
+        if (version > NEWEST_READ) {
+            read[VERSION_PLACE] = 0;
+            read[VERSION_PLACE + 1] = NEWEST_READ;
+        }
+        ClassReader reader = new ClassReader(read);
+        ClassNode node = new ClassNode();
+        reader.accept(loaded ? node : keepingIdentity(node), ClassReader.EXPAND_FRAMES);
+        boolean changed = name.equals(THREAD) ? hookStart(node) : instrumentMethods(node, loaded);
+        if (!changed) {
+            return null;
+        }
+        ClassWriter writer = new ClassWriter(reader, ClassWriter.COMPUTE_MAXS);
+        node.accept(writer);
+        byte[] written = writer.toByteArray();
+        written[VERSION_PLACE] = code[VERSION_PLACE];
+        written[VERSION_PLACE + 1] = code[VERSION_PLACE + 1];
+        return written;
+    }
+
+    /** A synchronized method will be one with a synchronized block. A class's serial version, where none is written down, depends
+     * on that: it is written down here as it was. */
+    private static ClassVisitor keepingIdentity(ClassNode node) {
+        return new SerialVersionUIDAdder(Opcodes.ASM9, node) {
+            private boolean needed;
+
+            @Override
+            public org.objectweb.asm.MethodVisitor visitMethod(int access, String name, String descriptor, String signature,
+                    String[] exceptions) {
+                needed |= (access & Opcodes.ACC_SYNCHRONIZED) != 0;
+                return super.visitMethod(access, name, descriptor, signature, exceptions);
+            }
+
+            @Override
+            protected void addSVUID(long identity) {
+                if (needed) {
+                    super.addSVUID(identity);
+                }
+            }
+        };
+    }
+
+    private static boolean hookStart(ClassNode node) {
+        boolean changed = false;
+        for (MethodNode method : node.methods) {
+            if (method.name.equals("start") && (method.access & (Opcodes.ACC_STATIC | Opcodes.ACC_NATIVE)) == 0) {
+                MethodInstrumenter.hookThreadStart(method);
+                changed = true;
+            }
+        }
+        return changed;
+    }
+
+    private static boolean instrumentMethods(ClassNode node, boolean loaded) {
+        boolean changed = false;
+        for (MethodNode method : node.methods) {
+            if ((method.access & (Opcodes.ACC_ABSTRACT | Opcodes.ACC_NATIVE)) == 0) {
+                changed |= new MethodInstrumenter(node, method, loaded).instrument();
+            }
+        }
+        return changed;
+    }
+}

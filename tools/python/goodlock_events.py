@@ -1,0 +1,595 @@
+"""Events of one thread, and what of them is left out: the same rule as in ../record/locks.c.
+
+Nothing here takes a lock but where a lock, place or thread is new. A signal handler and the collector of garbage may run
+Python code, and so take locks, between any two steps: what they do while a thread is in here is put off until it is
+done (`busy`, `put_off`).
+"""
+
+from _thread import RLock, _local
+
+from goodlock_files import (
+    FOREIGN, LOCK_MADE, LOCK_MUTEX, PROCESS_FORKS, RECORD_LOCK, RECORD_LOCK_KIND, RECORD_NOTE, RECORD_NO_LOCK, RECORD_PLACE,
+    RECORD_ROUTINE, THREAD_CHILDREN, THREAD_LEFT_OUT, THREAD_LOST, THREAD_OTHERS, THREAD_UNMADE,
+)
+
+ACQUIRE, RELEASE, TRY_ACQUIRE, FORK, JOIN, BEYOND, AGAIN = 1, 2, 5, 7, 8, 10, 11
+KIND_MASK = 31
+SITE_SHIFT, OBJECT_SHIFT = 5, 32
+CALL_MASK = ~KIND_MASK
+HELD_LIMIT = 64
+KEYS_LIMIT = 1 << 22
+
+
+class Held:
+    """A lock that a thread holds, and what lies above it: see `struct held` and `struct level` in ../record/recorder.h."""
+
+    __slots__ = ("lock", "identity", "context", "depth", "place", "chunk", "news")
+
+    def __init__(self, lock, identity, context, news):
+        self.lock = lock
+        self.identity = identity
+        self.context = context
+        self.depth = 1
+        self.place = None  # of the acquire; None: a lock below had an event since
+        self.chunk = None
+        self.news = news
+
+
+class ThreadState:
+    """What is known of a thread that runs."""
+
+    def __init__(self, process, record, number):
+        self.process = process
+        self.record = record  # None: nothing is recorded of it
+        self.number = number
+        self.busy = False
+        self.put_off = []
+        self.children = 0
+        self.made = 0
+        self.held = []
+        self.news = 0
+        self.segments = 0
+        self.contexts = {}
+        self.seen = set()
+        self.last_context = 0
+        self.chunks = 0
+        self.words = None
+        self.room = 0
+        self.place = 0
+
+    # Words
+
+    def store(self, word):
+        place = self.place
+        if place >= self.room and not self.next_chunk():
+            self.record[THREAD_LOST] += 1
+            return None
+        place = self.place
+        self.words[place] = word
+        self.place = place + 1
+        return place
+
+    def next_chunk(self):
+        words = self.process.new_events(self.number, self.chunks)
+        if words is None:
+            return False
+        self.chunks += 1
+        self.words = words
+        self.room = len(words)
+        self.place = 0
+        return True
+
+    def leave_out(self, start):
+        """Takes the words from here on away, the last one first: if the process is killed in between, what stays is the front
+        of what happened."""
+        end = self.place
+        words = self.words
+        for place in range(end - 1, start - 1, -1):
+            words[place] = 0
+        self.place = start
+        self.record[THREAD_LEFT_OUT] += end - start + 1
+
+    def count_other(self):
+        self.record[THREAD_OTHERS] += 1
+
+    # What is known already
+
+    def context_of(self, before, identity):
+        """A number for: this is acquired while all that is held which has the number `before`."""
+        key = (before, identity)
+        context = self.contexts.get(key)
+        if context is None:
+            if len(self.contexts) >= KEYS_LIMIT:
+                self.contexts = {}
+                self.seen = set()
+            context = self.last_context = self.last_context + 1
+            self.contexts[key] = context
+        return context
+
+    def is_news(self, context):
+        if context in self.seen and not self.process.all:
+            return False
+        self.seen.add(context)
+        return True
+
+    def end_segment(self):
+        """Locks that stay held were acquired in an earlier segment: they get other identities."""
+        self.segments += 1
+        self.contexts = {}
+        self.seen = set()
+        context = 0
+        for held in self.held:
+            held.place = None
+            held.identity = (held.identity, self.segments)
+            context = held.context = self.context_of(context, held.identity)
+
+    # Acquires and releases
+
+    def find(self, lock):
+        for held in reversed(self.held):
+            if held.lock == lock:
+                return held
+        return None
+
+    def keep_above(self, index):
+        for held in self.held[index + 1 :]:
+            held.place = None
+
+    def acquire(self, call, kind, reentrant=True):
+        """Writes an acquire; what to take back if it fails."""
+        lock = call >> OBJECT_SHIFT
+        if self.held:
+            held = self.find(lock)
+            if held is not None or len(self.held) == HELD_LIMIT:
+                return self.acquire_further(call, kind, held, reentrant)
+            before = self.held[-1].context
+        else:
+            before = 0
+        word = call | kind
+        context = self.context_of(before, word)
+        held = Held(lock, word, context, self.news)
+        self.held.append(held)
+        if self.is_news(context):
+            self.news += 1
+        held.place = self.store(word)
+        held.chunk = self.words
+        return held, held.chunk, held.place
+
+    def acquire_further(self, call, kind, held, reentrant):
+        """An acquire of a lock that is held already, or where too many are held. Who holds a lock that isn't reentrant waits for
+        itself, or for another thread to release it."""
+        before = self.held[-1].context
+        if held is None:
+            kind = BEYOND
+        else:
+            self.keep_above(self.held.index(held))
+            if reentrant:
+                held.depth += 1
+            else:
+                held, kind = None, AGAIN
+        word = call | kind
+        if self.is_news(self.context_of(before, word)):
+            self.news += 1
+        return held, self.words, self.store(word)
+
+    def take_back(self, token):
+        """The acquire failed."""
+        held, words, place = token
+        if place is not None:
+            words[place] = 0
+            if words is self.words and self.place == place + 1:
+                self.place = place
+        if held is not None and held.depth > 1:
+            held.depth -= 1
+        elif held is not None and held in self.held:
+            if held.news != self.news:
+                self.seen.discard(held.context)
+            self.remove(held)
+        self.count_other()
+
+    def remove(self, held):
+        """Takes a lock out of those held. If it wasn't acquired last, the later ones have new contexts."""
+        index = self.held.index(held)
+        self.keep_above(index)
+        del self.held[index]
+        for later in self.held[index:]:
+            before = self.held[index - 1].context if index else 0
+            later.context = self.context_of(before, later.identity)
+            index += 1
+
+    def release(self, call):
+        """Writes a release, or leaves it out with all since the thread last held as many locks as afterwards. Whether the
+        thread held the lock."""
+        held = self.held[-1] if self.held else None
+        if (
+            held is not None
+            and held.lock == call >> OBJECT_SHIFT
+            and held.depth == 1
+            and held.news == self.news
+            and held.place is not None
+            and held.chunk is self.words
+        ):
+            self.leave_out(held.place)
+            self.held.pop()
+            return True
+        return self.release_further(call)
+
+    def release_further(self, call):
+        word = call | RELEASE
+        held = self.find(call >> OBJECT_SHIFT)
+        if held is None and not self.is_news(self.context_of(0, word)):
+            self.record[THREAD_LEFT_OUT] += 1
+            return False
+        self.store(word)
+        if held is None:
+            return False
+        held.depth -= 1
+        if held.depth == 0:
+            self.remove(held)
+        else:
+            self.keep_above(self.held.index(held))
+        return True
+
+
+class Known:
+    """A lock as it was made. It gets its number at its first event."""
+
+    __slots__ = ("number", "kind", "site", "maker", "order", "reentrant")
+
+    def __init__(self, kind, reentrant, site, maker, order):
+        self.number = 0
+        self.reentrant = reentrant
+        self.kind = kind
+        self.site = site
+        self.maker = maker
+        self.order = order
+
+
+class Places:
+    """Numbers of places. Frames of the modules that are made of locks stand for their callers."""
+
+    def __init__(self, passed_over, own, frames):
+        self.passed_over = passed_over
+        self.own = own
+        self.frames = frames
+        self.sites = {}
+        self.kept = []  # the code whose identities are keys
+
+    def first_frame(self, frame):
+        """The innermost frame of the program's own; where there is none, the innermost that isn't of a passed over file."""
+        passed_over = self.passed_over
+        start = frame
+        while frame is not None and frame.f_code.co_filename in passed_over:
+            frame = frame.f_back
+        if frame is None:
+            frame = start
+            while frame.f_back is not None and frame.f_code.co_filename in self.own:
+                frame = frame.f_back
+        return frame
+
+    def key_of(self, frame):
+        if self.frames == 1:
+            return id(frame.f_code), frame.f_lasti
+        key = []
+        while frame is not None and len(key) < 2 * self.frames:
+            key += (id(frame.f_code), frame.f_lasti)
+            frame = frame.f_back
+        return tuple(key)
+
+    def text_of(self, frame):
+        texts = []
+        while frame is not None and len(texts) < self.frames:
+            self.kept.append(frame.f_code)
+            if frame.f_code.co_filename not in self.own:
+                texts.append("%s:%d" % (frame.f_code.co_filename, frame.f_lineno or 0))
+            frame = frame.f_back
+        return "\n".join(texts)
+
+
+class Process:
+    """One recorded process. What is new is written under `births`, which no thread holds while it waits for a lock of the
+    program's."""
+
+    def __init__(self, make_files, places, everything, command, parent=None):
+        self.births = RLock()
+        self.places = places
+        self.all = everything
+        self.make_files = make_files
+        self.command = command
+        self.next_lock = parent.next_lock if parent else 1
+        self.next_site = parent.next_site if parent else 1
+        self.next_thread = 0
+        self.notes = {}
+        self.full = False
+        self.files = make_files()
+        above = (parent.files.process, parent.files.image) if parent else (0, 0)
+        self.record = self.files.write_process(command, above, self.next_lock, self.next_site, places.frames)
+
+    def write(self, *record):
+        """A record's words, or None: there is no room."""
+        try:
+            return None if self.full else self.files.write(*record)
+        except (OSError, ValueError):
+            self.full = True
+            return None
+
+    def new_events(self, thread, order):
+        with self.births:
+            try:
+                return None if self.full else self.files.new_events(thread, order)
+            except (OSError, ValueError):
+                self.full = True
+                return None
+
+    def new_thread(self, parent, child, routine):
+        """Number and record of a new thread; the record is None if there is no room for it."""
+        with self.births:
+            number = self.next_thread
+            self.next_thread += 1
+            try:
+                record = None if self.full else self.files.write_thread(number, parent, child)
+            except OSError:
+                self.full, record = True, None
+            if record is not None and routine:
+                self.write(RECORD_ROUTINE, [number], routine)
+            return number, record
+
+    def site_of(self, frame):
+        places = self.places
+        frame = places.first_frame(frame)
+        key = places.key_of(frame)
+        site = places.sites.get(key)
+        return self.new_site(key, places.text_of(frame)) if site is None else site
+
+    def new_site(self, key, text):
+        with self.births:
+            if key not in self.places.sites:
+                self.write(RECORD_PLACE, [self.next_site], text)
+                self.places.sites[key] = self.next_site
+                self.next_site += 1
+            return self.places.sites[key]
+
+    def number_of(self, known):
+        with self.births:
+            if known.number == 0:
+                number = self.next_lock
+                self.next_lock += 1
+                made = [number, LOCK_MUTEX | LOCK_MADE << 32, 0, known.site, known.maker | known.order << 32]
+                if self.write(RECORD_LOCK, made) is not None:
+                    self.write(RECORD_LOCK_KIND, [number], known.kind)
+                known.number = number
+            return known.number
+
+    def call_of(self, known, frame):
+        """Lock and site, as parts of a word."""
+        number = known.number or self.number_of(known)
+        return number << OBJECT_SHIFT | self.site_of(frame) << SITE_SHIFT
+
+    def no_lock(self, known):
+        with self.births:
+            self.write(RECORD_NO_LOCK, [self.number_of(known)])
+
+    def note(self, text):
+        """Counts a note; `%d` in it stands for how often."""
+        with self.births:
+            if text not in self.notes:
+                self.notes[text] = self.write(RECORD_NOTE, [0], text)
+            if self.notes[text] is not None:
+                self.notes[text][1] += 1
+
+
+class Recorder:
+    """What the wrappers call. One for all processes that come of forks."""
+
+    def __init__(self, process):
+        self.process = process
+        self.local = _local()
+        self.local.state = self.first_state()
+
+    def first_state(self):
+        """The present thread is the first one of its process."""
+        number, record = self.process.new_thread(0, 0, None)
+        return ThreadState(self.process, record, number)
+
+    def state(self):
+        try:
+            return self.local.state
+        except AttributeError:
+            return self.enter_foreign()
+
+    def enter_foreign(self):
+        """A thread that threading.Thread didn't make. Until its state is there, it is busy."""
+        self.local.state = busy = ThreadState(self.process, None, 0)
+        busy.busy = True
+        number, record = self.process.new_thread(FOREIGN, 0, None)
+        self.local.state = ThreadState(self.process, record, number)
+        return self.local.state
+
+    def put_off(self, state, operation, known, frame, arguments):
+        """The thread is in the recorder already. The place is told by its text, as the frame goes on."""
+        places = self.process.places
+        frame = places.first_frame(frame)
+        state.put_off.append((operation, known, places.key_of(frame), places.text_of(frame), arguments))
+
+    def do(self, operation, known, frame, *arguments):
+        """Does an operation of a thread's state on a lock, with all that was put off meanwhile."""
+        state = self.state()
+        if state.busy or state.record is None:
+            if state.record is not None:
+                self.put_off(state, operation, known, frame, arguments)
+            return None
+        state.busy = True
+        call = None
+        try:
+            call = self.process.call_of(known, frame)
+            return operation(state, call, *arguments)
+        except BaseException:
+            # An exception of a signal handler's. The program doesn't go on with the lock.
+            if call is not None:
+                settle(state, call)
+            raise
+        finally:
+            state.busy = False
+            if state.put_off:
+                self.catch_up(state)
+
+    def catch_up(self, state):
+        """Does what was put off. A handler may come before each step here, and do it first."""
+        while state.put_off and not state.busy:
+            state.busy = True
+            try:
+                if not state.put_off:
+                    continue
+                operation, known, key, text, arguments = state.put_off.pop(0)
+                number = known.number or self.process.number_of(known)
+                site = self.process.new_site(key, text)
+                operation(state, number << OBJECT_SHIFT | site << SITE_SHIFT, *arguments)
+            finally:
+                state.busy = False
+
+    # Locks
+
+    def made(self, kind, reentrant, frame):
+        """A lock that is made in this frame."""
+        state = self.state()
+        if state.busy or state.record is None:
+            return Known(kind, reentrant, 0, 0, 0)
+        state.busy = True
+        try:
+            state.made += 1
+            return Known(kind, reentrant, self.process.site_of(frame), state.number, state.made)
+        finally:
+            state.busy = False
+            if state.put_off:
+                self.catch_up(state)
+
+    def wants(self, known, frame):
+        return self.do(ThreadState.acquire, known, frame, ACQUIRE, known.reentrant)
+
+    def took(self, known, frame):
+        self.do(ThreadState.acquire, known, frame, TRY_ACQUIRE, known.reentrant)
+
+    def did_not_take(self):
+        state = self.state()
+        if state.record is not None:
+            state.count_other()
+
+    def gives_up(self, token):
+        """An acquire that was written failed."""
+        state = self.state()
+        if token is not None and not state.busy:
+            state.take_back(token)
+
+    def released(self, known, frame):
+        return self.do(ThreadState.release, known, frame)
+
+    def waits(self, known, frame):
+        self.do(wait, known, frame)
+
+    def forgotten(self, known, frame):
+        """The lock was made free without a release."""
+        self.do(settle_all, known, frame)
+
+    # Threads
+
+    def starting(self, routine, frame):
+        """Plans a thread; what `started` or `not_started` wants."""
+        state = self.state()
+        if state.busy or state.record is None:
+            return None
+        state.busy = True
+        try:
+            site = self.process.site_of(frame)
+            number, record = self.process.new_thread(state.number, state.children + 1, routine)
+            if record is None:
+                return None
+            state.children += 1
+            state.record[THREAD_CHILDREN] = state.children
+            state.end_segment()
+            place = state.store(FORK | site << SITE_SHIFT | number << OBJECT_SHIFT)
+            return ThreadState(self.process, record, number), state.words, place
+        finally:
+            state.busy = False
+            if state.put_off:
+                self.catch_up(state)
+
+    def not_started(self, plan):
+        new, words, place = plan
+        state = self.state()
+        state.children -= 1
+        state.record[THREAD_CHILDREN] = state.children
+        new.record[THREAD_UNMADE] = 1
+        if place is not None:
+            words[place] = 0
+        state.count_other()
+
+    def adopt(self, plan):
+        """The present thread is the planned one."""
+        self.local.state = plan[0]
+
+    def joined(self, plan, frame):
+        state = self.state()
+        if state.busy or state.record is None:
+            return
+        state.busy = True
+        try:
+            site = self.process.site_of(frame)
+            state.end_segment()
+            state.store(JOIN | site << SITE_SHIFT | plan[0].number << OBJECT_SHIFT)
+        finally:
+            state.busy = False
+            if state.put_off:
+                self.catch_up(state)
+
+    # Forks
+
+    def before_fork(self):
+        """From here on no event is written, until it is known which process this is."""
+        self.state().busy = True
+        self.process.births.acquire()
+        self.process.record[PROCESS_FORKS] += 1
+
+    def after_fork_in_parent(self):
+        self.process.births.release()
+        state = self.state()
+        state.busy = False
+        self.catch_up(state)
+
+    def after_fork_in_child(self):
+        """The child has one thread. It holds what the forking thread held, and never asked for it."""
+        old, parent = self.local.state, self.process
+        parent.files.close()
+        self.process = Process(parent.make_files, parent.places, parent.all, parent.command, parent)
+        state = self.local.state = self.first_state()
+        state.made = old.made
+        for held in old.held if state.record is not None else []:
+            identity = held.identity
+            while isinstance(identity, tuple):
+                identity = identity[0]
+            for _ in range(held.depth):
+                state.acquire(identity & CALL_MASK, TRY_ACQUIRE)
+
+
+def wait(state, call):
+    """A wait releases the lock, as often as the thread acquired it, and takes it again. All is written before: the wait may
+    hang while it takes the lock again."""
+    held = state.find(call >> OBJECT_SHIFT)
+    if held is None:
+        state.count_other()
+        return
+    depth = held.depth
+    for _ in range(depth):
+        state.release(call)
+    for _ in range(depth):
+        state.acquire(call, ACQUIRE)
+
+
+def settle(state, call):
+    """The thread doesn't hold this lock as often as it seems."""
+    if state.find(call >> OBJECT_SHIFT) is not None:
+        state.release_further(call)
+
+
+def settle_all(state, call):
+    while state.find(call >> OBJECT_SHIFT) is not None:
+        state.release(call)

@@ -1,0 +1,120 @@
+"""The files that a recorded Python process leaves behind: those of ../record/layout.h, with records of names."""
+
+import mmap
+import os
+import struct
+
+LAYOUT_VERSION = 1
+EXTENT_BYTES = 64 << 20
+CHUNK_UNIT = 4096
+CHUNK_HEAD = 32
+CHUNK_DOUBLINGS = 8
+TABLE_CHUNK_BYTES = 16 * CHUNK_UNIT
+CHUNK_EVENTS, CHUNK_TABLE = 0x676C6576, 0x676C7462
+
+RECORD_PROCESS, RECORD_LOCK, RECORD_THREAD = 1, 4, 5
+RECORD_PLACE, RECORD_LOCK_KIND, RECORD_LOCK_NAME, RECORD_ROUTINE, RECORD_NOTE, RECORD_NO_LOCK = 16, 17, 18, 19, 20, 21
+LOCK_MUTEX, LOCK_MADE = 1, 1
+FOREIGN = 0xFFFFFFFF
+OBJECT_WORDS = 8
+IMAGE_LIMIT = 100000
+
+# In a chunk's head, as words.
+USED = 2
+
+# Words of a process's and a thread's record, from the record's head on.
+PROCESS_FORKS = 9
+THREAD_UNMADE, THREAD_CHILDREN, THREAD_LEFT_OUT, THREAD_LOST, THREAD_OTHERS = 5, 7, 9, 10, 11
+
+
+class Files:
+    """The files of one process. Calls come from one thread at a time."""
+
+    def __init__(self, directory):
+        self.directory = directory
+        self.process = os.getpid()
+        self.image = 0
+        self.extents = 0
+        self.extent = None
+        self.descriptor = None
+        self.used = 0
+        self.table = None
+        self.table_head = None
+        self.table_place = 0
+        self.table_chunks = 0
+        while not self.open_extent():
+            self.image += 1
+            if self.image == IMAGE_LIMIT:
+                raise OSError("no free name in %s" % directory)
+
+    def open_extent(self):
+        """Opens the next extent; False if there is a first extent of this image already: the program became another one."""
+        path = "%s/%d.%d.%d" % (self.directory, self.process, self.image, self.extents)
+        try:
+            descriptor = os.open(path, os.O_RDWR | os.O_CREAT | os.O_EXCL | os.O_CLOEXEC | os.O_NOFOLLOW, 0o600)
+        except FileExistsError:
+            if self.extents:
+                raise
+            return False
+        if self.descriptor is not None:
+            os.close(self.descriptor)
+            self.descriptor = None
+        try:
+            os.ftruncate(descriptor, EXTENT_BYTES)
+            self.extent = memoryview(mmap.mmap(descriptor, EXTENT_BYTES))
+        except BaseException:
+            os.close(descriptor)
+            raise
+        self.descriptor = descriptor
+        self.extents += 1
+        self.used = 0
+        return True
+
+    def close(self):
+        """In a forked child: the files are its parent's."""
+        if self.descriptor is not None:
+            os.close(self.descriptor)
+
+    def new_chunk(self, magic, thread, order, size, used):
+        """The numbers of a new chunk's head and its words, all zero; an OSError if there is no room."""
+        if self.used + size > EXTENT_BYTES:
+            self.open_extent()
+        # Room on the disk now: a store without it would end the program with SIGBUS.
+        os.posix_fallocate(self.descriptor, self.used, size)
+        chunk = self.extent[self.used : self.used + size]
+        self.used += size
+        struct.pack_into("=IIIQ", chunk, 4, thread, order, size, used)
+        struct.pack_into("=I", chunk, 0, magic)
+        return chunk[:CHUNK_HEAD].cast("Q"), chunk[CHUNK_HEAD:].cast("Q")
+
+    def new_events(self, thread, order):
+        """A word of zero is no event: all words of events count as used from the beginning."""
+        size = CHUNK_UNIT << min(order, CHUNK_DOUBLINGS)
+        return self.new_chunk(CHUNK_EVENTS, thread, order, size, (size - CHUNK_HEAD) // 8)[1]
+
+    def write(self, kind, numbers, text=None):
+        """Writes a record; its words, to be changed later. It counts once it is whole."""
+        data = struct.pack("=%dQ" % len(numbers), *numbers)
+        if text is not None:
+            data += text.encode("utf-8", "backslashreplace") + b"\0"
+        data += bytes(-len(data) % 8)
+        size = 1 + len(data) // 8
+        if size > (TABLE_CHUNK_BYTES - CHUNK_HEAD) // 8:
+            raise ValueError("a name is too long")
+        if self.table is None or self.table_place + size > len(self.table):
+            self.table_head, self.table = self.new_chunk(CHUNK_TABLE, 0, self.table_chunks, TABLE_CHUNK_BYTES, 0)
+            self.table_chunks += 1
+            self.table_place = 0
+        record = self.table[self.table_place : self.table_place + size]
+        record[0] = kind | size << 32
+        record[1:] = memoryview(data).cast("Q")
+        self.table_place += size
+        self.table_head[USED] = self.table_place
+        return record
+
+    def write_process(self, command, parent, first_lock, first_site, frames):
+        numbers = [LAYOUT_VERSION, self.process, self.image, *parent, first_lock, first_site, frames, 0]
+        return self.write(RECORD_PROCESS, numbers, command[:500])
+
+    def write_thread(self, number, parent, child):
+        return self.write(RECORD_THREAD, [number, parent, child] + [0] * (8 + OBJECT_WORDS))

@@ -1,0 +1,325 @@
+"""Stands before the locks and threads of the threading module: docs/RECORDING-PYTHON.md says what is recorded as what."""
+
+import functools
+import os
+import sys
+import threading
+from _thread import RLock as RawRLock
+from _thread import allocate_lock
+from sys import _getframe
+
+import goodlock_events
+import goodlock_files
+
+FRAMES_LIMIT = 16
+
+# Modules whose frames stand for their callers.
+STANDARD = os.path.dirname(threading.Thread.start.__code__.co_filename)
+THREADING = threading.Thread.start.__code__.co_filename
+OWN_FILES = {_getframe(0).f_code.co_filename, goodlock_events.Places.text_of.__code__.co_filename}
+PASSED_OVER = {THREADING} | OWN_FILES | {
+    os.path.join(STANDARD, name)
+    for name in ("queue.py", "contextlib.py", "concurrent/futures/_base.py", "concurrent/futures/thread.py",
+                 "concurrent/futures/process.py")
+}
+UNSEEN_MODULES = {
+    "asyncio.locks": "asyncio was imported: its locks (asyncio.Lock, ..) are no locks of threads, and aren't seen",
+    "multiprocessing.synchronize": "multiprocessing's locks were imported: they aren't seen",
+}
+SEMAPHORES_UNSEEN = "%d semaphores were made with another value than 1: they are no locks, and aren't seen"
+SEMAPHORES_NO_LOCKS = "%d semaphores of value 1 were released by threads that didn't hold them: they are no locks, and are left out"
+
+recorder = None
+
+
+# --- Locks ------------------------------------------------------------------------------------------------
+
+
+def made_by(frame):
+    """What makes a lock: the name of the class of the standard library whose constructor does, and whether it is a lock of
+    threads, of semaphores or of the threading module itself."""
+    name, inner = None, False
+    while frame is not None and frame.f_code.co_filename in PASSED_OVER:
+        function = frame.f_code.co_name
+        if function == "__init__":
+            maker = frame.f_locals.get("self")
+            name = type(maker).__name__
+            inner = inner or isinstance(maker, (threading.Thread, threading.Semaphore))
+        elif function == "_after_fork":
+            inner = True
+        elif function != "RLock":
+            break
+        frame = frame.f_back
+    return name, inner
+
+
+class RecordedLock:
+    """What Lock and RLock have in common."""
+
+    __slots__ = ("_raw", "_known", "__weakref__")
+
+    def __new__(cls):
+        frame = _getframe(1)
+        name, inner = made_by(frame)
+        raw = cls.make_raw()
+        if inner:
+            return raw
+        lock = object.__new__(cls)
+        lock._raw = raw
+        lock._known = recorder.made(name or cls.__name__, cls is RLock, frame)
+        return lock
+
+    def acquire(self, blocking=True, timeout=-1):
+        raw = self._raw
+        if blocking and timeout == -1:
+            token = recorder.wants(self._known, _getframe(1))
+            try:
+                return raw.acquire(blocking, timeout)
+            except BaseException:
+                recorder.gives_up(token)
+                raise
+        taken = raw.acquire(blocking, timeout)
+        if taken:
+            recorder.took(self._known, _getframe(1))
+        else:
+            recorder.did_not_take()
+        return taken
+
+    def __enter__(self):
+        token = recorder.wants(self._known, _getframe(1))
+        try:
+            return self._raw.acquire()
+        except BaseException:
+            recorder.gives_up(token)
+            raise
+
+    def release(self):
+        self._raw.release()
+        recorder.released(self._known, _getframe(1))
+
+    def __exit__(self, kind, value, traceback):
+        self._raw.release()
+        recorder.released(self._known, _getframe(1))
+
+    def __repr__(self):
+        return repr(self._raw)
+
+    def __reduce__(self):
+        raise TypeError("cannot pickle %r object" % type(self._raw).__qualname__)
+
+    def __getattr__(self, name):
+        return getattr(self._raw, name)
+
+    acquire.__qualname__, release.__qualname__ = "lock.acquire", "lock.release"
+
+    # What threading.Condition and forks ask for
+
+    def _acquire_restore(self, saved):
+        self._raw._acquire_restore(saved)
+
+    def _at_fork_reinit(self):
+        self._raw._at_fork_reinit()
+        recorder.forgotten(self._known, _getframe(1))
+
+
+class Lock(RecordedLock):
+    __slots__ = ()
+
+    make_raw = staticmethod(allocate_lock)
+
+    acquire_lock = RecordedLock.acquire
+    release_lock = RecordedLock.release
+
+    def locked(self):
+        return self._raw.locked()
+
+    _is_owned = locked_lock = locked
+
+    def _release_save(self):
+        recorder.waits(self._known, _getframe(1))
+        self._raw.release()
+
+    def _acquire_restore(self, saved):
+        self._raw.acquire()
+
+
+class RLock(RecordedLock):
+    __slots__ = ()
+    make_raw = RawRLock
+
+    def _release_save(self):
+        recorder.waits(self._known, _getframe(1))
+        return self._raw._release_save()
+
+
+def allocate_lock_seen():
+    """Stands for threading._allocate_lock: the threading module's own locks stay as they are."""
+    if _getframe(1).f_code.co_filename == THREADING:
+        return allocate_lock()
+    return Lock()
+
+
+# --- Semaphores -------------------------------------------------------------------------------------------
+
+real_semaphore_start = threading.Semaphore.__init__
+real_semaphore_acquire = threading.Semaphore.acquire
+real_releases = {kind: kind.release for kind in (threading.Semaphore, threading.BoundedSemaphore)}
+
+
+@functools.wraps(real_semaphore_start)
+def semaphore_start(self, value=1):
+    """A semaphore that is made with the value 1 is a lock, as long as only those release it that acquired it."""
+    real_semaphore_start(self, value)
+    self._goodlock_known = None
+    if value == 1:
+        self._goodlock_known = recorder.made(type(self).__name__, False, _getframe(1))
+    else:
+        recorder.process.note(SEMAPHORES_UNSEEN)
+
+
+@functools.wraps(real_semaphore_acquire)
+def semaphore_acquire(self, blocking=True, timeout=None):
+    known = self._goodlock_known
+    if known is None:
+        return real_semaphore_acquire(self, blocking, timeout)
+    if blocking and timeout is None:
+        token = recorder.wants(known, _getframe(1))
+        try:
+            return real_semaphore_acquire(self, blocking, timeout)
+        except BaseException:
+            recorder.gives_up(token)
+            raise
+    taken = real_semaphore_acquire(self, blocking, timeout)
+    if taken:
+        recorder.took(known, _getframe(1))
+    else:
+        recorder.did_not_take()
+    return taken
+
+
+def semaphore_release_of(kind):
+    real_release = real_releases[kind]
+
+    @functools.wraps(real_release)
+    def release(self, n=1):
+        real_release(self, n)
+        known = self._goodlock_known
+        if known is None:
+            return
+        for _ in range(n):
+            if recorder.released(known, _getframe(1)) is False:
+                self._goodlock_known = None
+                recorder.process.no_lock(known)
+                recorder.process.note(SEMAPHORES_NO_LOCKS)
+                return
+
+    return release
+
+
+# --- Threads ----------------------------------------------------------------------------------------------
+
+real_start, real_join, real_bootstrap = threading.Thread.start, threading.Thread.join, threading.Thread._bootstrap
+
+
+def routine_of(thread):
+    """A short name of what the thread runs."""
+    routine = getattr(thread, "_target", None)
+    while hasattr(routine, "func"):  # functools.partial
+        routine = routine.func
+    name = getattr(routine, "__qualname__", None)
+    if name is None:
+        name = "" if type(thread) is threading.Thread else type(thread).__qualname__
+    return name.replace(".<locals>", "").replace("<lambda>", "lambda")
+
+
+@functools.wraps(real_start)
+def thread_start(self):
+    plan = None
+    if getattr(self, "_initialized", False) and not self._started.is_set():
+        plan = self._goodlock_plan = recorder.starting(routine_of(self), _getframe(1))
+    try:
+        real_start(self)
+    except BaseException:
+        if plan is not None and not self._started.is_set():
+            recorder.not_started(plan)
+        raise
+
+
+@functools.wraps(real_bootstrap)
+def thread_bootstrap(self):
+    plan = getattr(self, "_goodlock_plan", None)
+    if plan is not None:
+        recorder.adopt(plan)
+    real_bootstrap(self)
+
+
+@functools.wraps(real_join)
+def thread_join(self, timeout=None):
+    real_join(self, timeout)
+    plan = getattr(self, "_goodlock_plan", None)
+    if plan is not None and not self.is_alive():
+        recorder.joined(plan, _getframe(1))
+    else:
+        recorder.did_not_take()
+
+
+# --- Start ------------------------------------------------------------------------------------------------
+
+
+class UnseenModules:
+    """Stands among the finders of modules; finds nothing, and notes which are looked for."""
+
+    @staticmethod
+    def find_spec(name, path=None, target=None):
+        if name in UNSEEN_MODULES:
+            recorder.process.note(UNSEEN_MODULES[name])
+        return None
+
+
+def read_command():
+    try:
+        with open("/proc/self/cmdline", "rb") as file:
+            return file.read().replace(b"\0", b" ").decode("utf-8", "backslashreplace")
+    except OSError:
+        return "python"
+
+
+def stand_before_threading():
+    threading.Lock = Lock
+    threading._CRLock = RLock
+    threading._allocate_lock = allocate_lock_seen
+    threading.Semaphore.__init__ = semaphore_start
+    threading.Semaphore.acquire = threading.Semaphore.__enter__ = semaphore_acquire
+    for kind in real_releases:
+        kind.release = semaphore_release_of(kind)
+    threading.Thread.start = thread_start
+    threading.Thread.join = thread_join
+    threading.Thread._bootstrap = thread_bootstrap
+
+
+def start():
+    global recorder
+    directory = os.environ.get("GOODLOCK_PYTHON_DIRECTORY")
+    if not directory or recorder is not None:
+        return
+    if sys.implementation.name != "cpython" or sys.version_info < (3, 9):
+        sys.stderr.write("goodlock-python: this process isn't recorded: it is no CPython 3.9 or later\n")
+        return
+    frames = max(1, min(FRAMES_LIMIT, int(os.environ.get("GOODLOCK_PYTHON_FRAMES", "1"))))
+    places = goodlock_events.Places(PASSED_OVER, OWN_FILES, frames)
+    everything = "GOODLOCK_PYTHON_ALL" in os.environ
+    try:
+        process = goodlock_events.Process(
+            lambda: goodlock_files.Files(directory), places, everything, read_command()
+        )
+    except OSError as error:
+        sys.stderr.write("goodlock-python: this process isn't recorded: %s\n" % error)
+        return
+    recorder = goodlock_events.Recorder(process)
+    os.register_at_fork(
+        before=recorder.before_fork,
+        after_in_parent=recorder.after_fork_in_parent,
+        after_in_child=recorder.after_fork_in_child,
+    )
+    sys.meta_path.insert(0, UnseenModules)
+    stand_before_threading()

@@ -1,0 +1,91 @@
+"""Records the locks of a Python program, unchanged, as a trace that goodlock reads.
+
+    goodlock-python [-o TRACE] [--frames N] [--all] [--python INTERPRETER] [--] SCRIPT.py [ARGUMENT..]
+    goodlock-python [-o TRACE] --convert DIRECTORY
+
+SCRIPT.py may also be a program that runs Python code, or options of the interpreter as -m MODULE or -c CODE.
+docs/RECORDING-PYTHON.md explains it.
+"""
+
+import os
+import sys
+
+HERE = os.path.dirname(os.path.realpath(__file__))
+sys.path.insert(0, os.path.join(os.path.dirname(HERE), "record"))
+sys.pycache_prefix = os.path.join(os.path.dirname(HERE), "out", "python")
+
+import launch as recording  # noqa: E402
+
+USAGE = __doc__.split("\n\n")[1]
+START = os.path.join(HERE, "start")
+
+
+def interpreter_in(path):
+    for directory in path.split(":"):
+        candidate = os.path.join(directory or ".", "python3")
+        if os.access(candidate, os.X_OK) and not os.path.isdir(candidate):
+            return candidate
+    raise recording.Failed("there is no python3: name an interpreter with --python")
+
+
+def with_interpreter(command, interpreter):
+    """A script, or options of the interpreter, are run by it; any other program runs as it is."""
+    first = command[0]
+    if first.startswith("-") or first.endswith((".py", ".pyc", ".pyz")) or interpreter:
+        return [interpreter or interpreter_in(os.environ.get("PATH", os.defpath))] + command
+    return command
+
+
+def read_arguments(arguments):
+    interpreter = None
+    rest = []
+    arguments = list(arguments)
+    while arguments and arguments[0].startswith("-") and arguments[0] != "--":
+        word = arguments.pop(0)
+        if word == "--python":
+            if not arguments:
+                raise recording.Failed("--python takes a value\n" + USAGE)
+            interpreter = arguments.pop(0)
+            continue
+        rest.append(word)
+        if word in ("-o", "--frames", "--convert") and arguments:
+            rest.append(arguments.pop(0))
+    settings = recording.read_arguments(rest + arguments, __doc__, USAGE)
+    if settings.convert is None:
+        settings.command = with_interpreter(settings.command, interpreter)
+    return settings
+
+
+class PythonRecorder(recording.Recorder):
+    name = "goodlock-python"
+
+    def prepare(self):
+        pass
+
+    def clean_up(self):
+        pass
+
+    def environment(self, settings, directory):
+        environment = dict(os.environ)
+        earlier = environment.get("PYTHONPATH")
+        environment["PYTHONPATH"] = START + (":" + earlier if earlier else "")
+        environment["GOODLOCK_PYTHON_DIRECTORY"] = directory
+        environment["GOODLOCK_PYTHON_FRAMES"] = str(settings.frames)
+        if settings.all:
+            environment["GOODLOCK_PYTHON_ALL"] = "1"
+        return environment
+
+    def advice(self, processes, settings):
+        return []
+
+    def reason(self, loaded):
+        if loaded:
+            return "the program took no lock of the threading module and started no thread"
+        return (
+            "no Python process was recorded: CPython 3.9 or later runs the recorder at its start, "
+            "if it isn't run with -I, -E or -S"
+        )
+
+
+if __name__ == "__main__":
+    sys.exit(recording.main(read_arguments, PythonRecorder()))

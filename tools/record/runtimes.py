@@ -1,0 +1,88 @@
+"""Tells of language runtimes in a recorded program: their locks don't pass the C library, and so aren't in its trace."""
+
+import os
+import re
+
+from tool import find_tool
+
+
+class Runtime:
+    def __init__(self, name, file, mark, advice):
+        self.name = name
+        self.file = re.compile(file)  # of a library that is the runtime
+        self.mark = mark  # stands in each program or library that has the runtime in itself
+        self.advice = advice
+
+
+RUNTIMES = (
+    Runtime(
+        "a Java virtual machine",
+        r"libjvm\.so",
+        None,
+        "the monitors (synchronized) and java.util.concurrent locks of Java code aren't in this trace; "
+        "record them with tools/goodlock-java",
+    ),
+    Runtime(
+        "CPython",
+        r"libpython\d[\w.]*\.so[\d.]*",
+        re.compile(rb"\0Py_BytesMain\0"),
+        "the locks of Python code (threading.Lock and all that is made of it) aren't in this trace; "
+        "record them with tools/goodlock-python",
+    ),
+    Runtime(
+        "a Go program",
+        r"libgo\.so[\d.]*",
+        re.compile(rb"\xff Go buildinf:"),
+        "sync.Mutex and sync.RWMutex don't pass the C library and aren't in this trace; no tool here records them: "
+        "write the trace from the program itself (docs/RECORDING.md, \"Traces from another language\")",
+    ),
+    Runtime(
+        "Rust code",
+        r"libstd-[0-9a-f]+\.so",
+        re.compile(rb"/rustc/(?:[0-9a-f]{40}|[0-9.]+)/library/"),
+        "std::sync::Mutex and RwLock don't pass the C library and aren't in this trace (those of Rust before 1.62 are); "
+        "no tool here records them: write the trace from the program itself "
+        "(docs/RECORDING.md, \"Traces from another language\")",
+    ),
+)
+
+# These have no runtime in themselves, and are in every program.
+PLAIN_FILE = re.compile(r"(ld-linux[\w-]*|lib(c|m|dl|rt|pthread|gcc_s|stdc\+\+|z)|goodlock_record)\.so[\d.]*")
+
+
+def runtimes_in(path):
+    """The runtimes that a program or library file has in itself."""
+    name = os.path.basename(path)
+    if PLAIN_FILE.fullmatch(name):
+        return []
+    by_name = [runtime for runtime in RUNTIMES if runtime.file.fullmatch(name)]
+    if by_name:
+        return by_name
+    try:
+        with open(path, "rb") as file:
+            data = file.read()
+    except OSError:
+        return []
+    if not data.startswith(b"\x7fELF"):
+        return []
+    return [runtime for runtime in RUNTIMES if runtime.mark and runtime.mark.search(data)]
+
+
+def runtime_lines(processes, command):
+    """A line for each runtime that a process of these had; else, for one that the program's file has."""
+    found = {}
+    known = {}
+    for process in processes:
+        for loaded in process.modules.loaded:
+            path = loaded.module.path
+            if path not in known:
+                known[path] = runtimes_in(path)
+            for runtime in known[path]:
+                found.setdefault(runtime, {})[process.key[0]] = None
+    if not found and command:
+        path = command[0] if "/" in command[0] else find_tool(command[0])
+        found = {runtime: {} for runtime in (runtimes_in(path) if path else [])}
+    for runtime in RUNTIMES:
+        if runtime in found:
+            numbers = ", ".join("%d" % number for number in found[runtime])
+            yield "%s%s: %s" % ("process %s has " % numbers if numbers else "this is ", runtime.name, runtime.advice)

@@ -1,0 +1,520 @@
+"""Programs with known traces, by name. Marks in comments name their lines."""
+
+import functools
+import gc
+import os
+import queue
+import random
+import signal
+import subprocess
+import sys
+import threading
+
+a = threading.Lock()  # @a
+b = threading.Lock()  # @b
+again = threading.RLock()  # @again
+PROGRAMS = {}
+
+
+def program(function):
+    PROGRAMS[function.__name__] = function
+    return function
+
+
+def run_in_turn(*routines):
+    """Runs each in a thread of its own, one after the other, with nothing that goodlock takes for an order."""
+    turns = [queue.SimpleQueue() for _ in range(len(routines) + 1)]
+
+    def run(i):
+        turns[i].get()
+        routines[i]()
+        turns[i + 1].put(1)
+
+    threads = [threading.Thread(target=run, args=(i,)) for i in range(len(routines))]
+    for thread in threads:
+        thread.start()
+    turns[0].put(1)
+    for thread in threads:
+        thread.join()
+
+
+def both(first, second):
+    with first:
+        with second:
+            pass
+
+
+@program
+def mutexes():
+    a.acquire()  # @mutex_lock
+    with b:  # @mutex_with
+        pass
+    a.release()  # @mutex_unlock
+    b.acquire(False)  # @mutex_try
+    b.release()  # @mutex_unlock_2
+    b.acquire(timeout=1)  # @mutex_timed
+    b.release()  # @mutex_unlock_3
+    b.acquire(blocking=True, timeout=-1)  # @mutex_lock_2
+    b.release()  # @mutex_unlock_4
+
+
+@program
+def failing():
+    a.acquire()  # @failing_lock
+    assert not a.acquire(False)
+    assert not a.acquire(timeout=0.001)
+    for call in (b.release, again.release, lambda: b.acquire(False, 1), threading.Thread().join):
+        try:
+            call()
+        except (RuntimeError, ValueError):
+            continue
+        raise AssertionError(call)
+    a.release()  # @failing_unlock
+
+
+@program
+def opposite():
+    run_in_turn(lambda: both(a, b), lambda: both(b, a))
+
+
+@program
+def gate():
+    def gated(first, second):
+        with again:
+            both(first, second)
+
+    run_in_turn(lambda: gated(a, b), lambda: gated(b, a))
+
+
+@program
+def joined_in_between():
+    for first, second in ((a, b), (b, a)):
+        thread = threading.Thread(target=both, args=(first, second))
+        thread.start()
+        thread.join()
+
+
+@program
+def tries():
+    def try_second(first, second):
+        with first:
+            assert second.acquire(False)
+            second.release()
+
+    run_in_turn(lambda: both(a, b), lambda: try_second(b, a))
+
+
+@program
+def three_in_a_ring():
+    c = threading.Lock()
+    run_in_turn(lambda: both(a, b), lambda: both(b, c), lambda: both(c, a))
+
+
+@program
+def reentrant():
+    with again:  # @again_1
+        with again:  # @again_2
+            with a:  # @again_a
+                pass
+
+
+@program
+def own_lock_twice_is_no_cycle():
+    run_in_turn(lambda: both(again, again), lambda: both(again, again))
+
+
+@program
+def waits():
+    condition = threading.Condition()  # @waits_made
+
+    def signals():
+        with condition:  # @signals
+            condition.notify()
+
+    with condition:  # @waits
+        threading.Thread(target=signals).start()  # @waits_start
+        condition.wait()  # @wait
+        condition.wait(0.001)  # @wait_timed
+
+
+@program
+def wait_of_a_lock_held_twice():
+    condition = threading.Condition(again)
+    with again:  # @twice_1
+        with again:  # @twice_2
+            condition.wait(0.001)  # @twice_wait
+
+
+@program
+def wait_that_takes_again():
+    """A thread waits with `a` for a condition of `b`; who signals it takes `a` while holding `b`."""
+    condition = threading.Condition(b)
+
+    def waiter():
+        with a:
+            with condition:
+                condition.wait(0.001)
+
+    def other():
+        with condition:
+            with a:
+                pass
+
+    run_in_turn(waiter, other)
+
+
+@program
+def refused_wait():
+    try:
+        threading.Condition(a).wait()
+    except RuntimeError:
+        pass
+    with b:  # @refused_b
+        pass
+
+
+class Account:
+    def __init__(self):
+        self.lock = threading.Lock()  # @account
+
+
+@program
+def locks_of_objects():
+    accounts = [Account() for _ in range(3)]
+    with accounts[2].lock:  # @account_2
+        with accounts[0].lock:  # @account_0
+            pass
+
+
+@program
+def locks_of_racing_threads():
+    def walk():
+        own = [Account() for _ in range(3)]
+        for account in own:
+            with account.lock:  # @walk
+                pass
+
+    threads = [threading.Thread(target=walk) for _ in range(3)]
+    for thread in threads:
+        thread.start()  # @walk_start
+    for thread in threads:
+        thread.join()  # @walk_join
+
+
+@program
+def semaphore_as_lock():
+    semaphore = threading.Semaphore()  # @semaphore
+    bounded = threading.BoundedSemaphore(1)  # @bounded
+    with semaphore:  # @semaphore_with
+        bounded.acquire()  # @bounded_acquire
+        bounded.release()  # @bounded_release
+    assert semaphore.acquire(False)  # @semaphore_try
+    assert not semaphore.acquire(False)
+    semaphore.release()  # @semaphore_release
+
+
+@program
+def semaphore_cycle():
+    semaphore = threading.Semaphore()
+    run_in_turn(lambda: both(a, semaphore), lambda: both(semaphore, a))
+
+
+@program
+def semaphore_as_signal():
+    semaphore = threading.Semaphore()
+    threading.Semaphore(0).release()
+    semaphore.acquire()
+    thread = threading.Thread(target=semaphore.release)
+    thread.start()  # @signal_start
+    thread.join()  # @signal_join
+    with a:  # @signal_a
+        semaphore.acquire()
+
+
+class Worker(threading.Thread):
+    def run(self):
+        pass
+
+
+class Server:
+    def serve(self):
+        pass
+
+
+@program
+def threads():
+    def parent():
+        child = threading.Thread(target=Server().serve)
+        child.start()  # @parent_start
+        child.join()  # @parent_join
+
+    for thread in (threading.Thread(target=parent), Worker(), threading.Thread(target=lambda: None),
+                   threading.Thread(target=functools.partial(max, 1, 2)), threading.Thread(daemon=True)):
+        thread.start()  # @threads_start
+        thread.join(60)  # @threads_join
+    late = threading.Thread(target=a.acquire)  # @late
+    a.acquire()  # @late_a
+    late.start()  # @late_start
+    late.join(0.001)
+    try:
+        late.start()
+    except RuntimeError:
+        pass
+    a.release()  # @late_a_end
+    late.join()  # @late_join
+
+
+@program
+def pool():
+    from concurrent.futures import ThreadPoolExecutor
+
+    with ThreadPoolExecutor(max_workers=1) as executor:  # @pool_end
+        assert executor.submit(pair).result() is None  # @pool_submit
+
+
+def pair():
+    with a:  # @pair_a
+        with b:  # @pair_b
+            pass
+
+
+@program
+def exceptions():
+    def raises():
+        with a:  # @raises_a
+            with b:  # @raises_b
+                raise KeyError
+
+    try:
+        raises()
+    except KeyError:
+        pass
+    with b:  # @after_b
+        pass
+
+
+@program
+def queues():
+    tasks = queue.Queue()  # @queue_made
+    with a:  # @queue_a
+        tasks.put(1)  # @queue_put
+    assert tasks.get() == 1  # @queue_get
+
+
+@program
+def repeats():
+    for _ in range(5):
+        pair()
+    thread = threading.Thread()
+    thread.start()  # @repeats_start
+    pair()
+    thread.join()  # @repeats_join
+    for _ in range(3):
+        pair()
+
+
+@program
+def frames():
+    def outer():
+        pair()  # @frames_outer
+
+    outer()  # @frames_call
+
+
+@program
+def many_locks():
+    locks = [threading.Lock() for _ in range(66)]  # @many
+    for lock in locks:
+        lock.acquire()  # @many_acquire
+    for lock in reversed(locks):
+        lock.release()  # @many_release
+
+
+@program
+def deadlock():
+    meeting = [queue.SimpleQueue(), queue.SimpleQueue()]
+
+    def other():
+        with b:  # @dead_b
+            meeting[0].put(1)
+            meeting[1].get()
+            with a:  # @dead_ba
+                pass
+
+    threading.Thread(target=other).start()  # @dead_start
+    with a:  # @dead_a
+        meeting[1].put(1)
+        meeting[0].get()
+        print("ready", os.getpid(), flush=True)
+        with b:  # @dead_ab
+            pass
+
+
+@program
+def waits_for_itself():
+    a.acquire()  # @itself_1
+    print("ready", os.getpid(), flush=True)
+    a.acquire()  # @itself_2
+
+
+@program
+def busy():
+    """Runs until it is killed."""
+
+    def work(seed):
+        choose = random.Random(seed)
+        locks = [threading.RLock() for _ in range(12)]
+        while True:
+            held = choose.sample(locks, choose.randrange(1, 5))
+            for lock in held:
+                lock.acquire()
+            for lock in held:
+                lock.release()
+
+    for seed in range(3):
+        threading.Thread(target=work, args=(seed,), daemon=True).start()
+    print("ready", os.getpid(), flush=True)
+    threading.Event().wait()
+
+
+@program
+def interrupted():
+    """An acquire that a signal's exception ends is taken back."""
+    signal.signal(signal.SIGALRM, lambda *_: 1 / 0)
+    a.acquire()  # @interrupted_a
+    signal.setitimer(signal.ITIMER_REAL, 0.05)
+    with b:  # @interrupted_b
+        try:
+            a.acquire()
+        except ZeroDivisionError:
+            pass
+        with again:  # @interrupted_again
+            pass
+
+
+@program
+def interrupted_at_last():
+    signal.signal(signal.SIGALRM, lambda *_: 1 / 0)
+    held_by_another = threading.Lock()
+    thread = threading.Thread(target=held_by_another.acquire)
+    thread.start()
+    thread.join()
+    with a:  # @last_a
+        signal.setitimer(signal.ITIMER_REAL, 0.05)
+        try:
+            held_by_another.acquire()
+        except ZeroDivisionError:
+            os._exit(5)
+
+
+@program
+def storm():
+    """Locks in a signal's handler and in finalizers, at any moment."""
+    inner = [threading.Lock(), threading.RLock()]
+
+    class Ends:
+        def __del__(self):
+            with inner[0]:
+                pass
+
+    def handle(*_):
+        with inner[1]:
+            pass
+
+    signal.signal(signal.SIGALRM, handle)
+    signal.setitimer(signal.ITIMER_REAL, 0.0005, 0.0005)
+    gc.set_threshold(5)
+    for _ in range(3000):
+        ring = Ends()
+        ring.self = ring
+        both(a, b)
+        both(b, again)
+    signal.setitimer(signal.ITIMER_REAL, 0)
+
+
+@program
+def random_events():
+    choose = random.Random(int(sys.argv[2]))
+    locks = [threading.RLock() for _ in range(6)]
+    held = []
+    for _ in range(6000):
+        if held and choose.random() < 0.5:
+            held.pop(choose.randrange(len(held)) if choose.random() < 0.3 else -1).release()
+        elif len(held) < 5:
+            lock = choose.choice(locks)
+            if choose.random() < 0.2:
+                lock.acquire(False)
+            else:
+                lock.acquire()
+            held.append(lock)
+        if choose.random() < 0.002:
+            thread = threading.Thread()
+            thread.start()
+            thread.join()
+
+
+@program
+def forks():
+    with a:  # @forks_a
+        child = os.fork()
+        if child == 0:
+            pair_in_child()
+            a.release()  # @forks_release
+            os._exit(0)
+        os.waitpid(child, 0)
+        print(child)
+
+
+def pair_in_child():
+    with b:  # @forks_b
+        pass
+
+
+@program
+def children():
+    child = subprocess.Popen([sys.executable, __file__, "mutexes"])
+    child.wait()
+    print(child.pid)
+    with b:  # @children_b
+        pass
+
+
+@program
+def becomes_another():
+    print(os.getpid(), flush=True)
+    with b:  # @becomes_b
+        pass
+    os.execv(sys.executable, [sys.executable, __file__, "mutexes"])
+
+
+@program
+def unseen():
+    import asyncio
+    import multiprocessing.synchronize  # noqa: F401
+
+    asyncio.Lock()
+    with a:  # @unseen_a
+        pass
+
+
+@program
+def nothing():
+    pass
+
+
+@program
+def leaves_at_once():
+    pair()
+    os._exit(5)
+
+
+@program
+def stray():
+    thread = threading.Thread(target=a.acquire)  # @stray_acquire
+    thread.start()  # @stray_start
+    thread.join()  # @stray_join
+    a.release()  # @stray_release
+
+
+if __name__ == "__main__":
+    PROGRAMS[sys.argv[1]]()
