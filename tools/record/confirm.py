@@ -24,7 +24,7 @@ sys.pycache_prefix = os.path.join(os.path.dirname(SOURCES), "out", "python")
 from build import BuildError  # noqa: E402
 from convert import ConvertError, Sources, clean, name_process, read_processes, without_parameters  # noqa: E402
 from family import Family, adopt_orphans, descendants  # noqa: E402
-from findings import ReportError, pair_of, read_findings  # noqa: E402
+from findings import ReportError, read_findings  # noqa: E402
 from launch import Failed, Preload, child_environment, fill_closed_descriptors  # noqa: E402
 from recording import new_recording  # noqa: E402
 from symbols import demangled  # noqa: E402

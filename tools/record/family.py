@@ -2,7 +2,6 @@
 
 import os
 import signal
-import sys
 import time
 
 from recording import maps_file
@@ -130,7 +129,6 @@ def start(command, environment, mask):
     """Starts the program, with the signals blocked that were so before; its number, or the error that it wasn't started for,
     which comes over a pipe."""
     reading, writing = os.pipe()
-    sys.stdout.flush() if sys.stdout else None
     process = os.fork()
     if process == 0:
         try:
