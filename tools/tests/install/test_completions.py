@@ -72,8 +72,13 @@ zpty -w shell 'bindkey "^I" complete-word; zstyle ":completion:*" verbose no; zs
 zpty -w shell 'echo rea''dy'
 zpty -r shell line '*ready*'
 zpty -w -n shell "$2"$'\t\t'
-sleep 1
-while zpty -r -t shell line; do print -rn -- "$line"; done
+text= rounds=0
+for ((at = 0; at < 200 && rounds < 5; at++)); do  # --help is offered everywhere: half a second more, and all is there
+    sleep 0.1
+    while zpty -r -t shell line; do text+=$line; done
+    [[ $text == *--help* ]] && ((rounds += 1))
+done
+print -rn -- "$text"
 zpty -d shell
 """
 
