@@ -15,6 +15,7 @@ requests=2000
 port=21311
 work=$(mktemp -d)
 trap 'rm -rf "$work"' EXIT
+# shellcheck disable=SC1091  # that file is checked by itself
 . "$here/record/cost.sh"
 
 compare() { # title, command..

@@ -14,6 +14,7 @@ requests=500
 port=21411
 work=$(mktemp -d)
 trap 'rm -rf "$work"' EXIT
+# shellcheck disable=SC1091  # that file is checked by itself
 . "$here/record/cost.sh"
 
 echo "four threads, two nested locks each, $turns turns"

@@ -1,3 +1,4 @@
+# shellcheck shell=bash disable=SC2154  # work and here are the variables of the script that reads this
 # What the scripts that measure recorders share. `work` is a directory of the script's own.
 TIMEFORMAT='%U %S'
 
