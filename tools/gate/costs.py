@@ -4,49 +4,93 @@
     costs.py [--most N] [CRATE ..]      (every crate, where none is named; the N dearest of each, 20 unless said)
 
 Each crate is proved once from nothing, by one process, and so are its tests, where it has any; then its edits are
-tried over that. *Start* is what passes before the second function: the front end, reading the libraries below, and
-the first function, with what it is the first to cite. A file of lemmas counts for the function that cites it first.
-The libraries below are built where they aren't yet.
+tried over that. A check keeps a file for each module that it has proved; what the process used between two of these
+files is the later one's. A function's modules are counted together: its code, its proof, its answers, and how each of
+its values is let go. *Start* is what passes before the first of the crate's own. The libraries below are built where
+they aren't yet.
 """
 
 import argparse
+import bisect
+import collections
 import os
+import pathlib
 import re
 import subprocess
 import sys
 import tempfile
+import threading
+import time
 
 import toolchain
 
-DONE = re.compile(r"checked (\S+), \d+ of \d+")
+# What stands behind a function's path in the names of the modules that the toolchain makes of it.
+PARTS = """Answers AnswersTried Carried Code Given Goals Invariants Key Kinds Layout Lts Met Mir Named Proof Reads Statement
+    Symbol TheImpl TheLaws TheLink TheReach Tie View decls""".split()
 
 
-def processor_seconds(process):
-    """What a process and the children that it waited for have used so far."""
-    with open(f"/proc/{process}/stat") as file:
-        fields = file.read().rpartition(")")[2].split()
-    return sum(map(int, fields[11:15])) / os.sysconf("SC_CLK_TCK")
+class Clock(threading.Thread):
+    """What a process has used of the processor, as time passes."""
+
+    def __init__(self, process):
+        super().__init__(daemon=True)
+        self.process, self.times, self.seconds = process, [0.0], [0.0]
+        self.start()
+
+    def run(self):
+        while self.process.poll() is None:
+            try:
+                with open(f"/proc/{self.process.pid}/stat") as file:
+                    fields = file.read().rpartition(")")[2].split()
+            except OSError:
+                return
+            self.times.append(time.time())
+            self.seconds.append(sum(map(int, fields[11:15])) / os.sysconf("SC_CLK_TCK"))
+            time.sleep(0.05)
+
+    def at(self, moment):
+        """The seconds that were used at a moment."""
+        return self.seconds[max(bisect.bisect(self.times, moment) - 1, 0)]
+
+
+def function_of(module, crate):
+    """The function, or the file of specs or lemmas, that a module belongs to; nothing where it is a library's below."""
+    name = re.fullmatch(rf"Rattle-{crate}(?:-proofs|-specs)?\.(.*)", module)
+    if name is None or name[1].startswith("below."):
+        return None
+    path = name[1].split(".")
+    while len(path) > 1 and re.sub(r"-\d.*", "", path[-1]) in PARTS:
+        path.pop()
+    return ".".join(path)
+
+
+def seconds_of_functions(kept, clock, crate):
+    """The start, and the seconds of each function, by the times at which their modules were written."""
+    written = sorted((file.stat().st_mtime, file.stem) for file in pathlib.Path(kept).rglob("*.oantt"))
+    start, before, found = 0.0, 0.0, collections.Counter()
+    for moment, module in written:
+        used, before = clock.at(moment) - before, clock.at(moment)
+        function = function_of(module, crate)
+        if function is None or not found:
+            start += used
+        if function is not None:
+            found[function] += used if found else 0.0
+    return start, found
 
 
 def check(library, crate, kept, tests):
-    """Checks a crate from nothing; its seconds in all, and those of each function in the order of their ends."""
+    """Checks a crate from nothing; its seconds in all, its start, and the seconds of each function."""
     words = crate.words(["--jobs", "1"], tests=tests, keeps=False)
-    command = [library.RATTLE, "check", *words, "--incremental", kept, "--progress"]
-    functions, before, last = [], 0.0, ""
+    command = [library.RATTLE, "check", *words, "--incremental", kept]
+    before = children_seconds()
     pipe = {"stdin": subprocess.DEVNULL, "stdout": subprocess.PIPE, "stderr": subprocess.STDOUT}
     with subprocess.Popen(command, cwd=crate.folder, text=True, errors="replace", **pipe) as process:
-        for line in process.stdout:
-            done = DONE.match(line)
-            if done:
-                now = processor_seconds(process.pid)
-                functions.append((now - before, done[1]))
-                before = now
-            last = line
-        _, status, used = os.wait4(process.pid, 0)
-        process.returncode = os.waitstatus_to_exitcode(status)
-    if process.returncode != 0:
-        raise SystemExit(f"{crate.name} isn't proved: {last}")
-    return used.ru_utime + used.ru_stime, functions
+        clock = Clock(process)
+        said = process.stdout.read()
+        status = process.wait()
+    if status != 0:
+        raise SystemExit(f"{crate.name} isn't proved: {said.strip().rpartition(chr(10))[2]}")
+    return children_seconds() - before, *seconds_of_functions(kept, clock, crate.name)
 
 
 def children_seconds():
@@ -77,10 +121,9 @@ def costs(command, crate, most):
     sums = []
     for tests in (False, True) if crate.has_tests() else (False,):
         with tempfile.TemporaryDirectory(prefix="goodlock-costs-") as kept:
-            total, functions = check(command.rtlib, crate, kept, tests)
-            start = f", start {functions[0][0]:.0f} s" if functions else ""
-            what = f"{crate.name}{' with its tests' if tests else ''}, {len(functions)} functions{start}"
-            show(what, total, functions[1:], most)
+            total, start, functions = check(command.rtlib, crate, kept, tests)
+            what = f"{crate.name}{' with its tests' if tests else ''}, start {start:.0f} s"
+            show(what, total, [(seconds, name) for name, seconds in functions.items()], most)
             sums.append(total)
             edits = [] if tests else try_edits(command, crate, kept)
         if edits:
