@@ -1,4 +1,4 @@
-// Two tellers move money between two accounts, in opposite directions. Each run ends well; another schedule deadlocks.
+// Two tellers move money between two accounts, in opposite directions. Runs end well, but another schedule deadlocks.
 //
 //     g++ -g -pthread samples/bank.cc -o bank
 //     tools/goodlock-record -o bank.std ./bank
@@ -23,6 +23,7 @@ void transfer(Account &from, Account &to, int amount) {
 
 int main() {
     std::thread saver([] { transfer(current, savings, 10); });
+    std::this_thread::sleep_for(std::chrono::milliseconds(20)); // by then saver is done, mostly
     std::thread spender([] { transfer(savings, current, 5); });
     saver.join();
     spender.join();
