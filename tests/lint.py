@@ -45,7 +45,9 @@ def first_line(name):
 
 
 def is_shell(name):
-    return first_line(name).startswith((b"#!/bin/sh", b"#!/bin/bash", b"#!/usr/bin/env bash")) or name.endswith((".bash", ".sh"))
+    return first_line(name).startswith((b"#!/bin/sh", b"#!/bin/bash", b"#!/usr/bin/env bash")) or name.endswith(
+        (".bash", ".sh")
+    )
 
 
 def is_python(name):
