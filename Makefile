@@ -1,9 +1,10 @@
-# Installs the program, the recorder, the viewer, their man pages and completions: docs/INSTALL.md.
+# Installs the program, the recorder, the viewer, their man pages and completions, and the library for C: docs/INSTALL.md.
 #
-#    make install PREFIX=/usr/local [DESTDIR=..] [PROGRAM=..]
-#    make uninstall PREFIX=/usr/local
+#    make install PREFIX=/usr/local [DESTDIR=..] [PROGRAM=..] [LIBRARY=..] [LIBDIR=..]
+#    make uninstall PREFIX=/usr/local [LIBDIR=..]
 #
 # PROGRAM is the built program: unless said, the one that ./goodlock runs, which proves and builds it where it has to.
+# LIBRARY is the library's archive; where there is none, it isn't installed. The shared library is linked from it.
 # Man pages are made where help2man is installed.
 PREFIX ?= /usr/local
 DESTDIR ?=
@@ -12,6 +13,11 @@ BIN := $(PREFIX)/bin
 LIB := $(PREFIX)/lib/goodlock
 SHARE := $(PREFIX)/share
 DOC := $(SHARE)/doc/goodlock
+LIBRARY ?= prebuilt/libgoodlock.a
+LIBDIR ?= $(PREFIX)/lib
+INCLUDE := $(PREFIX)/include
+SHARED := libgoodlock.so.0
+VERSION := $(shell sed -n '1s/.*(\(.*\)).*/\1/p' debian/changelog)
 MAN := $(SHARE)/man/man1
 BASH_COMPLETIONS ?= $(SHARE)/bash-completion/completions
 ZSH_COMPLETIONS ?= $(SHARE)/zsh/site-functions
@@ -19,7 +25,7 @@ FISH_COMPLETIONS ?= $(SHARE)/fish/vendor_completions.d
 COMMANDS := goodlock goodlock-record goodlock-predict-all goodlock-view
 INSTALL ?= install
 
-all: $(OUT)/goodlock man
+all: $(OUT)/goodlock man library
 	$(MAKE) -C tools
 	$(MAKE) -C tools/view
 
@@ -33,7 +39,29 @@ man: $(OUT)/goodlock
 	if command -v help2man >/dev/null; then tools/manpages $(OUT)/man $(OUT)/goodlock tools; \
 	else echo "There are no man pages, as help2man isn't installed." >&2; fi
 
-install: all
+# The library, where its archive is at hand.
+library: $(if $(wildcard $(LIBRARY)),$(OUT)/$(SHARED) $(OUT)/goodlock.pc)
+	@[ -f "$(LIBRARY)" ] || echo "There is no $(LIBRARY), so the library for C is left out." >&2
+
+$(OUT)/$(SHARED): $(LIBRARY) library/goodlock.map
+	mkdir -p $(OUT)
+	$(CC) -shared -o $@ -Wl,-soname,$(SHARED) -Wl,--version-script,library/goodlock.map \
+	    -Wl,--whole-archive $(LIBRARY) -Wl,--no-whole-archive -lpthread
+
+$(OUT)/goodlock.pc: library/goodlock.pc.in FORCE
+	mkdir -p $(OUT)
+	sed -e 's|@PREFIX@|$(PREFIX)|' -e 's|@LIBDIR@|$(LIBDIR)|' -e 's|@VERSION@|$(VERSION)|' $< >$@
+
+install-library: library
+	$(INSTALL) -d "$(DESTDIR)$(INCLUDE)" "$(DESTDIR)$(LIBDIR)/pkgconfig" "$(DESTDIR)$(DOC)/examples"
+	$(INSTALL) -m 644 library/goodlock.h library/goodlock.hpp "$(DESTDIR)$(INCLUDE)"
+	$(INSTALL) -m 644 $(LIBRARY) "$(DESTDIR)$(LIBDIR)/libgoodlock.a"
+	$(INSTALL) -m 644 $(OUT)/$(SHARED) "$(DESTDIR)$(LIBDIR)"
+	ln -sf $(SHARED) "$(DESTDIR)$(LIBDIR)/libgoodlock.so"
+	$(INSTALL) -m 644 $(OUT)/goodlock.pc "$(DESTDIR)$(LIBDIR)/pkgconfig"
+	$(INSTALL) -m 644 library/examples/* "$(DESTDIR)$(DOC)/examples"
+
+install: all $(if $(wildcard $(LIBRARY)),install-library)
 	$(INSTALL) -d "$(DESTDIR)$(BIN)" "$(DESTDIR)$(LIB)" "$(DESTDIR)$(DOC)" "$(DESTDIR)$(MAN)"
 	$(INSTALL) -d "$(DESTDIR)$(BASH_COMPLETIONS)" "$(DESTDIR)$(ZSH_COMPLETIONS)" "$(DESTDIR)$(FISH_COMPLETIONS)"
 	$(INSTALL) -m 755 $(OUT)/goodlock tools/goodlock-predict-all tools/view/out/goodlock-view "$(DESTDIR)$(BIN)"
@@ -55,6 +83,9 @@ uninstall:
 	rm -f $(foreach name,$(COMMANDS),"$(DESTDIR)$(BIN)/$(name)" "$(DESTDIR)$(BASH_COMPLETIONS)/$(name)" \
 	    "$(DESTDIR)$(FISH_COMPLETIONS)/$(name).fish") "$(DESTDIR)$(ZSH_COMPLETIONS)/_goodlock"
 	rm -f "$(DESTDIR)$(MAN)"/goodlock.1 "$(DESTDIR)$(MAN)"/goodlock-*.1
+	rm -f "$(DESTDIR)$(INCLUDE)/goodlock.h" "$(DESTDIR)$(INCLUDE)/goodlock.hpp" \
+	    "$(DESTDIR)$(LIBDIR)/pkgconfig/goodlock.pc" \
+	    $(foreach name,libgoodlock.a libgoodlock.so $(SHARED),"$(DESTDIR)$(LIBDIR)/$(name)")
 	rm -rf "$(DESTDIR)$(LIB)" "$(DESTDIR)$(DOC)"
 
 clean:
@@ -64,4 +95,4 @@ clean:
 
 FORCE:
 
-.PHONY: all man install uninstall clean FORCE
+.PHONY: all man library install install-library uninstall clean FORCE

@@ -54,11 +54,22 @@ KNOTS = {
     # A few threads that run all pieces again in each segment, but are fewer than the pieces.
     "few-threads": dict(threads=3, sections=4, segments=100),
 }
+# After recorded servers: a few pieces of code, run on many locks.
+SERVERS = {
+    # A cache: workers hold the lock of an item and take that of a class, of a slab or of the statistics inside; a maintainer
+    # goes the other way round, all under a lock of its own.
+    "item-locks": dict(threads=10, locks=380, sections=45, classes=9, events_a_section=200, tried=0.0),
+    # The same with the maintainer's own lock held for thousands of events in one piece; it only tries the items.
+    "long-sections": dict(threads=10, locks=380, sections=45, classes=9, events_a_section=4_000, tried=1.0),
+    # A thread for each connection, forked and joined as they come and go, and a table of locks, taken in any order with
+    # tries for most of those that aren't the first.
+    "connections": dict(threads=1_000, locks=2_000, sections=12, tried=0.75),
+}
 NAMES = {"colliding-names": dict(locks=100_000), "ordinary-names": dict(locks=100_000)}
 GENERAL = dict(
     threads=8, locks=16, depth=2, sections=20, disorder=0.1, is_ring=False, locations=500, name_length=0,
     waves=0, rejoins=0, others=0.3, strays=0.0005, shared=0,
-    segments=1, gates=1,
+    segments=1, gates=1, classes=1, events_a_section=0, tried=0.0,
 )  # fmt: skip
 
 PACKAGE = "org.example.server.storage.internal.cache.partition.segment.writer."
@@ -224,6 +235,106 @@ def few_threads(options):
                 yield from piece(f"T{t}", k, options.sections)
 
 
+class Server:
+    """The threads of a server: calls are lines of one thread, whose places are those of its pieces of code."""
+
+    def __init__(self, options):
+        self.random = random.Random(options.seed)
+        self.options = options
+        self.items = [f"0x55d0{1040 * i:08x}" for i in range(options.locks)]
+        self.classes = [f"class[{i}].lock" for i in range(options.sections)]
+        self.slabs = [f"slab[{i}].lock" for i in range(options.sections // 3)]
+
+    def later(self):
+        """The word for a lock that isn't the first of its piece."""
+        return "tacq" if self.random.random() < self.options.tried else "acq"
+
+    def inside(self, thread, file, *locks, word="acq", body=()):
+        """The thread takes the first lock by `acq` and each further one by the word, does what stands in the body, and
+        releases them innermost first."""
+        for place, lock in enumerate(locks, 100):
+            yield f"{thread}|{'acq' if place == 100 else word}({lock})|{file}.c:{place}"
+        yield from body
+        for place, lock in reversed([*enumerate(locks, 100)]):
+            yield f"{thread}|rel({lock})|{file}.c:{place + 100}"
+
+    def item(self):
+        """An item, with one of the few classes and one of the few slabs that it has in its life."""
+        number = self.random.randrange(len(self.items))
+        of_class, of_slab = ((number * 7 + self.random.randrange(most)) for most in (self.options.classes, 2))
+        return self.items[number], self.classes[of_class % len(self.classes)], self.slabs[of_slab % len(self.slabs)]
+
+    def request(self, thread):
+        """A worker's request: its own statistics, then an item with what its class, its slab and the statistics need."""
+        draw = self.random
+        item, its_class, its_slab = self.item()
+        yield from self.inside(thread, "thread", f"{thread}.stats")
+        work = draw.random()
+        if work < 0.35:
+            yield from self.inside(thread, "get", item)
+        elif work < 0.7:
+            inner = [
+                self.inside(thread, "unlink", its_class),
+                self.inside(thread, "free", its_slab),
+                self.inside(thread, "stats", "stats_lock"),
+            ]
+            yield from self.inside(thread, "store", item, body=[line for lines in inner for line in lines])
+        elif work < 0.85:
+            yield from self.inside(thread, "slabs", item, "slabs_lock")
+        else:
+            yield from self.inside(thread, "stats", "stats_lock")
+
+    def upkeep(self):
+        """A turn of the maintainer: a class, then one of its items, then the item's slab."""
+        item, its_class, its_slab = self.item()
+        inside = [its_class, item, its_slab][: self.random.choice([1, 2, 2, 2, 3])]
+        yield from self.inside("maintainer", "lru", *inside, word=self.later())
+
+    def cache(self):
+        """Requests of the workers and turns of the maintainer, whose own lock is held for a section of so many events."""
+        workers = [f"worker{i}" for i in range(self.options.threads - 1)]
+        length = max(12, self.options.events_a_section)
+        left = self.options.events
+        while left > 0:
+            turns = [line for _ in range(length // 5) for line in self.upkeep()]
+            own = [*self.inside("maintainer", "crawl", "lru_maintainer_lock", body=turns)]
+            requests = [self.request(self.random.choice(workers)) for _ in range(length // 5)]
+            share = len(own) // (len(requests) + 1) + 1
+            for at, request in enumerate(requests):
+                lines = [*own[at * share : (at + 1) * share], *request]
+                left -= len(lines)
+                yield from lines
+            left -= len(own[len(requests) * share :])
+            yield from own[len(requests) * share :]
+
+    def call(self, thread):
+        """A connection's call: a piece of code that takes up to three locks of the table, in any order."""
+        draw = self.random
+        piece = draw.randrange(self.options.sections)
+        locks = draw.sample(self.items, 1 + draw.choice([0, 0, 1, 1, 2]))
+        yield from self.inside(thread, f"piece{piece}", *locks, word=self.later())
+
+    def connections(self):
+        """Connections of which at most 32 are there at once."""
+        names = [f"connection{i}" for i in range(self.options.threads - 1)]
+        length = max(1, self.options.events // len(names) // 4)
+        for at in range(0, len(names), 32):
+            there = names[at : at + 32]
+            yield from (f"main|fork({name})|accept.c:50" for name in there)
+            for _ in range(length):
+                for name in there:
+                    yield from self.call(name)
+            yield from (f"main|join({name})|accept.c:80" for name in there)
+
+
+def cache_server(options):
+    return Server(options).cache()
+
+
+def connections(options):
+    return Server(options).connections()
+
+
 def locks_in_turn(options, prefix):
     """One thread takes and releases each lock twice; a lock's name is the prefix and eight digits."""
     for _ in range(2):
@@ -249,6 +360,9 @@ MADE_BY = {
     "alternating-gates": alternating_gates,
     "early-and-late": early_and_late,
     "few-threads": few_threads,
+    "item-locks": cache_server,
+    "long-sections": cache_server,
+    "connections": connections,
     "colliding-names": colliding_names,
     "ordinary-names": ordinary_names,
 }
@@ -273,16 +387,20 @@ def main():
     parser.add_argument("--rejoins", type=int, help="further joins of threads that have ended")
     parser.add_argument("--segments", type=int, help="of a knot: how often a thread runs its piece")
     parser.add_argument("--gates", type=int, help="of a knot: gate locks, fewer than its pieces of code")
+    parser.add_argument("--classes", type=int, help="of a server: how many classes an item has in its life")
+    parser.add_argument("--events-a-section", type=int, help="of a server: how long its maintainer's own lock is held")
+    parser.add_argument("--tried", type=float, help="of a server: share of its later locks that are tried")
     parser.add_argument("--crlf", action="store_true", help="lines end with CR LF")
     options = parser.parse_args()
-    for name, value in {**GENERAL, **{**SHAPES, **KNOTS, **NAMES}[options.shape]}.items():
+    for name, value in {**GENERAL, **{**SHAPES, **KNOTS, **SERVERS, **NAMES}[options.shape]}.items():
         if getattr(options, name, None) is None:
             setattr(options, name, value)
     for name, least, most in [
         ("events", 0, 10**9), ("threads", 2 if options.waves else 1, 1_024), ("locks", 1, 10**8), ("depth", 1, 64),
         ("sections", 1, 10**8), ("disorder", 0, 1), ("name_length", 0, 30_000), ("locations", 1, 10**8),
         ("others", 0, 0.95), ("strays", 0, 1), ("waves", 0, 1_023), ("rejoins", 0, 10**8),
-        ("shared", 0, 1), ("segments", 1, 10**6), ("gates", 1, 60),
+        ("shared", 0, 1), ("segments", 1, 10**6), ("gates", 1, 60), ("events_a_section", 0, 10**6),
+        ("classes", 1, 10**6), ("tried", 0, 1),
     ]:  # fmt: skip
         if not least <= getattr(options, name) <= most:
             parser.error(f"--{name.replace('_', '-')} is from {least} to {most}")

@@ -1,11 +1,13 @@
 #!/usr/bin/env python3
-"""The carried program, prebuilt/goodlock: makes it anew, or holds it to the one that was built here.
+"""What prebuilt/ carries, the program and the C library: makes it anew, or holds it to what was built here.
 
-    carried.py renew            carries crates/goodlock/out/goodlock, which has to be built from the sources at hand
-    carried.py check [BUILT]    compares: with what prebuilt/ says of it, with the sources at hand, with this toolchain,
-                                and with BUILT, a program that was just built from the proved sources
+    carried.py renew                 carries crates/goodlock/out/goodlock and crates/gl_c/out/libgl_c.a, which have to be
+                                     built from the sources at hand
+    carried.py check [--built]       compares: with what prebuilt/ says of them, with the sources at hand, with this
+                                     toolchain, and with --built with what was just built from the proved sources
 
-What is carried is the program as it is linked, without symbols. The last line of a check is `N passed, N failed`.
+The program is carried as it is linked, without symbols; the library with what it takes of the toolchain's C code as one
+object, of which the exports alone are seen. The last line of a check is `N passed, N failed`.
 """
 
 import hashlib
@@ -17,19 +19,89 @@ import sys
 import tempfile
 
 TOP = pathlib.Path(__file__).resolve().parent.parent.parent
-CARRIED = TOP / "prebuilt"
-PROGRAM = CARRIED / "goodlock"
-BUILT = TOP / "crates" / "goodlock" / "out" / "goodlock"
 FORMAT = "sources {}\ntoolchain {}\n"
 
 
-def sum_of(path):
-    return hashlib.sha256(path.read_bytes()).hexdigest()
+def kit():
+    return pathlib.Path(os.path.realpath(shutil.which("rt"))).parent.parent
 
 
-def sources():
-    """The sum over all that the program is built from."""
-    return subprocess.run([TOP / "tools/gate/sources"], stdout=subprocess.PIPE, text=True, check=True).stdout.strip()
+def tool(name, *words):
+    """Runs a tool of the toolchain's own compiler, which is many in one."""
+    subprocess.run([name, *words], executable=kit() / "toolchain" / "bin" / "clang", check=True)
+
+
+def strip(built, to):
+    """Writes a built program without its symbols."""
+    tool("llvm-strip", "-o", to, built)
+
+
+def gather(built, to):
+    """Writes an archive of one object: the library's and the toolchain's C code, with no names but the exports."""
+    with tempfile.TemporaryDirectory() as folder:
+        whole, own = (os.path.join(folder, name) for name in ("whole.o", "goodlock.o"))
+        tool("ld.lld", "-r", "-o", whole, "--whole-archive", built, kit() / "c" / "liblibc_c.a")
+        tool("llvm-objcopy", "--wildcard", "--keep-global-symbol=goodlock_*", "--strip-unneeded", whole, own)
+        tool("llvm-ar", "rcsD", to, own)
+
+
+class Carried:
+    """A file of prebuilt/: the crate that it is built from, what is built there, and how it comes to be carried."""
+
+    def __init__(self, name, crate, built, write, mode, sums, says):
+        self.name, self.crate, self.write, self.mode = name, crate, write, mode
+        self.file = TOP / "prebuilt" / name
+        self.built = TOP / "crates" / crate / "out" / built
+        self.sums, self.says = TOP / "prebuilt" / sums, TOP / "prebuilt" / says
+
+    def sources(self):
+        """The sum over all that it is built from."""
+        words = [TOP / "tools/gate/sources", "--of", self.crate]
+        return subprocess.run(words, stdout=subprocess.PIPE, text=True, check=True).stdout.strip()
+
+    def sum(self):
+        return f"{hashlib.sha256(self.file.read_bytes()).hexdigest()}  {self.name}\n"
+
+    def renew(self):
+        """Carries what was built here."""
+        of, note = self.sources(), self.built.with_suffix(".sources")
+        if not self.built.is_file() or not note.is_file() or note.read_text().strip() != of:
+            sys.exit(f"{self.built} isn't built from the sources at hand: prebuilt/renew does that")
+        new = self.file.with_name(f"{self.name}.new")
+        new.unlink(missing_ok=True)
+        self.write(self.built, new)
+        new.chmod(self.mode)
+        new.replace(self.file)
+        self.sums.write_text(self.sum())
+        self.says.write_text(FORMAT.format(of, toolchain()))
+        print(f"{self.file}: {self.file.stat().st_size} bytes, of sources {of}")
+
+    def check(self, compare, is_built):
+        """Compares it with what is said of it, and with what was built here."""
+        says, own = self.says.read_text(), toolchain()
+        compare(f"{self.file.relative_to(TOP)} is the file that {self.sums.name} names", self.sums.read_text() == self.sum())
+        compare("it may be used as it stands", os.access(self.file, os.X_OK if self.mode & 0o100 else os.R_OK))
+        compare("it was built from the sources at hand", says.startswith(f"sources {self.sources()}\n"))
+        if own is None:
+            print("by which toolchain, and what it builds: SKIPPED, rt isn't on PATH")
+            return
+        compare("by the toolchain at hand", says.endswith(f"\ntoolchain {own}\n"))
+        if is_built:
+            compare(f"its bytes are those that {self.built.relative_to(TOP)} gives", self.is_as_built())
+
+    def is_as_built(self):
+        if not self.built.is_file():
+            return False
+        with tempfile.TemporaryDirectory() as folder:
+            made = pathlib.Path(folder) / self.name
+            self.write(self.built, made)
+            return made.read_bytes() == self.file.read_bytes()
+
+
+ALL = [
+    Carried("goodlock", "goodlock", "goodlock", strip, 0o755, "SHA256SUMS", "built-from"),
+    Carried("libgoodlock.a", "gl_c", "libgl_c.a", gather, 0o644, "libgoodlock.sha256", "libgoodlock.built-from"),
+]
 
 
 def toolchain():
@@ -39,33 +111,7 @@ def toolchain():
     return subprocess.run(["rt", "version"], stdout=subprocess.PIPE, text=True, check=True).stdout.strip()
 
 
-def strip(built, to):
-    """Writes a built program without its symbols, by the toolchain's own compiler, which is many tools in one."""
-    kit = pathlib.Path(os.path.realpath(shutil.which("rt"))).parent.parent
-    subprocess.run(["llvm-strip", "-o", to, built], executable=kit / "toolchain" / "bin" / "clang", check=True)
-
-
-def sums(program):
-    return f"{sum_of(program)}  goodlock\n"
-
-
-def renew():
-    """Carries the program that was built here."""
-    if not BUILT.is_file() or not BUILT.with_name("goodlock.sources").is_file():
-        sys.exit(f"{BUILT} isn't built: GOODLOCK_BUILD=1 ./goodlock --version does that")
-    of = sources()
-    if BUILT.with_name("goodlock.sources").read_text().strip() != of:
-        sys.exit(f"{BUILT} isn't built from the sources at hand")
-    new = CARRIED / "goodlock.new"
-    strip(BUILT, new)
-    new.chmod(0o755)
-    new.replace(PROGRAM)
-    (CARRIED / "SHA256SUMS").write_text(sums(PROGRAM))
-    (CARRIED / "built-from").write_text(FORMAT.format(of, toolchain()))
-    print(f"{PROGRAM}: {PROGRAM.stat().st_size} bytes, of sources {of}")
-
-
-def check(built):
+def check(is_built):
     """How many of the comparisons pass, and how many don't."""
     results = []
 
@@ -73,31 +119,20 @@ def check(built):
         print(f"{what}: {'yes' if is_so else 'NO'}")
         results.append(is_so)
 
-    says = (CARRIED / "built-from").read_text()
-    compare("prebuilt/goodlock is the file that prebuilt/SHA256SUMS names", (CARRIED / "SHA256SUMS").read_text() == sums(PROGRAM))
-    compare("it can be run", os.access(PROGRAM, os.X_OK))
-    compare("it was built from the sources at hand", says.startswith(f"sources {sources()}\n"))
-    own = toolchain()
-    if own is None:
-        print("by which toolchain, and what it builds: SKIPPED, rt isn't on PATH")
-    else:
-        compare("by the toolchain at hand", says.endswith(f"\ntoolchain {own}\n"))
-    if own is not None and built is not None:
-        with tempfile.TemporaryDirectory() as folder:
-            stripped = pathlib.Path(folder) / "goodlock"
-            strip(built, stripped)
-            compare(f"its bytes are those of {built} without symbols", stripped.read_bytes() == PROGRAM.read_bytes())
+    for carried in ALL:
+        carried.check(compare, is_built)
     return results.count(True), results.count(False)
 
 
 def main(words):
     if words == ["renew"]:
-        renew()
+        for carried in ALL:
+            carried.renew()
         return 0
-    if words[:1] != ["check"] or len(words) > 2:
+    if words not in (["check"], ["check", "--built"]):
         print(__doc__, file=sys.stderr)
         return 2
-    passed, failed = check(pathlib.Path(words[1]) if words[1:] else None)
+    passed, failed = check(is_built=words[1:] == ["--built"])
     print(f"{passed} passed, {failed} failed")
     return 1 if failed else 0
 

@@ -3,11 +3,11 @@
 
     prove.py [--jobs N] [CRATE ..]      (the program goodlock, where no crate is named)
 
-A crate begins once those that it stands on are proved. Each begins with the processes that no other ready crate
-takes, so that a crate that all others wait for has every processor; --jobs says how many there are in all (one for
-each processor, as long as there is memory for them). Programs themselves are left to `rt run`. Standard output has a
-line for each crate that is done, and what a check said that failed. Status: 0 proved, 1 not proved, 2 the words were
-wrong, 3 the toolchain at hand can't be used so.
+A crate begins once those that it stands on are proved. The one that leads the longest chain gets every processor, and
+the others share what half of them leave; --jobs says how many there are (one for each processor, as long as there is
+memory for them). Programs themselves are left to `rt run`. Standard output has a line for each crate that is done, and
+what a check said that failed. Status: 0 proved, 1 not proved, 2 the words were wrong, 3 the toolchain at hand can't be
+used so.
 """
 
 import argparse
@@ -29,37 +29,50 @@ def weigh(crates):
     return chains
 
 
-def jobs_for(others, idle, memory):
-    """How many processes a crate's check gets, beside `others` crates that could begin too."""
-    share = idle // (others + 1)
+def jobs_for(leads, others, processes, idle, memory):
+    """How many processes a crate's check gets, beside `others` crates that could begin too: all of them where its chain is
+    the longest, since all waits for it, and else its share of those that are idle."""
+    share = processes if leads else idle // (others + 1)
     room = 1 + (memory - toolchain.MEMORY_OF_A_CHECK) // toolchain.MEMORY_OF_A_JOB
     return max(1, min(share, room))
 
 
 def in_order(crates, processes, work, told):
-    """Calls work(crate, jobs) for each crate once those below it have passed; tells of each. Whether all passed."""
+    """Calls work(crate, jobs) for each crate once those below it have passed; tells of each. Whether all passed.
+
+    The crate that leads the longest chain of those that are left counts as half of the processes that it gets, so that
+    others go on beside it."""
     chains = weigh(crates)
     left = sorted(crates, key=lambda crate: -chains[crate])
-    running, passed = {}, set()
+    running, passed, taken = {}, set(), {}
     with ThreadPoolExecutor(processes) as pool:
         while left or running:
             ready = [crate for crate in left if passed.issuperset(crate.below())]
             for at, crate in enumerate(ready):
-                idle = processes - sum(jobs for _, jobs, _ in running.values())
+                idle = processes - sum(taken[crate] for crate in running.values())
                 memory = toolchain.free_memory()
-                if idle == 0 or running and memory < toolchain.MEMORY_OF_A_CHECK:
+                if idle <= 0 or running and memory < toolchain.MEMORY_OF_A_CHECK:
                     break
-                jobs = jobs_for(len(ready) - at - 1, idle, memory)
+                leads = crate is left[0] and all(chains[other] < chains[crate] for other in running.values())
+                jobs = jobs_for(leads, len(ready) - at - 1, processes, idle, memory)
                 left.remove(crate)
-                running[pool.submit(work, crate, jobs)] = crate, jobs, time.monotonic()
+                taken[crate] = (jobs + 1) // 2 if leads else jobs
+                running[pool.submit(timed, work, crate, jobs)] = crate
             if not running:
                 break
             for done in wait(running, return_when=FIRST_COMPLETED).done:
-                crate, jobs, start = running.pop(done)
-                well, said = done.result()
-                told(crate, jobs, well, said, time.monotonic() - start)
+                crate = running.pop(done)
+                jobs, well, said, seconds = done.result()
+                told(crate, jobs, well, said, seconds)
                 passed |= {crate} if well else set()
     return len(passed) == len(crates)
+
+
+def timed(work, crate, jobs):
+    """What work(crate, jobs) answers, with its jobs and its seconds on the clock."""
+    start = time.monotonic()
+    well, said = work(crate, jobs)
+    return jobs, well, said, time.monotonic() - start
 
 
 def build_library(library, crate, jobs):

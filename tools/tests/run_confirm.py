@@ -29,20 +29,17 @@ def test(function):
 
 
 def predict(name):
-    """The report on a recorded run of this program. Who of a pool runs which task is up to the schedule: so there may be no cycle in
-    a run, and it is recorded again."""
+    """The report on a recorded run of this program, whose lists have a cycle however its threads come along."""
     report = "report-%s.json" % name
-    for number in range(0 if os.path.exists(report) else 5):
-        trace = "%s.%d.std" % (name, number)
+    if not os.path.exists(report):
+        trace = "%s.std" % name
         done = subprocess.run([RECORD, "-o", trace, "./cycles", name], stderr=subprocess.PIPE, timeout=30)
         check(done.returncode == 0, done.stderr.decode())
         with open(trace, "rb") as lines:
             found = subprocess.run([sys.executable, REFERENCE, "--json"], stdin=lines, stdout=subprocess.PIPE).stdout
-        if json.loads(found)["cycles"]:
-            with open(report, "wb") as output:
-                output.write(found)
-            break
-    check(os.path.exists(report), "%s: no cycle is predicted" % name)
+        check(json.loads(found)["cycles"], "%s: no cycle is predicted" % name)
+        with open(report, "wb") as output:
+            output.write(found)
     return report
 
 

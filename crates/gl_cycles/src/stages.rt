@@ -33,10 +33,10 @@ use std::alloc::Global;
 use std::thread::Threads;
 
 // The number of the last round, from 0.
-const LAST: usize = 3;
+const LAST: usize = 2;
 
 // How many steps the search of the first round has for each edge, and how many at least.
-const STEPS_OF_EDGE: usize = 16;
+const STEPS_OF_EDGE: usize = 64;
 
 const STEPS: usize = 10_000;
 
@@ -44,7 +44,7 @@ const STEPS: usize = 10_000;
 const GROWTH: usize = 4;
 
 // How much effort is worth a step.
-const WORTH: usize = 4;
+const WORTH: usize = 1;
 
 // All the effort that a reason makes at most.
 const ALL: usize = usize::MAX;

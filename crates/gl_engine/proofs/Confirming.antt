@@ -1,5 +1,5 @@
 -- What a receipt tells of what was collected.
-use Rattle.std.proofs.Common.{◌≡◌, ◌≢◌, ℕ, zero, suc, ◌+◌, ◌<◌, ◌≤◌, eqb, leb, not, Bool, true, false, ◌||◌, List, [], ◌∷◌, ◌++◌, length, map, take, get_or, set, Option, Some, None, refl, sym, ap, ◌∙◌, subst, append_assoc, arith, inl, inr}
+use Rattle.std.proofs.Common.{◌≡◌, ◌≢◌, ℕ, zero, suc, ◌+◌, ◌<◌, ◌≤◌, eqb, leb, not, Bool, true, false, ◌||◌, List, [], ◌∷◌, ◌++◌, length, map, take, get_or, set, Some, None, refl, sym, ap, ◌∙◌, subst, append_assoc, arith, inl, inr}
 use Rattle.std.specs.Prelude.{slice_get}
 use mathlib.Core.List.{IsPrefix}
 use Rattle.std.specs.List.{flat_map}
@@ -16,7 +16,7 @@ use Rattle.gl_event.specs.Bounds.{Bounds}
 use Rattle.gl_event.specs.declared.notes.Note.{Note}
 use Rattle.gl_intake.specs.Stream.{events_of, has_ended, logs_of, note_refusal}
 use Rattle.gl_lane.specs.Lanes.{AllPushed, Popping}
-use Rattle.gl_edges.specs.Edges.{once}
+use Rattle.gl_edges.specs.Edges.{once, edges}
 use Rattle.gl_edges.specs.declared.edge.Edge.{Edge}
 use Rattle.gl_edges.specs.declared.edge.Sample.{Sample}
 use Rattle.gl_shards.specs.Feeds.{AllSent}
@@ -30,11 +30,11 @@ use Rattle.gl_intake.specs.declared.notes.Refused.{Refused}
 use Rattle.gl_intake.proofs.Next.{none_of_next}
 use Rattle.gl_engine.specs.bodies.Breaking.{handed, HandOver, IsBlamed, IsBroken}
 use Rattle.gl_engine.specs.Collecting.{Pulling, as_of}
-use Rattle.gl_engine.specs.Gathering.{Gathering, has_receipt, is_strange, AreOurs, AreOwnBelow, AreThereBelow}
+use Rattle.gl_engine.specs.Receipts.{has_receipt, is_strange, AreOfRecorders, AreOwnBelow, AreThereBelow}
 use Rattle.gl_engine.specs.Keeping.{AreNotesOf, pulling_of}
 use Rattle.gl_engine.specs.Recording.{Closed, recorded_whole}
-use Rattle.gl_engine.specs.Settling.{IsMemoryOrGone, IsSettled, told}
-use Rattle.gl_engine.specs.bodies.Whole.{lane_of, IsConfirmed, IsWhole}
+use Rattle.gl_engine.specs.Settling.{AreListsOf, IsMemoryOrGone, IsSettled, told}
+use Rattle.gl_engine.specs.bodies.Whole.{lane_of, IsCollected, IsConfirmed, IsWhole}
 use Rattle.gl_engine.specs.declared.faults.RunFault.{RunFault}
 use Rattle.gl_engine.specs.declared.faults.RunFault.TheVariants as kept
 use Rattle.gl_engine.specs.declared.row.Row.{Row}
@@ -169,12 +169,12 @@ not_false : (b : Bool) → not b ≡ false → b ≡ true
 not_false true h = refl
 not_false false h = absurd (cc)
 
-pub not_strange : (g : Gathering) (before : List Closed) (r : Closed) → is_strange g before r ≡ false → (r.session ≡ g.session) × (r.thread < g.limits.threads)
+pub not_strange : (session threads : ℕ) (before : List Closed) (r : Closed) → is_strange session threads before r ≡ false → (r.session ≡ session) × (r.thread < threads)
 unfolding is_strange
-not_strange g before r own =
-    let (same, rest) = or_parts (not (eqb r.session g.session)) _ own in
-    let (known, first) = or_parts (leb g.limits.threads r.thread) _ rest in
-    (eqb-true r.session g.session (not_false _ same), leb-false g.limits.threads r.thread known)
+not_strange session threads before r own =
+    let (same, rest) = or_parts (not (eqb r.session session)) _ own in
+    let (known, first) = or_parts (leb threads r.thread) _ rest in
+    (eqb-true r.session session (not_false _ same), leb-false threads r.thread known)
 
 -- what is seen of a row tells its lane
 lane_seen : (rows : List Row) (i : ℕ) (row : Pulling) → slice_get (map pulling_of rows) i ≡ Some row → slice_get (map lane_of rows) i ≡ Some row.lane
@@ -193,7 +193,7 @@ union_sent tables sent are =
 
 -- ---- all threads
 
-module _ (limits : Bounds) (rows : List Row) (stream : List Note) (sent : List AllSent) (whole : IsWhole limits rows stream sent) (count : length rows ≡ limits.threads) (receipts : List Closed)
+module _ (limits : Bounds) (rows : List Row) (stream : List Note) (collected : IsCollected limits rows stream) (count : length rows ≡ limits.threads) (receipts : List Closed)
     (all : AreThereBelow receipts limits.threads)
     (known : (at : ℕ) (r : Closed) → slice_get receipts at ≡ Some r → r.thread < limits.threads)
     (same : (at : ℕ) (r : Closed) → slice_get receipts at ≡ Some r → r.limits ≡ limits)
@@ -201,61 +201,60 @@ module _ (limits : Bounds) (rows : List Row) (stream : List Note) (sent : List A
   its_log : (at : ℕ) (r : Closed) → slice_get receipts at ≡ Some r → events_of r.thread stream ≡ recorded_whole r
   its_log at r here =
       let (row, found) = found_within rows r.thread (let k = known at r here in omega (arith, count)) in
-      let seen : slice_get (map pulling_of rows) r.thread ≡ Some (pulling_of row) = slice_get-map pulling_of rows r.thread ∙ ap (option_map pulling_of) found in
-      all_recorded limits r.thread stream row.lane r refl (same at r here) (confirmed at r row here found) (whole.told r.thread (pulling_of row) seen) (whole.ended r.thread (known at r here))
+      all_recorded limits r.thread stream row.lane r refl (same at r here) (confirmed at r row here found) (collected.told r.thread row found) (collected.ended r.thread (known at r here))
 
-  pub settled : IsSettled receipts (logs_of limits.threads stream) sent
-  settled = record {
+  pub lists_settled : AreListsOf receipts (logs_of limits.threads stream)
+  lists_settled = record {
     each = λ at r here. numbered_at (λ t. events_of t stream) 0 limits.threads r.thread (known at r here) ∙ ap Some (ap (λ t. events_of t stream) (let k : 0 + r.thread ≡ r.thread = omega arith in k) ∙ its_log at r here);
     one_each = λ thread within. all thread (omega (arith, within, length-map-range_with_len (λ t. events_of t stream) 0 limits.threads));
-    edges_are = dealt_edges limits.threads stream sent (length sent) (omega (arith, whole.some)) whole.made_are whole.shipped;
   }
 
--- ---- what was gathered, with its receipts
+-- ---- what was collected, with the receipts of the session
 
-module _ (session : ℕ) (limits : Bounds) (rows : List Row) (stream : List Note) (sent : List AllSent) (fault : Option RunFault) (receipts : List Closed) where
-  abbrev gathered : Gathering
-  gathered = record { session = session; limits = limits; lanes = map lane_of rows; stream = stream; sent = sent; fault = fault }
+module _ (session : ℕ) (limits : Bounds) (rows : List Row) (receipts : List Closed) (count : length rows ≡ limits.threads) (ours : AreOfRecorders session limits (map lane_of rows) receipts)
+    (own : AreOwnBelow session limits.threads receipts (length receipts)) where
+  its_own : (at : ℕ) (r : Closed) → slice_get receipts at ≡ Some r → (r.session ≡ session) × (r.thread < limits.threads)
+  its_own at r here = not_strange session limits.threads (take at receipts) r (own at r (slice_get_within receipts at r here) here)
 
-  module _ (count : length rows ≡ limits.threads) (g : Gathering) (view_is : gathered ≡ g) (ours : AreOurs g receipts) (own : AreOwnBelow g receipts (length receipts)) where
-    its_own : (at : ℕ) (r : Closed) → slice_get receipts at ≡ Some r → (r.session ≡ session) × (r.thread < limits.threads)
-    its_own at r here = not_strange gathered (take at receipts) r (subst (λ g. AreOwnBelow g receipts (length receipts)) (sym view_is) own at r (slice_get_within receipts at r here) here)
+  pub rows_known : (at : ℕ) (r : Closed) → slice_get receipts at ≡ Some r → r.thread < length rows
+  rows_known at r here = let k = (its_own at r here).1 in omega (arith, count)
 
-    pub rows_known : (at : ℕ) (r : Closed) → slice_get receipts at ≡ Some r → r.thread < length rows
-    rows_known at r here = let k = (its_own at r here).1 in omega (arith, count)
+  pub rows_ours : (at : ℕ) (r : Closed) (row : Pulling) → slice_get receipts at ≡ Some r → slice_get (map pulling_of rows) r.thread ≡ Some row → r.lane ≡ row.lane
+  rows_ours at r row here seen = (ours at r here (its_own at r here).0 row.lane (lane_seen rows r.thread row seen)).0
 
-    its_ours : AreOurs gathered receipts
-    its_ours = subst (λ g. AreOurs g receipts) (sym view_is) ours
+  its_limits : (at : ℕ) (r : Closed) → slice_get receipts at ≡ Some r → r.limits ≡ limits
+  its_limits at r here =
+      let (row, found) = found_within rows r.thread (rows_known at r here) in
+      (ours at r here (its_own at r here).0 row.lane.lane (slice_get-map lane_of rows r.thread ∙ ap (option_map lane_of) found)).1
 
-    pub rows_ours : (at : ℕ) (r : Closed) (row : Pulling) → slice_get receipts at ≡ Some r → slice_get (map pulling_of rows) r.thread ≡ Some row → r.lane ≡ row.lane
-    rows_ours at r row here seen = (its_ours at r here (its_own at r here).0 row.lane (lane_seen rows r.thread row seen)).0
+  -- each receipt was compared with its lane
+  abbrev AreConfirmed : Type 0
+  AreConfirmed = (at : ℕ) (r : Closed) (row : Row) → slice_get receipts at ≡ Some r → slice_get rows r.thread ≡ Some row → IsConfirmed (handed row.lane) r
 
-    its_limits : (at : ℕ) (r : Closed) → slice_get receipts at ≡ Some r → r.limits ≡ limits
-    its_limits at r here =
-        let (row, found) = found_within rows r.thread (rows_known at r here) in
-        (its_ours at r here (its_own at r here).0 row.lane.lane (slice_get-map lane_of rows r.thread ∙ ap (option_map lane_of) found)).1
+  module _ (stream : List Note) (all : AreThereBelow receipts limits.threads) (confirmed : AreConfirmed) where
+    -- the lists of what was collected are the receipts'
+    pub rows_listed : IsCollected limits rows stream → (collecting : Bounds) → collecting ≡ limits → AreListsOf receipts (logs_of collecting.threads stream)
+    rows_listed collected collecting same =
+        subst (λ (b : Bounds). AreListsOf receipts (logs_of b.threads stream)) (sym same)
+        (lists_settled limits rows stream collected count receipts all (λ at r here. (its_own at r here).1) its_limits confirmed)
 
-    -- each receipt was compared with its lane
-    abbrev AreConfirmed : Type 0
-    AreConfirmed = (at : ℕ) (r : Closed) (row : Row) → slice_get receipts at ≡ Some r → slice_get rows r.thread ≡ Some row → IsConfirmed (handed row.lane) r
+    pub rows_settled : (sent : List AllSent) → IsWhole limits rows stream sent → (collecting : Bounds) → collecting ≡ limits → IsSettled receipts (logs_of collecting.threads stream) sent
+    rows_settled sent whole collecting same = record {
+      lists_are = rows_listed whole.collected collecting same;
+      edges_are = subst (λ (b : Bounds). once (flat_map (λ s. s.sent) sent) ≡ edges (logs_of b.threads stream)) (sym same)
+          (dealt_edges limits.threads stream sent (length sent) (omega (arith, whole.some)) whole.made_are whole.shipped);
+    }
 
-    pub rows_settled : IsWhole limits rows stream sent → AreThereBelow receipts g.limits.threads → AreConfirmed
-        → (collecting : Bounds) → collecting ≡ limits → IsSettled receipts (logs_of collecting.threads stream) sent
-    rows_settled whole all confirmed collecting same =
-        subst (λ (b : Bounds). IsSettled receipts (logs_of b.threads stream) sent) (sym same)
-        (settled limits rows stream sent whole count receipts (subst (λ (g : Gathering). AreThereBelow receipts g.limits.threads) (sym view_is) all)
-        (λ at r here. (its_own at r here).1) its_limits confirmed)
-
-    never_broken : AreThereBelow receipts g.limits.threads → AreConfirmed → (thread : ℕ) (why : Refused) → IsBroken limits rows stream thread why → ⊥
-    never_broken all confirmed thread why is =
+    never_broken : (thread : ℕ) (why : Refused) → IsBroken limits rows stream thread why → ⊥
+    never_broken thread why is =
         let within : thread < limits.threads = (let k = slice_get_within rows thread is.came.row is.came.here in omega (arith, count)) in
-        let (at, r, here, its) = receipt_of_thread receipts thread (subst (λ (g : Gathering). AreThereBelow receipts g.limits.threads) (sym view_is) all thread within) in
+        let (at, r, here, its) = receipt_of_thread receipts thread (all thread within) in
         let confirms : IsConfirmed (handed is.came.row.lane) r = confirmed at r is.came.row here (ap (slice_get rows) its ∙ is.came.here) in
         let first : IsConfirmed (is.taken ++ is.note ∷ []) r = record { notes = confirms.notes; begins = prefix_on (is.taken ++ is.note ∷ []) (handed is.came.row.lane) r.pushed is.came.first confirms.begins } in
         none_to_blame limits thread stream is.taken is.note why r its (its_limits at r here) first is.told is.refused
 
     -- with its receipts, a run is left with no fault of a lane
-    pub memory_or_gone : AreThereBelow receipts g.limits.threads → AreConfirmed → (f : RunFault) → IsBlamed limits rows stream f → IsMemoryOrGone (told f)
-    memory_or_gone all confirmed kept.Memory is = tt
-    memory_or_gone all confirmed (kept.Gone shard) is = tt
-    memory_or_gone all confirmed (kept.Broken thread why) is = absurd (never_broken all confirmed thread why is)
+    pub memory_or_gone : (f : RunFault) → IsBlamed limits rows stream f → IsMemoryOrGone (told f)
+    memory_or_gone kept.Memory is = tt
+    memory_or_gone (kept.Gone shard) is = tt
+    memory_or_gone (kept.Broken thread why) is = absurd (never_broken thread why is)

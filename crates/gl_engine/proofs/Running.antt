@@ -7,7 +7,7 @@ use mathlib.Core.List.{IsPrefix}
 use Rattle.std.proofs.Math.Seq.{map-set_same}
 use Rattle.std.proofs.lemmas.Bool.{false≢true}
 use Rattle.std.proofs.lemmas.List.{append-nil, length-map, map-set, map-append}
-use Rattle.std.proofs.lemmas.Option.{slice_get-map, slice_get_within}
+use Rattle.std.proofs.lemmas.Option.{slice_get-map}
 use Rattle.std.proofs.lemmas.Result.{IfErr-at_err}
 use Rattle.gl_event.specs.Bounds.{Bounds}
 use Rattle.gl_event.specs.declared.notes.Note.{Note}
@@ -18,7 +18,7 @@ use Rattle.gl_intake.specs.Stream.{events_of, has_ended}
 use Rattle.gl_shards.specs.Feeds.{AllSent, Sending}
 use Rattle.gl_shards.specs.Shards.{shard_of}
 use Rattle.gl_shards.specs.Tables.{of_shard}
-use Rattle.gl_world.proofs.Lists.{same_some, get_at, found_within, get_set_same}
+use Rattle.gl_world.proofs.Lists.{same_some, get_at, get_set_same}
 use Rattle.gl_engine.specs.Collecting.{Pulling, Side, as_of, with_pulled, HasPulled, IsSidePull}
 use Rattle.gl_intake.specs.declared.notes.Refused.{Refused}
 use Rattle.gl_engine.specs.bodies.Breaking.{IsBlamed, IsGone, IsKeptFor}
@@ -163,12 +163,7 @@ pub all_whole : (limits : Bounds) (rows : List Row) (stream : List Note) (outlet
 all_whole limits rows stream outlets sent keeps ended some are =
     let count : length sent ≡ length outlets = as_long (λ (s : AllSent). s.sent) (λ (o : Sending). o.sent) sent outlets are in
     record {
-      told = λ thread seen at.
-          (let (row, there) = found_within rows thread (let within = slice_get_within (map pulling_of rows) thread seen at in omega (arith, length-map rows pulling_of)) in
-          let same : seen ≡ pulling_of row = same_some seen (pulling_of row) (sym at ∙ slice_get-map pulling_of rows thread ∙ ap (option_map pulling_of) there) in
-          keeps.collector.rows_are.told thread row there ∙ ap (λ (p : Pulling). map (as_of thread) p.popped) (sym same));
-      in_order = keeps.collector.in_order;
-      ended = ended;
+      collected = record { told = keeps.collector.rows_are.told; in_order = keeps.collector.in_order; ended = ended };
       made_are = keeps.collector.made_are;
       some = omega (arith, some, count);
       shipped = are ∙ keeps.shipped ∙ ap (λ n. dealt n (made_by stream)) (sym count);

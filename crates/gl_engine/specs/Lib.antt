@@ -3,6 +3,7 @@ pub mod Faults
 pub mod Collecting
 pub mod Keeping
 pub mod Dealing
+pub mod Receipts
 pub mod Gathering
 pub mod Settling
 pub mod Steps

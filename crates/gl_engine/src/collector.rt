@@ -5,9 +5,10 @@ ghost use Rattle.gl_intake.specs.Stream.{events_of, logs_of, AreInOrder};
 ghost use Rattle.gl_engine.specs.Collecting.{Pulling, lanes_of, IsPull};
 
 use crate::pulled::{PullFault, Pulled};
+use crate::reports::report_of_all;
 use crate::row::Row;
-use gl_cycles::{Report, ReportFault, report_over};
-use gl_edges::{Edge, Sample, edges_of};
+use gl_cycles::{Report, ReportFault};
+use gl_edges::{Edge, Sample};
 use gl_event::{Event, Limits, Note, ThreadId};
 use gl_filters::Query;
 use gl_intake::Intake;
@@ -84,8 +85,6 @@ impl Collector {
         ensures report { IfOk result (λ report. IsGoodlockReport query.now (logs_of self.now.limits.threads self.now.stream) report) }
         ensures fault { IfErr result (λ fault. IsReportFault (logs_of self.now.limits.threads self.now.stream) fault) }
     {
-        let logs = self.intake.logs();
-        let edges = edges_of(self.alloc, logs)?;
-        report_over(self.alloc, edges, logs, query)
+        report_of_all(self.alloc, &self.intake, query)
     }
 }

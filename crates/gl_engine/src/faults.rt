@@ -1,4 +1,5 @@
 //! What can go wrong in a run, and why nothing is settled.
+use crate::collector::Collector;
 use crate::gathered::Gathered;
 use gl_event::ThreadId;
 use gl_intake::Refused;
@@ -39,5 +40,26 @@ pub enum SettleFault {
     Broken {
         thread: ThreadId,
         refused: Refused,
+    },
+}
+
+/// Why a collector isn't settled. It is handed back as it was.
+#[derive(Drop)]
+pub enum UnsettledFault {
+    /// The receipt at this place is of another session, of an unknown thread, or the second one of its
+    /// thread. It is the first such one.
+    Strange {
+        at: usize,
+        collector: Collector,
+    },
+    /// There is no receipt of this thread. It is the first such one.
+    Missing {
+        thread: ThreadId,
+        collector: Collector,
+    },
+    /// The end mark of this thread wasn't pulled yet. It is the first such one.
+    Unended {
+        thread: ThreadId,
+        collector: Collector,
     },
 }

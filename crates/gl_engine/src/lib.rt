@@ -17,7 +17,14 @@
 //!     Pulled::Empty => ..                                     // nothing is seen in its lane
 //! }
 //! let report = collector.report_so_far(&query)?;              // of all that was pulled
+//!
+//! // once every thread has closed and its end mark was pulled
+//! let settled = collector.settle(&mut receipts)?;             // no event is missing
+//! let report = settled.report_alone(&query)?;                 // of all that was recorded
 //! ```
+//!
+//! With shards, workers and a collector that runs in a thread of its own, [`Collector::run`],
+//! [`Gathered::settle`] and [`Settled::report`] do the same.
 //!
 //! [`Recorder::record`], [`Recorder::close`] and [`Collector::pull`] never wait for another thread: a
 //! full lane hands the event or the recorder back, and an empty one answers [`Pulled::Empty`]. Only
@@ -37,7 +44,9 @@ mod gathered;
 mod laws;
 mod pulled;
 mod receipt;
+mod receipts;
 mod recorder;
+mod reports;
 mod row;
 mod run;
 mod session;
@@ -46,7 +55,7 @@ mod settled;
 mod throw;
 
 pub use collector::Collector;
-pub use faults::{RunFault, SettleFault};
+pub use faults::{RunFault, SettleFault, UnsettledFault};
 pub use gathered::Gathered;
 pub use laws::{running_calls_are_steps, unpulled_is_unchanged};
 pub use pulled::{PullFault, Pulled};

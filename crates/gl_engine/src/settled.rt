@@ -7,6 +7,7 @@ ghost use Rattle.gl_shards.specs.Tables.{union};
 ghost use Rattle.gl_engine.specs.Recording.{Closed};
 ghost use Rattle.gl_engine.specs.Settling.{IsSettled};
 
+use crate::reports::report_of_all;
 use gl_cycles::{Report, ReportFault, report_over_parallel};
 use gl_event::Event;
 use gl_filters::Query;
@@ -60,9 +61,21 @@ impl Settled {
     ) -> Result<Report, ReportFault>
         ensures report { IfOk result (λ report. IsReport query.now (union tables.items) self.now report) }
         ensures fault { IfErr result (λ fault. IsReportFault self.now fault) }
-        ensures recorded { (receipts : List Closed) (sent : List AllSent) → IsSettled receipts self.now sent → tables.items ≡ map (λ s. once s.sent) sent → IfOk result (λ report. IsGoodlockReport query.now self.now report) }
+        ensures recorded { (receipts : List Closed) (sent : List AllSent)
+            → IsSettled receipts self.now sent → tables.items ≡ map (λ s. once s.sent) sent
+            → IfOk result (λ report. IsGoodlockReport query.now self.now report) }
     {
         let edges = merge(self.alloc, tables)?;
         report_over_parallel(rt, self.alloc, edges, self.intake.logs(), query)
+    }
+    /// The same report on the calling thread, which finds the edges in the lists: the Goodlock report of
+    /// what the threads recorded.
+    ///
+    /// Err where a segment of the lists is before itself, and where memory was refused.
+    pub fn report_alone(&self, query: &Query) -> Result<Report, ReportFault>
+        ensures report { IfOk result (λ report. IsGoodlockReport query.now self.now report) }
+        ensures fault { IfErr result (λ fault. IsReportFault self.now fault) }
+    {
+        report_of_all(self.alloc, &self.intake, query)
     }
 }

@@ -1,6 +1,7 @@
 -- Lists whose items all have a property, and receipts that a session can be settled with.
-use Rattle.std.proofs.Common.{◌≡◌, ℕ, zero, suc, List, [], ◌∷◌, ◌++◌, length, map, Option, None, Some, refl, sym, ap, ◌∙◌, subst}
+use Rattle.std.proofs.Common.{◌≡◌, ℕ, zero, suc, List, [], ◌∷◌, ◌++◌, length, map, take, Option, None, Some, refl, sym, ap, ◌∙◌, subst}
 use Rattle.std.proofs.lemmas.List.{append-nil}
+use Rattle.std.proofs.Math.Seq.{take-append_seam}
 use Rattle.std.specs.Option.{option_to_list}
 use Rattle.std.specs.Prelude.{slice_get}
 use Rattle.gl_event.specs.Bounds.{Bounds}
@@ -11,6 +12,10 @@ use Rattle.gl_engine_tests.specs.Sessions.{Owner, left_by, owner_of, AreOursOf}
 
 same_some : {X : Type 0} (x y : X) → Some x ≡ Some y → x ≡ y
 same_some x y h = cc
+
+-- a list that was lent and came back as it was
+pub lent_back : {X : Type 0} (len : ℕ) (old new rest : List X) → new ≡ old → length old ≡ len → take len (new ++ rest) ≡ old
+lent_back len old new rest same count = ap (λ n. take n (new ++ rest)) (sym count ∙ ap length (sym same)) ∙ take-append_seam new rest ∙ same
 
 module _ {X : Type 0} (P : X → Type 0) where
   -- of each, and of one more

@@ -35,3 +35,15 @@ pub record IsSession (number : ℕ) (g : Gathering) (receipts aside : List Close
   pub ours : AreOurs g receipts
   pub ours_aside : AreOurs g aside
   pub feeds : served ≡ true → g.fault ≡ None → map (λ (s : AllSent). s.feed) g.sent ≡ map (λ (i : Receiving). i.feed) inlets
+
+-- a session of number 7 that is settled without a run, of so many threads: it can be settled with the receipts
+pub record IsUnrun (threads : ℕ) (c : Collecting) (receipts : List Closed) : Type 0 where
+  pub numbered : c.session ≡ 7
+  pub count : c.limits.threads ≡ threads
+  pub ours : AreOursOf c receipts
+
+-- the collector is of the same session
+pub record IsSameSession (old new : Collecting) : Type 0 where
+  pub session : new.session ≡ old.session
+  pub limits : new.limits ≡ old.limits
+  pub lanes : lanes_of new ≡ lanes_of old

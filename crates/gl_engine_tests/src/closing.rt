@@ -1,5 +1,5 @@
 //! Threads that record their lists and close.
-ghost use Rattle.std.specs.Prelude.{◌≡◌, map, IfSome};
+ghost use Rattle.std.specs.Prelude.{◌≡◌, length, map, IfSome};
 ghost use Rattle.gl_engine_tests.specs.Sessions.{left_by, owner_of, AreOursOf};
 
 use gl_engine::{Collector, Receipt, Recorder, open};
@@ -38,6 +38,7 @@ fn close_all(alloc: Global, recorders: Vec<Recorder>, lists: &[&[Event]]) -> Opt
 /// the order of thread numbers, and the collector.
 pub fn closed(alloc: Global, number: u64, lists: &[&[Event]]) -> Option<(Vec<Receipt>, Collector)>
     ensures number { IfSome result (λ session. session.1.session ≡ number) }
+    ensures threads { IfSome result (λ session. session.1.limits.threads ≡ length lists.now) }
     ensures ours { IfSome result (λ session. AreOursOf session.1 session.0.items) }
 {
     let threads = u32::try_from(lists.len()).ok()?;

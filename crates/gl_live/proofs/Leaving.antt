@@ -51,11 +51,11 @@ pub settled_lists : (g : Gathering) (lists : List (List Event)) (receipts : List
     → All (IsReceiptOf (gathered_from g) lists) receipts → settled ≡ lists
 settled_lists g lists receipts settled sent is count are =
     same_at settled lists count (λ thread within.
-    let found = receipt_of_thread receipts thread (is.one_each thread within) in
+    let found = receipt_of_thread receipts thread (is.lists_are.one_each thread within) in
     let at = found.0 in
     let r : Closed = found.1 in
     let its = all_get (IsReceiptOf (gathered_from g) lists) receipts at r found.2 are in
-    subst (λ t. slice_get settled t ≡ slice_get lists t) found.3 (is.each at r found.2 ∙ sym its.whole))
+    subst (λ t. slice_get settled t ≡ slice_get lists t) found.3 (is.lists_are.each at r found.2 ∙ sym its.whole))
 
 -- receipts of the session that was gathered
 pub ours : (g : Gathering) (receipts : List Closed) → AreReceipts (gathered_from g) receipts → AreOurs g receipts

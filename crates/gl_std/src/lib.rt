@@ -69,7 +69,7 @@ pub use laws::{
 pub use line::{MAX_LINE, limits_in_numbers};
 pub use line_ends::ended_lines;
 pub use lists::Lists;
-pub use names::Names;
+pub use names::{Names, NamesFault};
 pub use seed::Seed;
 pub use stream::{Item, Items, Lines};
 pub use trace::Trace;

@@ -11,6 +11,10 @@ use indexmap::IndexSet;
 use std::alloc::{AllocError, Global};
 use std::marker::Model;
 
+mod numbering;
+
+pub use numbering::NamesFault;
+
 /// Different names in order of first mention, so that the place of a name is its number.
 struct NameList {
     names: IndexSet<Name, Seed>,
@@ -188,7 +192,8 @@ impl Found {
 /// The names of threads, of locks and of locations. Those of each kind have numbers from 0, in order
 /// of first mention.
 ///
-/// Contracts see three lists of byte strings. None of the public calls takes memory.
+/// Contracts see three lists of byte strings. Of the public calls only those take memory that number a
+/// new name.
 pub struct Names {
     threads: NameList,
     locks: NameList,
@@ -220,8 +225,8 @@ impl Names {
     ghost use Rattle.gl_std.specs.bodies.Finding.{found_in, if_new, locks_after, operand_number, threads_after, with_name, with_names};
     ghost use Rattle.gl_std.specs.bodies.Shown.{shown_operation};
 
-    /// No names.
-    pub(crate) fn new(alloc: Global, seed: Seed) -> Names
+    /// No names. They are looked up by a hash that begins with this seed.
+    pub fn new(alloc: Global, seed: Seed) -> Names
         ensures { result ≡ record { threads = []; locks = []; locs = [] } }
     {
         Names {

@@ -20,6 +20,12 @@ def program():
     return None
 
 
+def archive():
+    """The archive of the library that is tested, or else the carried one; nothing where there is none."""
+    path = pathlib.Path(os.environ.get("LIBRARY") or TOP / "prebuilt" / "libgoodlock.a").resolve()
+    return path if path.is_file() else None
+
+
 def has(*commands):
     return all(shutil.which(command) for command in commands)
 
@@ -31,12 +37,14 @@ def run(*command, **more):
 
 
 def checkout(folder):
-    """A copy of what is packed, with its times, and with the program as the carried one."""
+    """A copy of what is packed, with its times, and with the program and the archive as the carried ones."""
     shutil.copytree(
         TOP, folder, symlinks=True, ignore=shutil.ignore_patterns(".git", "crates", "out", "__pycache__", "prebuilt")
     )
     (folder / "prebuilt").mkdir()
     shutil.copy(program(), folder / "prebuilt" / "goodlock")
+    if archive() is not None:
+        shutil.copy(archive(), folder / "prebuilt" / "libgoodlock.a")
     digest = run("sha256sum", "goodlock", cwd=folder / "prebuilt")[1]
     (folder / "prebuilt" / "SHA256SUMS").write_text(digest)
     return folder

@@ -4,7 +4,7 @@ import os
 import shutil
 
 import pytest
-from installing import COMMANDS, SUBCOMMANDS, TOP, has, run
+from installing import COMMANDS, SUBCOMMANDS, TOP, archive, has, run
 
 TRACE = """\
 T0|acq(a)|Main.java:10
@@ -110,6 +110,38 @@ def test_man_shows_the_pages_without_a_warning(prefix):
         )
         assert (status, errors) == (0, "")
         assert "NAME" in output
+
+
+# --- The library for C ---------------------------------------------------------------------------------
+
+
+needs_library = pytest.mark.skipif(archive() is None, reason="there is no archive: LIBRARY names one")
+
+
+@needs_library
+@pytest.mark.skipif(not has("gcc", "g++", "pkg-config"), reason="gcc, g++ or pkg-config isn't installed")
+@pytest.mark.parametrize("source, compiler", [("bank.c", "gcc"), ("bank.cc", "g++")])
+def test_a_program_is_built_by_pkg_config(prefix, source, compiler, monkeypatch):
+    monkeypatch.setenv("PKG_CONFIG_PATH", str(prefix / "lib" / "pkgconfig"))
+    shutil.copy(prefix / "share/doc/goodlock/examples" / source, source)
+    flags = run("pkg-config", "--cflags", "--libs", "goodlock")[1].split()
+    assert f"-I{prefix}/include" in flags
+    assert run(compiler, source, *flags, "-lpthread", "-o", "shared")[0] == 0
+    static = run("pkg-config", "--static", "--libs", "goodlock")[1].replace("-lgoodlock", "-l:libgoodlock.a").split()
+    assert run(compiler, source, f"-I{prefix}/include", *static, "-o", "static")[0] == 0
+    by_shared = run("./shared", env={**os.environ, "LD_LIBRARY_PATH": str(prefix / "lib")})
+    assert by_shared == run("./static")
+    assert by_shared[0] == 0
+    assert by_shared[1].startswith("cycle 1: 2 edges\n  T1 holds current since ")
+
+
+@needs_library
+@pytest.mark.skipif(not has("nm"), reason="nm isn't installed")
+def test_the_shared_library_shows_its_calls_alone(prefix):
+    shown = run("nm", "-D", "--defined-only", prefix / "lib" / "libgoodlock.so.0")[1].split("\n")
+    names = [line.split()[-1] for line in shown if line]
+    assert "goodlock_record" in names
+    assert [name for name in names if not name.startswith("goodlock_")] == []
 
 
 # --- The Debian package -------------------------------------------------------------------------------

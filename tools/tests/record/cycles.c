@@ -172,7 +172,8 @@ static void wakes(void)
     pthread_join(other, NULL);
 }
 
-/* A pool whose workers take tasks; two tasks have opposite orders. */
+/* A pool whose workers take tasks; two tasks have opposite orders. Workers in step would give all of them to one worker: so the
+   one with the first such task keeps it until another one has the first task of the other order. */
 static int next_task;
 
 static void *worker(void *unused)
@@ -182,6 +183,8 @@ static void *worker(void *unused)
         usleep(2000);
         if (task % 8 == 3)
             both(&a, &b);
+        while (task == 3 && __atomic_load_n(&next_task, __ATOMIC_RELAXED) <= 7)
+            usleep(100);
         if (task % 8 == 7)
             both(&b, &a);
     }

@@ -8,8 +8,8 @@ use Rattle.gl_lane.specs.Lanes.{LaneId}
 use Rattle.gl_shards.specs.Feeds.{AllSent, Sending}
 use Rattle.gl_world.specs.Keeping.{notes_of, AreMade}
 use Rattle.gl_engine.specs.bodies.Breaking.{IsBlamed}
-use Rattle.gl_engine.specs.Collecting.{Pulling, as_of}
-use Rattle.gl_engine.specs.Keeping.{AreNotesOf, IsCollector, pulling_of}
+use Rattle.gl_engine.specs.Collecting.{as_of}
+use Rattle.gl_engine.specs.Keeping.{AreNotesOf, IsCollector}
 use Rattle.gl_engine.specs.Recording.{Closed}
 use Rattle.gl_engine.specs.Dealing.{dealt, made_by}
 use Rattle.gl_engine.specs.declared.faults.RunFault.{RunFault}
@@ -24,12 +24,15 @@ pub record KeepsUp (limits : Bounds) (rows : List Row) (stream : List Note) (out
   pub collector : IsCollector limits rows stream (made_by stream) limits
   pub shipped : map (λ o. o.sent) outlets ≡ dealt (length outlets) (made_by stream)
 
--- all was collected and shipped: each thread's notes in order and as they were popped, up to its end mark, and to each shard those of
--- the edges made that are its own
-pub record IsWhole (limits : Bounds) (rows : List Row) (stream : List Note) (sent : List AllSent) : Type 0 where
-  pub told : (thread : ℕ) (row : Pulling) → slice_get (map pulling_of rows) thread ≡ Some row → notes_of thread stream ≡ map (as_of thread) row.popped
+-- all was collected: each thread's notes in order and as they were popped, up to its end mark
+pub record IsCollected (limits : Bounds) (rows : List Row) (stream : List Note) : Type 0 where
+  pub told : (thread : ℕ) (row : Row) → slice_get rows thread ≡ Some row → notes_of thread stream ≡ map (as_of thread) row.lane.popped
   pub in_order : AreInOrder limits stream
   pub ended : (thread : ℕ) → thread < limits.threads → has_ended thread stream ≡ true
+
+-- all was collected, and shipped: to each shard those of the edges made that are its own
+pub record IsWhole (limits : Bounds) (rows : List Row) (stream : List Note) (sent : List AllSent) : Type 0 where
+  pub collected : IsCollected limits rows stream
   pub made_are : AreMade limits.threads stream (made_by stream)
   pub some : 0 < length sent
   pub shipped : map (λ s. s.sent) sent ≡ dealt (length sent) (made_by stream)

@@ -1,4 +1,5 @@
 //! Whole sessions: recorded, run, settled and reported.
+mod alone;
 mod two_threads;
 
 use super::acquire;

@@ -1,4 +1,4 @@
-use Rattle.std.proofs.Common.{rules, ◌≡◌, ◌∙◌}
+use Rattle.std.proofs.Common.{rules, ◌∙◌}
 use Rattle.gl_engine.proofs.Handing.{prefix_on}
 use Rattle.gl_engine.proofs.gather.gather.Goals as goal
 

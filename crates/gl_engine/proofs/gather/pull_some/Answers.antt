@@ -1,4 +1,4 @@
-use Rattle.std.proofs.Common.{◌≡◌, ◌∙◌}
+use Rattle.std.proofs.Common.{◌∙◌}
 use Rattle.gl_engine.proofs.Handing.{prefix_on}
 use Rattle.gl_engine.proofs.gather.pull_some.Goals as goal
 

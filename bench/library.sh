@@ -1,0 +1,16 @@
+#!/bin/bash
+# Times the C library: a record alone and with a collector beside it, a pull, a report, and what a lane takes; beside a mutex
+# that no other thread wants, in the same run. Prints a table.
+#
+#     bench/library.sh
+#
+# LIBRARY   the archive   (prebuilt/libgoodlock.a)
+set -eu
+here=$(dirname -- "$(readlink -f -- "$0")")
+archive=${LIBRARY:-$here/../prebuilt/libgoodlock.a}
+work=$(mktemp -d)
+trap 'rm -rf "$work"' EXIT
+gcc -O2 -I"$here/../library" "$here/library/library.c" "$archive" -lpthread -o "$work/library"
+echo "$(nproc) processors, $(date +%F), $(gcc --version | head -n 1)"
+echo
+"$work/library"

@@ -1,0 +1,236 @@
+/* Times the calls of goodlock.h, beside a mutex that no other thread wants. bench/library.sh says how it is run. */
+#include "goodlock.h"
+
+#include <malloc.h>
+#include <pthread.h>
+#include <sched.h>
+#include <stdatomic.h>
+#include <stdio.h>
+#include <stdlib.h>
+#include <time.h>
+
+enum { ROUNDS = 2000, ALONE = 1000, TOGETHER = 500000 };
+
+static void check(uint32_t code)
+{
+    if (code != GOODLOCK_OK) {
+        fprintf(stderr, "library.c: %s\n", goodlock_says(code));
+        exit(1);
+    }
+}
+
+static double now(void)
+{
+    struct timespec time;
+    clock_gettime(CLOCK_MONOTONIC, &time);
+    return (double)time.tv_sec * 1e9 + (double)time.tv_nsec;
+}
+
+static uint64_t next_session(void)
+{
+    static uint64_t last;
+    return ++last;
+}
+
+static void open_one(goodlock_session *session, goodlock_lane *lane, uint32_t ring)
+{
+    uint32_t thread;
+    session->at = lane->at = NULL;
+    check(goodlock_open(next_session(), 1, ring, session));
+    check(goodlock_lane_open(session, lane, &thread));
+}
+
+static void close_one(goodlock_session *session, goodlock_lane *lane)
+{
+    goodlock_lane_free(lane);
+    goodlock_session_free(session);
+}
+
+static void pull_all(goodlock_session *session)
+{
+    goodlock_pulled pulled;
+    do
+        check(goodlock_pull(session, 100000, &pulled));
+    while (pulled.events > 0);
+}
+
+static double mutex_pair(void)
+{
+    pthread_mutex_t mutex = PTHREAD_MUTEX_INITIALIZER;
+    const double start = now();
+    for (int i = 0; i < ROUNDS * ALONE; i++) {
+        pthread_mutex_lock(&mutex);
+        pthread_mutex_unlock(&mutex);
+    }
+    return (now() - start) / (ROUNDS * ALONE);
+}
+
+static size_t memory(void)
+{
+    const struct mallinfo2 now = mallinfo2();
+    return now.uordblks + now.hblkhd;
+}
+
+/* Acquires and releases of one more lock by a thread that holds so many, and pulls of both: nanoseconds, and what is
+ * kept. */
+static void record_alone(uint32_t others, int rounds)
+{
+    goodlock_session session;
+    goodlock_lane lane;
+    goodlock_pulled pulled;
+    double recording = 0, pulling = 0, kept;
+    size_t before;
+    open_one(&session, &lane, 2 * ALONE + 100);
+    for (uint32_t lock = 1; lock <= others; lock++)
+        check(goodlock_acquire(&lane, lock, 0));
+    pull_all(&session);
+    before = memory();
+    for (int i = 0; i < rounds; i++) {
+        double start = now();
+        for (int k = 0; k < ALONE; k++) {
+            check(goodlock_acquire(&lane, 0, 0));
+            check(goodlock_release(&lane, 0, 0));
+        }
+        recording += now() - start;
+        start = now();
+        check(goodlock_pull_lane(&session, 0, 2 * ALONE, &pulled));
+        pulling += now() - start;
+        if (pulled.events != 2 * ALONE)
+            check(GOODLOCK_BROKEN);
+    }
+    kept = (double)(memory() - before);
+    close_one(&session, &lane);
+    printf("| %u other locks held: a record, nobody pulls; a pull of it; what the session keeps of it "
+           "| %.0f ns; %.0f ns; %.0f bytes |\n",
+           others, recording / rounds / (2 * ALONE), pulling / rounds / (2 * ALONE), kept / rounds / (2 * ALONE));
+}
+
+/* ---- With a collector beside it */
+
+struct beside {
+    goodlock_session *session;
+    _Atomic bool is_over;
+    unsigned sleep; /* nanoseconds while there is nothing to pull; 0: yield */
+};
+
+static void *collect(void *argument)
+{
+    struct beside *beside = argument;
+    goodlock_pulled pulled;
+    while (!beside->is_over) {
+        check(goodlock_pull(beside->session, 4096, &pulled));
+        if (pulled.events == 0 && beside->sleep > 0)
+            nanosleep(&(struct timespec){0, beside->sleep}, NULL);
+        else if (pulled.events == 0)
+            sched_yield();
+    }
+    return NULL;
+}
+
+static void work(double nanoseconds)
+{
+    if (nanoseconds > 0)
+        for (const double end = now() + nanoseconds; now() < end;)
+            ;
+}
+
+/* Pairs of a lock and an unlock with so much work between them: nanoseconds of a pair, waits for room. */
+static double paced(goodlock_lane *lane, double pace, unsigned long *waits)
+{
+    pthread_mutex_t mutex = PTHREAD_MUTEX_INITIALIZER;
+    const int pairs = pace > 0 ? TOGETHER / 4 : TOGETHER;
+    const double start = now();
+    for (int i = 0; i < pairs; i++) {
+        if (lane != NULL)
+            for (; goodlock_acquire(lane, 0, 0) == GOODLOCK_FULL; ++*waits)
+                sched_yield();
+        pthread_mutex_lock(&mutex);
+        if (lane != NULL)
+            for (; goodlock_release(lane, 0, 0) == GOODLOCK_FULL; ++*waits)
+                sched_yield();
+        pthread_mutex_unlock(&mutex);
+        work(pace);
+    }
+    return (now() - start) / pairs;
+}
+
+/* The least of three. */
+static void record_beside(const char *name, double pace, uint32_t ring, unsigned sleep)
+{
+    double plain = 1e9, recorded = 1e9;
+    unsigned long waits = 0;
+    for (int round = 0; round < 3; round++) {
+        goodlock_session session;
+        goodlock_lane lane;
+        struct beside beside = {.session = &session, .sleep = sleep};
+        pthread_t collector;
+        unsigned long waited = 0;
+        const double alone = paced(NULL, pace, &waited);
+        double together;
+        open_one(&session, &lane, ring);
+        pthread_create(&collector, NULL, collect, &beside);
+        together = paced(&lane, pace, &waited);
+        beside.is_over = true;
+        pthread_join(collector, NULL);
+        close_one(&session, &lane);
+        plain = alone < plain ? alone : plain;
+        if (together < recorded) {
+            recorded = together;
+            waits = waited;
+        }
+    }
+    printf("| %s, a ring of %u | %.0f ns more for a pair, %lu waits for room |\n", name, ring, recorded - plain, waits);
+}
+
+/* ---- Memory and reports */
+
+static void bytes_of_a_lane(uint32_t ring)
+{
+    goodlock_session session = {NULL};
+    const size_t before = memory();
+    check(goodlock_open(next_session(), 64, ring, &session));
+    printf("| a lane with a ring of %u | %.1f KB |\n", ring, (double)(memory() - before) / 64 / 1000);
+    goodlock_session_free(&session);
+}
+
+static void report_over(uint32_t events)
+{
+    goodlock_session session;
+    goodlock_lane lane;
+    goodlock_report report = {NULL};
+    double start;
+    open_one(&session, &lane, 65536);
+    for (uint32_t i = 0; i < events / 4; i++) {
+        check(goodlock_acquire(&lane, i % 100, 0));
+        check(goodlock_acquire(&lane, 100 + i % 99, 0));
+        check(goodlock_release(&lane, 100 + i % 99, 0));
+        check(goodlock_release(&lane, i % 100, 0));
+        if (i % 10000 == 0)
+            pull_all(&session);
+    }
+    pull_all(&session);
+    start = now();
+    check(goodlock_report_so_far(&session, GOODLOCK_FULL_MODE, 4, 1000, &report));
+    printf("| the report so far of %u events | %.1f ms |\n", events, (now() - start) / 1e6);
+    goodlock_report_free(&report);
+    close_one(&session, &lane);
+}
+
+int main(void)
+{
+    puts("| What | Measured |\n|---|---|");
+    printf("| an uncontended pthread mutex, locked and unlocked | %.0f ns |\n", mutex_pair());
+    record_alone(0, 500);
+    record_alone(1, 500);
+    record_alone(2, 500);
+    record_alone(32, 10); /* the edges of more would take gigabytes */
+    record_alone(63, 5);
+    record_beside("lock and unlock at full speed, a collector beside it", 0, 4096, 20000);
+    record_beside("with 1 microsecond of work, a collector that sleeps 20 microseconds", 1000, 256, 20000);
+    record_beside("with 1 microsecond of work, a collector that sleeps 20 microseconds", 1000, 4096, 20000);
+    record_beside("with 1 microsecond of work, a collector that yields", 1000, 4096, 0);
+    bytes_of_a_lane(256);
+    bytes_of_a_lane(4096);
+    report_over(2000000);
+    return 0;
+}

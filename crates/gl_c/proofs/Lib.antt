@@ -1,0 +1,4 @@
+mod LaneSteps
+mod MadeSteps
+mod SessionSteps
+pub mod Unsettled

@@ -1,0 +1,151 @@
+//! The calls on a report that was made.
+ghost use Rattle.std.specs.Prelude.{◌≡◌, ◌++◌, None, codes, length};
+ghost use Rattle.serde_json.specs.Written.{compact_text};
+ghost use Rattle.gl_report.specs.Text.{report_text};
+ghost use Rattle.gl_report.specs.Tree.{report_tree};
+ghost use Rattle.gl_c.specs.Calls.{IsCall, IsGiven, IsGivenOf};
+ghost use Rattle.gl_c.specs.declared.codes.TheConstants.{OK, MISUSE};
+
+use crate::codes::{MEMORY, MISUSE, OK};
+use crate::made::Made;
+use crate::made_state::MadeState;
+use crate::session::Session;
+use crate::session_state::SessionState;
+use gl_report::{json_text, text};
+use std::alloc::Global;
+
+// Writes the text into the buffer, if all of it fits, and tells its length.
+fn give(text: &[u8], buffer: &mut [u8], needed: &mut usize)
+    ensures { IsGiven text.now buffer.old buffer.new needed.new }
+{
+    let length = text.len();
+    *needed = length;
+    if length <= buffer.len() {
+        buffer[..length].copy_from_slice(text);
+    }
+}
+
+// Writes the report's text.
+fn give_text(
+    alloc: Global,
+    session: &SessionState,
+    made: &MadeState,
+    buffer: &mut [u8],
+    needed: &mut usize,
+) -> u32
+    ensures { result ≡ OK
+        → IsGiven (report_text session.now.names made.now.report.edges
+        made.now.report.found.cycles made.now.report.found.more)
+        buffer.old buffer.new needed.new }
+{
+    let Ok(text) = text(alloc, &session.names, &made.report) else {
+        return MEMORY;
+    };
+    give(&text, buffer, needed);
+    OK
+}
+
+/// Writes the report's text.
+#[unsafe(no_mangle)]
+pub extern "C" fn goodlock_text(
+    alloc: Global,
+    session: &mut Session,
+    report: &mut Made,
+    buffer: &mut [u8],
+    needed: &mut usize,
+) -> u32
+    ensures session { session.new.value ≡ session.old.value }
+    ensures report { report.new.value ≡ report.old.value }
+    ensures given { result ≡ OK
+        → IsGivenOf (λ state made. report_text state.names made.report.edges
+        made.report.found.cycles made.report.found.more)
+        session.old.value report.old.value buffer.old buffer.new needed.new }
+{
+    let Some(state) = session.take(alloc) else {
+        return MISUSE;
+    };
+    let Some(made) = report.take(alloc) else {
+        session.put(state);
+        return MISUSE;
+    };
+    let answer = give_text(alloc, &state, &made, buffer, needed);
+    session.put(state);
+    report.put(made);
+    answer
+}
+
+// Writes the report's JSON.
+fn give_json(
+    alloc: Global,
+    session: &SessionState,
+    made: &MadeState,
+    buffer: &mut [u8],
+    needed: &mut usize,
+) -> u32
+    ensures { result ≡ OK
+        → IsGiven (compact_text (report_tree session.now.names made.now.report) ++ codes "\n")
+        buffer.old buffer.new needed.new }
+{
+    let Ok(text) = json_text(alloc, &session.names, &made.report) else {
+        return MEMORY;
+    };
+    give(&text, buffer, needed);
+    OK
+}
+
+/// Writes the report's JSON.
+#[unsafe(no_mangle)]
+pub extern "C" fn goodlock_json(
+    alloc: Global,
+    session: &mut Session,
+    report: &mut Made,
+    buffer: &mut [u8],
+    needed: &mut usize,
+) -> u32
+    ensures session { session.new.value ≡ session.old.value }
+    ensures report { report.new.value ≡ report.old.value }
+    ensures given { result ≡ OK
+        → IsGivenOf (λ state made. compact_text (report_tree state.names made.report) ++ codes "\n")
+        session.old.value report.old.value buffer.old buffer.new needed.new }
+{
+    let Some(state) = session.take(alloc) else {
+        return MISUSE;
+    };
+    let Some(made) = report.take(alloc) else {
+        session.put(state);
+        return MISUSE;
+    };
+    let answer = give_json(alloc, &state, &made, buffer, needed);
+    session.put(state);
+    report.put(made);
+    answer
+}
+
+/// How many cycles the report lists, and whether there are more.
+#[unsafe(no_mangle)]
+pub extern "C" fn goodlock_cycles(
+    alloc: Global,
+    report: &mut Made,
+    cycles: &mut usize,
+    more: &mut bool,
+) -> u32
+    ensures { IsCall
+        (λ old new. (result ≡ OK) × (new ≡ old) × (cycles.new ≡ length old.report.found.cycles)
+        × (more.new ≡ old.report.found.more)) (result ≡ MISUSE) report.old.value report.new.value }
+{
+    let Some(made) = report.take(alloc) else {
+        return MISUSE;
+    };
+    *cycles = made.report.found.cycles.as_slice().len();
+    *more = made.report.found.more;
+    report.put(made);
+    OK
+}
+
+/// Frees the report.
+#[unsafe(no_mangle)]
+pub extern "C" fn goodlock_report_free(alloc: Global, report: &mut Made)
+    ensures { report.new.value ≡ None }
+{
+    drop(report.take(alloc));
+}

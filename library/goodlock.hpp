@@ -1,0 +1,479 @@
+// goodlock.hpp: mutexes and threads of C++ (11 and later) that predict their deadlocks, by goodlock.h.
+//
+//     goodlock::start();                                    // in main, before threads are started
+//     goodlock::mutex savings("savings");                   // in place of std::mutex
+//     goodlock::thread saver([] { .. });                    // in place of std::thread
+//     goodlock::guard<goodlock::mutex> hold(savings);       // as std::lock_guard, and keeps the line of the source
+//     saver.join();
+//     std::cout << goodlock::finish().text;                 // at the end: the report of all that was recorded
+//
+// One session serves the process. start() opens it and starts a thread of its own that collects; each thread has a lane from
+// its start (goodlock::thread) or from its first lock (any other thread, whose fork isn't known then), until it ends.
+// Before start() and after finish() all of this works as std's does, and nothing is recorded.
+//
+// - goodlock::mutex and recursive_mutex may be used with std::lock_guard, unique_lock, scoped_lock and condition_variable_any;
+//   places are then lines of the standard library's headers. guard<M> (and shared_guard<M>) or lock() itself have yours.
+// - Each lock has a name, by which reports tell it: the one it is made with (a second lock of that name is "name#2"), or else
+//   where it was made, as "mutex@bank.cc:17#1".
+// - A record costs what goodlock_record costs and a look-up of the place in a table of the thread. The first pass of a thread
+//   at a place, the first lock of a mutex and the start of a thread wait for the session's own mutex. Where a lane
+//   is full the thread yields until the collecting thread has pulled: a larger ring makes that rare.
+// - What can't be recorded (more threads than lanes, an event that is refused, as the unlock of a mutex that was locked before
+//   start()) is counted in `unrecorded`, and the lock works all the same.
+// - After fork() in the child: none of this, only _exit or exec. Not from signal handlers, nor in a memory allocator.
+#ifndef GOODLOCK_HPP
+#define GOODLOCK_HPP
+
+#include "goodlock.h"
+
+#include <atomic>
+#include <chrono>
+#include <cstdint>
+#include <mutex>
+#include <string>
+#include <thread>
+#include <type_traits>
+#include <unordered_map>
+#include <utility>
+#include <vector>
+#if __cplusplus >= 201703L
+#include <shared_mutex>
+#endif
+
+// The line of the source that calls, as a parameter that is left out.
+#define GOODLOCK_HERE goodlock::line here = goodlock::line::now()
+
+namespace goodlock {
+
+// A line of the source.
+struct line {
+    const char *file;
+    unsigned number;
+    static constexpr line now(const char *file = __builtin_FILE(), unsigned number = __builtin_LINE()) {
+        return {file, number};
+    }
+    bool operator==(const line &other) const { return file == other.file && number == other.number; }
+};
+
+// A report.
+struct result {
+    uint32_t code = GOODLOCK_MISUSE; // GOODLOCK_OK: the rest is right. GOODLOCK_MISUSE: there is no session
+    bool is_settled = false;         // no event of a recorded thread is missing; else it is the report so far
+    std::string text;                // as `goodlock predict` prints it
+    std::size_t cycles = 0;          // how many it lists
+    bool more = false;               // whether there are more than were asked for
+    uint64_t unrecorded = 0;         // events that couldn't be recorded
+};
+
+namespace detail {
+
+constexpr uint32_t NONE = UINT32_MAX;
+
+struct line_hash {
+    std::size_t operator()(const line &at) const { return std::hash<const void *>()(at.file) * 31 + at.number; }
+};
+
+inline std::string text(const line &at) { return std::string(at.file) + ":" + std::to_string(at.number); }
+
+// The session of the process. It is never destroyed, as threads may outlive main.
+class world {
+public:
+    static world &get() {
+        static world *const only = new world;
+        return *only;
+    }
+
+    bool is_open() const { return open.load(std::memory_order_acquire); }
+
+    uint32_t start(uint64_t number, uint32_t threads, uint32_t ring) {
+        std::lock_guard<std::mutex> hold(mutex);
+        if (has_started)
+            return GOODLOCK_MISUSE;
+        const uint32_t code = goodlock_open(number, threads, ring, &session);
+        if (code != GOODLOCK_OK)
+            return code;
+        has_started = true;
+        collector = std::thread(&world::collect, this);
+        open.store(true, std::memory_order_release);
+        return code;
+    }
+
+    // The next lane and its number; NONE where there is none.
+    uint32_t lane(goodlock_lane &lane) {
+        std::lock_guard<std::mutex> hold(mutex);
+        uint32_t number = NONE;
+        return goodlock_lane_open(&session, &lane, &number) == GOODLOCK_OK ? number : NONE;
+    }
+
+    uint32_t lock(const std::string &name) {
+        std::lock_guard<std::mutex> hold(mutex);
+        const unsigned times = ++names[name];
+        const std::string own = times == 1 ? name : name + "#" + std::to_string(times);
+        uint32_t number = NONE;
+        goodlock_lock(&session, bytes(own), own.size(), &number);
+        return number;
+    }
+
+    uint32_t place(const line &at) {
+        const std::string name = text(at);
+        std::lock_guard<std::mutex> hold(mutex);
+        uint32_t number = NONE;
+        goodlock_place(&session, bytes(name), name.size(), &number);
+        return number;
+    }
+
+    // Ends a lane: closes it once there is room, and hands it in.
+    void end(goodlock_lane &lane) {
+        uint32_t code;
+        while ((code = goodlock_close(&lane)) == GOODLOCK_FULL && is_open())
+            std::this_thread::yield();
+        std::lock_guard<std::mutex> hold(mutex);
+        if (code == GOODLOCK_OK)
+            goodlock_hand_in(&session, &lane);
+        goodlock_lane_free(&lane);
+    }
+
+    result so_far(uint32_t mode, uint32_t length, uint32_t number) {
+        std::lock_guard<std::mutex> hold(mutex);
+        goodlock_report report = {nullptr};
+        const uint32_t code = goodlock_report_so_far(&session, mode, length, number, &report);
+        return told(code, report, false);
+    }
+
+    // The calling thread's lane has ended, and no other thread calls this.
+    result finish(uint32_t mode, uint32_t length, uint32_t number) {
+        if (!is_open())
+            return result();
+        goodlock_lane unused = {nullptr};
+        while (lane(unused) != NONE)
+            end(unused);
+        is_ending = true;
+        collector.join();
+        open.store(false, std::memory_order_release);
+        std::lock_guard<std::mutex> hold(mutex);
+        uint32_t missing;
+        const bool is_settled = goodlock_settle(&session, &missing) == GOODLOCK_OK;
+        goodlock_report report = {nullptr};
+        const uint32_t code = is_settled ? goodlock_settled_report(&session, mode, length, number, &report)
+                                         : goodlock_report_so_far(&session, mode, length, number, &report);
+        const result answer = told(code, report, is_settled);
+        goodlock_session_free(&session);
+        return answer;
+    }
+
+    std::atomic<uint64_t> unrecorded{0};
+    std::atomic<uint32_t> made{0}; // locks without a name
+
+private:
+    world() = default;
+
+    static const uint8_t *bytes(const std::string &name) { return reinterpret_cast<const uint8_t *>(name.data()); }
+
+    void collect() {
+        for (;;) {
+            const bool is_last = is_ending;
+            goodlock_pulled pulled = {0, 0};
+            {
+                std::lock_guard<std::mutex> hold(mutex);
+                goodlock_pull(&session, 4096, &pulled); // where memory is refused, the next round tries again
+            }
+            if (pulled.events == 0 && pulled.ended == 0) {
+                if (is_last)
+                    return;
+                std::this_thread::sleep_for(std::chrono::microseconds(50));
+            }
+        }
+    }
+
+    result told(uint32_t code, goodlock_report &report, bool is_settled) {
+        result answer;
+        answer.is_settled = is_settled;
+        answer.unrecorded = unrecorded;
+        std::size_t size = 0;
+        std::vector<uint8_t> text(1);
+        if (code == GOODLOCK_OK)
+            code = goodlock_text(&session, &report, text.data(), 0, &size);
+        text.resize(size + 1);
+        if (code == GOODLOCK_OK)
+            code = goodlock_text(&session, &report, text.data(), size, &size);
+        if (code == GOODLOCK_OK)
+            code = goodlock_cycles(&report, &answer.cycles, &answer.more);
+        goodlock_report_free(&report);
+        answer.text.assign(text.begin(), text.begin() + static_cast<std::ptrdiff_t>(size));
+        answer.code = code;
+        return answer;
+    }
+
+    std::mutex mutex; // of the session and the names: one call at a time
+    goodlock_session session = {nullptr};
+    std::unordered_map<std::string, unsigned> names; // of locks, and how many have each
+    std::thread collector;
+    bool has_started = false;
+    std::atomic<bool> open{false}, is_ending{false};
+};
+
+// What a thread has: its lane and the numbers of the places that it passed.
+class mine {
+public:
+    // Nothing where the thread isn't recorded.
+    static mine *get() {
+        if (!world::get().is_open() || is_over())
+            return nullptr;
+        static thread_local mine own;
+        own.begin();
+        return own.lane.at == nullptr ? nullptr : &own;
+    }
+
+    // Gives the thread the lane that was opened for it.
+    static void adopt(goodlock_lane lane) {
+        given() = lane;
+        get();
+    }
+
+    static void finish() {
+        mine *const own = get();
+        if (own != nullptr)
+            world::get().end(own->lane);
+    }
+
+    uint32_t place(const line &at) {
+        const auto found = places.find(at);
+        if (found != places.end())
+            return found->second;
+        const uint32_t number = world::get().place(at);
+        places[at] = number;
+        return number;
+    }
+
+    goodlock_lane lane = {nullptr};
+
+private:
+    mine() = default;
+    ~mine() {
+        is_over() = true;
+        if (lane.at != nullptr)
+            world::get().end(lane);
+    }
+
+    void begin() {
+        if (has_begun)
+            return;
+        has_begun = true;
+        lane = given();
+        if (lane.at == nullptr)
+            world::get().lane(lane);
+    }
+
+    static bool &is_over() {
+        static thread_local bool over = false;
+        return over;
+    }
+    static goodlock_lane &given() {
+        static thread_local goodlock_lane lane = {nullptr};
+        return lane;
+    }
+
+    bool has_begun = false;
+    std::unordered_map<line, uint32_t, line_hash> places;
+};
+
+// Places of forks and joins aren't shown in reports, so they have none.
+inline void record(uint32_t kind, uint32_t operand, const line *here) {
+    world &all = world::get();
+    if (!all.is_open())
+        return;
+    mine *const own = mine::get();
+    uint32_t code = GOODLOCK_NO_LANE;
+    if (own != nullptr) {
+        const uint32_t place = here == nullptr ? NONE : own->place(*here);
+        uint32_t at;
+        while ((code = goodlock_record(&own->lane, kind, operand, place, &at)) == GOODLOCK_FULL && all.is_open())
+            std::this_thread::yield();
+    }
+    if (code != GOODLOCK_OK)
+        all.unrecorded++;
+}
+
+// A lock's name, and its number from its first use on.
+class numbered {
+public:
+    numbered(std::string given) : name(std::move(given)) {}
+    numbered(const line &here) : name("mutex@" + text(here) + "#" + std::to_string(++world::get().made)) {}
+
+    void record(uint32_t kind, const line &here) {
+        if (world::get().is_open())
+            detail::record(kind, get(), &here);
+    }
+
+private:
+    uint32_t get() {
+        std::call_once(once, [this] { number = world::get().lock(name); });
+        return number;
+    }
+
+    std::string name;
+    std::once_flag once;
+    uint32_t number = NONE;
+};
+
+// A lock of std with its number.
+template <class M> class recorded {
+public:
+    explicit recorded(GOODLOCK_HERE) : number(here) {}
+    explicit recorded(const std::string &name) : number(name) {}
+    recorded(const recorded &) = delete;
+    recorded &operator=(const recorded &) = delete;
+
+    void lock(GOODLOCK_HERE) {
+        number.record(GOODLOCK_ACQUIRE, here);
+        try {
+            inner.lock();
+        } catch (...) {
+            number.record(GOODLOCK_RELEASE, here);
+            throw;
+        }
+    }
+    bool try_lock(GOODLOCK_HERE) {
+        const bool is_taken = inner.try_lock();
+        if (is_taken)
+            number.record(GOODLOCK_TRY_ACQUIRE, here);
+        return is_taken;
+    }
+    void unlock(GOODLOCK_HERE) {
+        number.record(GOODLOCK_RELEASE, here);
+        inner.unlock();
+    }
+
+protected:
+    M inner;
+    numbered number;
+};
+
+} // namespace detail
+
+// Opens the session of the process, once: lanes for so many threads, each with a ring of so many notes. The calling thread is
+// T0 in reports. The number is the session's, where the process has others by goodlock_open.
+inline uint32_t start(uint32_t threads = 64, uint32_t ring = 4096, uint64_t number = 1) {
+    const uint32_t code = detail::world::get().start(number, threads, ring);
+    if (code == GOODLOCK_OK)
+        detail::mine::get();
+    return code;
+}
+
+// The report of what was pulled so far. Threads go on; those whose lane is full wait for it.
+inline result report_so_far(uint32_t mode = GOODLOCK_FULL_MODE, uint32_t length = 4, uint32_t number = 1000) {
+    return detail::world::get().so_far(mode, length, number);
+}
+
+// Ends the recording and answers its report: settled where all threads that were recorded have ended, but for the
+// calling one. Once, by one thread; the session is closed then.
+inline result finish(uint32_t mode = GOODLOCK_FULL_MODE, uint32_t length = 4, uint32_t number = 1000) {
+    detail::mine::finish();
+    return detail::world::get().finish(mode, length, number);
+}
+
+using mutex = detail::recorded<std::mutex>;
+using recursive_mutex = detail::recorded<std::recursive_mutex>;
+
+#if __cplusplus >= 201703L
+// A lock that readers share.
+class shared_mutex : public detail::recorded<std::shared_mutex> {
+public:
+    explicit shared_mutex(GOODLOCK_HERE) : recorded(here) {}
+    explicit shared_mutex(const std::string &name) : recorded(name) {}
+
+    void lock_shared(GOODLOCK_HERE) {
+        number.record(GOODLOCK_ACQUIRE_SHARED, here);
+        try {
+            inner.lock_shared();
+        } catch (...) {
+            number.record(GOODLOCK_RELEASE_SHARED, here);
+            throw;
+        }
+    }
+    bool try_lock_shared(GOODLOCK_HERE) {
+        const bool is_taken = inner.try_lock_shared();
+        if (is_taken)
+            number.record(GOODLOCK_TRY_ACQUIRE_SHARED, here);
+        return is_taken;
+    }
+    void unlock_shared(GOODLOCK_HERE) {
+        number.record(GOODLOCK_RELEASE_SHARED, here);
+        inner.unlock_shared();
+    }
+};
+
+// Holds a lock as a reader while it stands.
+template <class M> class shared_guard {
+public:
+    explicit shared_guard(M &lock, GOODLOCK_HERE) : held(lock), at(here) { held.lock_shared(here); }
+    ~shared_guard() { held.unlock_shared(at); }
+    shared_guard(const shared_guard &) = delete;
+    shared_guard &operator=(const shared_guard &) = delete;
+
+private:
+    M &held;
+    const line at;
+};
+#endif
+
+// Holds a lock while it stands, as std::lock_guard does.
+template <class M> class guard {
+public:
+    explicit guard(M &lock, GOODLOCK_HERE) : held(lock), at(here) { held.lock(here); }
+    ~guard() { held.unlock(at); }
+    guard(const guard &) = delete;
+    guard &operator=(const guard &) = delete;
+
+private:
+    M &held;
+    const line at;
+};
+
+// A std::thread whose start and end are recorded. It runs what can be called with the arguments (no pointers to members).
+class thread {
+public:
+    thread() = default;
+    template <class F, class... Arguments,
+              class = typename std::enable_if<!std::is_same<typename std::decay<F>::type, thread>::value>::type>
+    explicit thread(F &&f, Arguments &&...arguments) {
+        goodlock_lane lane = {nullptr};
+        if (detail::world::get().is_open())
+            number = detail::world::get().lane(lane);
+        if (number != detail::NONE)
+            detail::record(GOODLOCK_FORK, number, nullptr);
+        try {
+            inner = std::thread(run<typename std::decay<F>::type, typename std::decay<Arguments>::type...>, lane,
+                                std::forward<F>(f), std::forward<Arguments>(arguments)...);
+        } catch (...) {
+            if (number != detail::NONE)
+                detail::world::get().end(lane);
+            throw;
+        }
+    }
+
+    void join() {
+        inner.join();
+        if (number != detail::NONE)
+            detail::record(GOODLOCK_JOIN, number, nullptr);
+    }
+    void detach() { inner.detach(); }
+    bool joinable() const { return inner.joinable(); }
+    std::thread::id get_id() const { return inner.get_id(); }
+
+private:
+    template <class F, class... Arguments> static void run(goodlock_lane lane, F f, Arguments... arguments) {
+        if (lane.at != nullptr)
+            detail::mine::adopt(lane);
+        std::move(f)(std::move(arguments)...);
+    }
+
+    std::thread inner;
+    uint32_t number = detail::NONE;
+};
+
+} // namespace goodlock
+
+#undef GOODLOCK_HERE
+
+#endif

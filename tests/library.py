@@ -1,0 +1,298 @@
+#!/usr/bin/env python3
+"""Tests the C library: its header, its examples, and random sessions of C threads against the program.
+
+    library.py [--cases N] [--seed S] [--only PART] PROGRAM
+
+The header is compiled alone as C and as C++. Each example of library/examples prints its known report. tests/library.c
+records random sessions in running threads; each report's text and JSON has to be what PROGRAM says of the trace of
+what was recorded, byte for byte. Some hundred of them run under AddressSanitizer, ThreadSanitizer and Valgrind. tests/
+library_misuse.c uses each call wrongly, refuses memory, forks and leaves in mid-course; tests/library_wrapper.cc is of
+goodlock.hpp. Every run has a limit of time. The last line is `N passed, N failed`, with `, N skipped` behind it where tools
+are missing: each is named.
+
+LIBRARY   the archive that is tested   (prebuilt/libgoodlock.a)
+CASES     how many random sessions     (3000, as --cases)
+"""
+
+import argparse
+import collections
+import concurrent.futures
+import os
+import pathlib
+import shutil
+import subprocess
+import sys
+import tempfile
+
+TOP = pathlib.Path(__file__).resolve().parent.parent
+HEADERS = TOP / "library"
+EXAMPLES = HEADERS / "examples"
+ARCHIVE = pathlib.Path(os.environ.get("LIBRARY") or TOP / "prebuilt" / "libgoodlock.a").resolve()
+STRICT = ["-Wall", "-Wextra", "-pedantic", "-Werror"]
+MODES = ("basic", "guarded", "full")
+INCONSISTENT = 10  # the library's code
+BATCH = 250  # sessions in a process
+JAVA = ["/usr/lib/jvm/java-17-openjdk-amd64", os.environ.get("JAVA_HOME", "")]
+
+BY_NAME = """\
+cycle 1: 2 edges
+  T1 holds current since transfer, first wants savings at transfer, second
+  T2 holds savings since transfer, first wants current at transfer, second
+cycles: 1
+"""
+BY_LINE = """\
+cycle 1: 2 edges
+  T1 holds current since bank.cc:24 wants savings at bank.cc:25
+  T2 holds savings since bank.cc:24 wants current at bank.cc:25
+cycles: 1
+"""
+SANITIZERS = {"plain": [], "address": ["-fsanitize=address,undefined"], "thread": ["-fsanitize=thread"]}
+WRAPS = [f"-Wl,--wrap={name}" for name in ("malloc", "calloc", "realloc", "aligned_alloc")]
+
+Done = collections.namedtuple("Done", "status output errors")
+
+
+def run(*command, seconds=120, **more):
+    """Status, output and errors, as texts. A run over its time has no status."""
+    try:
+        words = [str(word) for word in command]
+        done = subprocess.run(words, capture_output=True, timeout=seconds, stdin=subprocess.DEVNULL, **more)
+    except subprocess.TimeoutExpired:
+        return Done(None, "", f"(not done after {seconds} seconds)")
+    except OSError as error:
+        return Done(None, "", str(error))
+    return Done(done.returncode, done.stdout.decode(errors="replace"), done.stderr.decode(errors="replace"))
+
+
+class Tests:
+    def __init__(self, folder, program, options):
+        self.folder = pathlib.Path(folder)
+        self.program = program
+        self.cases, self.seed = options.cases, options.seed
+        self.passed = self.failed = self.skipped = 0
+
+    def check(self, name, is_right, problem=""):
+        self.passed, self.failed = self.passed + is_right, self.failed + (not is_right)
+        if not is_right and self.failed <= 20:
+            print(f"{name}: {problem}")
+        return is_right
+
+    def skip(self, name, missing):
+        self.skipped += 1
+        print(f"{name} is SKIPPED: {missing}")
+
+    def build(self, output, *command):
+        """Whether the command made this file."""
+        done = run(*command, "-o", output, cwd=self.folder, seconds=300)
+        return self.check(f"building {output}", done.status == 0, done.errors[-3000:])
+
+    # --- The header
+
+    def headers(self):
+        languages = [("c", "c11", "gcc"), ("c", "c11", "clang"), ("c", "c99", "gcc"), ("c", "c17", "gcc")]
+        languages += [("c++", standard, tool) for standard in ("c++11", "c++17", "c++20") for tool in ("g++", "clang++")]
+        for language, standard, compiler in languages:
+            name = f"the header as {standard} by {compiler}"
+            if shutil.which(compiler) is None:
+                self.skip(name, f"{compiler} isn't installed")
+                continue
+            files = ["goodlock.h", "goodlock.hpp"] if language == "c++" else ["goodlock.h"]
+            text = "".join(f'#include "{file}"\n#include "{file}"\n' for file in files)
+            source = self.folder / f"alone.{'cc' if language == 'c++' else 'c'}"
+            source.write_text(text + "int alone;\n")
+            done = run(compiler, f"-std={standard}", *STRICT, "-fsyntax-only", f"-I{HEADERS}", source)
+            self.check(name, done.status == 0, done.errors[-3000:])
+
+    # --- The examples
+
+    def example(self, name, right, *command, **more):
+        done = run(*command, cwd=self.folder, **more)
+        self.check(name, done == Done(0, right, ""), f"status {done.status}\n{done.output}{done.errors}")
+
+    def examples(self):
+        c = ["-O1", "-g", *STRICT, f"-I{HEADERS}"]
+        if self.build("bank", "gcc", "-std=gnu11", *c, EXAMPLES / "bank.c", ARCHIVE, "-lpthread"):
+            self.example("the example in C", BY_NAME, "./bank")
+        for standard in ("c++11", "c++17"):
+            shutil.copy(EXAMPLES / "bank.cc", self.folder)
+            if self.build("bank_cc", "g++", f"-std={standard}", *c, "bank.cc", ARCHIVE, "-lpthread"):
+                self.example(f"the example in {standard}", BY_LINE, "./bank_cc")
+        self.rust()
+        shared = self.folder / "libgoodlock.so.0"
+        whole = ["-Wl,--whole-archive", ARCHIVE, "-Wl,--no-whole-archive", "-Wl,-soname,libgoodlock.so.0", "-lpthread"]
+        if self.build(shared.name, "gcc", "-shared", *whole):
+            self.example("the example in Python", BY_NAME, sys.executable, EXAMPLES / "bank.py", shared)
+        self.java()
+
+    def rust(self):
+        if shutil.which("rustc") is None:
+            self.skip("the example in Rust", "rustc isn't installed")
+            return
+        shutil.copy(ARCHIVE, self.folder / "libgoodlock.a")
+        words = ["--edition", "2021", "-D", "warnings", "-L", f"native={self.folder}", "-l", "static=goodlock"]
+        if self.build("bank_rs", "rustc", *words, EXAMPLES / "bank.rs"):
+            self.example("the example in Rust", BY_NAME, "./bank_rs")
+
+    def java(self):
+        homes = [home for home in JAVA if home and os.path.exists(f"{home}/include/jni.h")]
+        if not homes:
+            self.skip("the example in Java", "there is no JDK with jni.h")
+            return
+        home = homes[0]
+        include = [f"-I{HEADERS}", f"-I{home}/include", f"-I{home}/include/linux"]
+        glue = ["-std=gnu11", "-Wall", "-Wextra", "-Werror", "-shared", "-fPIC", *include, EXAMPLES / "goodlock_jni.c"]
+        if not self.build("libgoodlock_jni.so", "gcc", *glue, ARCHIVE, "-lpthread"):
+            return
+        sources = [EXAMPLES / name for name in ("Bank.java", "Goodlock.java")]
+        done = run(f"{home}/bin/javac", "-Xlint:all", "-Werror", "-d", self.folder, *sources)
+        if self.check("javac", done.status == 0, done.output + done.errors):
+            self.example("the example in Java", BY_NAME, f"{home}/bin/java", "-Djava.library.path=.", "Bank")
+
+    # --- Random sessions
+
+    def predicted(self, trace, mode, length, most, *more):
+        """Bytes and status of the program's answer on a trace."""
+        words = ["predict", "--mode", MODES[mode], "--len", length, "--max", most, *more]
+        with open(trace, "rb") as file:
+            done = subprocess.run(
+                [self.program, *map(str, words)], stdin=file, capture_output=True, timeout=60, check=False
+            )
+        return done.stdout, done.stderr, done.returncode
+
+    def compared(self, line, folder):
+        """What is wrong with the report that a line of the driver tells; nothing where all is well."""
+        name, *numbers = line.split()
+        mode, length, most, code, cycles, more = map(int, numbers)
+        trace = folder / f"{name}.std"
+        text, errors, status = self.predicted(trace, mode, length, most)
+        if code == INCONSISTENT or status > 1:
+            is_so = code == INCONSISTENT and status == 2 and errors.startswith(b"goodlock: inconsistent: ")
+            return None if is_so else f"{name}: code {code}, and {errors!r} of the program"
+        if code != 0:
+            return f"{name}: code {code}"
+        if text != (folder / f"{name}.text").read_bytes():
+            return f"{name}: another text than that of `predict` on {trace}"
+        if text.splitlines()[-1] != f"cycles: {cycles}{' (more)' * more}".encode():
+            return f"{name}: {cycles} cycles are told, more: {more}, and the text ends with {text.splitlines()[-1]!r}"
+        json = self.predicted(trace, mode, length, most, "--json")[0]
+        if json != (folder / f"{name}.json").read_bytes():
+            return f"{name}: another JSON than that of `predict --json` on {trace}"
+        return None
+
+    def batch(self, driver, first, last, prefix=(), **more):
+        """Runs some sessions; their faults and the number of reports."""
+        with tempfile.TemporaryDirectory(dir=self.folder) as place:
+            done = run(*prefix, driver, self.seed, first, last, place, seconds=600, **more)
+            faults = []
+            if done.status != 0 or done.errors:
+                faults.append(f"sessions {first} to {last}: status {done.status}\n{done.errors[-3000:]}")
+            lines = done.output.splitlines()
+            with concurrent.futures.ThreadPoolExecutor(2) as pool:
+                found = list(pool.map(lambda line: self.compared(line, pathlib.Path(place)), lines))
+        faults += [fault for fault in found if fault is not None]
+        return faults, len(lines), sum(line.split()[4] == str(INCONSISTENT) for line in lines), sum(
+            line.split()[5] != "0" for line in lines
+        )
+
+    def sessions_by(self, name, driver, cases, prefix=(), **more):
+        reports = inconsistent = cyclic = 0
+        for first in range(0, cases, BATCH):
+            last = min(cases, first + BATCH)
+            faults, made, loops, with_cycles = self.batch(driver, first, last, prefix, **more)
+            reports, inconsistent, cyclic = reports + made, inconsistent + loops, cyclic + with_cycles
+            self.passed += max(0, last - first - len(faults))
+            for fault in faults:
+                self.check(f"{name}", False, fault)
+        print(f"{name}: {cases} sessions, {reports} reports, {cyclic} with cycles, {inconsistent} inconsistent")
+
+    def driver(self, output, *words):
+        source = TOP / "tests" / "library.c"
+        c = ["gcc", "-std=gnu11", "-g", *STRICT, f"-I{HEADERS}", *words, source, ARCHIVE, "-lpthread"]
+        return self.folder / output if self.build(output, *c) else None
+
+    def sessions(self):
+        driver = self.driver("driver", "-O1")
+        if driver is not None:
+            self.sessions_by("random sessions", driver, self.cases)
+
+    def sanitized(self):
+        few = min(self.cases, max(20, self.cases // 10))
+        for name in ("address,undefined", "thread"):
+            driver = self.driver(f"driver_{name[:4]}", "-O1", f"-fsanitize={name}")
+            if driver is not None:
+                self.sessions_by(f"under {name} sanitizer", driver, few)
+            c = ["g++", "-std=c++17", "-O1", "-g", *STRICT, f"-I{HEADERS}", f"-fsanitize={name}", EXAMPLES / "bank.cc"]
+            if self.build(f"bank_{name[:4]}", *c, ARCHIVE, "-lpthread"):
+                # ThreadSanitizer sees this run's lock order, too: it isn't asked here.
+                done = run(self.folder / f"bank_{name[:4]}", env={**os.environ, "TSAN_OPTIONS": "detect_deadlocks=0"})
+                self.check(f"bank.cc by {name}", done.status == 0 and not done.errors, done.errors[-3000:])
+        if shutil.which("valgrind") is None:
+            self.skip("sessions under Valgrind", "valgrind isn't installed")
+            return
+        prefix = ["valgrind", "-q", "--error-exitcode=9", "--leak-check=full", "--fair-sched=yes"]
+        driver = self.driver("driver_plain", "-O1")
+        if driver is not None:
+            self.sessions_by("under Valgrind", driver, min(40, few), prefix)
+
+    # --- The wrapper for C++
+
+    def wrapper(self):
+        source = TOP / "tests" / "library_wrapper.cc"
+        environment = {**os.environ, "TSAN_OPTIONS": "detect_deadlocks=0"}
+        for name, words in SANITIZERS.items():
+            c = ["g++", "-std=c++17", "-O1", "-g", *STRICT, f"-I{HEADERS}", *words, source, ARCHIVE, "-lpthread"]
+            if self.build(f"wrapper_{name}", *c):
+                for word in ("locks", "threads", "leave"):
+                    self.counted(f"wrapper, {word}, {name}", f"wrapper_{name}", word, env=environment)
+
+    # --- Misuse
+
+    def misuse(self):
+        source = TOP / "tests" / "library_misuse.c"
+        for name, words in SANITIZERS.items():
+            c = ["gcc", "-std=gnu11", "-O1", "-g", *STRICT, f"-I{HEADERS}", *words, source, ARCHIVE, *WRAPS]
+            if self.build(f"misuse_{name}", *c, "-lpthread"):
+                for word in ("misuse", "limits", "memory", "fork", "exit"):
+                    self.counted(f"{word}, {name}", f"misuse_{name}", word)
+
+    def counted(self, name, program, word, **more):
+        """Runs a program that counts its own checks in its last line."""
+        done = run(self.folder / program, word, seconds=150, **more)
+        *lines, last = done.output.splitlines() or [""]
+        counts = last.split()
+        is_counted = len(counts) == 4 and counts[1] == "passed," and counts[3] == "failed"
+        problem = f"status {done.status}: {done.output[-1000:]}{done.errors[-3000:]}"
+        self.check(name, done.status == 0 and not done.errors and is_counted, problem)
+        if is_counted:
+            self.passed += int(counts[0])
+            self.failed += int(counts[2])
+        for line in lines:
+            print(f"{name}: {line}")
+
+
+def main():
+    parser = argparse.ArgumentParser(description=__doc__, formatter_class=argparse.RawDescriptionHelpFormatter)
+    parser.add_argument("--cases", type=int, default=int(os.environ.get("CASES", "3000")))
+    parser.add_argument("--seed", type=int, default=1)
+    parts = ["headers", "examples", "wrapper", "sessions", "sanitized", "misuse"]
+    parser.add_argument("--only", choices=parts)
+    parser.add_argument("program")
+    options = parser.parse_args()
+    if not ARCHIVE.is_file():
+        print(f"there is no {ARCHIVE}, so the library's tests are SKIPPED")
+        print("0 passed, 0 failed, 1 skipped")
+        return 0
+    if shutil.which("gcc") is None or shutil.which("g++") is None:
+        print("gcc or g++ isn't installed, so the library's tests are SKIPPED")
+        print("0 passed, 0 failed, 1 skipped")
+        return 0
+    with tempfile.TemporaryDirectory() as folder:
+        tests = Tests(folder, os.path.abspath(options.program), options)
+        for part in [options.only] if options.only else parts:
+            getattr(tests, part)()
+    print(f"{tests.passed} passed, {tests.failed} failed" + (f", {tests.skipped} skipped" if tests.skipped else ""))
+    return 1 if tests.failed or tests.passed == 0 else 0
+
+
+if __name__ == "__main__":
+    sys.exit(main())

@@ -1,0 +1,604 @@
+/* Uses goodlock.h wrongly, leaves its sessions in mid-course, and refuses it memory.
+ *
+ *     library_misuse misuse     each call on handles and numbers that it doesn't take
+ *     library_misuse limits     64 locks, 1,000,000 acquires, 1,024 threads, names
+ *     library_misuse memory     one session, in which the first request for memory is refused, then the second ..
+ *     library_misuse fork       a child that is forked in mid-session, and leaves by _exit
+ *     library_misuse exit       main returns while a thread records
+ *
+ * Memory is refused by the linker's --wrap of malloc, calloc, realloc and aligned_alloc. What isn't as it has to be is
+ * told on standard output; the last line is how many checks passed and failed. */
+#include "goodlock.h"
+
+#include <pthread.h>
+#include <sched.h>
+#include <stdio.h>
+#include <stdlib.h>
+#include <string.h>
+#include <sys/wait.h>
+#include <unistd.h>
+
+static unsigned passed, failed;
+
+static void check(bool is_right, const char *what)
+{
+    if (is_right) {
+        passed++;
+        return;
+    }
+    if (++failed <= 20)
+        printf("%s\n", what);
+}
+
+static void expect(const char *what, uint32_t got, uint32_t right)
+{
+    char text[300];
+    snprintf(text, sizeof text, "%s: answers %u (%s), and %u (%s) is right", what, got, goodlock_says(got), right,
+             goodlock_says(right));
+    check(got == right, text);
+}
+
+/* ---- Refused memory */
+
+static __thread bool is_counted; /* whether this thread is in a call of the library */
+static __thread long requests, refuse_at;
+static __thread bool is_onwards, was_refused;
+
+static bool refuses(void)
+{
+    if (!is_counted)
+        return false;
+    requests++;
+    if (refuse_at == 0 || requests < refuse_at || (requests > refuse_at && !is_onwards))
+        return false;
+    was_refused = true;
+    return true;
+}
+
+void *__real_malloc(size_t size);
+void *__real_calloc(size_t count, size_t size);
+void *__real_realloc(void *old, size_t size);
+void *__real_aligned_alloc(size_t alignment, size_t size);
+void *__wrap_malloc(size_t size);
+void *__wrap_calloc(size_t count, size_t size);
+void *__wrap_realloc(void *old, size_t size);
+void *__wrap_aligned_alloc(size_t alignment, size_t size);
+
+void *__wrap_malloc(size_t size)
+{
+    return refuses() ? NULL : __real_malloc(size);
+}
+
+void *__wrap_calloc(size_t count, size_t size)
+{
+    return refuses() ? NULL : __real_calloc(count, size);
+}
+
+void *__wrap_realloc(void *old, size_t size)
+{
+    return refuses() ? NULL : __real_realloc(old, size);
+}
+
+void *__wrap_aligned_alloc(size_t alignment, size_t size)
+{
+    return refuses() ? NULL : __real_aligned_alloc(alignment, size);
+}
+
+/* Makes a call; where memory is refused in it, and it says so, once more with ample memory. */
+#define TRY(call) \
+    do { \
+        uint32_t code; \
+        is_counted = true; \
+        code = (call); \
+        is_counted = false; \
+        if (code == GOODLOCK_MEMORY) { \
+            check(was_refused, #call ": MEMORY without a refusal"); \
+            told++; \
+            refuse_at = 0; \
+            code = (call); \
+        } else if (was_refused) { \
+            refuse_at = 0; \
+        } \
+        expect(#call, code, GOODLOCK_OK); \
+    } while (0)
+
+/* ---- A session of two threads in opposite orders, on one thread */
+
+static const char EXPECTED[] = "cycle 1: 2 edges\n"
+                               "  T0 holds a since here wants b at there\n"
+                               "  T1 holds b since here wants a at there\n"
+                               "cycles: 1\n";
+
+static const char *const NO_CYCLE = "cycles: 0\n";
+
+static uint32_t number(uint32_t (*call)(goodlock_session *, const uint8_t *, size_t, uint32_t *),
+                       goodlock_session *session, const char *name, uint32_t *number)
+{
+    return call(session, (const uint8_t *)name, strlen(name), number);
+}
+
+static uint64_t next_session(void)
+{
+    static uint64_t last;
+    return ++last;
+}
+
+static bool is_text(goodlock_session *session, goodlock_report *report, const char *right)
+{
+    uint8_t buffer[1000];
+    size_t size = 0;
+    return goodlock_text(session, report, buffer, sizeof buffer, &size) == GOODLOCK_OK && size == strlen(right) &&
+           memcmp(buffer, right, size) == 0;
+}
+
+static void acquire_two(goodlock_lane *lane, uint32_t first, uint32_t second)
+{
+    expect("acquire", goodlock_acquire(lane, first, 0), GOODLOCK_OK);
+    expect("acquire", goodlock_acquire(lane, second, 1), GOODLOCK_OK);
+}
+
+static void release_two(goodlock_lane *lane, uint32_t first, uint32_t second)
+{
+    expect("release", goodlock_release(lane, first, 1), GOODLOCK_OK);
+    expect("release", goodlock_release(lane, second, 0), GOODLOCK_OK);
+}
+
+static void name_two(goodlock_session *session)
+{
+    uint32_t at;
+    number(goodlock_lock, session, "a", &at);
+    number(goodlock_lock, session, "b", &at);
+    number(goodlock_place, session, "here", &at);
+    number(goodlock_place, session, "there", &at);
+}
+
+/* A session with all names told and two lanes. */
+static void open_two(goodlock_session *session, goodlock_lane *lanes, uint32_t ring)
+{
+    uint32_t thread;
+    session->at = lanes[0].at = lanes[1].at = NULL;
+    expect("open", goodlock_open(next_session(), 2, ring, session), GOODLOCK_OK);
+    name_two(session);
+    for (uint32_t i = 0; i < 2; i++) {
+        expect("lane", goodlock_lane_open(session, &lanes[i], &thread), GOODLOCK_OK);
+        check(thread == i, "lanes have the numbers 0 and 1");
+    }
+}
+
+static void pull_all(goodlock_session *session)
+{
+    goodlock_pulled pulled;
+    do {
+        expect("pull", goodlock_pull(session, 100, &pulled), GOODLOCK_OK);
+    } while (pulled.events + pulled.ended > 0);
+}
+
+static void end_lane(goodlock_session *session, goodlock_lane *lane)
+{
+    expect("close", goodlock_close(lane), GOODLOCK_OK);
+    pull_all(session);
+    expect("hand_in", goodlock_hand_in(session, lane), GOODLOCK_OK);
+    check(lane->at == NULL, "a lane that was handed in is all zero");
+}
+
+/* The whole session; how often a call told that memory was refused. */
+static unsigned whole_session(void)
+{
+    goodlock_session session = {NULL};
+    goodlock_lane lanes[2] = {{NULL}, {NULL}};
+    goodlock_report report = {NULL};
+    goodlock_pulled pulled;
+    uint8_t buffer[2000];
+    uint32_t at, a, b, here, there, events = 0, ended = 0;
+    size_t size, cycles;
+    bool more;
+    unsigned told = 0;
+    const uint64_t own = next_session();
+    TRY(goodlock_open(own, 2, 3, &session));
+    TRY(number(goodlock_lock, &session, "a", &a));
+    TRY(number(goodlock_lock, &session, "b", &b));
+    TRY(number(goodlock_place, &session, "here", &here));
+    TRY(number(goodlock_place, &session, "there", &there));
+    check(a == 0 && b == 1 && here == 0 && there == 1, "names are numbered 0 and 1");
+    for (int i = 0; i < 2; i++)
+        TRY(goodlock_lane_open(&session, &lanes[i], &at));
+    for (int i = 0; i < 2; i++) {
+        const uint32_t first = i == 0 ? a : b, second = i == 0 ? b : a;
+        const long before = requests;
+        TRY(goodlock_record(&lanes[i], GOODLOCK_ACQUIRE, first, here, &at));
+        TRY(goodlock_record(&lanes[i], GOODLOCK_ACQUIRE, second, there, &at));
+        TRY(goodlock_record(&lanes[i], GOODLOCK_RELEASE, second, there, &at));
+        expect("a full lane", goodlock_record(&lanes[i], GOODLOCK_RELEASE, first, there, &at), GOODLOCK_FULL);
+        expect("a full lane, an unlawful event", goodlock_release(&lanes[i], 9, there), GOODLOCK_NOT_HELD);
+        expect("a full lane's close", goodlock_close(&lanes[i]), GOODLOCK_FULL);
+        check(requests == before, "records take no memory");
+        for (int k = 0; k < 3; k++) {
+            pulled.events = pulled.ended = 9;
+            is_counted = true;
+            at = goodlock_pull(&session, 100, &pulled);
+            is_counted = false;
+            events += pulled.events;
+            ended += pulled.ended;
+            if (at == GOODLOCK_MEMORY) {
+                check(was_refused, "pull: MEMORY without a refusal");
+                told++;
+            } else {
+                expect("pull", at, GOODLOCK_OK);
+            }
+            if (was_refused)
+                refuse_at = 0;
+        }
+        TRY(goodlock_record(&lanes[i], GOODLOCK_RELEASE, first, there, &at));
+        TRY(goodlock_close(&lanes[i]));
+    }
+    check(events == 7 && ended == 1, "all but the last event and end were pulled");
+    do {
+        at = goodlock_pull(&session, 100, &pulled);
+        events += pulled.events;
+        ended += pulled.ended;
+    } while (at == GOODLOCK_MEMORY || pulled.events + pulled.ended > 0);
+    check(events == 8 && ended == 2, "eight events and two ends were pulled");
+    for (int i = 0; i < 2; i++)
+        TRY(goodlock_hand_in(&session, &lanes[i]));
+    TRY(goodlock_report_so_far(&session, GOODLOCK_FULL_MODE, 4, 1000, &report));
+    TRY(goodlock_text(&session, &report, buffer, sizeof buffer, &size));
+    check(size == strlen(EXPECTED) && memcmp(buffer, EXPECTED, size) == 0, "the text so far");
+    goodlock_report_free(&report);
+    TRY(goodlock_settle(&session, &at));
+    TRY(goodlock_settled_report(&session, GOODLOCK_FULL_MODE, 4, 1000, &report));
+    TRY(goodlock_json(&session, &report, buffer, sizeof buffer, &size));
+    check(size < sizeof buffer && buffer[0] == '{' && buffer[size - 1] == '\n', "the JSON is a line");
+    TRY(goodlock_text(&session, &report, buffer, sizeof buffer, &size));
+    check(size == strlen(EXPECTED) && memcmp(buffer, EXPECTED, size) == 0, "the settled text");
+    TRY(goodlock_cycles(&report, &cycles, &more));
+    check(cycles == 1 && !more, "there is one cycle");
+    goodlock_report_free(&report);
+    goodlock_session_free(&session);
+    check(session.at == NULL && report.at == NULL, "what was freed is all zero");
+    return told;
+}
+
+static void refuse_memory(void)
+{
+    for (int onwards = 0; onwards < 2; onwards++) {
+        unsigned told = 0;
+        long calls = 0;
+        for (long at = 1;; at++) {
+            is_onwards = onwards;
+            requests = 0;
+            was_refused = false;
+            refuse_at = at;
+            told += whole_session();
+            if (!was_refused)
+                break;
+            calls++;
+        }
+        refuse_at = 0;
+        printf("memory %s: %ld requests refused, %u told\n", onwards ? "onwards" : "once", calls, told);
+        check(calls > 5 && told > 0, "memory was asked for and refused");
+    }
+}
+
+/* ---- Misuse */
+
+static void on_nothing(void)
+{
+    goodlock_session session = {NULL};
+    goodlock_lane lane = {NULL};
+    goodlock_report report = {NULL};
+    goodlock_pulled pulled;
+    uint32_t at;
+    size_t size;
+    bool more;
+    uint8_t buffer[10];
+    expect("lane of no session", goodlock_lane_open(&session, &lane, &at), GOODLOCK_MISUSE);
+    expect("lock of no session", number(goodlock_lock, &session, "a", &at), GOODLOCK_MISUSE);
+    expect("place of no session", number(goodlock_place, &session, "a", &at), GOODLOCK_MISUSE);
+    expect("pull of no session", goodlock_pull(&session, 1, &pulled), GOODLOCK_MISUSE);
+    expect("pull of no session's lane", goodlock_pull_lane(&session, 0, 1, &pulled), GOODLOCK_MISUSE);
+    expect("report of no session", goodlock_report_so_far(&session, 2, 4, 10, &report), GOODLOCK_MISUSE);
+    expect("settled report of no session", goodlock_settled_report(&session, 2, 4, 10, &report), GOODLOCK_MISUSE);
+    expect("hand_in to no session", goodlock_hand_in(&session, &lane), GOODLOCK_MISUSE);
+    expect("settle of no session", goodlock_settle(&session, &at), GOODLOCK_MISUSE);
+    expect("text of no session", goodlock_text(&session, &report, buffer, 10, &size), GOODLOCK_MISUSE);
+    expect("JSON of no session", goodlock_json(&session, &report, buffer, 10, &size), GOODLOCK_MISUSE);
+    expect("cycles of no report", goodlock_cycles(&report, &size, &more), GOODLOCK_MISUSE);
+    expect("record of no lane", goodlock_acquire(&lane, 0, 0), GOODLOCK_MISUSE);
+    expect("close of no lane", goodlock_close(&lane), GOODLOCK_MISUSE);
+    goodlock_session_free(&session);
+    goodlock_lane_free(&lane);
+    goodlock_report_free(&report);
+    check(session.at == NULL && lane.at == NULL && report.at == NULL, "nothing stays nothing");
+}
+
+static void out_of_range(void)
+{
+    static const uint32_t bad[][2] = {{0, 1}, {1025, 1}, {1, 0}, {1, 65537}, {UINT32_MAX, UINT32_MAX}, {0, 0}};
+    static const uint32_t asked[][3] = {{3, 4, 10}, {2, 1, 10},     {2, 17, 10},
+                                        {2, 4, 0},  {2, 4, 100001}, {UINT32_MAX, 2, 1}};
+    goodlock_session session = {NULL};
+    goodlock_lane lanes[2], third = {NULL};
+    goodlock_report report = {NULL};
+    goodlock_pulled pulled;
+    uint32_t at;
+    for (unsigned i = 0; i < sizeof bad / sizeof *bad; i++) {
+        expect("open", goodlock_open(next_session(), bad[i][0], bad[i][1], &session), GOODLOCK_RANGE);
+        check(session.at == NULL, "a session that isn't opened is all zero");
+    }
+    open_two(&session, lanes, 4);
+    expect("open twice", goodlock_open(next_session(), 2, 4, &session), GOODLOCK_MISUSE);
+    expect("a third lane", goodlock_lane_open(&session, &third, &at), GOODLOCK_NO_LANE);
+    check(third.at == NULL, "a lane that isn't opened is all zero");
+    for (unsigned i = 0; i < sizeof asked / sizeof *asked; i++) {
+        expect("report", goodlock_report_so_far(&session, asked[i][0], asked[i][1], asked[i][2], &report),
+               GOODLOCK_RANGE);
+        check(report.at == NULL, "a report that isn't made is all zero");
+    }
+    expect("pull of a third lane", goodlock_pull_lane(&session, 2, 1, &pulled), GOODLOCK_RANGE);
+    expect("pull of nothing", goodlock_pull(&session, 0, &pulled), GOODLOCK_OK);
+    check(pulled.events == 0 && pulled.ended == 0, "nothing is pulled");
+    expect("a kind", goodlock_record(&lanes[0], 8, 0, 0, &at), GOODLOCK_RANGE);
+    expect("a kind", goodlock_record(&lanes[0], UINT32_MAX, 0, 0, &at), GOODLOCK_RANGE);
+    expect("itself", goodlock_fork(&lanes[0], 0, 0), GOODLOCK_ON_ITSELF);
+    expect("no thread", goodlock_join(&lanes[0], 2, 0), GOODLOCK_NO_SUCH_THREAD);
+    goodlock_lane_free(&lanes[0]);
+    goodlock_lane_free(&lanes[1]);
+    check(lanes[0].at == NULL, "a freed lane is all zero");
+    expect("record of a freed lane", goodlock_acquire(&lanes[0], 0, 0), GOODLOCK_MISUSE);
+    goodlock_session_free(&session);
+    expect("pull of a freed session", goodlock_pull(&session, 1, &pulled), GOODLOCK_MISUSE);
+    expect("opened again", goodlock_open(next_session(), 1, 1, &session), GOODLOCK_OK);
+    goodlock_session_free(&session);
+}
+
+/* What is refused before and after a session is settled. */
+static void settling(void)
+{
+    goodlock_session session = {NULL}, other = {NULL};
+    goodlock_lane lanes[2], others[2], used;
+    goodlock_report report = {NULL}, second = {NULL};
+    goodlock_pulled pulled;
+    uint32_t at = 77;
+    open_two(&session, lanes, 8);
+    open_two(&other, others, 8);
+    used = lanes[0];
+    expect("lane into one in use", goodlock_lane_open(&session, &used, &at), GOODLOCK_MISUSE);
+    expect("hand_in while it records", goodlock_hand_in(&session, &lanes[0]), GOODLOCK_MISUSE);
+    expect("settle of running threads", goodlock_settle(&session, &at), GOODLOCK_MISSING);
+    check(at == 0, "thread 0 is missing first");
+    expect("settled report before", goodlock_settled_report(&session, 2, 4, 10, &report), GOODLOCK_MISUSE);
+    acquire_two(&lanes[0], 0, 1);
+    expect("close", goodlock_close(&lanes[0]), GOODLOCK_OK);
+    expect("close again", goodlock_close(&lanes[0]), GOODLOCK_MISUSE);
+    expect("record after close", goodlock_acquire(&lanes[0], 0, 0), GOODLOCK_MISUSE);
+    expect("hand_in to another session", goodlock_hand_in(&other, &lanes[0]), GOODLOCK_STRANGE);
+    check(lanes[0].at != NULL, "a strange lane stays");
+    expect("hand_in", goodlock_hand_in(&session, &lanes[0]), GOODLOCK_OK);
+    expect("hand_in again", goodlock_hand_in(&session, &lanes[0]), GOODLOCK_MISUSE);
+    expect("settle without thread 1", goodlock_settle(&session, &at), GOODLOCK_MISSING);
+    check(at == 1, "thread 1 isn't handed in, which comes before what isn't pulled");
+    acquire_two(&lanes[1], 1, 0);
+    expect("close", goodlock_close(&lanes[1]), GOODLOCK_OK);
+    expect("hand_in", goodlock_hand_in(&session, &lanes[1]), GOODLOCK_OK);
+    expect("settle before all is pulled", goodlock_settle(&session, &at), GOODLOCK_MISSING);
+    check(at == 0, "thread 0 isn't pulled to its end");
+    expect("pull of lane 0", goodlock_pull_lane(&session, 0, 100, &pulled), GOODLOCK_OK);
+    check(pulled.events == 2 && pulled.ended == 1, "lane 0 has two events and its end");
+    expect("settle before thread 1 is pulled", goodlock_settle(&session, &at), GOODLOCK_MISSING);
+    check(at == 1, "thread 1 isn't pulled to its end");
+    expect("report so far", goodlock_report_so_far(&session, 2, 4, 10, &report), GOODLOCK_OK);
+    check(is_text(&session, &report, NO_CYCLE), "one thread makes no cycle");
+    expect("report over a report", goodlock_report_so_far(&session, 2, 4, 10, &report), GOODLOCK_MISUSE);
+    pull_all(&session);
+    expect("settle", goodlock_settle(&session, &at), GOODLOCK_OK);
+    expect("settle again", goodlock_settle(&session, &at), GOODLOCK_MISUSE);
+    expect("pull after settle", goodlock_pull(&session, 1, &pulled), GOODLOCK_MISUSE);
+    expect("lane after settle", goodlock_lane_open(&session, &lanes[0], &at), GOODLOCK_NO_LANE);
+    expect("report so far after settle", goodlock_report_so_far(&session, 2, 4, 10, &second), GOODLOCK_MISUSE);
+    expect("settled report", goodlock_settled_report(&session, 2, 4, 10, &second), GOODLOCK_OK);
+    check(is_text(&session, &second, EXPECTED), "the settled text");
+    check(is_text(&session, &report, NO_CYCLE), "an earlier report stays as it was");
+    goodlock_report_free(&report);
+    goodlock_report_free(&second);
+    goodlock_session_free(&session);
+    for (int i = 0; i < 2; i++)
+        goodlock_lane_free(&others[i]);
+    goodlock_session_free(&other);
+}
+
+/* Lanes that outlive their session. */
+static void orphans(void)
+{
+    goodlock_session session;
+    goodlock_lane lanes[2];
+    open_two(&session, lanes, 2);
+    acquire_two(&lanes[1], 0, 1);
+    goodlock_session_free(&session);
+    expect("a full lane of a freed session", goodlock_release(&lanes[1], 1, 0), GOODLOCK_FULL);
+    expect("a record of a freed session's lane", goodlock_acquire(&lanes[0], 0, 0), GOODLOCK_OK);
+    expect("a close of a freed session's lane", goodlock_close(&lanes[0]), GOODLOCK_UNCONFIRMED);
+    goodlock_lane_free(&lanes[0]);
+    goodlock_lane_free(&lanes[1]);
+}
+
+/* ---- Limits */
+
+static void held_locks(void)
+{
+    goodlock_session session;
+    goodlock_lane lanes[2];
+    open_two(&session, lanes, 1000);
+    for (uint32_t lock = 0; lock < 64; lock++)
+        expect("64 locks", goodlock_try_acquire(&lanes[0], lock, 0), GOODLOCK_OK);
+    expect("one lock more", goodlock_acquire(&lanes[0], 64, 0), GOODLOCK_HELD_FULL);
+    expect("one lock more, tried", goodlock_try_acquire_shared(&lanes[0], 64, 0), GOODLOCK_HELD_FULL);
+    expect("one of them again", goodlock_acquire(&lanes[0], 63, 0), GOODLOCK_OK);
+    expect("release", goodlock_release_shared(&lanes[0], 5, 0), GOODLOCK_OK);
+    expect("one lock more", goodlock_acquire_shared(&lanes[0], 64, 0), GOODLOCK_OK);
+    expect("upgrade", goodlock_try_acquire(&lanes[0], 64, 0), GOODLOCK_UPGRADE);
+    expect("the other thread", goodlock_acquire(&lanes[1], 64, 0), GOODLOCK_OK);
+    goodlock_lane_free(&lanes[0]);
+    goodlock_lane_free(&lanes[1]);
+    goodlock_session_free(&session);
+}
+
+static void deep_lock(void)
+{
+    goodlock_session session;
+    goodlock_lane lanes[2];
+    goodlock_pulled pulled;
+    uint32_t at = 0, wrong = 0;
+    open_two(&session, lanes, 5000);
+    for (uint32_t i = 0; i < 1000000; i++) {
+        wrong += goodlock_record(&lanes[0], GOODLOCK_ACQUIRE_SHARED, 0, 0, &at) != GOODLOCK_OK || at != i;
+        if (i % 5000 == 4999)
+            wrong += goodlock_pull(&session, 5000, &pulled) != GOODLOCK_OK || pulled.events != 5000;
+    }
+    check(wrong == 0, "a million acquires, each at its place");
+    expect("one more", goodlock_acquire_shared(&lanes[0], 0, 0), GOODLOCK_DEPTH_FULL);
+    expect("one more, exclusively", goodlock_acquire(&lanes[0], 0, 0), GOODLOCK_DEPTH_FULL);
+    expect("release", goodlock_release(&lanes[0], 0, 0), GOODLOCK_OK);
+    expect("exclusively", goodlock_acquire(&lanes[0], 0, 0), GOODLOCK_UPGRADE);
+    expect("again", goodlock_acquire_shared(&lanes[0], 0, 0), GOODLOCK_OK);
+    for (int i = 0; i < 2; i++)
+        end_lane(&session, &lanes[i]);
+    expect("settle", goodlock_settle(&session, &at), GOODLOCK_OK);
+    goodlock_session_free(&session);
+}
+
+static void many_threads(void)
+{
+    static goodlock_lane lanes[1024];
+    goodlock_session session = {NULL};
+    uint32_t at = 0, wrong = 0;
+    expect("open 1,024", goodlock_open(next_session(), 1024, 1, &session), GOODLOCK_OK);
+    for (uint32_t i = 0; i < 1024; i++)
+        wrong += goodlock_lane_open(&session, &lanes[i], &at) != GOODLOCK_OK || at != i;
+    for (uint32_t i = 0; i < 1024; i++)
+        wrong += goodlock_close(&lanes[i]) != GOODLOCK_OK;
+    pull_all(&session);
+    for (uint32_t i = 1024; i-- > 0;)
+        wrong += goodlock_hand_in(&session, &lanes[i]) != GOODLOCK_OK;
+    check(wrong == 0, "each of 1,024 lanes is given out, closed and handed in");
+    expect("settle 1,024", goodlock_settle(&session, &at), GOODLOCK_OK);
+    goodlock_session_free(&session);
+}
+
+/* Names: the same number for the same name, of locks and of places apart; none at all. */
+static void names(void)
+{
+    static const char *const right = "cycle 1: 2 edges\n"
+                                     "  T0 holds  since  wants  at \n"
+                                     "  T1 holds  since  wants  at \n"
+                                     "cycles: 1\n";
+    goodlock_session session = {NULL};
+    goodlock_lane lanes[2] = {{NULL}, {NULL}};
+    goodlock_report report = {NULL};
+    uint32_t at, wrong = 0;
+    expect("open", goodlock_open(next_session(), 2, 16, &session), GOODLOCK_OK);
+    for (uint32_t i = 0; i < 5000; i++) {
+        char name[20];
+        snprintf(name, sizeof name, "%x", i * 7919);
+        wrong += number(goodlock_lock, &session, name, &at) != GOODLOCK_OK || at != i;
+        if (i % 3 == 0)
+            wrong += number(goodlock_place, &session, name, &at) != GOODLOCK_OK || at != i / 3;
+    }
+    for (uint32_t i = 5000; i-- > 0;) {
+        char name[20];
+        snprintf(name, sizeof name, "%x", i * 7919);
+        wrong += number(goodlock_lock, &session, name, &at) != GOODLOCK_OK || at != i;
+    }
+    check(wrong == 0, "5,000 names have their numbers");
+    wrong += goodlock_lock(&session, (const uint8_t *)"\0\0", 2, &at) != GOODLOCK_OK || at != 5000;
+    wrong += goodlock_lock(&session, (const uint8_t *)"\0", 1, &at) != GOODLOCK_OK || at != 5001;
+    wrong += goodlock_lock(&session, (const uint8_t *)"\0\0", 2, &at) != GOODLOCK_OK || at != 5000;
+    check(wrong == 0, "a name is its bytes");
+    for (int i = 0; i < 2; i++) {
+        expect("lane", goodlock_lane_open(&session, &lanes[i], &at), GOODLOCK_OK);
+        expect("no name", goodlock_acquire(&lanes[i], 7000 + (uint32_t)i, UINT32_MAX), GOODLOCK_OK);
+        expect("no name", goodlock_acquire(&lanes[i], 7001 - (uint32_t)i, 4000), GOODLOCK_OK);
+    }
+    pull_all(&session);
+    expect("report", goodlock_report_so_far(&session, 2, 4, 10, &report), GOODLOCK_OK);
+    check(is_text(&session, &report, right), "what has no name is shown by an empty one");
+    goodlock_report_free(&report);
+    for (int i = 0; i < 2; i++)
+        goodlock_lane_free(&lanes[i]);
+    goodlock_session_free(&session);
+}
+
+/* ---- Leaving in mid-course */
+
+static void in_a_child(void)
+{
+    goodlock_session session;
+    goodlock_lane lanes[2];
+    goodlock_report report = {NULL};
+    int status = 0;
+    pid_t child;
+    open_two(&session, lanes, 8);
+    acquire_two(&lanes[0], 0, 1);
+    fflush(NULL);
+    child = fork();
+    if (child == 0)
+        _exit(7);
+    check(waitpid(child, &status, 0) == child && WIFEXITED(status) && WEXITSTATUS(status) == 7, "the child leaves");
+    release_two(&lanes[0], 1, 0);
+    acquire_two(&lanes[1], 1, 0);
+    pull_all(&session);
+    expect("report", goodlock_report_so_far(&session, 2, 4, 10, &report), GOODLOCK_OK);
+    check(is_text(&session, &report, EXPECTED), "the parent goes on");
+    goodlock_report_free(&report);
+    for (int i = 0; i < 2; i++)
+        end_lane(&session, &lanes[i]);
+    goodlock_session_free(&session);
+}
+
+static void *record_for_ever(void *argument)
+{
+    goodlock_lane *lane = argument;
+    for (;;) {
+        goodlock_acquire(lane, 0, 0);
+        goodlock_release(lane, 0, 0);
+        sched_yield();
+    }
+    return NULL;
+}
+
+static void start_and_leave(void)
+{
+    static goodlock_session session;
+    static goodlock_lane lanes[2];
+    pthread_t thread;
+    open_two(&session, lanes, 8);
+    check(pthread_create(&thread, NULL, record_for_ever, &lanes[0]) == 0, "a thread is started");
+    pull_all(&session);
+}
+
+int main(int count, char **words)
+{
+    const char *const word = count == 2 ? words[1] : "";
+    alarm(120);
+    if (strcmp(word, "misuse") == 0) {
+        on_nothing();
+        out_of_range();
+        settling();
+        orphans();
+    } else if (strcmp(word, "limits") == 0) {
+        held_locks();
+        deep_lock();
+        many_threads();
+        names();
+    } else if (strcmp(word, "memory") == 0) {
+        refuse_memory();
+    } else if (strcmp(word, "fork") == 0) {
+        in_a_child();
+    } else if (strcmp(word, "exit") == 0) {
+        start_and_leave();
+    } else {
+        fputs("library_misuse misuse|limits|memory|fork|exit\n", stderr);
+        return 2;
+    }
+    printf("%u passed, %u failed\n", passed, failed);
+    return failed == 0 ? 0 : 1;
+}

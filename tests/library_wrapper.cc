@@ -1,0 +1,208 @@
+// Tests goodlock.hpp: each kind of lock, with std's helpers, and what is done where there is no session or no lane.
+//
+//     library_wrapper locks       known reports of each kind of lock
+//     library_wrapper threads     many threads with small rings, of which some have no lane
+//     library_wrapper leave       main returns without finish(), while a thread records
+//
+// What isn't as it has to be is told; the last line is how many checks passed and failed.
+#include "goodlock.hpp"
+
+#include <condition_variable>
+#include <cstdio>
+#include <cstring>
+#include <memory>
+
+static unsigned passed, failed;
+
+static void check(bool is_right, const std::string &what)
+{
+    if (is_right) {
+        passed++;
+        return;
+    }
+    failed++;
+    std::printf("%s\n", what.c_str());
+}
+
+// Locks and unlocks before the session and after it are std's.
+static void without_a_session()
+{
+    goodlock::mutex lock;
+    goodlock::recursive_mutex again;
+    lock.lock();
+    check(!lock.try_lock(), "a mutex that is held");
+    lock.unlock();
+    again.lock();
+    check(again.try_lock(), "a recursive mutex again");
+    again.unlock();
+    again.unlock();
+    goodlock::thread thread([&] { goodlock::guard<goodlock::mutex> hold(lock); });
+    thread.join();
+    check(goodlock::report_so_far().code == GOODLOCK_MISUSE, "no report without a session");
+}
+
+// One thread after the other, so that no run deadlocks.
+template <class F> static void in_a_thread(F work)
+{
+    goodlock::thread thread(work);
+    thread.join();
+}
+
+// Threads that all start before any of them works: joins and forks keep none of them apart.
+template <class F, class G> static void one_by_one(F first, G second)
+{
+    std::atomic<int> turn{0};
+    goodlock::thread one([&] {
+        first();
+        turn = 1;
+    });
+    goodlock::thread other([&] {
+        while (turn != 1)
+            std::this_thread::yield();
+        second();
+    });
+    one.join();
+    other.join();
+}
+
+static const char *const RIGHT = "cycle 1: 2 edges\n"
+                                 "  T1 holds a since wrapper:2 wants b at wrapper:3\n"
+                                 "  T2 holds b since wrapper:2 wants a at wrapper:3\n"
+                                 "cycle 2: 2 edges\n"
+                                 "  T5 holds r since wrapper:4 wants w at wrapper:5\n"
+                                 "  T6 holds w since wrapper:6 wants r at wrapper:7\n"
+                                 "cycles: 2\n";
+
+template <class M, class N> static void opposite(M &one, N &other)
+{
+    one_by_one(
+        [&] {
+#line 2 "wrapper"
+            goodlock::guard<M> first(one);
+            other.lock();
+            other.unlock();
+        },
+        [&] {
+#line 2 "wrapper"
+            goodlock::guard<N> first(other);
+            one.lock();
+            one.unlock();
+        });
+}
+#line 90 "tests/library_wrapper.cc"
+
+static void locks()
+{
+    without_a_session();
+    goodlock::mutex early("early");
+    early.lock();
+    check(goodlock::start(24, 8) == GOODLOCK_OK, "start");
+    check(goodlock::start(24, 8) == GOODLOCK_MISUSE, "a second start");
+    early.unlock(); // is refused: nobody saw it locked
+    goodlock::mutex a("a"), b("b"), namesake("a");
+    opposite(a, b);
+    {
+        // Tries can't wait, and a thread that is over when another starts is no danger.
+        one_by_one(
+            [&] {
+                std::lock_guard<goodlock::mutex> first(a);
+                check(namesake.try_lock(), "a mutex that is free");
+                namesake.unlock();
+            },
+            [&] {
+                std::unique_lock<goodlock::mutex> first(namesake);
+                check(a.try_lock(), "a mutex that is free");
+                a.unlock();
+            });
+    }
+    goodlock::shared_mutex r("r"), w("w");
+    one_by_one(
+        [&] {
+#line 4 "wrapper"
+            goodlock::shared_guard<goodlock::shared_mutex> first(r);
+            w.lock_shared();
+            w.unlock_shared();
+        },
+        [&] {
+#line 6 "wrapper"
+            goodlock::guard<goodlock::shared_mutex> first(w);
+            r.lock();
+            r.unlock();
+#line 130 "tests/library_wrapper.cc"
+        });
+    goodlock::recursive_mutex x, y;
+    in_a_thread([&] { std::lock_guard<goodlock::recursive_mutex> first(x), again(x), second(y); });
+    in_a_thread([&] { std::scoped_lock both(y, x); });
+    std::condition_variable_any is_ready;
+    bool ready = false;
+    goodlock::thread waiting([&] {
+        std::unique_lock<goodlock::mutex> hold(a);
+        is_ready.wait(hold, [&] { return ready; });
+    });
+    {
+        goodlock::guard<goodlock::mutex> hold(a);
+        ready = true;
+    }
+    is_ready.notify_one();
+    waiting.join();
+    const goodlock::result result = goodlock::finish();
+    check(result.code == GOODLOCK_OK && result.is_settled, "the report is settled");
+    check(result.unrecorded == 1, "one event wasn't recorded");
+    check(result.cycles == 2 && !result.more, "there are two cycles");
+    check(result.text == RIGHT, "another text:\n" + result.text);
+    check(goodlock::finish().code == GOODLOCK_MISUSE, "a second end");
+    goodlock::guard<goodlock::mutex> hold(a);
+}
+
+static void threads()
+{
+    check(goodlock::start(10, 2) == GOODLOCK_OK, "start");
+    std::vector<std::unique_ptr<goodlock::mutex>> locks;
+    for (int i = 0; i < 5; i++)
+        locks.emplace_back(new goodlock::mutex);
+    std::vector<goodlock::thread> running;
+    std::atomic<long> count{0};
+    for (int i = 0; i < 20; i++)
+        running.emplace_back([&count, &locks, i] {
+            for (int k = 0; k < 200; k++) {
+                goodlock::guard<goodlock::mutex> first(*locks[static_cast<std::size_t>(i + k) % 4]);
+                goodlock::guard<goodlock::mutex> second(*locks[4]);
+                count++;
+            }
+        });
+    for (int i = 0; i < 5; i++)
+        check(goodlock::report_so_far().code == GOODLOCK_OK, "a report so far");
+    for (goodlock::thread &thread : running)
+        thread.join();
+    const goodlock::result result = goodlock::finish();
+    check(count == 20 * 200, "all threads worked");
+    check(result.code == GOODLOCK_OK && result.is_settled && result.cycles == 0, "a settled report without a cycle");
+    check(result.text == "cycles: 0\n", result.text);
+    // Nine threads have lanes; the others' events aren't recorded.
+    check(result.unrecorded == 11 * 200 * 4, std::to_string(result.unrecorded) + " events weren't recorded");
+}
+
+static void leave()
+{
+    check(goodlock::start() == GOODLOCK_OK, "start");
+    static goodlock::mutex lock("left");
+    goodlock::thread([] {
+        for (;;)
+            goodlock::guard<goodlock::mutex> hold(lock);
+    }).detach();
+    for (int i = 0; i < 100; i++)
+        goodlock::guard<goodlock::mutex> hold(lock);
+}
+
+int main(int count, char **words)
+{
+    const std::string word = count == 2 ? words[1] : "";
+    if (word == "locks")
+        locks();
+    else if (word == "threads")
+        threads();
+    else if (word == "leave")
+        leave();
+    std::printf("%u passed, %u failed\n", passed, failed);
+    return failed == 0 && passed > 0 ? 0 : 1;
+}
