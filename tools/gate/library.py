@@ -5,8 +5,8 @@
     library.py --proved   over the libraries that `rt ci` has just proved, which it leaves to no other command; as without
                           it, where rt ci put back what earlier checks had kept
 
-Beside the archive stands libgl_c.sources, the sum of the sources that it was built from. Status: 0 built, 1 not built,
-2 the words were wrong, 3 the toolchain at hand can't be used so.
+Beside the archive stands libgl_c.sources, the sum of the sources that it was built from. The last line is `N passed, N
+failed`. Status: 0 built, 1 not built, 2 the words were wrong, 3 the toolchain at hand can't be used so.
 """
 
 import os
@@ -66,6 +66,7 @@ def main(words):
     out = pathlib.Path(toolchain.TOP, "crates", NAME, "out")
     if status == 0:
         (out / f"lib{NAME}.sources").write_text(f"{of}\n")
+    print("0 passed, 1 failed" if status else "1 passed, 0 failed")
     return 1 if status else 0
 
 
