@@ -1,14 +1,14 @@
 #!/usr/bin/env python3
 """Tests the C library: its header, its examples, and random sessions of C threads against the program.
 
-    library.py [--cases N] [--seed S] [--only PART] PROGRAM
+    library.py [--cases N] [--seed S] [--only PART ..] PROGRAM
 
 The header is compiled alone as C and as C++. Each example of library/examples prints its known report. tests/library.c
 records random sessions in running threads; each report's text and JSON has to be what PROGRAM says of the trace of
 what was recorded, byte for byte. Some hundred of them run under AddressSanitizer, ThreadSanitizer and Valgrind. tests/
 library_misuse.c uses each call wrongly, refuses memory, forks and leaves in mid-course; tests/library_wrapper.cc is of
 goodlock.hpp. Every run has a limit of time. The last line is `N passed, N failed`, with `, N skipped` behind it where tools
-are missing: each is named.
+are missing: each is named. PART: headers, examples, wrapper, sessions, sanitized, misuse.
 
 LIBRARY   the archive that is tested   (prebuilt/libgoodlock.a)
 CASES     how many random sessions     (3000, as --cases)
@@ -90,7 +90,9 @@ class Tests:
 
     def headers(self):
         languages = [("c", "c11", "gcc"), ("c", "c11", "clang"), ("c", "c99", "gcc"), ("c", "c17", "gcc")]
-        languages += [("c++", standard, tool) for standard in ("c++11", "c++17", "c++20") for tool in ("g++", "clang++")]
+        languages += [
+            ("c++", standard, tool) for standard in ("c++11", "c++17", "c++20") for tool in ("g++", "clang++")
+        ]
         for language, standard, compiler in languages:
             name = f"the header as {standard} by {compiler}"
             if shutil.which(compiler) is None:
@@ -190,8 +192,11 @@ class Tests:
             with concurrent.futures.ThreadPoolExecutor(2) as pool:
                 found = list(pool.map(lambda line: self.compared(line, pathlib.Path(place)), lines))
         faults += [fault for fault in found if fault is not None]
-        return faults, len(lines), sum(line.split()[4] == str(INCONSISTENT) for line in lines), sum(
-            line.split()[5] != "0" for line in lines
+        return (
+            faults,
+            len(lines),
+            sum(line.split()[4] == str(INCONSISTENT) for line in lines),
+            sum(line.split()[5] != "0" for line in lines),
         )
 
     def sessions_by(self, name, driver, cases, prefix=(), **more):
@@ -275,7 +280,7 @@ def main():
     parser.add_argument("--cases", type=int, default=int(os.environ.get("CASES", "3000")))
     parser.add_argument("--seed", type=int, default=1)
     parts = ["headers", "examples", "wrapper", "sessions", "sanitized", "misuse"]
-    parser.add_argument("--only", choices=parts)
+    parser.add_argument("--only", choices=parts, action="append", default=[], help="may be said again")
     parser.add_argument("program")
     options = parser.parse_args()
     if not ARCHIVE.is_file():
@@ -288,7 +293,7 @@ def main():
         return 0
     with tempfile.TemporaryDirectory() as folder:
         tests = Tests(folder, os.path.abspath(options.program), options)
-        for part in [options.only] if options.only else parts:
+        for part in options.only or parts:
             getattr(tests, part)()
     print(f"{tests.passed} passed, {tests.failed} failed" + (f", {tests.skipped} skipped" if tests.skipped else ""))
     return 1 if tests.failed or tests.passed == 0 else 0
