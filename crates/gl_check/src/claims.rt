@@ -51,7 +51,8 @@ fn query_in(value: &Value) -> Option<Query>
 #[tactic(auto, unfolding(crate::specs::Shape::is_report))]
 pub(crate) fn asked_of(value: &Value) -> Option<Query>
     ensures { MatchOption result (is_report (view value.now) ≡ false)
-        (λ query. (is_report (view value.now) ≡ true) × (query ≡ asked_in (view value.now)) × (length (items_under (codes "cycles") (view value.now)) ≤ 100000)) }
+        (λ query. (is_report (view value.now) ≡ true) × (query ≡ asked_in (view value.now))
+        × (length (items_under (codes "cycles") (view value.now)) ≤ 100000)) }
 {
     let format = format_in(value);
     if !has_report_fields(format, value) {
@@ -82,7 +83,8 @@ fn numbers_of(alloc: Global, values: &[Value]) -> Result<Vec<usize>, Memory>
 
 // The numbers that the value lists, where it is an array.
 fn order_of(alloc: Global, value: &Value) -> Result<Option<Vec<usize>>, Memory>
-    ensures { IfOk result (λ order. option_map (λ numbers. numbers.items) order ≡ order_of (view value.now)) }
+    ensures { IfOk result
+        (λ order. option_map (λ numbers. numbers.items) order ≡ order_of (view value.now)) }
 {
     match value.as_array() {
         Some(items) => Ok(Some(numbers_of(alloc, items.as_slice())?)),
@@ -92,7 +94,8 @@ fn order_of(alloc: Global, value: &Value) -> Result<Option<Vec<usize>>, Memory>
 
 /// The trim order that is given, if there is one.
 pub(crate) fn trim_in(alloc: Global, value: &Value) -> Result<Option<Vec<usize>>, Memory>
-    ensures { IfOk result (λ order. option_map (λ numbers. numbers.items) order ≡ trim_in (view value.now)) }
+    ensures { IfOk result
+        (λ order. option_map (λ numbers. numbers.items) order ≡ trim_in (view value.now)) }
 {
     match value.get("trim") {
         Some(order) => order_of(alloc, order),

@@ -34,8 +34,12 @@ fn positions_of(
     edges: &[Value],
 ) -> Result<Vec<usize>, CheckFault>
     requires { list_all (is_member format (length table.now)) (map view edges.now) ≡ true }
-    ensures found { IfOk result (λ positions. AreNamed format names.now table.now (map view edges.now) positions.items) }
-    ensures fault { IfErr result (λ fault. (fault ≡ Memory) ⊎ ((k : ℕ) × (fault ≡ CheckFault.Edge number k) × (format ≡ One) × IsFirstStrange format names.now table.now (map view edges.now) k)) }
+    ensures found { IfOk result
+        (λ positions. AreNamed format names.now table.now (map view edges.now) positions.items) }
+    ensures fault { IfErr result
+        (λ fault. (fault ≡ Memory)
+        ⊎ ((k : ℕ) × (fault ≡ CheckFault.Edge number k) × (format ≡ One)
+        × IsFirstStrange format names.now table.now (map view edges.now) k)) }
 {
     let mut positions = Vec::new(alloc);
     for k in 0..edges.len() {
@@ -76,10 +80,17 @@ impl Known<'_> {
         found: &[Vec<usize>],
         edges: &[Value],
     ) -> Result<Vec<usize>, CheckFault>
-        requires { list_all (is_member self.now.format (length self.now.edges.now)) (map view edges.now) ≡ true }
-        ensures cycle { IfOk result (λ positions. IsCycleOf self.now.format self.now.names.now self.now.edges.now (is_before self.now.order.now) self.now.query (map view edges.now) positions.items) }
-        ensures above { IfOk result (λ positions. IsAbove (map (λ v. v.items) found.now) positions.items) }
-        ensures fault { IfErr result (λ fault. IsFaultOf self.now.format self.now.names.now self.now.edges.now (is_before self.now.order.now) self.now.query (length found.now) (map (λ v. v.items) found.now) (map view edges.now) fault) }
+        requires { list_all (is_member self.now.format (length self.now.edges.now))
+            (map view edges.now) ≡ true }
+        ensures cycle { IfOk result
+            (λ positions. IsCycleOf self.now.format self.now.names.now self.now.edges.now
+            (is_before self.now.order.now) self.now.query (map view edges.now) positions.items) }
+        ensures above { IfOk result
+            (λ positions. IsAbove (map (λ v. v.items) found.now) positions.items) }
+        ensures fault { IfErr result
+            (λ fault. IsFaultOf self.now.format self.now.names.now self.now.edges.now
+            (is_before self.now.order.now) self.now.query (length found.now)
+            (map (λ v. v.items) found.now) (map view edges.now) fault) }
     {
         let number = found.len();
         let positions = positions_of(
@@ -106,9 +117,17 @@ impl Known<'_> {
         alloc: Global,
         cycles: &[Value],
     ) -> Result<Vec<Vec<usize>>, CheckFault>
-        requires { list_all (is_listing self.now.format (length self.now.edges.now)) (map view cycles.now) ≡ true }
-        ensures cycles { IfOk result (λ found. AreCyclesOf self.now.format self.now.names.now self.now.edges.now (is_before self.now.order.now) self.now.query (map (λ cycle. items_in (view cycle)) cycles.now) (map (λ v. v.items) found.items)) }
-        ensures fault { IfErr result (λ fault. (fault ≡ Memory) ⊎ IsFirstFault self.now.format self.now.names.now self.now.edges.now (is_before self.now.order.now) self.now.query (map (λ cycle. items_in (view cycle)) cycles.now) fault) }
+        requires { list_all (is_listing self.now.format (length self.now.edges.now))
+            (map view cycles.now) ≡ true }
+        ensures cycles { IfOk result
+            (λ found. AreCyclesOf self.now.format self.now.names.now self.now.edges.now
+            (is_before self.now.order.now) self.now.query
+            (map (λ cycle. items_in (view cycle)) cycles.now) (map (λ v. v.items) found.items)) }
+        ensures fault { IfErr result
+            (λ fault. (fault ≡ Memory)
+            ⊎ IsFirstFault self.now.format self.now.names.now self.now.edges.now
+            (is_before self.now.order.now) self.now.query
+            (map (λ cycle. items_in (view cycle)) cycles.now) fault) }
     {
         let mut found = Vec::new(alloc);
         for i in 0..cycles.len() {

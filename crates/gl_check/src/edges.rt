@@ -43,7 +43,8 @@ fn is_print_of(
     value: &Value,
 ) -> Result<bool, Memory>
     requires { has_fields edge_fields_v1 (view value.now) ≡ true }
-    ensures { IfOk result (λ is. Decides is (IsPrintOf names.now (view value.now) (edge.now, sample.now))) }
+    ensures { IfOk result
+        (λ is. Decides is (IsPrintOf names.now (view value.now) (edge.now, sample.now))) }
 {
     if !is_exclusive(edge) {
         return Ok(false);
@@ -81,7 +82,9 @@ fn position_at(
 ) -> Result<Option<usize>, Memory>
     requires shaped { has_fields edge_fields_v1 (view value.now) ≡ true }
     requires place { place ≡ number_under (codes "place") (view value.now) }
-    ensures { IfOk result (λ found. MatchOption found (IsNoEdge names.now table.now (view value.now)) (IsEdgeAt names.now table.now (view value.now))) }
+    ensures { IfOk result
+        (λ found. MatchOption found (IsNoEdge names.now table.now (view value.now))
+        (IsEdgeAt names.now table.now (view value.now))) }
 {
     for i in 0..table.len() {
         let pair = &table[i];
@@ -100,7 +103,9 @@ fn first_position(
     value: &Value,
 ) -> Result<Option<usize>, Memory>
     requires { has_fields edge_fields_v1 (view value.now) ≡ true }
-    ensures { IfOk result (λ found. MatchOption found (IsNoEdge names.now table.now (view value.now)) (IsEdgeAt names.now table.now (view value.now))) }
+    ensures { IfOk result
+        (λ found. MatchOption found (IsNoEdge names.now table.now (view value.now))
+        (IsEdgeAt names.now table.now (view value.now))) }
 {
     position_at(alloc, names, table, number_under(value, "place"), value)
 }
@@ -114,7 +119,9 @@ pub(crate) fn position_of(
     value: &Value,
 ) -> Result<Option<usize>, Memory>
     requires { is_member format (length table.now) (view value.now) ≡ true }
-    ensures { IfOk result (λ found. MatchOption found ((format ≡ One) × IsNoEdge names.now table.now (view value.now)) (IsNamed format names.now table.now (view value.now))) }
+    ensures { IfOk result
+        (λ found. MatchOption found ((format ≡ One) × IsNoEdge names.now table.now (view value.now))
+        (IsNamed format names.now table.now (view value.now))) }
 {
     match format {
         Format::One => first_position(alloc, names, table, value),
@@ -145,7 +152,10 @@ pub(crate) fn check_table(
 ) -> Result<(), CheckFault>
     requires { list_all is_edge (map view values.now) ≡ true }
     ensures ok { IfOk result (λ _. map view values.now ≡ map (edge_tree names.now) table.now) }
-    ensures fault { IfErr result (λ fault. (fault ≡ Memory) ⊎ ((k : ℕ) × (fault ≡ CheckFault.Table k) × IsFirstDifference (map view values.now) (map (edge_tree names.now) table.now) k)) }
+    ensures fault { IfErr result
+        (λ fault. (fault ≡ Memory)
+        ⊎ ((k : ℕ) × (fault ≡ CheckFault.Table k)
+        × IsFirstDifference (map view values.now) (map (edge_tree names.now) table.now) k)) }
 {
     for k in 0..table.len() {
         if k >= values.len() {

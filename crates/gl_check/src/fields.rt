@@ -166,7 +166,9 @@ fn is_of(kind: Kind, value: &Value) -> bool
 
 // Whether the next member has this key and a value of this kind.
 fn has_next(members: &mut Iter<'_, String, Value>, key: &str, kind: Kind) -> bool
-    ensures { (fields : List (List ℕ × Kind)) → have_fields ((key.now, kind) ∷ fields) (members_view members.old) ≡ (result && have_fields fields (members_view members.new)) }
+    ensures { (fields : List (List ℕ × Kind))
+        → have_fields ((key.now, kind) ∷ fields) (members_view members.old)
+        ≡ (result && have_fields fields (members_view members.new)) }
 {
     match members.next() {
         Some((name, value)) => name.as_str() == key && is_of(kind, value),
@@ -177,7 +179,8 @@ fn has_next(members: &mut Iter<'_, String, Value>, key: &str, kind: Kind) -> boo
 // Whether the members that are left have exactly these keys, in this order, and under each a value of
 // its kind.
 fn have_fields(members: &mut Iter<'_, String, Value>, fields: &[(&str, Kind)]) -> bool
-    ensures { result ≡ have_fields (map (λ field. (field.0.now, field.1)) fields.now) (members_view members.old) }
+    ensures { result ≡ have_fields (map (λ field. (field.0.now, field.1)) fields.now)
+        (members_view members.old) }
 {
     match fields.split_first() {
         None => members.next().is_none(),
@@ -188,7 +191,8 @@ fn have_fields(members: &mut Iter<'_, String, Value>, fields: &[(&str, Kind)]) -
 // Whether the value is an object with exactly these keys, which ascend, and under each a value of its
 // kind.
 fn has_fields(value: &Value, fields: &[(&str, Kind)]) -> bool
-    ensures { result ≡ has_fields (map (λ field. (field.0.now, field.1)) fields.now) (view value.now) }
+    ensures { result ≡ has_fields (map (λ field. (field.0.now, field.1)) fields.now)
+        (view value.now) }
 {
     match value.as_object() {
         Some(object) => have_fields(&mut object.iter(), fields),

@@ -26,9 +26,14 @@ impl Known<'_> {
     fn check_edges(&self, alloc: Global, value: &Value) -> Result<(), CheckFault>
         requires shaped { is_report (view value.now) ≡ true }
         requires format { self.now.format ≡ format_in (view value.now) }
-        ensures ok { IfOk result (λ _. HasTable self.now.names.now self.now.edges.now (is_before self.now.order.now) (view value.now) (format_in (view value.now))) }
-        ensures fault { IfErr result (λ fault. (fault ≡ Memory) ⊎ ((k : ℕ) × (fault ≡ CheckFault.Table k) × (format_in (view value.now) ≡ Two)
-            × IsFirstDifference (items_under (codes "edges") (view value.now)) (map (edge_tree self.now.names.now) self.now.edges.now) k)) }
+        ensures ok { IfOk result
+            (λ _. HasTable self.now.names.now self.now.edges.now (is_before self.now.order.now)
+            (view value.now) (format_in (view value.now))) }
+        ensures fault { IfErr result
+            (λ fault. (fault ≡ Memory)
+            ⊎ ((k : ℕ) × (fault ≡ CheckFault.Table k) × (format_in (view value.now) ≡ Two)
+            × IsFirstDifference (items_under (codes "edges") (view value.now))
+            (map (edge_tree self.now.names.now) self.now.edges.now) k)) }
     {
         match self.format {
             Format::One => Ok(()),
@@ -43,9 +48,16 @@ impl Known<'_> {
     fn check_trim(&self, alloc: Global, value: &Value) -> Result<bool, CheckFault>
         requires { self.now.query ≡ asked_in (view value.now) }
         ensures trimmed { IfOk result (λ trimmed. trimmed ≡ is_some (trim_in (view value.now))) }
-        ensures whole { IfOk result (λ _. IfSome (trim_in (view value.now)) (IsWholeRemoval (is_before self.now.order.now) (asked_in (view value.now)).mode (edges_of_table self.now.edges.now))) }
-        ensures fault { IfErr result (λ fault. (fault ≡ Memory) ⊎ ((i : ℕ) × (fault ≡ CheckFault.Trim i) × ((removed : List ℕ) × (trim_in (view value.now) ≡ Some removed)
-            × IsRemovalFault (is_before self.now.order.now) (asked_in (view value.now)).mode (edges_of_table self.now.edges.now) removed i))) }
+        ensures whole { IfOk result
+            (λ _. IfSome (trim_in (view value.now))
+            (IsWholeRemoval (is_before self.now.order.now) (asked_in (view value.now)).mode
+            (edges_of_table self.now.edges.now))) }
+        ensures fault { IfErr result
+            (λ fault. (fault ≡ Memory)
+            ⊎ ((i : ℕ) × (fault ≡ CheckFault.Trim i)
+            × ((removed : List ℕ) × (trim_in (view value.now) ≡ Some removed)
+            × IsRemovalFault (is_before self.now.order.now) (asked_in (view value.now)).mode
+            (edges_of_table self.now.edges.now) removed i))) }
     {
         let Some(removed) = trim_in(alloc, value)? else {
             return Ok(false);
@@ -63,9 +75,14 @@ impl Known<'_> {
         requires format { self.now.format ≡ format_in (view value.now) }
         requires query { self.now.query ≡ asked_in (view value.now) }
         requires few { length (items_under (codes "cycles") (view value.now)) ≤ 100000 }
-        ensures ok { IfOk result (λ checked. (found : List (List ℕ)) × Holds self.now.names.now self.now.edges.now (is_before self.now.order.now) (view value.now) found
-            × (checked.cycles ≡ length found) × (checked.acyclic ≡ is_some (trim_in (view value.now)))) }
-        ensures fault { IfErr result (IsFirstFalse self.now.names.now self.now.edges.now (is_before self.now.order.now) (view value.now)) }
+        ensures ok { IfOk result
+            (λ checked. (found : List (List ℕ))
+            × Holds self.now.names.now self.now.edges.now (is_before self.now.order.now)
+            (view value.now) found × (checked.cycles ≡ length found)
+            × (checked.acyclic ≡ is_some (trim_in (view value.now)))) }
+        ensures fault { IfErr result
+            (IsFirstFalse self.now.names.now self.now.edges.now (is_before self.now.order.now)
+            (view value.now)) }
     {
         self.check_edges(alloc, value)?;
         let found = self.check_cycles(alloc, items_under(value, "cycles"))?;

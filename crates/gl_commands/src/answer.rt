@@ -168,7 +168,9 @@ pub(crate) fn printed_in(
     names: &Names,
     report: &Report,
 ) -> Result<Printed, Ended>
-    ensures printed { IfOk result (λ p. Prints p.text.items p.outcome ≡ Prints (printed_report form names.now report.now) (outcome_of report.now)) }
+    ensures printed { IfOk result
+        (λ p. Prints p.text.items p.outcome
+        ≡ Prints (printed_report form names.now report.now) (outcome_of report.now)) }
     ensures memory { IfErr result (λ ended. ended ≡ Ended.Memory) }
 {
     let outcome = outcome_of(report);
@@ -185,8 +187,13 @@ pub(crate) fn predicted(
     form: Form,
 ) -> Result<Printed, Ended>
     requires { IfOk read (IsTraceOver greatest) }
-    ensures printed { IfOk result (λ p. (text : List ℕ) → trace_of greatest text ≡ read → IsAnswer (prediction query.now form) text (Prints p.text.items p.outcome)) }
-    ensures refused { IfErr result (λ ended. IfRefused ended (λ line. (text : List ℕ) → trace_of greatest text ≡ read → IsAnswer (prediction query.now form) text (Refusal line))) }
+    ensures printed { IfOk result
+        (λ p. (text : List ℕ) → trace_of greatest text ≡ read
+        → IsAnswer (prediction query.now form) text (Prints p.text.items p.outcome)) }
+    ensures refused { IfErr result
+        (λ ended. IfRefused ended
+        (λ line. (text : List ℕ) → trace_of greatest text ≡ read
+        → IsAnswer (prediction query.now form) text (Refusal line))) }
 {
     let Reported { trace, report } = trace_and_report(rt, alloc, read, query)?;
     let answer = printed_in(alloc, form, &trace.names, &report);
@@ -198,7 +205,9 @@ pub(crate) fn predicted(
 // What is printed of the counts of a trace and its report.
 fn printed_counts(alloc: Global, trace: &Trace, report: &Report) -> Result<Printed, Ended>
     requires { IsTraceOver greatest trace.now }
-    ensures printed { IfOk result (λ p. Prints p.text.items p.outcome ≡ Prints (stats_text (stats_of trace.now report.now)) Outcome.Done) }
+    ensures printed { IfOk result
+        (λ p. Prints p.text.items p.outcome
+        ≡ Prints (stats_text (stats_of trace.now report.now)) Outcome.Done) }
     ensures memory { IfErr result (λ ended. ended ≡ Ended.Memory) }
 {
     let text = stats_text(alloc, &Stats::of(trace, report))?;
@@ -217,8 +226,13 @@ pub(crate) fn counted(
     query: &Query,
 ) -> Result<Printed, Ended>
     requires { IfOk read (IsTraceOver greatest) }
-    ensures printed { IfOk result (λ p. (text : List ℕ) → trace_of greatest text ≡ read → IsAnswer (counts query.now) text (Prints p.text.items p.outcome)) }
-    ensures refused { IfErr result (λ ended. IfRefused ended (λ line. (text : List ℕ) → trace_of greatest text ≡ read → IsAnswer (counts query.now) text (Refusal line))) }
+    ensures printed { IfOk result
+        (λ p. (text : List ℕ) → trace_of greatest text ≡ read
+        → IsAnswer (counts query.now) text (Prints p.text.items p.outcome)) }
+    ensures refused { IfErr result
+        (λ ended. IfRefused ended
+        (λ line. (text : List ℕ) → trace_of greatest text ≡ read
+        → IsAnswer (counts query.now) text (Refusal line))) }
 {
     let Reported { trace, report } = trace_and_report(rt, alloc, read, query)?;
     let answer = printed_counts(alloc, &trace, &report);
@@ -243,8 +257,13 @@ fn printed_trace(alloc: Global, trace: &Trace) -> Result<Printed, Ended>
 /// The trace of the texts that have this trace or first fault, written, or their first fault.
 pub(crate) fn replayed(alloc: Global, read: Result<Trace, ReadFault>) -> Result<Printed, Ended>
     requires { IfOk read (IsTraceOver greatest) }
-    ensures printed { IfOk result (λ p. (text : List ℕ) → trace_of greatest text ≡ read → IsPlainAnswer replay text (Prints p.text.items p.outcome)) }
-    ensures refused { IfErr result (λ ended. IfRefused ended (λ line. (text : List ℕ) → trace_of greatest text ≡ read → IsPlainAnswer replay text (Refusal line))) }
+    ensures printed { IfOk result
+        (λ p. (text : List ℕ) → trace_of greatest text ≡ read
+        → IsPlainAnswer replay text (Prints p.text.items p.outcome)) }
+    ensures refused { IfErr result
+        (λ ended. IfRefused ended
+        (λ line. (text : List ℕ) → trace_of greatest text ≡ read
+        → IsPlainAnswer replay text (Refusal line))) }
 {
     let trace = trace_or_line(alloc, read)?;
     let answer = printed_trace(alloc, &trace);

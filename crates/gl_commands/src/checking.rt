@@ -44,7 +44,8 @@ fn acceptance(alloc: Global, checked: &Checked) -> Result<Printed, Memory>
 fn text_trace(alloc: Global, text: &[u8], seed: Seed) -> Result<Trace, Ended>
     ensures trace { IfOk result (λ t. trace_of greatest text.now ≡ Ok t) }
     ensures over { IfOk result (IsTraceOver greatest) }
-    ensures refused { IfErr result (λ ended. IfRefused ended (IsFaultIn (trace_of greatest text.now))) }
+    ensures refused { IfErr result
+        (λ ended. IfRefused ended (IsFaultIn (trace_of greatest text.now))) }
 {
     let read = read_seeded(alloc, text, &greatest_limits(), seed);
     trace_or_line(alloc, read)
@@ -75,7 +76,8 @@ fn answer_of(alloc: Global, trace: &Trace, report: &[u8]) -> Result<Printed, End
 /// A fault of the trace comes first.
 pub(crate) fn checked(alloc: Global, input: &[u8], seed: Seed) -> Result<Printed, Ended>
     ensures printed { IfOk result (λ p. IsCheckAnswer input.now (Prints p.text.items p.outcome)) }
-    ensures refused { IfErr result (λ ended. IfRefused ended (λ line. IsCheckAnswer input.now (Refusal line))) }
+    ensures refused { IfErr result
+        (λ ended. IfRefused ended (λ line. IsCheckAnswer input.now (Refusal line))) }
 {
     let (report, text) = split_input(input);
     let trace = text_trace(alloc, text, seed)?;

@@ -35,7 +35,8 @@ const TURNS: u64 = 1_000_000_000;
 // How a command ends over a text that wasn't read whole, with this trace or first fault of the
 // lines that LF has ended.
 fn end_early(alloc: Global, read: Result<Trace, ReadFault>) -> Ended
-    ensures { (text : List ℕ) → trace_of greatest (ended_lines text) ≡ read → EndsEarlyAs greatest text result }
+    ensures { (text : List ℕ) → trace_of greatest (ended_lines text) ≡ read
+        → EndsEarlyAs greatest text result }
 {
     match trace_or_line(alloc, read) {
         Ok(trace) => {
@@ -56,9 +57,13 @@ fn hear<I: Source>(
 ) -> Result<Result<Trace, ReadFault>, Ended>
     requires readable { I.failed input.old ≡ false }
     requires few_turns { turns ≤ 2 ^ 40 }
-    ensures heard { IfOk result (HasHeardAll turns (used (I.remaining input.old) (I.remaining input.new) (I.failed input.new))) }
+    ensures heard { IfOk result
+        (HasHeardAll turns
+        (used (I.remaining input.old) (I.remaining input.new) (I.failed input.new))) }
     ensures over { IfOk result (λ read. IfOk read (IsTraceOver greatest)) }
-    ensures early { IfErr result (HasEndedEarly greatest turns (used (I.remaining input.old) (I.remaining input.new) (I.failed input.new))) }
+    ensures early { IfErr result
+        (HasEndedEarly greatest turns
+        (used (I.remaining input.old) (I.remaining input.new) (I.failed input.new))) }
 {
     let Ok(heard) = read_source(alloc, input, turns, &greatest_limits(), seed) else {
         return Err(Ended::Memory);
@@ -71,7 +76,8 @@ fn hear<I: Source>(
 
 // How a command ends that has written all.
 fn end_written(outcome: Outcome) -> Ended
-    ensures { (before after : Option (List ℕ)) (text : List ℕ) → Appends before after text → HasWrittenText text outcome before after false result }
+    ensures { (before after : Option (List ℕ)) (text : List ℕ) → Appends before after text
+        → HasWrittenText text outcome before after false result }
 {
     match outcome {
         Outcome::Clean => Ended::Clean,
@@ -83,7 +89,8 @@ fn end_written(outcome: Outcome) -> Ended
 // Writes a text.
 fn write<O: Sink>(output: &mut O, printed: &Printed) -> Ended
     requires { O.failed output.old ≡ false }
-    ensures { HasWrittenText printed.now.text.items printed.now.outcome (O.contents output.old) (O.contents output.new) (O.failed output.new) result }
+    ensures { HasWrittenText printed.now.text.items printed.now.outcome (O.contents output.old)
+        (O.contents output.new) (O.failed output.new) result }
 {
     match write_out(output, printed.text.as_slice()) {
         Ok(()) => end_written(printed.outcome),
@@ -94,7 +101,8 @@ fn write<O: Sink>(output: &mut O, printed: &Printed) -> Ended
 // Writes what is answered, if it is a text to be printed.
 fn end<O: Sink>(output: &mut O, answered: Result<Printed, Ended>) -> Ended
     requires { O.failed output.old ≡ false }
-    ensures { EndsWith answered (O.contents output.old) (O.contents output.new) (O.failed output.new) result }
+    ensures { EndsWith answered (O.contents output.old) (O.contents output.new)
+        (O.failed output.new) result }
 {
     match answered {
         Ok(printed) => write(output, &printed),
@@ -121,7 +129,9 @@ pub fn predict<R: AllocGlobal + Threads + Sync, I: Source, O: Sink>(
     requires readable { I.failed input.old ≡ false }
     requires writable { O.failed output.old ≡ false }
     requires few_turns { turns ≤ 2 ^ 40 }
-    ensures { HasEnded (IsAnswer (prediction query.now form)) turns (used (I.remaining input.old) (I.remaining input.new) (I.failed input.new)) (used (O.contents output.old) (O.contents output.new) (O.failed output.new)) result }
+    ensures { HasEnded (IsAnswer (prediction query.now form)) turns
+        (used (I.remaining input.old) (I.remaining input.new) (I.failed input.new))
+        (used (O.contents output.old) (O.contents output.new) (O.failed output.new)) result }
 {
     let alloc = rt.alloc();
     match hear(alloc, input, turns, seed) {
@@ -155,7 +165,9 @@ pub fn live<R: AllocGlobal + Threads + Wait + Sync, I: Source, O: Sink>(
     requires writable { O.failed output.old ≡ false }
     requires few_turns { turns ≤ 2 ^ 40 }
     requires session { AreOfSession options.now }
-    ensures { HasEndedSession options.now turns (used (I.remaining input.old) (I.remaining input.new) (I.failed input.new)) (used (O.contents output.old) (O.contents output.new) (O.failed output.new)) result }
+    ensures { HasEndedSession options.now turns
+        (used (I.remaining input.old) (I.remaining input.new) (I.failed input.new))
+        (used (O.contents output.old) (O.contents output.new) (O.failed output.new)) result }
 {
     live_gated(rt, input, output, turns, seed, options, &Open)
 }
@@ -174,7 +186,9 @@ pub fn live_gated<R: AllocGlobal + Threads + Wait + Sync, I: Source, O: Sink, G:
     requires writable { O.failed output.old ≡ false }
     requires few_turns { turns ≤ 2 ^ 40 }
     requires session { AreOfSession options.now }
-    ensures { HasEndedSession options.now turns (used (I.remaining input.old) (I.remaining input.new) (I.failed input.new)) (used (O.contents output.old) (O.contents output.new) (O.failed output.new)) result }
+    ensures { HasEndedSession options.now turns
+        (used (I.remaining input.old) (I.remaining input.new) (I.failed input.new))
+        (used (O.contents output.old) (O.contents output.new) (O.failed output.new)) result }
 {
     if options.stream {
         return end(output, streamed(rt, input, turns, seed, options, gate));
@@ -200,7 +214,9 @@ pub fn stats<R: AllocGlobal + Threads + Sync, I: Source, O: Sink>(
     requires readable { I.failed input.old ≡ false }
     requires writable { O.failed output.old ≡ false }
     requires few_turns { turns ≤ 2 ^ 40 }
-    ensures { HasEnded (IsAnswer (counts query.now)) turns (used (I.remaining input.old) (I.remaining input.new) (I.failed input.new)) (used (O.contents output.old) (O.contents output.new) (O.failed output.new)) result }
+    ensures { HasEnded (IsAnswer (counts query.now)) turns
+        (used (I.remaining input.old) (I.remaining input.new) (I.failed input.new))
+        (used (O.contents output.old) (O.contents output.new) (O.failed output.new)) result }
 {
     let alloc = rt.alloc();
     match hear(alloc, input, turns, seed) {
@@ -223,7 +239,9 @@ pub fn replay<R: AllocGlobal, I: Source, O: Sink>(
     requires readable { I.failed input.old ≡ false }
     requires writable { O.failed output.old ≡ false }
     requires few_turns { turns ≤ 2 ^ 40 }
-    ensures { HasEnded (IsPlainAnswer replay) turns (used (I.remaining input.old) (I.remaining input.new) (I.failed input.new)) (used (O.contents output.old) (O.contents output.new) (O.failed output.new)) result }
+    ensures { HasEnded (IsPlainAnswer replay) turns
+        (used (I.remaining input.old) (I.remaining input.new) (I.failed input.new))
+        (used (O.contents output.old) (O.contents output.new) (O.failed output.new)) result }
 {
     let alloc = rt.alloc();
     match hear(alloc, input, turns, seed) {
@@ -248,7 +266,9 @@ pub fn check_input<R: AllocGlobal, I: Source, O: Sink>(
     requires readable { I.failed input.old ≡ false }
     requires writable { O.failed output.old ≡ false }
     requires few_turns { turns ≤ 2 ^ 40 }
-    ensures { HasChecked turns (used (I.remaining input.old) (I.remaining input.new) (I.failed input.new)) (used (O.contents output.old) (O.contents output.new) (O.failed output.new)) result }
+    ensures { HasChecked turns
+        (used (I.remaining input.old) (I.remaining input.new) (I.failed input.new))
+        (used (O.contents output.old) (O.contents output.new) (O.failed output.new)) result }
 {
     let alloc = rt.alloc();
     let Ok(gathered) = read_whole(alloc, input, turns) else {
@@ -273,7 +293,9 @@ pub fn perform<R: AllocGlobal + Threads + Wait + Sync, I: Source, O: Sink>(
     requires readable { I.failed input.old ≡ false }
     requires writable { O.failed output.old ≡ false }
     requires runs { CanRun command.now }
-    ensures { HasPerformed command.now 1000000000 (used (I.remaining input.old) (I.remaining input.new) (I.failed input.new)) (used (O.contents output.old) (O.contents output.new) (O.failed output.new)) result }
+    ensures { HasPerformed command.now 1000000000
+        (used (I.remaining input.old) (I.remaining input.new) (I.failed input.new))
+        (used (O.contents output.old) (O.contents output.new) (O.failed output.new)) result }
 {
     match command {
         Command::Predict { query, form } => predict(rt, input, output, TURNS, seed, query, *form),

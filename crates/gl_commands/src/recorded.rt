@@ -30,7 +30,8 @@ fn session_report<R: Threads + Wait + Sync, G: Gate + Sync>(
 ) -> Result<Report, Ended>
     requires trace { IsTraceOver greatest trace.now }
     requires session { AreOfSession options.now }
-    ensures report { IfOk result (λ report. IsGoodlockReport options.now.query trace.now.lists report) }
+    ensures report { IfOk result
+        (λ report. IsGoodlockReport options.now.query trace.now.lists report) }
     ensures refused { IfErr result (λ ended. IfStopped ended (IsLoopOf trace.now)) }
 {
     let LiveOptions {
@@ -66,8 +67,14 @@ fn session_answer<R: Threads + Wait + Sync, G: Gate + Sync>(
 ) -> Result<Printed, Ended>
     requires trace { IsTraceOver greatest trace.now }
     requires session { AreOfSession options.now }
-    ensures printed { IfOk result (λ p. (text : List ℕ) → trace_of greatest text ≡ Ok trace.now → IsAnswer (prediction options.now.query options.now.form) text (Prints p.text.items p.outcome)) }
-    ensures refused { IfErr result (λ ended. IfStopped ended (λ line. (text : List ℕ) → trace_of greatest text ≡ Ok trace.now → IsAnswer (prediction options.now.query options.now.form) text (Refusal line))) }
+    ensures printed { IfOk result
+        (λ p. (text : List ℕ) → trace_of greatest text ≡ Ok trace.now
+        → IsAnswer (prediction options.now.query options.now.form) text
+        (Prints p.text.items p.outcome)) }
+    ensures refused { IfErr result
+        (λ ended. IfStopped ended
+        (λ line. (text : List ℕ) → trace_of greatest text ≡ Ok trace.now
+        → IsAnswer (prediction options.now.query options.now.form) text (Refusal line))) }
 {
     let report = session_report(rt, alloc, trace, options, gate)?;
     let answer = printed_in(alloc, options.form, &trace.names, &report);
@@ -86,8 +93,14 @@ pub(crate) fn recorded<R: Threads + Wait + Sync, G: Gate + Sync>(
 ) -> Result<Printed, Ended>
     requires over { IfOk read (IsTraceOver greatest) }
     requires session { AreOfSession options.now }
-    ensures printed { IfOk result (λ p. (text : List ℕ) → trace_of greatest text ≡ read → IsAnswer (prediction options.now.query options.now.form) text (Prints p.text.items p.outcome)) }
-    ensures refused { IfErr result (λ ended. IfStopped ended (λ line. (text : List ℕ) → trace_of greatest text ≡ read → IsAnswer (prediction options.now.query options.now.form) text (Refusal line))) }
+    ensures printed { IfOk result
+        (λ p. (text : List ℕ) → trace_of greatest text ≡ read
+        → IsAnswer (prediction options.now.query options.now.form) text
+        (Prints p.text.items p.outcome)) }
+    ensures refused { IfErr result
+        (λ ended. IfStopped ended
+        (λ line. (text : List ℕ) → trace_of greatest text ≡ read
+        → IsAnswer (prediction options.now.query options.now.form) text (Refusal line))) }
 {
     let trace = trace_or_line(alloc, read)?;
     let answer = session_answer(rt, alloc, &trace, options, gate);

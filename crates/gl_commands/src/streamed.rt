@@ -59,8 +59,12 @@ fn printed_of(
     report: Report,
     items: Items,
 ) -> Result<Printed, Ended>
-    ensures printed { (limits : Bounds) (turns : ℕ) (input : Use) → Becomes options.now.query limits turns input items (Ok report)
-        → IfOk result (λ p. HasAnswer (IsAnswerUnder limits (prediction options.now.query options.now.form)) turns input (Prints p.text.items p.outcome)) }
+    ensures printed { (limits : Bounds) (turns : ℕ) (input : Use)
+        → Becomes options.now.query limits turns input items (Ok report)
+        → IfOk result
+        (λ p. HasAnswer
+        (IsAnswerUnder limits (prediction options.now.query options.now.form)) turns input
+        (Prints p.text.items p.outcome)) }
     ensures memory { IfErr result (λ ended. ended ≡ Ended.Memory) }
 {
     let (names, _skipped, _stray) = items.parts();
@@ -88,8 +92,10 @@ fn end_of_loop(
     ring: Vec<Segment>,
     items: Items,
 ) -> Ended
-    ensures { (limits : Bounds) (turns : ℕ) (input : Use) → Becomes options.now.query limits turns input items (Err (Session (Inconsistent at ring)))
-        → EndsUnwritten limits (IsAnswerUnder limits (prediction options.now.query options.now.form)) turns input result }
+    ensures { (limits : Bounds) (turns : ℕ) (input : Use)
+        → Becomes options.now.query limits turns input items (Err (Session (Inconsistent at ring)))
+        → EndsUnwritten limits
+        (IsAnswerUnder limits (prediction options.now.query options.now.form)) turns input result }
 {
     let (names, _skipped, _stray) = items.parts();
     let ended = end_at(alloc, &names, at);
@@ -105,8 +111,11 @@ fn end_without_report(
     fault: StreamFault,
     items: Items,
 ) -> Ended
-    ensures { (limits : Bounds) (turns : ℕ) (input : Use) → Becomes options.now.query limits turns input items (Err fault)
-        → FailsInTime {Y = Report} input.before input.after items (Err fault) → EndsUnwritten limits (IsAnswerUnder limits (prediction options.now.query options.now.form)) turns input result }
+    ensures { (limits : Bounds) (turns : ℕ) (input : Use)
+        → Becomes options.now.query limits turns input items (Err fault)
+        → FailsInTime {Y = Report} input.before input.after items (Err fault)
+        → EndsUnwritten limits
+        (IsAnswerUnder limits (prediction options.now.query options.now.form)) turns input result }
 {
     match fault {
         StreamFault::Text(fault) => {
@@ -134,10 +143,18 @@ fn answered(
     reported: Result<Report, StreamFault>,
     items: Items,
 ) -> Result<Printed, Ended>
-    ensures printed { (limits : Bounds) (turns : ℕ) (input : Use) → Becomes options.now.query limits turns input items reported
-        → IfOk result (λ p. HasAnswer (IsAnswerUnder limits (prediction options.now.query options.now.form)) turns input (Prints p.text.items p.outcome)) }
-    ensures stopped { (limits : Bounds) (turns : ℕ) (input : Use) → Becomes options.now.query limits turns input items reported
-        → FailsInTime input.before input.after items reported → IfErr result (EndsUnwritten limits (IsAnswerUnder limits (prediction options.now.query options.now.form)) turns input) }
+    ensures printed { (limits : Bounds) (turns : ℕ) (input : Use)
+        → Becomes options.now.query limits turns input items reported
+        → IfOk result
+        (λ p. HasAnswer
+        (IsAnswerUnder limits (prediction options.now.query options.now.form)) turns input
+        (Prints p.text.items p.outcome)) }
+    ensures stopped { (limits : Bounds) (turns : ℕ) (input : Use)
+        → Becomes options.now.query limits turns input items reported
+        → FailsInTime input.before input.after items reported
+        → IfErr result
+        (EndsUnwritten limits
+        (IsAnswerUnder limits (prediction options.now.query options.now.form)) turns input) }
 {
     match reported {
         Ok(report) => printed_of(alloc, options, report, items),
@@ -161,8 +178,17 @@ pub(crate) fn streamed<R: AllocGlobal + Threads + Wait + Sync, I: Source, G: Gat
     requires few_turns { turns ≤ 2 ^ 40 }
     requires session { AreOfSession options.now }
     requires as_it_comes { options.now.stream ≡ true }
-    ensures printed { IfOk result (λ p. HasAnswer (IsAnswerUnder (with_threads options.now.threads) (prediction options.now.query options.now.form)) turns (used (I.remaining input.old) (I.remaining input.new) (I.failed input.new)) (Prints p.text.items p.outcome)) }
-    ensures stopped { IfErr result (EndsUnwritten (with_threads options.now.threads) (IsAnswerUnder (with_threads options.now.threads) (prediction options.now.query options.now.form)) turns (used (I.remaining input.old) (I.remaining input.new) (I.failed input.new))) }
+    ensures printed { IfOk result
+        (λ p. HasAnswer
+        (IsAnswerUnder (with_threads options.now.threads)
+        (prediction options.now.query options.now.form)) turns
+        (used (I.remaining input.old) (I.remaining input.new) (I.failed input.new))
+        (Prints p.text.items p.outcome)) }
+    ensures stopped { IfErr result
+        (EndsUnwritten (with_threads options.now.threads)
+        (IsAnswerUnder (with_threads options.now.threads)
+        (prediction options.now.query options.now.form)) turns
+        (used (I.remaining input.old) (I.remaining input.new) (I.failed input.new))) }
 {
     let alloc = rt.alloc();
     let items = Items::new(alloc, &limits_of(options.threads), turns, seed)?;

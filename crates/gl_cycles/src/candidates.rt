@@ -24,7 +24,9 @@ pub fn edges_sought(
     order: &Order,
     query: &Query,
 ) -> Result<Vec<bool>, Memory>
-    ensures { IfOk result (λ kept. KeepsCycles (is_before order.now) query.now.mode query.now.len (edges_of_table edges.now) kept.items) }
+    ensures { IfOk result
+        (λ kept. KeepsCycles (is_before order.now) query.now.mode query.now.len
+        (edges_of_table edges.now) kept.items) }
 {
     Sought::of(edges, order, query).kept_edges(alloc)
 }
@@ -40,7 +42,9 @@ pub fn edges_sought_parallel(
     order: &Order,
     query: &Query,
 ) -> Result<Vec<bool>, Memory>
-    ensures { IfOk result (λ kept. KeepsCycles (is_before order.now) query.now.mode query.now.len (edges_of_table edges.now) kept.items) }
+    ensures { IfOk result
+        (λ kept. KeepsCycles (is_before order.now) query.now.mode query.now.len
+        (edges_of_table edges.now) kept.items) }
 {
     kept_edges_parallel(rt, alloc, &Sought::of(edges, order, query))
 }

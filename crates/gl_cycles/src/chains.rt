@@ -39,8 +39,9 @@ impl Chain {
     // Puts the edge at a position before those that are in the index.
     fn put(&mut self, i: usize, lock: LockId) -> Result<(), Memory>
         requires { i < vec_len self.old.next }
-        ensures { (edges : List Edge) (side : Side) (e : Edge) → AreChained side edges (i + 1) self.old → slice_get edges i ≡ Some e → lock_towards side e ≡ lock
-            → OnOk result (AreChained side edges i self.new) }
+        ensures { (edges : List Edge) (side : Side) (e : Edge)
+            → AreChained side edges (i + 1) self.old → slice_get edges i ≡ Some e
+            → lock_towards side e ≡ lock → OnOk result (AreChained side edges i self.new) }
     {
         self.next[i] = self.first.get(&lock).copied();
         self.first.insert(lock, i)?;
@@ -49,7 +50,8 @@ impl Chain {
 
     /// The first position of a lock.
     pub(crate) fn begin(&self, lock: LockId) -> Option<usize>
-        ensures { (edges : List Edge) (side : Side) → AreChained side edges 0 self.now → IsNextWith (lock_towards side) edges [] lock 0 result }
+        ensures { (edges : List Edge) (side : Side) → AreChained side edges 0 self.now
+            → IsNextWith (lock_towards side) edges [] lock 0 result }
     {
         self.first.get(&lock).copied()
     }
@@ -57,7 +59,9 @@ impl Chain {
     /// The position after `i` of the next edge with the lock of the edge at `i`.
     pub(crate) fn after(&self, i: usize) -> Option<usize>
         requires { i < vec_len self.now.next }
-        ensures { (edges : List Edge) (side : Side) (e : Edge) → AreChained side edges 0 self.now → slice_get edges i ≡ Some e → IsNextWith (lock_towards side) edges [] (lock_towards side e) (i + 1) result }
+        ensures { (edges : List Edge) (side : Side) (e : Edge) → AreChained side edges 0 self.now
+            → slice_get edges i ≡ Some e
+            → IsNextWith (lock_towards side) edges [] (lock_towards side e) (i + 1) result }
     {
         self.next[i]
     }

@@ -28,7 +28,8 @@ impl Closers {
         kept: &[bool],
     ) -> Result<Closers, Memory>
         requires { length kept.now ≡ length table.now }
-        ensures { IfOk result (λ closers. AreClosers (edges_of_table table.now) kept.now 0 closers) }
+        ensures { IfOk result
+            (λ closers. AreClosers (edges_of_table table.now) kept.now 0 closers) }
     {
         let mut closers = Closers {
             first: HashMap::new(alloc),
@@ -45,8 +46,10 @@ impl Closers {
     // leads on, but nothing leads to it.
     fn put(&mut self, i: usize, locks: (LockId, LockId), is_kept: bool) -> Result<(), Memory>
         requires { i < vec_len self.old.next }
-        ensures { (edges : List Edge) (kept : List Bool) (e : Edge) → AreClosers edges kept (i + 1) self.old → slice_get edges i ≡ Some e → both_locks e ≡ locks
-            → slice_get kept i ≡ Some is_kept → OnOk result (AreClosers edges kept i self.new) }
+        ensures { (edges : List Edge) (kept : List Bool) (e : Edge)
+            → AreClosers edges kept (i + 1) self.old → slice_get edges i ≡ Some e
+            → both_locks e ≡ locks → slice_get kept i ≡ Some is_kept
+            → OnOk result (AreClosers edges kept i self.new) }
     {
         self.next[i] = self.first.get(&locks).copied();
         if !is_kept {
@@ -58,7 +61,8 @@ impl Closers {
 
     /// The first position of an edge that holds the one lock and wants the other.
     pub(crate) fn begin(&self, held: LockId, wanted: LockId) -> Option<usize>
-        ensures { (edges : List Edge) (kept : List Bool) → AreClosers edges kept 0 self.now → IsNextWith both_locks edges kept (held, wanted) 0 result }
+        ensures { (edges : List Edge) (kept : List Bool) → AreClosers edges kept 0 self.now
+            → IsNextWith both_locks edges kept (held, wanted) 0 result }
     {
         self.first.get(&(held, wanted)).copied()
     }
@@ -66,7 +70,9 @@ impl Closers {
     /// The position after `i` of the next edge with the locks of the edge at `i`.
     pub(crate) fn after(&self, i: usize) -> Option<usize>
         requires { i < vec_len self.now.next }
-        ensures { (edges : List Edge) (kept : List Bool) (e : Edge) → AreClosers edges kept 0 self.now → slice_get edges i ≡ Some e → IsNextWith both_locks edges kept (both_locks e) (i + 1) result }
+        ensures { (edges : List Edge) (kept : List Bool) (e : Edge)
+            → AreClosers edges kept 0 self.now → slice_get edges i ≡ Some e
+            → IsNextWith both_locks edges kept (both_locks e) (i + 1) result }
     {
         self.next[i]
     }

@@ -154,8 +154,10 @@ impl DeadEnds {
 
     /// Remembers that no cycle closes the gap by these models, as long as there is room.
     pub(crate) fn add(&mut self, alloc: Global, gap: &Gap, rest: &[usize]) -> Result<(), Memory>
-        ensures { OnOk result ((i : ℕ) (end : DeadEnd) → slice_get self.new.known.items i ≡ Some end
-            → (slice_get self.old.known.items i ≡ Some end) ⊎ ((end.gap ≡ gap.now) × (end.rest.items ≡ rest.now))) }
+        ensures { OnOk result
+            ((i : ℕ) (end : DeadEnd) → slice_get self.new.known.items i ≡ Some end
+            → (slice_get self.old.known.items i ≡ Some end)
+            ⊎ ((end.gap ≡ gap.now) × (end.rest.items ≡ rest.now))) }
     {
         let size = GAP_ROOM + rest.len();
         if self.room < size {

@@ -45,7 +45,8 @@ impl Followers {
     /// The position of the first follower of the edge at `i`.
     pub(crate) fn begin(&self, i: usize) -> Option<usize>
         requires { i < vec_len self.now.first }
-        ensures { (edges : List Edge) (kept : List Bool) (e : Edge) → IsIndexOf edges kept self.now → slice_get edges i ≡ Some e → IsNextWith held_lock edges kept e.wanted 0 result }
+        ensures { (edges : List Edge) (kept : List Bool) (e : Edge) → IsIndexOf edges kept self.now
+            → slice_get edges i ≡ Some e → IsNextWith held_lock edges kept e.wanted 0 result }
     {
         self.first[i]
     }
@@ -53,7 +54,8 @@ impl Followers {
     /// The position after `i` of the next edge that holds the lock which the edge at `i` holds.
     pub(crate) fn after(&self, i: usize) -> Option<usize>
         requires { i < vec_len self.now.next }
-        ensures { (edges : List Edge) (kept : List Bool) (e : Edge) → IsIndexOf edges kept self.now → slice_get edges i ≡ Some e → IsNextWith held_lock edges kept e.held (i + 1) result }
+        ensures { (edges : List Edge) (kept : List Bool) (e : Edge) → IsIndexOf edges kept self.now
+            → slice_get edges i ≡ Some e → IsNextWith held_lock edges kept e.held (i + 1) result }
     {
         self.next[i]
     }
@@ -72,7 +74,8 @@ impl Holders {
     // The index of the edges of a table, but for those that are left out.
     fn of(alloc: Global, table: &[(Edge, Sample)], kept: &[bool]) -> Result<Holders, Memory>
         requires { length kept.now ≡ length table.now }
-        ensures { IfOk result (λ holders. AreHolders (edges_of_table table.now) kept.now 0 holders) }
+        ensures { IfOk result
+            (λ holders. AreHolders (edges_of_table table.now) kept.now 0 holders) }
     {
         let mut holders = Holders {
             first: HashMap::new(alloc),
@@ -88,7 +91,8 @@ impl Holders {
     // leads on, but nothing leads to it.
     fn put(&mut self, i: usize, lock: LockId, is_kept: bool) -> Result<(), Memory>
         requires { i < vec_len self.old.next }
-        ensures { (edges : List Edge) (kept : List Bool) (e : Edge) → AreHolders edges kept (i + 1) self.old → slice_get edges i ≡ Some e → e.held ≡ lock
+        ensures { (edges : List Edge) (kept : List Bool) (e : Edge)
+            → AreHolders edges kept (i + 1) self.old → slice_get edges i ≡ Some e → e.held ≡ lock
             → slice_get kept i ≡ Some is_kept → OnOk result (AreHolders edges kept i self.new) }
     {
         self.next[i] = self.first.get(&lock).copied();
@@ -101,7 +105,9 @@ impl Holders {
 
     // For each edge the first position of the lock that it wants.
     fn firsts(&self, alloc: Global, table: &[(Edge, Sample)]) -> Result<Vec<Option<usize>>, Memory>
-        ensures { IfOk result (λ firsts. firsts.items ≡ map (λ pair. first_of_lock self.now pair.0.wanted) table.now) }
+        ensures { IfOk result
+            (λ firsts. firsts.items
+            ≡ map (λ pair. first_of_lock self.now pair.0.wanted) table.now) }
     {
         let mut firsts = Vec::new(alloc);
         for i in 0..table.len() {

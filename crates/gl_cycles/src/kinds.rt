@@ -87,7 +87,8 @@ impl Sought<'_> {
     ) -> Result<Vec<bool>, Memory>
         requires kept { length kept.now ≡ length self.now.table.now }
         ensures long { IfOk result (λ flags. length flags.items ≡ length self.now.table.now) }
-        ensures models { IfOk result (λ flags. AreModels grain (edges_of_table self.now.table.now) kept.now flags.items) }
+        ensures models { IfOk result
+            (λ flags. AreModels grain (edges_of_table self.now.table.now) kept.now flags.items) }
     {
         let mut flags = vec![in alloc; false; self.table.len()]?;
         for i in 0..self.table.len() {
@@ -108,8 +109,11 @@ impl Sought<'_> {
         requires there { i < length self.now.table.now }
         requires long { length flags.old.items ≡ length self.now.table.now }
         ensures long { length flags.new.items ≡ length self.now.table.now }
-        ensures stay { (j : ℕ) → slice_get flags.old.items j ≡ Some true → slice_get flags.new.items j ≡ Some true }
-        ensures model { (e : Edge) → is_kept ≡ true → slice_get (edges_of_table self.now.table.now) i ≡ Some e → HasModel grain (edges_of_table self.now.table.now) flags.new.items e }
+        ensures stay { (j : ℕ) → slice_get flags.old.items j ≡ Some true
+            → slice_get flags.new.items j ≡ Some true }
+        ensures model { (e : Edge) → is_kept ≡ true
+            → slice_get (edges_of_table self.now.table.now) i ≡ Some e
+            → HasModel grain (edges_of_table self.now.table.now) flags.new.items e }
     {
         if !is_kept {
             return;
@@ -122,7 +126,8 @@ impl Sought<'_> {
     fn model_of(&self, grain: Grain, model_of_each: &[usize], i: usize) -> usize
         requires there { i < length self.now.table.now }
         ensures within { result < length self.now.table.now }
-        ensures alike { (d e : Edge) → slice_get (edges_of_table self.now.table.now) result ≡ Some d → slice_get (edges_of_table self.now.table.now) i ≡ Some e → AreAlike grain d e }
+        ensures alike { (d e : Edge) → slice_get (edges_of_table self.now.table.now) result ≡ Some d
+            → slice_get (edges_of_table self.now.table.now) i ≡ Some e → AreAlike grain d e }
     {
         let model = model_of_each.get(i).copied().unwrap_or(i);
         if model < self.table.len() && are_alike(grain, &self.table[model].0, &self.table[i].0) {
@@ -164,7 +169,9 @@ impl Sought<'_> {
         kept: &[bool],
     ) -> Result<Vec<bool>, Memory>
         requires { KeepsSought self.now kept.now }
-        ensures { IfOk result (λ dead. AreDead (is_before self.now.order.now) self.now.mode grain self.now.len (edges_of_table self.now.table.now) dead.items) }
+        ensures { IfOk result
+            (λ dead. AreDead (is_before self.now.order.now) self.now.mode grain self.now.len
+            (edges_of_table self.now.table.now) dead.items) }
     {
         let flags = self.flags_of(alloc, grain, kept, model_of_each)?;
         let index = Followers::of(alloc, self.table, &flags)?;
@@ -188,7 +195,8 @@ impl Sought<'_> {
     )
         requires there { i < length self.now.table.now }
         requires kept { KeepsSought self.now kept.old.items }
-        requires dead { AreDead (is_before self.now.order.now) self.now.mode grain self.now.len (edges_of_table self.now.table.now) dead.now }
+        requires dead { AreDead (is_before self.now.order.now) self.now.mode grain self.now.len
+            (edges_of_table self.now.table.now) dead.now }
         ensures { KeepsSought self.now kept.new.items }
     {
         let model = self.model_of(grain, model_of_each, i);
@@ -247,7 +255,10 @@ impl Rounds<'_> {
     fn is_closed(&self, path: &[usize]) -> bool
         requires some { 0 < length path.now }
         requires within { AreWithin self.now path.now }
-        ensures { result ≡ false → 2 ≤ length path.now → (i : ℕ) (f : Edge) → slice_get path.now 0 ≡ Some i → slice_get (edges_of_table self.now.sought.table.now) i ≡ Some f → ¬ LastLeadsTo (edges_of_table self.now.sought.table.now) path.now f }
+        ensures { result ≡ false → 2 ≤ length path.now → (i : ℕ) (f : Edge)
+            → slice_get path.now 0 ≡ Some i
+            → slice_get (edges_of_table self.now.sought.table.now) i ≡ Some f
+            → ¬ LastLeadsTo (edges_of_table self.now.sought.table.now) path.now f }
     {
         if path.len() < 2 {
             return false;
@@ -259,7 +270,8 @@ impl Rounds<'_> {
 
     // Whether edges that are alike to these two may stand in one cycle.
     pub(crate) fn may_meet(&self, e: &Edge, f: &Edge) -> bool
-        ensures { result ≡ may_meet (is_before self.now.sought.order.now) self.now.sought.mode self.now.grain e.now f.now }
+        ensures { result ≡ may_meet
+            (is_before self.now.sought.order.now) self.now.sought.mode self.now.grain e.now f.now }
     {
         match self.grain {
             Grain::ByKind => kinds_go_together(self.sought.mode, e, f),
@@ -271,7 +283,9 @@ impl Rounds<'_> {
     // Whether edges alike to those of the path may stand in one cycle with some alike to this one.
     fn goes_with_all(&self, path: &[usize], edge: &Edge) -> bool
         requires within { AreWithin self.now path.now }
-        ensures { result ≡ false → ¬ MayMeetAll (is_before self.now.sought.order.now) self.now.sought.mode self.now.grain (edges_of_table self.now.sought.table.now) path.now edge.now }
+        ensures { result ≡ false
+            → ¬ MayMeetAll (is_before self.now.sought.order.now) self.now.sought.mode self.now.grain
+            (edges_of_table self.now.sought.table.now) path.now edge.now }
     {
         for place in 0..path.len() {
             let i = path[place];
@@ -287,8 +301,11 @@ impl Rounds<'_> {
         requires some { 0 < length path.now }
         requires within { AreWithin self.now path.now }
         requires there { next < length self.now.sought.table.now }
-        ensures { result ≡ false → (f : Edge) → slice_get (edges_of_table self.now.sought.table.now) next ≡ Some f
-            → LastLeadsTo (edges_of_table self.now.sought.table.now) path.now f → ¬ MayMeetAll (is_before self.now.sought.order.now) self.now.sought.mode self.now.grain (edges_of_table self.now.sought.table.now) path.now f }
+        ensures { result ≡ false → (f : Edge)
+            → slice_get (edges_of_table self.now.sought.table.now) next ≡ Some f
+            → LastLeadsTo (edges_of_table self.now.sought.table.now) path.now f
+            → ¬ MayMeetAll (is_before self.now.sought.order.now) self.now.sought.mode self.now.grain
+            (edges_of_table self.now.sought.table.now) path.now f }
     {
         let edge = &self.sought.table[next].0;
         let last = path[path.len() - 1];
@@ -351,7 +368,10 @@ impl Rounds<'_> {
     // alike.
     fn dead_models(&self, alloc: Global, part: Part) -> Result<Vec<bool>, Memory>
         requires models { HasModels self.now }
-        ensures { IfOk result (λ dead. AreDead (is_before self.now.sought.order.now) self.now.sought.mode self.now.grain self.now.sought.len (edges_of_table self.now.sought.table.now) dead.items) }
+        ensures { IfOk result
+            (λ dead. AreDead
+            (is_before self.now.sought.order.now) self.now.sought.mode self.now.grain
+            self.now.sought.len (edges_of_table self.now.sought.table.now) dead.items) }
     {
         let models = self.models(alloc)?;
         let mut ends = DeadEnds::none(alloc, part.share_of(ROOM));

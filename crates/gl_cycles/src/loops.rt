@@ -33,9 +33,14 @@ fn level_edges(
     table: &[(Edge, Sample)],
     ranks: &Ranks,
 ) -> Result<Option<Vec<bool>>, Memory>
-    ensures certified { IfOk result (λ level. IfSome level (λ flags. IsNeverFalling (rank_in ranks.now) (edges_of_table table.now))) }
-    ensures refused { IfOk result (λ level. IfNone level (¬ IsNeverFalling (rank_in ranks.now) (edges_of_table table.now))) }
-    ensures level { IfOk result (λ level. IfSome level (λ flags. flags.items ≡ map (is_level (rank_in ranks.now)) (edges_of_table table.now))) }
+    ensures certified { IfOk result
+        (λ level. IfSome level
+        (λ flags. IsNeverFalling (rank_in ranks.now) (edges_of_table table.now))) }
+    ensures refused { IfOk result
+        (λ level. IfNone level (¬ IsNeverFalling (rank_in ranks.now) (edges_of_table table.now))) }
+    ensures level { IfOk result
+        (λ level. IfSome level
+        (λ flags. flags.items ≡ map (is_level (rank_in ranks.now)) (edges_of_table table.now))) }
 {
     let mut level = Vec::new(alloc);
     for i in 0..table.len() {

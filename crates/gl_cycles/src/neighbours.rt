@@ -68,8 +68,10 @@ fn label(labels: &[usize], number: usize) -> usize
 
 // Whether the label grows by more than one from the one lock to the other.
 fn is_leap(labels: &[usize], ends: Ends) -> bool
-    ensures leap { IsTrue result → label_at labels.now ends.held + 1 < label_at labels.now ends.wanted }
-    ensures step { ¬ IsTrue result → label_at labels.now ends.wanted ≤ label_at labels.now ends.held + 1 }
+    ensures leap { IsTrue result
+        → label_at labels.now ends.held + 1 < label_at labels.now ends.wanted }
+    ensures step { ¬ IsTrue result
+        → label_at labels.now ends.wanted ≤ label_at labels.now ends.held + 1 }
 {
     let held = label(labels, ends.held);
     let wanted = label(labels, ends.wanted);
@@ -82,7 +84,9 @@ impl Sought<'_> {
         requires there { x < length self.now.table.now }
         requires flags { length kept.now ≡ length self.now.table.now }
         requires ended { length ends.now ≡ length self.now.table.now }
-        ensures { IsTrue result → ShowsNoWay (is_before self.now.order.now) self.now.mode self.now.len (edges_of_table self.now.table.now) kept.now ends.now labels.now x }
+        ensures { IsTrue result
+            → ShowsNoWay (is_before self.now.order.now) self.now.mode self.now.len
+            (edges_of_table self.now.table.now) kept.now ends.now labels.now x }
     {
         let from = label(labels, ends[x].wanted);
         let to = label(labels, ends[x].held);
@@ -109,7 +113,9 @@ impl Sought<'_> {
         edge: &Edge,
     ) -> bool
         requires { i < length self.now.table.now }
-        ensures { (e : Edge) → slice_get (edges_of_table self.now.table.now) i ≡ Some e → is_kept ≡ true → goes_with (is_before self.now.order.now) self.now.mode e edge.now ≡ true
+        ensures { (e : Edge) → slice_get (edges_of_table self.now.table.now) i ≡ Some e
+            → is_kept ≡ true
+            → goes_with (is_before self.now.order.now) self.now.mode e edge.now ≡ true
             → result ≡ false → label_at labels.now ends.wanted ≤ label_at labels.now ends.held + 1 }
     {
         if !is_kept || !is_leap(labels, ends) {

@@ -61,7 +61,8 @@ impl Numbers {
         alloc: Global,
         table: &[(Edge, Sample)],
     ) -> Result<Vec<Ends>, Memory>
-        ensures { IfOk result (λ ends. AreEnds (number_in self.now) (edges_of_table table.now) ends.items) }
+        ensures { IfOk result
+            (λ ends. AreEnds (number_in self.now) (edges_of_table table.now) ends.items) }
     {
         let mut ends = Vec::with_capacity(alloc, table.len())?;
         for i in 0..table.len() {

@@ -34,14 +34,19 @@ fn cycles_of_roots(
     requires ready { IsReady search.now }
     requires unbound { search.now.is_bound ≡ false }
     requires within { to ≤ length search.now.table.now }
-    ensures { IfOk result (λ pieces. map (λ piece. map (λ cycle. cycle.items) piece.items) pieces.items ≡ map (first_from search.now) (range_with_len from (to - from))) }
+    ensures { IfOk result
+        (λ pieces. map (λ piece. map (λ cycle. cycle.items) piece.items) pieces.items
+        ≡ map (first_from search.now) (range_with_len from (to - from))) }
 {
     let found: Result<Vec<Vec<Vec<usize>>>, Memory> = (from..to)
         .into_par_iter()
         .map(
             |root: usize| -> Result<Vec<Vec<usize>>, Memory>
-                requires { (0 < search.now.len) × IsReady search.now × (search.now.is_bound ≡ false) × (root < length search.now.table.now) }
-                ensures { IfOk result (λ found. map (λ cycle. cycle.items) found.items ≡ first_from search.entry.now root) }
+                requires { (0 < search.now.len) × IsReady search.now × (search.now.is_bound ≡ false)
+                    × (root < length search.now.table.now) }
+                ensures { IfOk result
+                    (λ found. map (λ cycle. cycle.items) found.items
+                    ≡ first_from search.entry.now root) }
             { search.cycles_from(alloc, root) },
         )
         .with_min_len(1)
@@ -57,7 +62,11 @@ fn add_pieces(
     cap: usize,
 ) -> Result<(), Memory>
     requires { length found.old.items ≤ cap }
-    ensures { OnOk result (map (λ cycle. cycle.items) found.new.items ≡ take cap (map (λ cycle. cycle.items) found.old.items ++ flat_map (λ piece. map (λ cycle. cycle.items) piece.items) pieces.now)) }
+    ensures { OnOk result
+        (map (λ cycle. cycle.items) found.new.items
+        ≡ take cap
+        (map (λ cycle. cycle.items) found.old.items ++ flat_map
+        (λ piece. map (λ cycle. cycle.items) piece.items) pieces.now)) }
 {
     for i in 0..pieces.len() {
         add_cycles(alloc, found, &pieces[i], cap)?;
@@ -80,7 +89,11 @@ fn add_roots(
     requires up { from ≤ to }
     requires within { to ≤ length search.now.table.now }
     requires room { length found.old.items ≤ search.now.cap }
-    ensures { OnOk result (map (λ cycle. cycle.items) found.new.items ≡ take search.now.cap (map (λ cycle. cycle.items) found.old.items ++ flat_map (first_from search.now) (range_with_len from (to - from)))) }
+    ensures { OnOk result
+        (map (λ cycle. cycle.items) found.new.items
+        ≡ take search.now.cap
+        (map (λ cycle. cycle.items) found.old.items ++ flat_map (first_from search.now)
+        (range_with_len from (to - from)))) }
 {
     if found.len() >= search.cap {
         return Ok(());
@@ -106,7 +119,11 @@ fn add_alone(
     requires up { from ≤ to }
     requires within { to ≤ length search.now.table.now }
     requires room { length found.old.items ≤ search.now.cap }
-    ensures { OnOk result (map (λ cycle. cycle.items) found.new.items ≡ take search.now.cap (map (λ cycle. cycle.items) found.old.items ++ flat_map (first_from search.now) (range_with_len from (to - from)))) }
+    ensures { OnOk result
+        (map (λ cycle. cycle.items) found.new.items
+        ≡ take search.now.cap
+        (map (λ cycle. cycle.items) found.old.items ++ flat_map (first_from search.now)
+        (range_with_len from (to - from)))) }
 {
     for root in from..to {
         search.add_from(alloc, root, found)?;
@@ -138,9 +155,13 @@ pub(crate) fn first_cycles(
     requires some { 0 < search.now.len }
     requires ready { IsReady search.now }
     requires unbound { search.now.is_bound ≡ false }
-    requires found { HasFound (sought_by search.now) search.now.cap from (map (λ cycle. cycle.items) found.items) }
-    ensures { IfOk result (λ found. map (λ cycle. cycle.items) found.items
-        ≡ take search.now.cap (all_cycles (is_before search.now.order.now) search.now.mode search.now.len (edges_of_table search.now.table.now))) }
+    requires found { HasFound (sought_by search.now) search.now.cap from
+        (map (λ cycle. cycle.items) found.items) }
+    ensures { IfOk result
+        (λ found. map (λ cycle. cycle.items) found.items
+        ≡ take search.now.cap
+        (all_cycles (is_before search.now.order.now) search.now.mode search.now.len
+        (edges_of_table search.now.table.now))) }
 {
     let size = search.table.len();
     let mut found = found;
@@ -169,8 +190,16 @@ pub fn search_parallel(
     order: &Order,
     query: &Query,
 ) -> Result<Found, Memory>
-    ensures cycles { IfOk result (λ found. found.cycles ≡ take query.now.max (all_cycles (is_before order.now) query.now.mode query.now.len (edges_of_table edges.now))) }
-    ensures more { IfOk result (λ found. IsTrue found.more ↔ (query.now.max < length (all_cycles (is_before order.now) query.now.mode query.now.len (edges_of_table edges.now)))) }
+    ensures cycles { IfOk result
+        (λ found. found.cycles
+        ≡ take query.now.max
+        (all_cycles (is_before order.now) query.now.mode query.now.len
+        (edges_of_table edges.now))) }
+    ensures more { IfOk result
+        (λ found. IsTrue found.more ↔
+        (query.now.max < length
+        (all_cycles (is_before order.now) query.now.mode query.now.len
+        (edges_of_table edges.now)))) }
 {
     let sought = Sought::of(edges, order, query);
     let max = query.max() as usize;

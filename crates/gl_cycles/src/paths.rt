@@ -90,7 +90,9 @@ impl Searcher<'_> {
     // Whether each edge of the path goes with this one.
     fn goes_with_all(&self, path: &[usize], edge: &Edge) -> bool
         requires within { All (λ i. i < length self.now.table.now) path.now }
-        ensures { result ≡ list_all (λ e. goes_with (is_before self.now.order.now) self.now.mode e edge.now) (picked (edges_of_table self.now.table.now) path.now) }
+        ensures { result ≡ list_all
+            (λ e. goes_with (is_before self.now.order.now) self.now.mode e edge.now)
+            (picked (edges_of_table self.now.table.now) path.now) }
     {
         for &i in path {
             if !goes_with(self.mode, self.order, &self.table[i].0, edge) {
@@ -106,7 +108,8 @@ impl Searcher<'_> {
         requires within { All (λ i. i < length self.now.table.now) path.now }
         requires there { next < length self.now.table.now }
         ensures { (f : Edge) → slice_get (edges_of_table self.now.table.now) next ≡ Some f
-            → result ≡ can_follow (is_before self.now.order.now) self.now.mode (picked (edges_of_table self.now.table.now) path.now) f }
+            → result ≡ can_follow (is_before self.now.order.now) self.now.mode
+            (picked (edges_of_table self.now.table.now) path.now) f }
     {
         let edge = &self.table[next].0;
         let first = path[0];
@@ -130,9 +133,13 @@ impl Searcher<'_> {
         requires some { 0 < self.now.len }
         requires ready { IsReady self.now }
         requires unbound { self.now.is_bound ≡ false }
-        requires found { HasFound (sought_by self.now) self.now.cap from (map (λ cycle. cycle.items) found.items) }
-        ensures { IfOk result (λ found. map (λ cycle. cycle.items) found.items
-            ≡ take self.now.cap (all_cycles (is_before self.now.order.now) self.now.mode self.now.len (edges_of_table self.now.table.now))) }
+        requires found { HasFound (sought_by self.now) self.now.cap from
+            (map (λ cycle. cycle.items) found.items) }
+        ensures { IfOk result
+            (λ found. map (λ cycle. cycle.items) found.items
+            ≡ take self.now.cap
+            (all_cycles (is_before self.now.order.now) self.now.mode self.now.len
+            (edges_of_table self.now.table.now))) }
     {
         let mut found = found;
         for root in from..self.table.len() {
@@ -151,8 +158,11 @@ impl Searcher<'_> {
     ) -> Result<usize, Memory>
         requires some { 0 < self.now.len }
         requires ready { IsReady self.now }
-        requires found { HasFound (sought_by self.now) self.now.cap from (map (λ cycle. cycle.items) found.old.items) }
-        ensures { IfOk result (λ to. HasFound (sought_by self.now) self.now.cap to (map (λ cycle. cycle.items) found.new.items)) }
+        requires found { HasFound (sought_by self.now) self.now.cap from
+            (map (λ cycle. cycle.items) found.old.items) }
+        ensures { IfOk result
+            (λ to. HasFound (sought_by self.now) self.now.cap to
+            (map (λ cycle. cycle.items) found.new.items)) }
     {
         let mut steps = effort;
         for root in from..self.table.len() {
@@ -175,9 +185,16 @@ impl Searcher<'_> {
         requires some { 0 < self.now.len }
         requires ready { IsReady self.now }
         requires there { root < length self.now.table.now }
-        requires found { HasFound (sought_by self.now) self.now.cap root (map (λ cycle. cycle.items) found.old.items) }
-        ensures more { IfOk result (λ is. is ≡ true → HasFound (sought_by self.now) self.now.cap (root + 1) (map (λ cycle. cycle.items) found.new.items)) }
-        ensures same { IfOk result (λ is. is ≡ false → HasFound (sought_by self.now) self.now.cap root (map (λ cycle. cycle.items) found.new.items)) }
+        requires found { HasFound (sought_by self.now) self.now.cap root
+            (map (λ cycle. cycle.items) found.old.items) }
+        ensures more { IfOk result
+            (λ is. is ≡ true
+            → HasFound (sought_by self.now) self.now.cap (root + 1)
+            (map (λ cycle. cycle.items) found.new.items)) }
+        ensures same { IfOk result
+            (λ is. is ≡ false
+            → HasFound (sought_by self.now) self.now.cap root
+            (map (λ cycle. cycle.items) found.new.items)) }
     {
         if found.len() >= self.cap {
             return Ok(true);
@@ -200,7 +217,9 @@ impl Searcher<'_> {
         requires some { 0 < self.now.len }
         requires ready { IsReady self.now }
         requires there { root < length self.now.table.now }
-        ensures { IfOk result (λ cycles. IfSome cycles (λ found. map (λ cycle. cycle.items) found.items ≡ first_from self.now root)) }
+        ensures { IfOk result
+            (λ cycles. IfSome cycles
+            (λ found. map (λ cycle. cycle.items) found.items ≡ first_from self.now root)) }
     {
         let mut found = Vec::new(alloc);
         match self.grow_from(alloc, root, steps, &mut found) {
@@ -216,7 +235,8 @@ impl Searcher<'_> {
         requires ready { IsReady self.now }
         requires unbound { self.now.is_bound ≡ false }
         requires there { root < length self.now.table.now }
-        ensures { IfOk result (λ found. map (λ cycle. cycle.items) found.items ≡ first_from self.now root) }
+        ensures { IfOk result
+            (λ found. map (λ cycle. cycle.items) found.items ≡ first_from self.now root) }
     {
         let mut found = Vec::new(alloc);
         self.add_from(alloc, root, &mut found)?;
@@ -236,8 +256,12 @@ impl Searcher<'_> {
         requires ready { IsReady self.now }
         requires unbound { self.now.is_bound ≡ false }
         requires room { length found.old.items ≤ self.now.cap }
-        ensures { OnOk result (map (λ cycle. cycle.items) found.new.items ≡ take self.now.cap (map (λ cycle. cycle.items) found.old.items
-            ++ block (is_before self.now.order.now) self.now.mode (edges_of_table self.now.table.now) (self.now.len - 1) (root ∷ []))) }
+        ensures { OnOk result
+            (map (λ cycle. cycle.items) found.new.items
+            ≡ take self.now.cap
+            (map (λ cycle. cycle.items) found.old.items ++ block
+            (is_before self.now.order.now) self.now.mode (edges_of_table self.now.table.now)
+            (self.now.len - 1) (root ∷ []))) }
     {
         let mut steps = 0;
         match self.grow_from(alloc, root, &mut steps, found) {
@@ -259,8 +283,12 @@ impl Searcher<'_> {
         requires there { root < length self.now.table.now }
         requires ready { IsReady self.now }
         requires room { length found.old.items ≤ self.now.cap }
-        ensures grown { OnOk result (map (λ cycle. cycle.items) found.new.items ≡ take self.now.cap (map (λ cycle. cycle.items) found.old.items
-            ++ block (is_before self.now.order.now) self.now.mode (edges_of_table self.now.table.now) (self.now.len - 1) (root ∷ []))) }
+        ensures grown { OnOk result
+            (map (λ cycle. cycle.items) found.new.items
+            ≡ take self.now.cap
+            (map (λ cycle. cycle.items) found.old.items ++ block
+            (is_before self.now.order.now) self.now.mode (edges_of_table self.now.table.now)
+            (self.now.len - 1) (root ∷ []))) }
         ensures stopped { IfErr result (λ stop. self.now.is_bound ≡ false → stop ≡ Memory) }
     {
         if !self.kept[root] {
@@ -295,11 +323,16 @@ impl Searcher<'_> {
         requires some { 0 < length path.now }
         requires short { length path.now ≤ self.now.len }
         requires within { All (λ i. i < length self.now.table.now) path.now }
-        requires is_path { is_path (is_before self.now.order.now) self.now.mode (picked (edges_of_table self.now.table.now) path.now) ≡ true }
+        requires is_path { is_path (is_before self.now.order.now) self.now.mode
+            (picked (edges_of_table self.now.table.now) path.now) ≡ true }
         requires ready { IsReady self.now }
         requires room { length found.old.items ≤ self.now.cap }
-        ensures grown { OnOk result (map (λ cycle. cycle.items) found.new.items ≡ take self.now.cap (map (λ cycle. cycle.items) found.old.items
-            ++ block (is_before self.now.order.now) self.now.mode (edges_of_table self.now.table.now) (self.now.len - length path.now) path.now)) }
+        ensures grown { OnOk result
+            (map (λ cycle. cycle.items) found.new.items
+            ≡ take self.now.cap
+            (map (λ cycle. cycle.items) found.old.items ++ block
+            (is_before self.now.order.now) self.now.mode (edges_of_table self.now.table.now)
+            (self.now.len - length path.now) path.now)) }
         ensures stopped { IfErr result (λ stop. self.now.is_bound ≡ false → stop ≡ Memory) }
     {
         if found.len() >= self.cap {
@@ -336,12 +369,18 @@ impl Searcher<'_> {
         requires some { 0 < length path.now }
         requires one_left { length path.now + 1 ≡ self.now.len }
         requires within { All (λ i. i < length self.now.table.now) path.now }
-        requires is_path { is_path (is_before self.now.order.now) self.now.mode (picked (edges_of_table self.now.table.now) path.now) ≡ true }
-        requires unclosed { leads_back (picked (edges_of_table self.now.table.now) path.now) ≡ false }
+        requires is_path { is_path (is_before self.now.order.now) self.now.mode
+            (picked (edges_of_table self.now.table.now) path.now) ≡ true }
+        requires unclosed { leads_back (picked (edges_of_table self.now.table.now) path.now)
+            ≡ false }
         requires ready { IsReady self.now }
         requires room { length found.old.items ≤ self.now.cap }
-        ensures grown { OnOk result (map (λ cycle. cycle.items) found.new.items ≡ take self.now.cap (map (λ cycle. cycle.items) found.old.items
-            ++ block (is_before self.now.order.now) self.now.mode (edges_of_table self.now.table.now) (self.now.len - length path.now) path.now)) }
+        ensures grown { OnOk result
+            (map (λ cycle. cycle.items) found.new.items
+            ≡ take self.now.cap
+            (map (λ cycle. cycle.items) found.old.items ++ block
+            (is_before self.now.order.now) self.now.mode (edges_of_table self.now.table.now)
+            (self.now.len - length path.now) path.now)) }
         ensures stopped { IfErr result (λ stop. self.now.is_bound ≡ false → stop ≡ Memory) }
     {
         let first = path[0];
@@ -369,11 +408,16 @@ impl Searcher<'_> {
         requires short { length path.now < self.now.len }
         requires within { All (λ i. i < length self.now.table.now) path.now }
         requires there { next < length self.now.table.now }
-        requires is_path { is_path (is_before self.now.order.now) self.now.mode (picked (edges_of_table self.now.table.now) path.now) ≡ true }
+        requires is_path { is_path (is_before self.now.order.now) self.now.mode
+            (picked (edges_of_table self.now.table.now) path.now) ≡ true }
         requires ready { IsReady self.now }
         requires room { length found.old.items ≤ self.now.cap }
-        ensures grown { OnOk result (map (λ cycle. cycle.items) found.new.items ≡ take self.now.cap (map (λ cycle. cycle.items) found.old.items
-            ++ block (is_before self.now.order.now) self.now.mode (edges_of_table self.now.table.now) (self.now.len - length path.now - 1) (path.now ++ next ∷ []))) }
+        ensures grown { OnOk result
+            (map (λ cycle. cycle.items) found.new.items
+            ≡ take self.now.cap
+            (map (λ cycle. cycle.items) found.old.items ++ block
+            (is_before self.now.order.now) self.now.mode (edges_of_table self.now.table.now)
+            (self.now.len - length path.now - 1) (path.now ++ next ∷ []))) }
         ensures stopped { IfErr result (λ stop. self.now.is_bound ≡ false → stop ≡ Memory) }
     {
         self.take_step(steps)?;
@@ -400,7 +444,10 @@ pub(crate) fn longer_path(path: &[usize], next: usize) -> ArrayVec<usize, PATH>
 
 // Adds a closed path, which is a cycle if it has two edges or more.
 fn keep_closed(alloc: Global, path: &[usize], found: &mut Vec<Vec<usize>>) -> Result<(), Memory>
-    ensures { OnOk result (map (λ cycle. cycle.items) found.new.items ≡ map (λ cycle. cycle.items) found.old.items ++ (if nat_le 2 (length path.now) then path.now ∷ [] else [])) }
+    ensures { OnOk result
+        (map (λ cycle. cycle.items) found.new.items
+        ≡ map (λ cycle. cycle.items) found.old.items ++
+        (if nat_le 2 (length path.now) then path.now ∷ [] else [])) }
 {
     if path.len() < 2 {
         return Ok(());
@@ -412,8 +459,12 @@ fn keep_closed(alloc: Global, path: &[usize], found: &mut Vec<Vec<usize>>) -> Re
 
 // The first of these cycles, and whether there are more.
 pub(crate) fn listed(cycles: Vec<Vec<usize>>, max: usize) -> Found
-    ensures cycles { (all : List (List ℕ)) → map (λ cycle. cycle.items) cycles.items ≡ take (max + 1) all → result.cycles ≡ take max all }
-    ensures more { (all : List (List ℕ)) → map (λ cycle. cycle.items) cycles.items ≡ take (max + 1) all → IsTrue result.more ↔ (max < length all) }
+    ensures cycles { (all : List (List ℕ))
+        → map (λ cycle. cycle.items) cycles.items ≡ take (max + 1) all
+        → result.cycles ≡ take max all }
+    ensures more { (all : List (List ℕ))
+        → map (λ cycle. cycle.items) cycles.items ≡ take (max + 1) all
+        → IsTrue result.more ↔ (max < length all) }
 {
     let mut cycles = cycles;
     let more = cycles.len() > max;
@@ -447,8 +498,16 @@ pub fn search(
     order: &Order,
     query: &Query,
 ) -> Result<Found, Memory>
-    ensures cycles { IfOk result (λ found. found.cycles ≡ take query.now.max (all_cycles (is_before order.now) query.now.mode query.now.len (edges_of_table edges.now))) }
-    ensures more { IfOk result (λ found. IsTrue found.more ↔ (query.now.max < length (all_cycles (is_before order.now) query.now.mode query.now.len (edges_of_table edges.now)))) }
+    ensures cycles { IfOk result
+        (λ found. found.cycles
+        ≡ take query.now.max
+        (all_cycles (is_before order.now) query.now.mode query.now.len
+        (edges_of_table edges.now))) }
+    ensures more { IfOk result
+        (λ found. IsTrue found.more ↔
+        (query.now.max < length
+        (all_cycles (is_before order.now) query.now.mode query.now.len
+        (edges_of_table edges.now)))) }
 {
     let sought = Sought::of(edges, order, query);
     let max = query.max() as usize;

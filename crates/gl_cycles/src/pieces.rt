@@ -12,7 +12,9 @@ fn add_cycle(
     cap: usize,
 ) -> Result<(), Memory>
     requires { length found.old.items ≤ cap }
-    ensures { OnOk result (map (λ cycle. cycle.items) found.new.items ≡ take cap (map (λ cycle. cycle.items) found.old.items ++ cycle.now ∷ [])) }
+    ensures { OnOk result
+        (map (λ cycle. cycle.items) found.new.items
+        ≡ take cap (map (λ cycle. cycle.items) found.old.items ++ cycle.now ∷ [])) }
 {
     if found.len() >= cap {
         return Ok(());
@@ -30,7 +32,10 @@ pub(crate) fn add_cycles(
     cap: usize,
 ) -> Result<(), Memory>
     requires { length found.old.items ≤ cap }
-    ensures { OnOk result (map (λ cycle. cycle.items) found.new.items ≡ take cap (map (λ cycle. cycle.items) found.old.items ++ map (λ cycle. cycle.items) piece.now)) }
+    ensures { OnOk result
+        (map (λ cycle. cycle.items) found.new.items
+        ≡ take cap
+        (map (λ cycle. cycle.items) found.old.items ++ map (λ cycle. cycle.items) piece.now)) }
 {
     for i in 0..piece.len() {
         add_cycle(alloc, found, &piece[i], cap)?;

@@ -29,9 +29,12 @@ impl Trimming<'_> {
     fn lacks(&self, gone: &[bool], chain: &Chain, side: Side, i: usize) -> bool
         requires here { i < length self.now.table.now }
         requires flags { length gone.now ≡ length self.now.table.now }
-        requires chain { AreChained (opposite side) (edges_of_table self.now.table.now) 0 chain.now }
+        requires chain { AreChained (opposite side)
+            (edges_of_table self.now.table.now) 0 chain.now }
         ensures { (e : Edge) → slice_get (edges_of_table self.now.table.now) i ≡ Some e
-            → Decides result (¬ HasBeside (is_before self.now.order.now) self.now.mode (edges_of_table self.now.table.now) (IsFlagged gone.now) side e) }
+            → Decides result
+            (¬ HasBeside (is_before self.now.order.now) self.now.mode
+            (edges_of_table self.now.table.now) (IsFlagged gone.now) side e) }
     {
         let first = chain.begin(side.lock_of(&self.table[i].0));
         self.next_beside(gone, chain, side, i, first).is_none()
@@ -43,7 +46,9 @@ impl Trimming<'_> {
         requires flags { length gone.now ≡ length self.now.table.now }
         requires holders { AreChained Leader (edges_of_table self.now.table.now) 0 holders.now }
         requires wanters { AreChained Follower (edges_of_table self.now.table.now) 0 wanters.now }
-        ensures { Decides result (IsStuck (is_before self.now.order.now) self.now.mode (edges_of_table self.now.table.now) (IsFlagged gone.now) i) }
+        ensures { Decides result
+            (IsStuck (is_before self.now.order.now) self.now.mode
+            (edges_of_table self.now.table.now) (IsFlagged gone.now) i) }
     {
         if i >= self.table.len() || gone[i] {
             return false;
@@ -53,8 +58,12 @@ impl Trimming<'_> {
 
     // The first place at which this is no order in which all edges go.
     fn fault_of(&self, alloc: Global, removed: &[usize]) -> Result<Option<usize>, Memory>
-        ensures { IfOk result (λ fault. MatchOption fault (IsWholeRemoval (is_before self.now.order.now) self.now.mode (edges_of_table self.now.table.now) removed.now)
-            (IsRemovalFault (is_before self.now.order.now) self.now.mode (edges_of_table self.now.table.now) removed.now)) }
+        ensures { IfOk result
+            (λ fault. MatchOption fault
+            (IsWholeRemoval (is_before self.now.order.now) self.now.mode
+            (edges_of_table self.now.table.now) removed.now)
+            (IsRemovalFault (is_before self.now.order.now) self.now.mode
+            (edges_of_table self.now.table.now) removed.now)) }
     {
         let holders = Chain::of(alloc, self.table, Side::Leader)?;
         let wanters = Chain::of(alloc, self.table, Side::Follower)?;
@@ -88,7 +97,9 @@ pub fn removal_fault(
     mode: Mode,
     removed: &[usize],
 ) -> Result<Option<usize>, Memory>
-    ensures { IfOk result (λ fault. MatchOption fault (IsWholeRemoval (is_before order.now) mode (edges_of_table edges.now) removed.now)
+    ensures { IfOk result
+        (λ fault. MatchOption fault
+        (IsWholeRemoval (is_before order.now) mode (edges_of_table edges.now) removed.now)
         (IsRemovalFault (is_before order.now) mode (edges_of_table edges.now) removed.now)) }
 {
     let trimming = Trimming {

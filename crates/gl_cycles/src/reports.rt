@@ -40,8 +40,12 @@ fn whole_trim(
     query: &Query,
     found: &Found,
 ) -> Result<Option<TrimOrder>, Memory>
-    requires { found.now.cycles ≡ take query.now.max (all_cycles (is_before order.now) query.now.mode query.now.len (edges_of_table edges.now)) }
-    ensures { IfOk result (λ trim. trim ≡ whole_trim (is_before order.now) query.now.mode (edges_of_table edges.now)) }
+    requires { found.now.cycles
+        ≡ take query.now.max
+        (all_cycles (is_before order.now) query.now.mode query.now.len (edges_of_table edges.now)) }
+    ensures { IfOk result
+        (λ trim. trim
+        ≡ whole_trim (is_before order.now) query.now.mode (edges_of_table edges.now)) }
 {
     if !found.cycles.as_slice().is_empty() {
         return Ok(None);
@@ -61,8 +65,12 @@ fn report_found(
     query: &Query,
     found: Found,
 ) -> Result<Report, Memory>
-    requires cycles { found.cycles ≡ take query.now.max (all_cycles (is_before order.now) query.now.mode query.now.len (edges_of_table edges)) }
-    requires more { IsTrue found.more ↔ (query.now.max < length (all_cycles (is_before order.now) query.now.mode query.now.len (edges_of_table edges))) }
+    requires cycles { found.cycles
+        ≡ take query.now.max
+        (all_cycles (is_before order.now) query.now.mode query.now.len (edges_of_table edges)) }
+    requires more { IsTrue found.more ↔
+        (query.now.max < length
+        (all_cycles (is_before order.now) query.now.mode query.now.len (edges_of_table edges))) }
     ensures { IfOk result (λ report. report ≡ report_by query.now (is_before order.now) edges) }
 {
     let trim = whole_trim(alloc, &edges, order, query, &found)?;
@@ -122,7 +130,8 @@ pub fn report_over(
     query: &Query,
 ) -> Result<Report, ReportFault>
     requires few { length lists.now ≤ 1024 }
-    requires lawful { (thread : ℕ) (es : List Event) → slice_get (lists_of lists.now) thread ≡ Some es → IsLawful greatest thread es }
+    requires lawful { (thread : ℕ) (es : List Event)
+        → slice_get (lists_of lists.now) thread ≡ Some es → IsLawful greatest thread es }
     ensures report { IfOk result (λ report. IsReport query.now edges (lists_of lists.now) report) }
     ensures fault { IfErr result (λ fault. IsReportFault (lists_of lists.now) fault) }
 {
@@ -145,7 +154,8 @@ pub fn report_over_parallel(
     query: &Query,
 ) -> Result<Report, ReportFault>
     requires few { length lists.now ≤ 1024 }
-    requires lawful { (thread : ℕ) (es : List Event) → slice_get (lists_of lists.now) thread ≡ Some es → IsLawful greatest thread es }
+    requires lawful { (thread : ℕ) (es : List Event)
+        → slice_get (lists_of lists.now) thread ≡ Some es → IsLawful greatest thread es }
     ensures report { IfOk result (λ report. IsReport query.now edges (lists_of lists.now) report) }
     ensures fault { IfErr result (λ fault. IsReportFault (lists_of lists.now) fault) }
 {

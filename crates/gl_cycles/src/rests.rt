@@ -35,7 +35,9 @@ impl Rounds<'_> {
     fn alive(&self, alloc: Global, models: &[usize], dead: &[bool]) -> Result<Vec<usize>, Memory>
         requires { AreWithin self.now models.now }
         ensures within { IfOk result (λ alive. AreWithin self.now alive.items) }
-        ensures all { IfOk result (λ alive. (i : ℕ) → Contains models.now i → ¬ (slice_get dead.now i ≡ Some true) → Contains alive.items i) }
+        ensures all { IfOk result
+            (λ alive. (i : ℕ) → Contains models.now i → ¬ (slice_get dead.now i ≡ Some true)
+            → Contains alive.items i) }
     {
         let mut alive = Vec::new(alloc);
         for place in 0..models.len() {
@@ -75,9 +77,13 @@ impl Rounds<'_> {
         requires there { i < length self.now.sought.table.now }
         requires within { AreWithin self.now some.old.items }
         ensures within { OnOk result (AreWithin self.now some.new.items) }
-        ensures stay { OnOk result ((j : ℕ) → Contains some.old.items j → Contains some.new.items j) }
-        ensures met { OnOk result ((d : Edge) → slice_get (edges_of_table self.now.sought.table.now) i ≡ Some d
-            → may_meet (is_before self.now.sought.order.now) self.now.sought.mode self.now.grain edge.now d ≡ true → Contains some.new.items i) }
+        ensures stay { OnOk result
+            ((j : ℕ) → Contains some.old.items j → Contains some.new.items j) }
+        ensures met { OnOk result
+            ((d : Edge) → slice_get (edges_of_table self.now.sought.table.now) i ≡ Some d
+            → may_meet
+            (is_before self.now.sought.order.now) self.now.sought.mode self.now.grain edge.now d
+            ≡ true → Contains some.new.items i) }
     {
         if !self.may_meet(edge, &self.sought.table[i].0) {
             return Ok(());
@@ -91,7 +97,10 @@ impl Rounds<'_> {
         requires within { AreWithin self.now rest.now }
         requires there { next < length self.now.sought.table.now }
         ensures within { IfOk result (λ some. AreWithin self.now some.items) }
-        ensures narrowed { IfOk result (λ some. IsNarrowed (is_before self.now.sought.order.now) self.now.sought.mode self.now.grain (edges_of_table self.now.sought.table.now) rest.now next some.items) }
+        ensures narrowed { IfOk result
+            (λ some. IsNarrowed
+            (is_before self.now.sought.order.now) self.now.sought.mode self.now.grain
+            (edges_of_table self.now.sought.table.now) rest.now next some.items) }
     {
         let edge = &self.sought.table[next].0;
         let mut some = Vec::new(alloc);
@@ -158,7 +167,11 @@ impl Rounds<'_> {
         requires there { next < length self.now.sought.table.now }
         requires models { HasModels self.now }
         requires ends { AreDeadEnds self.now ends.old.known.items }
-        ensures none { IfOk result (λ may. may ≡ false → NoneBy (is_before self.now.sought.order.now) self.now.sought.mode self.now.grain self.now.sought.len (edges_of_table self.now.sought.table.now) self.now.flags.items gap.now rest.now next) }
+        ensures none { IfOk result
+            (λ may. may ≡ false
+            → NoneBy (is_before self.now.sought.order.now) self.now.sought.mode self.now.grain
+            self.now.sought.len
+            (edges_of_table self.now.sought.table.now) self.now.flags.items gap.now rest.now next) }
         ensures ends { OnOk result (AreDeadEnds self.now ends.new.known.items) }
     {
         let edge = &self.sought.table[next].0;
@@ -186,9 +199,11 @@ fn take_tests(tests: &mut usize, some: usize) -> bool {
 
 // Adds a position, if its flag is set.
 fn add_flagged(models: &mut Vec<usize>, i: usize, flag: bool) -> Result<(), Memory>
-    ensures stay { OnOk result ((j : ℕ) → Contains models.old.items j → Contains models.new.items j) }
+    ensures stay { OnOk result
+        ((j : ℕ) → Contains models.old.items j → Contains models.new.items j) }
     ensures added { OnOk result (flag ≡ true → Contains models.new.items i) }
-    ensures within { OnOk result ((n : ℕ) → i < n → All (λ j. j < n) models.old.items → All (λ j. j < n) models.new.items) }
+    ensures within { OnOk result
+        ((n : ℕ) → i < n → All (λ j. j < n) models.old.items → All (λ j. j < n) models.new.items) }
 {
     if !flag {
         return Ok(());
@@ -200,8 +215,10 @@ fn add_flagged(models: &mut Vec<usize>, i: usize, flag: bool) -> Result<(), Memo
 // Adds a position, if it isn't flagged as dead.
 fn add_alive(alive: &mut Vec<usize>, i: usize, dead: &[bool]) -> Result<(), Memory>
     ensures stay { OnOk result ((j : ℕ) → Contains alive.old.items j → Contains alive.new.items j) }
-    ensures added { OnOk result (¬ (slice_get dead.now i ≡ Some true) → Contains alive.new.items i) }
-    ensures within { OnOk result ((n : ℕ) → i < n → All (λ j. j < n) alive.old.items → All (λ j. j < n) alive.new.items) }
+    ensures added { OnOk result
+        (¬ (slice_get dead.now i ≡ Some true) → Contains alive.new.items i) }
+    ensures within { OnOk result
+        ((n : ℕ) → i < n → All (λ j. j < n) alive.old.items → All (λ j. j < n) alive.new.items) }
 {
     let is_dead = dead.get(i).copied().unwrap_or(false);
     add_flagged(alive, i, !is_dead)

@@ -117,7 +117,8 @@ impl Sought<'_> {
         requires fits { self.now.len ≤ PATH }
         requires kept { KeepsSought self.now kept.now }
         requires found { HasFound self.now cap from (map (λ cycle. cycle.items) found.old.items) }
-        ensures { IfOk result (λ to. HasFound self.now cap to (map (λ cycle. cycle.items) found.new.items)) }
+        ensures { IfOk result
+            (λ to. HasFound self.now cap to (map (λ cycle. cycle.items) found.new.items)) }
     {
         let kept = Vec::from_slice(alloc, kept)?;
         let search = Searcher::of(alloc, self, cap, true, kept)?;
@@ -128,8 +129,11 @@ impl Sought<'_> {
     pub(crate) fn first_cycles(&self, alloc: Global, cap: usize) -> Result<Vec<Vec<usize>>, Memory>
         requires some { 0 < self.now.len }
         requires fits { self.now.len ≤ PATH }
-        ensures { IfOk result (λ found. map (λ cycle. cycle.items) found.items
-            ≡ take cap (all_cycles (is_before self.now.order.now) self.now.mode self.now.len (edges_of_table self.now.table.now))) }
+        ensures { IfOk result
+            (λ found. map (λ cycle. cycle.items) found.items
+            ≡ take cap
+            (all_cycles (is_before self.now.order.now) self.now.mode self.now.len
+            (edges_of_table self.now.table.now))) }
     {
         let mut kept = self.on_loops(alloc)?;
         let mut found = Vec::new(alloc);
@@ -186,8 +190,11 @@ pub(crate) fn first_cycles_parallel(
 ) -> Result<Vec<Vec<usize>>, Memory>
     requires some { 0 < sought.now.len }
     requires fits { sought.now.len ≤ PATH }
-    ensures { IfOk result (λ found. map (λ cycle. cycle.items) found.items
-        ≡ take cap (all_cycles (is_before sought.now.order.now) sought.now.mode sought.now.len (edges_of_table sought.now.table.now))) }
+    ensures { IfOk result
+        (λ found. map (λ cycle. cycle.items) found.items
+        ≡ take cap
+        (all_cycles (is_before sought.now.order.now) sought.now.mode sought.now.len
+        (edges_of_table sought.now.table.now))) }
 {
     let mut kept = sought.on_loops(alloc)?;
     let mut found = Vec::new(alloc);

@@ -105,7 +105,8 @@ impl Trimming<'_> {
     fn fits(&self, side: Side, i: usize, other: usize) -> bool
         requires here { i < length self.now.table.now }
         requires there { other < length self.now.table.now }
-        ensures { (e f : Edge) → slice_get (edges_of_table self.now.table.now) i ≡ Some e → slice_get (edges_of_table self.now.table.now) other ≡ Some f
+        ensures { (e f : Edge) → slice_get (edges_of_table self.now.table.now) i ≡ Some e
+            → slice_get (edges_of_table self.now.table.now) other ≡ Some f
             → result ≡ is_beside (is_before self.now.order.now) self.now.mode side e f }
     {
         let edge = &self.table[i].0;
@@ -128,9 +129,12 @@ impl Trimming<'_> {
     ) -> Option<usize>
         requires here { i < length self.now.table.now }
         requires flags { length gone.now ≡ length self.now.table.now }
-        requires chain { AreChained (opposite side) (edges_of_table self.now.table.now) 0 chain.now }
-        requires start { IsStart (is_before self.now.order.now) self.now.mode (edges_of_table self.now.table.now) gone.now side i from }
-        ensures hint { IsHint (is_before self.now.order.now) self.now.mode (edges_of_table self.now.table.now) gone.now side i result }
+        requires chain { AreChained (opposite side)
+            (edges_of_table self.now.table.now) 0 chain.now }
+        requires start { IsStart (is_before self.now.order.now) self.now.mode
+            (edges_of_table self.now.table.now) gone.now side i from }
+        ensures hint { IsHint (is_before self.now.order.now) self.now.mode
+            (edges_of_table self.now.table.now) gone.now side i result }
         ensures left { IfSome result (λ place. slice_get gone.now place ≡ Some false) }
     {
         let mut next = from;
@@ -147,8 +151,11 @@ impl Trimming<'_> {
     fn find(&self, gone: &[bool], hints: &mut Hints, side: Side, i: usize) -> Result<(), Memory>
         requires here { i < length self.now.table.now }
         requires flags { length gone.now ≡ length self.now.table.now }
-        requires hints { AreHints (is_before self.now.order.now) self.now.mode (edges_of_table self.now.table.now) gone.now side i hints.old }
-        ensures { OnOk result (AreHints (is_before self.now.order.now) self.now.mode (edges_of_table self.now.table.now) gone.now side (i + 1) hints.new) }
+        requires hints { AreHints (is_before self.now.order.now) self.now.mode
+            (edges_of_table self.now.table.now) gone.now side i hints.old }
+        ensures { OnOk result
+            (AreHints (is_before self.now.order.now) self.now.mode
+            (edges_of_table self.now.table.now) gone.now side (i + 1) hints.new) }
     {
         let first = hints.chain.begin(side.lock_of(&self.table[i].0));
         let place = self.next_beside(gone, &hints.chain, side, i, first);
@@ -158,7 +165,9 @@ impl Trimming<'_> {
     // For each edge the first place of one that may come beside it.
     fn hints(&self, alloc: Global, gone: &[bool], side: Side) -> Result<Hints, Memory>
         requires flags { length gone.now ≡ length self.now.table.now }
-        ensures { IfOk result (λ hints. AreHints (is_before self.now.order.now) self.now.mode (edges_of_table self.now.table.now) gone.now side (length self.now.table.now) hints) }
+        ensures { IfOk result
+            (λ hints. AreHints (is_before self.now.order.now) self.now.mode
+            (edges_of_table self.now.table.now) gone.now side (length self.now.table.now) hints) }
     {
         let mut hints = Hints {
             chain: Chain::of(alloc, self.table, side.opposite())?,
@@ -174,7 +183,9 @@ impl Trimming<'_> {
     // The hints on both sides.
     fn both_hints(&self, alloc: Global, gone: &[bool]) -> Result<Sides, Memory>
         requires flags { length gone.now ≡ length self.now.table.now }
-        ensures { IfOk result (λ sides. AreBothHints (is_before self.now.order.now) self.now.mode (edges_of_table self.now.table.now) gone.now (length self.now.table.now) sides) }
+        ensures { IfOk result
+            (λ sides. AreBothHints (is_before self.now.order.now) self.now.mode
+            (edges_of_table self.now.table.now) gone.now (length self.now.table.now) sides) }
     {
         let followers = self.hints(alloc, gone, Side::Follower)?;
         let leaders = self.hints(alloc, gone, Side::Leader)?;
@@ -191,10 +202,18 @@ impl Trimming<'_> {
     ) -> Result<bool, Memory>
         requires here { i < length self.now.table.now }
         requires flags { length gone.now ≡ length self.now.table.now }
-        requires hints { AreHints (is_before self.now.order.now) self.now.mode (edges_of_table self.now.table.now) gone.now side (length self.now.table.now) hints.old }
-        ensures hints { OnOk result (AreHints (is_before self.now.order.now) self.now.mode (edges_of_table self.now.table.now) gone.now side (length self.now.table.now) hints.new) }
-        ensures kept { OnOk result (KeepPlaced gone.now hints.old.places.items hints.new.places.items) }
-        ensures tells { IfOk result (λ has. HasBesideAt (is_before self.now.order.now) self.now.mode (edges_of_table self.now.table.now) gone.now side i hints.new.places.items has) }
+        requires hints { AreHints (is_before self.now.order.now) self.now.mode
+            (edges_of_table self.now.table.now) gone.now side
+            (length self.now.table.now) hints.old }
+        ensures hints { OnOk result
+            (AreHints (is_before self.now.order.now) self.now.mode
+            (edges_of_table self.now.table.now) gone.now side
+            (length self.now.table.now) hints.new) }
+        ensures kept { OnOk result
+            (KeepPlaced gone.now hints.old.places.items hints.new.places.items) }
+        ensures tells { IfOk result
+            (λ has. HasBesideAt (is_before self.now.order.now) self.now.mode
+            (edges_of_table self.now.table.now) gone.now side i hints.new.places.items has) }
     {
         let Some(place) = hints.places[i] else {
             return Ok(false);
@@ -212,10 +231,17 @@ impl Trimming<'_> {
     fn is_stuck(&self, gone: &[bool], sides: &mut Sides, i: usize) -> Result<bool, Memory>
         requires here { i < length self.now.table.now }
         requires flags { length gone.now ≡ length self.now.table.now }
-        requires hints { AreBothHints (is_before self.now.order.now) self.now.mode (edges_of_table self.now.table.now) gone.now (length self.now.table.now) sides.old }
-        ensures hints { OnOk result (AreBothHints (is_before self.now.order.now) self.now.mode (edges_of_table self.now.table.now) gone.now (length self.now.table.now) sides.new) }
-        ensures kept { OnOk result ((side : Side) → KeepPlaced gone.now (places_of side sides.old) (places_of side sides.new)) }
-        ensures tells { IfOk result (λ stuck. TellsStuck (is_before self.now.order.now) self.now.mode (edges_of_table self.now.table.now) gone.now sides.new i stuck) }
+        requires hints { AreBothHints (is_before self.now.order.now) self.now.mode
+            (edges_of_table self.now.table.now) gone.now (length self.now.table.now) sides.old }
+        ensures hints { OnOk result
+            (AreBothHints (is_before self.now.order.now) self.now.mode
+            (edges_of_table self.now.table.now) gone.now (length self.now.table.now) sides.new) }
+        ensures kept { OnOk result
+            ((side : Side)
+            → KeepPlaced gone.now (places_of side sides.old) (places_of side sides.new)) }
+        ensures tells { IfOk result
+            (λ stuck. TellsStuck (is_before self.now.order.now) self.now.mode
+            (edges_of_table self.now.table.now) gone.now sides.new i stuck) }
     {
         if gone[i] {
             return Ok(false);
@@ -235,12 +261,20 @@ impl Trimming<'_> {
         waiting: &mut BTreeSet<usize>,
     ) -> Result<Option<usize>, Memory>
         requires flags { length gone.now ≡ length self.now.table.now }
-        requires hints { AreBothHints (is_before self.now.order.now) self.now.mode (edges_of_table self.now.table.now) gone.now (length self.now.table.now) sides.old }
+        requires hints { AreBothHints (is_before self.now.order.now) self.now.mode
+            (edges_of_table self.now.table.now) gone.now (length self.now.table.now) sides.old }
         requires awake { AreAwake gone.now (length self.now.table.now) sides.old waiting.old }
-        ensures hints { OnOk result (AreBothHints (is_before self.now.order.now) self.now.mode (edges_of_table self.now.table.now) gone.now (length self.now.table.now) sides.new) }
-        ensures awake { OnOk result (AreAwake gone.now (length self.now.table.now) sides.new waiting.new) }
-        ensures found { IfOk result (λ found. MatchOption found (AreSettled (is_before self.now.order.now) self.now.mode (edges_of_table self.now.table.now) gone.now (length self.now.table.now))
-            (λ i. IsFirstStuck (is_before self.now.order.now) self.now.mode (edges_of_table self.now.table.now) (IsFlagged gone.now) i)) }
+        ensures hints { OnOk result
+            (AreBothHints (is_before self.now.order.now) self.now.mode
+            (edges_of_table self.now.table.now) gone.now (length self.now.table.now) sides.new) }
+        ensures awake { OnOk result
+            (AreAwake gone.now (length self.now.table.now) sides.new waiting.new) }
+        ensures found { IfOk result
+            (λ found. MatchOption found
+            (AreSettled (is_before self.now.order.now) self.now.mode
+            (edges_of_table self.now.table.now) gone.now (length self.now.table.now))
+            (λ i. IsFirstStuck (is_before self.now.order.now) self.now.mode
+            (edges_of_table self.now.table.now) (IsFlagged gone.now) i)) }
     {
         while let Some(i) = waiting.first().copied() {
             if self.is_stuck(gone, sides, i)? {
@@ -253,7 +287,9 @@ impl Trimming<'_> {
 
     // All edges wait to be looked at.
     fn all_wait(&self, alloc: Global) -> Result<BTreeSet<usize>, Memory>
-        ensures { IfOk result (λ waiting. (i : ℕ) → contains nat_cmp waiting i ≡ nat_lt i (length self.now.table.now)) }
+        ensures { IfOk result
+            (λ waiting. (i : ℕ)
+            → contains nat_cmp waiting i ≡ nat_lt i (length self.now.table.now)) }
     {
         let mut waiting = BTreeSet::new(alloc);
         for i in 0..self.table.len() {
@@ -272,10 +308,16 @@ impl Trimming<'_> {
         removed: &mut Vec<usize>,
         i: usize,
     ) -> Result<(), Memory>
-        requires first { IsFirstStuck (is_before self.now.order.now) self.now.mode (edges_of_table self.now.table.now) (IsFlagged gone.old.items) i }
-        requires taken { AreTaken (is_before self.now.order.now) self.now.mode (edges_of_table self.now.table.now) (length self.now.table.now) gone.old.items sides.old waiting.old removed.old.items }
+        requires first { IsFirstStuck (is_before self.now.order.now) self.now.mode
+            (edges_of_table self.now.table.now) (IsFlagged gone.old.items) i }
+        requires taken { AreTaken (is_before self.now.order.now) self.now.mode
+            (edges_of_table self.now.table.now)
+            (length self.now.table.now) gone.old.items sides.old waiting.old removed.old.items }
         ensures flag { OnOk result (gone.new.items ≡ set gone.old.items i true) }
-        ensures taken { OnOk result (AreTaken (is_before self.now.order.now) self.now.mode (edges_of_table self.now.table.now) (length self.now.table.now) gone.new.items sides.new waiting.new removed.new.items) }
+        ensures taken { OnOk result
+            (AreTaken (is_before self.now.order.now) self.now.mode
+            (edges_of_table self.now.table.now)
+            (length self.now.table.now) gone.new.items sides.new waiting.new removed.new.items) }
     {
         gone[i] = true;
         wake(alloc, sides, waiting, i)?;
@@ -285,7 +327,9 @@ impl Trimming<'_> {
 
     // Takes away edges that are stuck, as long as there are any.
     fn run(&self, alloc: Global) -> Result<Trimmed, Memory>
-        ensures { IfOk result (λ trimmed. IsTrimmed (is_before self.now.order.now) self.now.mode (edges_of_table self.now.table.now) trimmed.kept.items trimmed.removed.items) }
+        ensures { IfOk result
+            (λ trimmed. IsTrimmed (is_before self.now.order.now) self.now.mode
+            (edges_of_table self.now.table.now) trimmed.kept.items trimmed.removed.items) }
     {
         let mut gone = vec![in alloc; false; self.table.len()]?;
         let mut sides = self.both_hints(alloc, &gone)?;
@@ -301,7 +345,9 @@ impl Trimming<'_> {
 
 // These wait to be looked at again.
 fn all_of(waiting: &mut BTreeSet<usize>, watchers: &[usize]) -> Result<(), Memory>
-    ensures { OnOk result ((i : ℕ) → contains nat_cmp waiting.new i ≡ (contains nat_cmp waiting.old i || list_any (λ w. w == i) watchers.now)) }
+    ensures { OnOk result
+        ((i : ℕ) → contains nat_cmp waiting.new i
+        ≡ (contains nat_cmp waiting.old i || list_any (λ w. w == i) watchers.now)) }
 {
     for i in 0..watchers.len() {
         waiting.insert(watchers[i])?;
@@ -320,8 +366,11 @@ fn wake(
     requires leaders { i < length sides.old.leaders.watchers }
     ensures followers { OnOk result (IsWoken i sides.old.followers sides.new.followers) }
     ensures leaders { OnOk result (IsWoken i sides.old.leaders sides.new.leaders) }
-    ensures waiting { OnOk result ((j : ℕ) → contains nat_cmp waiting.new j
-        ≡ ((contains nat_cmp waiting.old j || list_any (λ w. w == j) (get_or sides.old.followers.watchers i [])) || list_any (λ w. w == j) (get_or sides.old.leaders.watchers i []))) }
+    ensures waiting { OnOk result
+        ((j : ℕ) → contains nat_cmp waiting.new j
+        ≡ ((contains nat_cmp waiting.old j || list_any (λ w. w == j)
+        (get_or sides.old.followers.watchers i [])) || list_any (λ w. w == j)
+        (get_or sides.old.leaders.watchers i []))) }
 {
     let before = sides.followers.watchers.take(alloc, i);
     all_of(waiting, &before)?;
@@ -331,7 +380,8 @@ fn wake(
 
 // The positions of flags that aren't set, ascending.
 fn left_of(alloc: Global, gone: &[bool]) -> Result<Vec<usize>, Memory>
-    ensures { (edges : List Edge) (removed : List ℕ) → AreFlagsOf (length edges) gone.now removed → IfOk result (λ left. left.items ≡ others edges removed) }
+    ensures { (edges : List Edge) (removed : List ℕ) → AreFlagsOf (length edges) gone.now removed
+        → IfOk result (λ left. left.items ≡ others edges removed) }
 {
     let mut left = Vec::new(alloc);
     for i in 0..gone.len() {
@@ -352,7 +402,9 @@ fn left_of(alloc: Global, gone: &[bool]) -> Result<Vec<usize>, Memory>
 ///
 /// Err where memory was refused.
 pub fn trim(alloc: Global, edges: &EdgeList, order: &Order, mode: Mode) -> Result<Trimmed, Memory>
-    ensures { IfOk result (λ trimmed. IsTrimmed (is_before order.now) mode (edges_of_table edges.now) trimmed.kept.items trimmed.removed.items) }
+    ensures { IfOk result
+        (λ trimmed. IsTrimmed (is_before order.now) mode
+        (edges_of_table edges.now) trimmed.kept.items trimmed.removed.items) }
 {
     let trimming = Trimming {
         table: edges.entries(),

@@ -35,7 +35,8 @@ impl Watchers {
     /// One more watches a place.
     pub(crate) fn add(&mut self, place: usize, watcher: usize) -> Result<(), Memory>
         requires { place < length self.old }
-        ensures { OnOk result (self.new ≡ set self.old place (get_or self.old place [] ++ watcher ∷ [])) }
+        ensures { OnOk result
+            (self.new ≡ set self.old place (get_or self.old place [] ++ watcher ∷ [])) }
     {
         self.lists[place].push(watcher)?;
         Ok(())

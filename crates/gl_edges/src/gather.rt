@@ -40,7 +40,10 @@ impl Gatherer {
         mode: LockMode,
         loc: LocId,
     ) -> Result<(), Memory>
-        ensures { OnOk result ((pairs : List (Edge × Sample)) → Gathers pairs tracker.now.place self.old → Gathers (pairs ++ map (pair_for tracker.now wanted mode loc) tracker.now.held) (tracker.now.place + 1) self.new) }
+        ensures { OnOk result
+            ((pairs : List (Edge × Sample)) → Gathers pairs tracker.now.place self.old
+            → Gathers (pairs ++ map (pair_for tracker.now wanted mode loc) tracker.now.held)
+            (tracker.now.place + 1) self.new) }
     {
         if self.seen.note(alloc, tracker, wanted, mode)? {
             return Ok(());
@@ -58,7 +61,10 @@ impl Gatherer {
         mode: LockMode,
         loc: LocId,
     ) -> Result<(), Memory>
-        ensures table { OnOk result ((pairs : List (Edge × Sample)) → IsTableOf self.old.table pairs → IsTableOf self.new.table (pairs ++ map (pair_for tracker.now wanted mode loc) tracker.now.held)) }
+        ensures table { OnOk result
+            ((pairs : List (Edge × Sample)) → IsTableOf self.old.table pairs
+            → IsTableOf self.new.table
+            (pairs ++ map (pair_for tracker.now wanted mode loc) tracker.now.held)) }
         ensures seen { OnOk result (self.new.seen ≡ self.old.seen) }
     {
         let entries = tracker.held.entries();
@@ -83,7 +89,10 @@ impl Gatherer {
 
     // Puts in the edges that the next event of the thread makes.
     fn add_edges(&mut self, alloc: Global, tracker: &Tracker, event: &Event) -> Result<(), Memory>
-        ensures { OnOk result ((thread : ℕ) (es : List Event) (pairs : List (Edge × Sample)) → Tracks thread es tracker.now → Gathers pairs (length es) self.old → Gathers (pairs ++ edges_after thread es event.now) (length es + 1) self.new) }
+        ensures { OnOk result
+            ((thread : ℕ) (es : List Event) (pairs : List (Edge × Sample))
+            → Tracks thread es tracker.now → Gathers pairs (length es) self.old
+            → Gathers (pairs ++ edges_after thread es event.now) (length es + 1) self.new) }
     {
         let Event::Acquire { lock, mode, loc } = *event else {
             return Ok(());
@@ -97,8 +106,13 @@ impl Gatherer {
     // Takes the next event of the thread.
     fn take(&mut self, alloc: Global, tracker: &mut Tracker, event: Event) -> Result<(), Memory>
         requires { MayFollow tracker.old event }
-        ensures gathers { OnOk result ((thread : ℕ) (es : List Event) (pairs : List (Edge × Sample)) → Tracks thread es tracker.old → Gathers pairs (length es) self.old → Gathers (pairs ++ edges_after thread es event) (length es + 1) self.new) }
-        ensures follows { OnOk result ((thread : ℕ) (es : List Event) → Tracks thread es tracker.old → Tracks thread (es ++ event ∷ []) tracker.new) }
+        ensures gathers { OnOk result
+            ((thread : ℕ) (es : List Event) (pairs : List (Edge × Sample))
+            → Tracks thread es tracker.old → Gathers pairs (length es) self.old
+            → Gathers (pairs ++ edges_after thread es event) (length es + 1) self.new) }
+        ensures follows { OnOk result
+            ((thread : ℕ) (es : List Event) → Tracks thread es tracker.old
+            → Tracks thread (es ++ event ∷ []) tracker.new) }
     {
         self.add_edges(alloc, tracker, &event)?;
         tracker.advance(event);
@@ -108,7 +122,9 @@ impl Gatherer {
     // Takes the events of a whole list.
     fn take_list(&mut self, alloc: Global, thread: ThreadId, list: &[Event]) -> Result<(), Memory>
         requires { IsLawful greatest thread list.now }
-        ensures { OnOk result ((pairs : List (Edge × Sample)) → IsTableOf self.old.table pairs → IsTableOf self.new.table (pairs ++ edges_of_list thread list.now)) }
+        ensures { OnOk result
+            ((pairs : List (Edge × Sample)) → IsTableOf self.old.table pairs
+            → IsTableOf self.new.table (pairs ++ edges_of_list thread list.now)) }
     {
         self.seen.clear();
         let mut tracker = Tracker::new(thread);
@@ -127,7 +143,8 @@ impl Gatherer {
 /// one look-up. An acquire that makes no new edge takes no memory.
 pub fn edges_of(alloc: Global, lists: &[Vec<Event>]) -> Result<EdgeList, Memory>
     requires few { length lists.now ≤ 1024 }
-    requires lawful { (thread : ℕ) (es : List Event) → slice_get (map (λ v. v.items) lists.now) thread ≡ Some es → IsLawful greatest thread es }
+    requires lawful { (thread : ℕ) (es : List Event)
+        → slice_get (map (λ v. v.items) lists.now) thread ≡ Some es → IsLawful greatest thread es }
     ensures { IfOk result (λ l. l ≡ edges (map (λ v. v.items) lists.now)) }
 {
     let mut gatherer = Gatherer {

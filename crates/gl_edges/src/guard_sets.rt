@@ -59,7 +59,8 @@ impl GuardSets {
     pub fn clash(&self, a: usize, b: usize) -> bool
         requires one { a < length self.now.sets }
         requires other { b < length self.now.sets }
-        ensures { (guards others : List Guard) → slice_get self.now.sets a ≡ Some guards → slice_get self.now.sets b ≡ Some others → result ≡ guards_clash guards others }
+        ensures { (guards others : List Guard) → slice_get self.now.sets a ≡ Some guards
+            → slice_get self.now.sets b ≡ Some others → result ≡ guards_clash guards others }
     {
         self.sets[a].clash_with(&self.sets[b])
     }

@@ -38,7 +38,8 @@ pub fn samples_are_ordered_by_their_fields()
 /// acquires the wanted lock, which it doesn't hold, while it holds the held one, in these modes and
 /// segments and with these guards. A try acquire wants nothing and makes no edge.
 pub fn edges_are_those_made()
-    ensures { (lists : List (List Event)) (edge : Edge) → Contains (map (λ pair. pair.0) (edges lists)) edge ↔ IsMade lists edge }
+    ensures { (lists : List (List Event)) (edge : Edge)
+        → Contains (map (λ pair. pair.0) (edges lists)) edge ↔ IsMade lists edge }
 {}
 
 /// Each edge stands once in the list of edges, above the one before it.
@@ -49,13 +50,15 @@ pub fn edges_ascend()
 /// An edge stands in the list of edges with a sample exactly if its thread makes it at the place of
 /// the sample and at no earlier place, and the two locations are those of the acquires.
 pub fn samples_are_of_the_first_place()
-    ensures { (lists : List (List Event)) (edge : Edge) (sample : Sample) → Contains (edges lists) (edge, sample) ↔ IsMadeFirst lists edge sample }
+    ensures { (lists : List (List Event)) (edge : Edge) (sample : Sample)
+        → Contains (edges lists) (edge, sample) ↔ IsMadeFirst lists edge sample }
 {}
 
 /// Which edges there are, and with which samples, follows from the pairs, in whatever order and
 /// however often they come; and two lists that are merged make the list of all pairs.
 pub fn once_needs_no_order()
-    ensures order { (xs ys : List (Edge × Sample)) → AreAmong xs ys → AreAmong ys xs → once xs ≡ once ys }
+    ensures order { (xs ys : List (Edge × Sample)) → AreAmong xs ys → AreAmong ys xs
+        → once xs ≡ once ys }
     ensures merged { (xs ys : List (Edge × Sample)) → once (once xs ++ once ys) ≡ once (xs ++ ys) }
 {}
 
@@ -65,15 +68,24 @@ pub fn once_needs_no_order()
 /// least sample.
 pub fn edges_come_step_by_step()
     ensures none { (thread : ℕ) → edges_of_list thread [] ≡ [] }
-    ensures more { (thread : ℕ) (es : List Event) (e : Event) → edges_of_list thread (es ++ e ∷ []) ≡ edges_of_list thread es ++ edges_at thread (es ++ e ∷ []) (length es) }
-    ensures front { (thread : ℕ) (front rest : List Event) (place : ℕ) → place < length front → edges_at thread (front ++ rest) place ≡ edges_at thread front place }
-    ensures all { (lists : List (List Event)) → edges lists ≡ once (flat_map (λ numbered. edges_of_list numbered.0 numbered.1) (enumerate_from 0 lists)) }
+    ensures more { (thread : ℕ) (es : List Event) (e : Event)
+        → edges_of_list thread (es ++ e ∷ [])
+        ≡ edges_of_list thread es ++ edges_at thread (es ++ e ∷ []) (length es) }
+    ensures front { (thread : ℕ) (front rest : List Event) (place : ℕ) → place < length front
+        → edges_at thread (front ++ rest) place ≡ edges_at thread front place }
+    ensures all { (lists : List (List Event))
+        → edges lists
+        ≡ once (flat_map (λ numbered. edges_of_list numbered.0 numbered.1)
+        (enumerate_from 0 lists)) }
 {}
 
 /// The guards of an edge are the locks that are held, each in the mode of the acquire that opened
 /// it, and these are the locks of positive depth, ascending.
 pub fn held_locks_are_those_of_positive_depth()
-    ensures guards { (es : List Event) (guard : Guard) → Contains (guards es) guard ↔ (0 < events.depth es guard.lock) × (guard.mode ≡ events.held_mode es guard.lock) }
-    ensures members { (es : List Event) (lock : ℕ) → Contains (events.held es) lock ↔ (0 < events.depth es lock) }
+    ensures guards { (es : List Event) (guard : Guard)
+        → Contains (guards es) guard ↔ (0 < events.depth es guard.lock)
+        × (guard.mode ≡ events.held_mode es guard.lock) }
+    ensures members { (es : List Event) (lock : ℕ)
+        → Contains (events.held es) lock ↔ (0 < events.depth es lock) }
     ensures ascending { (es : List Event) → IsStrictlySortedBy nat_cmp (events.held es) }
 {}

@@ -35,7 +35,9 @@ impl Numberer {
 
     /// Gives the next position the number of this guard set, which is a new one where it has none.
     pub(crate) fn add(&mut self, alloc: Global, guards: &Guards) -> Result<(), Memory>
-        ensures { OnOk result ((all : List (List Guard)) → IsNumbering all self.old → IsNumbering (all ++ guards.now ∷ []) self.new) }
+        ensures { OnOk result
+            ((all : List (List Guard)) → IsNumbering all self.old
+            → IsNumbering (all ++ guards.now ∷ []) self.new) }
     {
         match self.numbers.get(guards).copied() {
             Some(number) => self.add_known(number),
@@ -45,7 +47,10 @@ impl Numberer {
 
     // Gives the next position this number.
     fn add_known(&mut self, number: usize) -> Result<(), Memory>
-        ensures { OnOk result ((all : List (List Guard)) (guards : List Guard) → IsNumbering all self.old → slice_get self.old.sets.items number ≡ Some guards → IsNumbering (all ++ guards ∷ []) self.new) }
+        ensures { OnOk result
+            ((all : List (List Guard)) (guards : List Guard) → IsNumbering all self.old
+            → slice_get self.old.sets.items number ≡ Some guards
+            → IsNumbering (all ++ guards ∷ []) self.new) }
     {
         self.ids.push(number)?;
         Ok(())
@@ -53,7 +58,10 @@ impl Numberer {
 
     // Gives the next position a new number.
     fn add_new(&mut self, alloc: Global, guards: &Guards) -> Result<(), Memory>
-        ensures { OnOk result ((all : List (List Guard)) → IsNumbering all self.old → tree.get (slice_cmp guard_cmp) self.old.numbers guards.now ≡ None → IsNumbering (all ++ guards.now ∷ []) self.new) }
+        ensures { OnOk result
+            ((all : List (List Guard)) → IsNumbering all self.old
+            → tree.get (slice_cmp guard_cmp) self.old.numbers guards.now ≡ None
+            → IsNumbering (all ++ guards.now ∷ []) self.new) }
     {
         let number = self.sets.len();
         let key = guards.copy(alloc)?;

@@ -59,7 +59,8 @@ impl Nesting {
         ensures wanted { OnOk result (self.new.wanted ≡ wanted) }
         ensures mode { OnOk result (self.new.mode ≡ mode) }
         ensures second { OnOk result (self.new.second ≡ tracker.now.segment) }
-        ensures held { OnOk result (IsPermutation (map opened_of tracker.now.held) self.new.held.items) }
+        ensures held { OnOk result
+            (IsPermutation (map opened_of tracker.now.held) self.new.held.items) }
     {
         self.thread = tracker.thread;
         self.wanted = wanted;
@@ -143,8 +144,12 @@ impl Seen {
         wanted: LockId,
         mode: LockMode,
     ) -> Result<bool, Memory>
-        ensures known { IfOk result (λ known. IsTrue known → (edge : Edge) → Contains (edges_now tracker.now wanted mode) edge → Contains self.old edge) }
-        ensures noted { OnOk result ((edge : Edge) → Contains self.new edge → Contains self.old edge ⊎ Contains (edges_now tracker.now wanted mode) edge) }
+        ensures known { IfOk result
+            (λ known. IsTrue known → (edge : Edge)
+            → Contains (edges_now tracker.now wanted mode) edge → Contains self.old edge) }
+        ensures noted { OnOk result
+            ((edge : Edge) → Contains self.new edge
+            → Contains self.old edge ⊎ Contains (edges_now tracker.now wanted mode) edge) }
     {
         if tracker.held.entries().len() < MANY_HELD {
             return Ok(false);

@@ -86,7 +86,8 @@ impl Table {
     /// The edge's sample, if the table has the edge. It takes time logarithmic in the number of
     /// edges.
     pub fn get(&self, edge: &Edge) -> Option<Sample>
-        ensures { (sample : Sample) → (result ≡ Some sample) ↔ Contains self.now (edge.now, sample) }
+        ensures { (sample : Sample)
+            → (result ≡ Some sample) ↔ Contains self.now (edge.now, sample) }
     {
         self.edges.get(edge).copied()
     }
@@ -124,7 +125,8 @@ impl Table {
 
 // Whether the edges have this one with a sample that is not above this one.
 fn has_seen(edges: &BTreeMap<Edge, Sample>, edge: &Edge, sample: &Sample) -> bool
-    ensures { result ≡ option_map_or (λ known. is_le (sample_cmp known sample.now)) (tree.get edge_cmp edges.now edge.now) false }
+    ensures { result ≡ option_map_or (λ known. is_le (sample_cmp known sample.now))
+        (tree.get edge_cmp edges.now edge.now) false }
 {
     match edges.get(edge) {
         Some(known) => known <= sample,

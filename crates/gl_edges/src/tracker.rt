@@ -43,11 +43,15 @@ impl Tracker {
     /// An acquire takes a step for each pair of locks that are held.
     pub fn step(&mut self, alloc: Global, event: Event) -> Result<Vec<(Edge, Sample)>, Memory>
         requires { MayFollow self.old event }
-        ensures edges { (thread : ℕ) (es : List Event) → Tracks thread es self.old → IfOk result (λ v. v.items ≡ edges_at thread (es ++ event ∷ []) (length es)) }
+        ensures edges { (thread : ℕ) (es : List Event) → Tracks thread es self.old
+            → IfOk result (λ v. v.items ≡ edges_at thread (es ++ event ∷ []) (length es)) }
         ensures ascending { IfOk result (λ v. AreAscending v.items) }
-        ensures follows { OnOk result ((thread : ℕ) (es : List Event) → Tracks thread es self.old → Tracks thread (es ++ event ∷ []) self.new) }
+        ensures follows { OnOk result
+            ((thread : ℕ) (es : List Event) → Tracks thread es self.old
+            → Tracks thread (es ++ event ∷ []) self.new) }
         ensures unchanged { OnErr result (self.new ≡ self.old) }
-        ensures room { (thread : ℕ) (es : List Event) → Tracks thread es self.old → OnErr result (edges_at thread (es ++ event ∷ []) (length es) ≢ []) }
+        ensures room { (thread : ℕ) (es : List Event) → Tracks thread es self.old
+            → OnErr result (edges_at thread (es ++ event ∷ []) (length es) ≢ []) }
     {
         let edges = self.next_edges(alloc, &event)?;
         self.advance(event);
@@ -57,8 +61,10 @@ impl Tracker {
     /// The edges that the event would make as the next one, ascending: what `step` answers. It isn't
     /// taken. Where it makes none no memory is taken.
     pub fn next_edges(&self, alloc: Global, event: &Event) -> Result<Vec<(Edge, Sample)>, Memory>
-        ensures edges { (thread : ℕ) (es : List Event) → Tracks thread es self.now → IfOk result (λ v. v.items ≡ edges_after thread es event.now) }
-        ensures room { (thread : ℕ) (es : List Event) → Tracks thread es self.now → OnErr result (edges_after thread es event.now ≢ []) }
+        ensures edges { (thread : ℕ) (es : List Event) → Tracks thread es self.now
+            → IfOk result (λ v. v.items ≡ edges_after thread es event.now) }
+        ensures room { (thread : ℕ) (es : List Event) → Tracks thread es self.now
+            → OnErr result (edges_after thread es event.now ≢ []) }
     {
         let Event::Acquire { lock, mode, loc } = *event else {
             return Ok(Vec::new(alloc));
@@ -77,7 +83,9 @@ impl Tracker {
         mode: LockMode,
         loc: LocId,
     ) -> Result<Vec<(Edge, Sample)>, Memory>
-        ensures edges { (thread : ℕ) (es : List Event) → Tracks thread es self.now → IfOk result (λ v. v.items ≡ map (pair_at thread es wanted mode loc) (events.held es)) }
+        ensures edges { (thread : ℕ) (es : List Event) → Tracks thread es self.now
+            → IfOk result
+            (λ v. v.items ≡ map (pair_at thread es wanted mode loc) (events.held es)) }
         ensures room { OnErr result (self.now.held ≢ []) }
     {
         let entries = self.held.entries();
@@ -114,7 +122,8 @@ impl Tracker {
     /// It takes no memory.
     pub fn advance(&mut self, event: Event)
         requires { MayFollow self.old event }
-        ensures { (thread : ℕ) (es : List Event) → Tracks thread es self.old → Tracks thread (es ++ event ∷ []) self.new }
+        ensures { (thread : ℕ) (es : List Event) → Tracks thread es self.old
+            → Tracks thread (es ++ event ∷ []) self.new }
     {
         let place = self.place;
         self.place = place + 1;

@@ -51,7 +51,8 @@ impl Collector {
     /// lock is acquired beside others takes a step for each pair of them.
     pub fn pull(&mut self, thread: ThreadId) -> Result<Pulled, PullFault>
         requires known { thread < self.old.limits.threads }
-        ensures tells { (row : Pulling) → slice_get self.old.rows thread ≡ Some row → IsPull self.old thread row result self.new }
+        ensures tells { (row : Pulling) → slice_get self.old.rows thread ≡ Some row
+            → IsPull self.old thread row result self.new }
         ensures session { self.new.session ≡ self.old.session }
         ensures limits { self.new.limits ≡ self.old.limits }
         ensures lanes { lanes_of self.new ≡ lanes_of self.old }
@@ -82,8 +83,11 @@ impl Collector {
     ///
     /// Err where a segment of the lists is before itself, and where memory was refused.
     pub fn report_so_far(&self, query: &Query) -> Result<Report, ReportFault>
-        ensures report { IfOk result (λ report. IsGoodlockReport query.now (logs_of self.now.limits.threads self.now.stream) report) }
-        ensures fault { IfErr result (λ fault. IsReportFault (logs_of self.now.limits.threads self.now.stream) fault) }
+        ensures report { IfOk result
+            (λ report. IsGoodlockReport query.now
+            (logs_of self.now.limits.threads self.now.stream) report) }
+        ensures fault { IfErr result
+            (λ fault. IsReportFault (logs_of self.now.limits.threads self.now.stream) fault) }
     {
         report_of_all(self.alloc, &self.intake, query)
     }

@@ -34,7 +34,11 @@ fn ship_one<R: Wait>(
 ) -> Result<(), u32>
     requires some { 1 ≤ length outlets.old.items }
     requires fit { length outlets.old.items ≤ MAX_SHARDS }
-    ensures shipped { (before : List (Edge × Sample)) → map (λ o. o.sent) outlets.old.items ≡ dealt (length outlets.old.items) before → OnOk result (map (λ o. o.sent) outlets.new.items ≡ dealt (length outlets.old.items) (before ++ (edge, sample) ∷ [])) }
+    ensures shipped { (before : List (Edge × Sample))
+        → map (λ o. o.sent) outlets.old.items ≡ dealt (length outlets.old.items) before
+        → OnOk result
+        (map (λ o. o.sent) outlets.new.items
+        ≡ dealt (length outlets.old.items) (before ++ (edge, sample) ∷ [])) }
     ensures feeds { map (λ o. o.feed) outlets.new.items ≡ map (λ o. o.feed) outlets.old.items }
     ensures gone { IfErr result (λ shard. shard < length outlets.old.items) }
 {
@@ -53,7 +57,11 @@ fn ship<R: Wait>(
 ) -> Result<(), RunFault>
     requires some { 1 ≤ length outlets.old.items }
     requires fit { length outlets.old.items ≤ MAX_SHARDS }
-    ensures shipped { (before : List (Edge × Sample)) → map (λ o. o.sent) outlets.old.items ≡ dealt (length outlets.old.items) before → OnOk result (map (λ o. o.sent) outlets.new.items ≡ dealt (length outlets.old.items) (before ++ made.items)) }
+    ensures shipped { (before : List (Edge × Sample))
+        → map (λ o. o.sent) outlets.old.items ≡ dealt (length outlets.old.items) before
+        → OnOk result
+        (map (λ o. o.sent) outlets.new.items
+        ≡ dealt (length outlets.old.items) (before ++ made.items)) }
     ensures feeds { map (λ o. o.feed) outlets.new.items ≡ map (λ o. o.feed) outlets.old.items }
     ensures gone { IfErr result IsGone }
 {
@@ -87,8 +95,10 @@ fn pull_at(
 ) -> Result<bool, RunFault>
     requires known { thread < intake.old.limits.threads }
     requires none { made.old.items ≡ [] }
-    requires keeps { IsCollector intake.old.limits rows.old.items intake.old.stream (made_by intake.old.stream) intake.old.limits }
-    ensures keeps { IsCollector intake.old.limits rows.new.items intake.new.stream (made_by intake.new.stream) intake.old.limits }
+    requires keeps { IsCollector intake.old.limits rows.old.items intake.old.stream
+        (made_by intake.old.stream) intake.old.limits }
+    ensures keeps { IsCollector intake.old.limits rows.new.items intake.new.stream
+        (made_by intake.new.stream) intake.old.limits }
     ensures made { made_by intake.old.stream ++ made.new.items ≡ made_by intake.new.stream }
     ensures limits { intake.new.limits ≡ intake.old.limits }
     ensures lanes { map lane_of rows.new.items ≡ map lane_of rows.old.items }
@@ -111,9 +121,12 @@ fn pull_some(
 ) -> Result<bool, RunFault>
     requires known { thread < intake.old.limits.threads }
     requires none { made.old.items ≡ [] }
-    requires keeps { IsCollector intake.old.limits rows.old.items intake.old.stream (made_by intake.old.stream) intake.old.limits }
-    ensures keeps { IsCollector intake.old.limits rows.new.items intake.new.stream (made_by intake.new.stream) intake.old.limits }
-    ensures made { OnOk result (made_by intake.old.stream ++ made.new.items ≡ made_by intake.new.stream) }
+    requires keeps { IsCollector intake.old.limits rows.old.items intake.old.stream
+        (made_by intake.old.stream) intake.old.limits }
+    ensures keeps { IsCollector intake.old.limits rows.new.items intake.new.stream
+        (made_by intake.new.stream) intake.old.limits }
+    ensures made { OnOk result
+        (made_by intake.old.stream ++ made.new.items ≡ made_by intake.new.stream) }
     ensures limits { intake.new.limits ≡ intake.old.limits }
     ensures lanes { map lane_of rows.new.items ≡ map lane_of rows.old.items }
     ensures grown { IsPrefix intake.old.stream intake.new.stream }
@@ -147,7 +160,8 @@ fn turn<R: Wait>(
     requires some { 1 ≤ length outlets.old.items }
     requires fit { length outlets.old.items ≤ MAX_SHARDS }
     requires keeps { KeepsUp intake.old.limits rows.old.items intake.old.stream outlets.old.items }
-    ensures keeps { OnOk result (KeepsUp intake.old.limits rows.new.items intake.new.stream outlets.new.items) }
+    ensures keeps { OnOk result
+        (KeepsUp intake.old.limits rows.new.items intake.new.stream outlets.new.items) }
     ensures limits { intake.new.limits ≡ intake.old.limits }
     ensures lanes { map lane_of rows.new.items ≡ map lane_of rows.old.items }
     ensures feeds { map (λ o. o.feed) outlets.new.items ≡ map (λ o. o.feed) outlets.old.items }
@@ -173,7 +187,8 @@ fn round<R: Wait>(
     requires some { 1 ≤ length outlets.old.items }
     requires fit { length outlets.old.items ≤ MAX_SHARDS }
     requires keeps { KeepsUp intake.old.limits rows.old.items intake.old.stream outlets.old.items }
-    ensures keeps { OnOk result (KeepsUp intake.old.limits rows.new.items intake.new.stream outlets.new.items) }
+    ensures keeps { OnOk result
+        (KeepsUp intake.old.limits rows.new.items intake.new.stream outlets.new.items) }
     ensures limits { intake.new.limits ≡ intake.old.limits }
     ensures lanes { map lane_of rows.new.items ≡ map lane_of rows.old.items }
     ensures feeds { map (λ o. o.feed) outlets.new.items ≡ map (λ o. o.feed) outlets.old.items }
@@ -203,9 +218,13 @@ fn gather<R: Wait>(
     requires some { 1 ≤ length outlets.old.items }
     requires fit { length outlets.old.items ≤ MAX_SHARDS }
     requires unsent { map (λ o. o.sent) outlets.old.items ≡ dealt (length outlets.old.items) [] }
-    requires collector { IsCollector intake.old.limits rows.old.items intake.old.stream made.items intake.old.limits }
-    ensures keeps { OnOk result (KeepsUp intake.old.limits rows.new.items intake.new.stream outlets.new.items) }
-    ensures ended { OnOk result ((thread : ℕ) → thread < intake.old.limits.threads → has_ended thread intake.new.stream ≡ true) }
+    requires collector { IsCollector intake.old.limits rows.old.items intake.old.stream made.items
+        intake.old.limits }
+    ensures keeps { OnOk result
+        (KeepsUp intake.old.limits rows.new.items intake.new.stream outlets.new.items) }
+    ensures ended { OnOk result
+        ((thread : ℕ) → thread < intake.old.limits.threads
+        → has_ended thread intake.new.stream ≡ true) }
     ensures limits { intake.new.limits ≡ intake.old.limits }
     ensures lanes { map lane_of rows.new.items ≡ map lane_of rows.old.items }
     ensures feeds { map (λ o. o.feed) outlets.new.items ≡ map (λ o. o.feed) outlets.old.items }
@@ -243,9 +262,13 @@ pub(crate) fn collect_all<R: Wait>(
     requires some { 1 ≤ length outlets.old.items }
     requires fit { length outlets.old.items ≤ MAX_SHARDS }
     requires unsent { map (λ o. o.sent) outlets.old.items ≡ dealt (length outlets.old.items) [] }
-    requires collector { IsCollector intake.old.limits rows.old.items intake.old.stream made.items intake.old.limits }
-    ensures keeps { OnOk result (KeepsUp intake.old.limits rows.new.items intake.new.stream outlets.new.items) }
-    ensures ended { OnOk result ((thread : ℕ) → thread < intake.old.limits.threads → has_ended thread intake.new.stream ≡ true) }
+    requires collector { IsCollector intake.old.limits rows.old.items intake.old.stream made.items
+        intake.old.limits }
+    ensures keeps { OnOk result
+        (KeepsUp intake.old.limits rows.new.items intake.new.stream outlets.new.items) }
+    ensures ended { OnOk result
+        ((thread : ℕ) → thread < intake.old.limits.threads
+        → has_ended thread intake.new.stream ≡ true) }
     ensures limits { intake.new.limits ≡ intake.old.limits }
     ensures lanes { map lane_of rows.new.items ≡ map lane_of rows.old.items }
     ensures feeds { map (λ o. o.feed) outlets.new.items ≡ map (λ o. o.feed) outlets.old.items }

@@ -61,7 +61,15 @@ impl Recorder {
     pub(crate) fn new(session: u64, thread: ThreadId, limits: &Limits, lane: LaneIn) -> Recorder
         requires known { thread < limits.now.threads }
         requires empty { lane.pushed ≡ [] }
-        ensures fresh { result ≡ record { session = session; thread = thread; limits = limits.now; lane = lane.lane; pushed = []; room = lane.room } }
+        ensures fresh { result ≡ record {
+          session = session;
+          thread = thread;
+          limits = limits.now;
+          lane = lane.lane;
+          pushed =
+              [];
+          room = lane.room;
+        } }
     {
         Recorder {
             session,
@@ -93,12 +101,16 @@ impl Recorder {
     /// It waits for nobody and takes no memory. It looks through the at most 64 locks that the thread
     /// holds.
     pub fn record(&mut self, event: Event) -> Result<u32, RecordFault>
-        ensures lawful { OnOk result (refusal self.old.limits self.old.thread (recorded self.old) event ≡ None) }
+        ensures lawful { OnOk result
+            (refusal self.old.limits self.old.thread (recorded self.old) event ≡ None) }
         ensures place { IfOk result (λ place. place ≡ length (recorded self.old)) }
-        ensures pushed { OnOk result (self.new ≡ with_pushed self.old (next_note self.old event) self.new.room) }
+        ensures pushed { OnOk result
+            (self.new ≡ with_pushed self.old (next_note self.old event) self.new.room) }
         ensures room { OnOk result (self.old.room ≤ self.new.room + 1) }
         ensures fault { IfErr result (λ fault. IsNotRecorded self.old event fault self.new) }
-        ensures succeeds { 0 < self.old.room → refusal self.old.limits self.old.thread (recorded self.old) event ≡ None → IsOk result }
+        ensures succeeds { 0 < self.old.room
+            → refusal self.old.limits self.old.thread (recorded self.old) event ≡ None
+            → IsOk result }
     {
         self.try_record(&event)
     }
@@ -109,10 +121,13 @@ impl Recorder {
     /// While the lane is full it spins or sleeps for a moment and tries again, so that it returns only if the
     /// collector pulls. It takes no memory.
     pub fn record_wait<R: Wait>(&mut self, rt: &R, event: Event) -> Result<u32, Refusal>
-        ensures lawful { OnOk result (refusal self.old.limits self.old.thread (recorded self.old) event ≡ None) }
+        ensures lawful { OnOk result
+            (refusal self.old.limits self.old.thread (recorded self.old) event ≡ None) }
         ensures place { IfOk result (λ place. place ≡ length (recorded self.old)) }
-        ensures pushed { OnOk result (self.new ≡ with_pushed self.old (next_note self.old event) self.new.room) }
-        ensures refused { IfErr result (λ why. refusal self.old.limits self.old.thread (recorded self.old) event ≡ Some why) }
+        ensures pushed { OnOk result
+            (self.new ≡ with_pushed self.old (next_note self.old event) self.new.room) }
+        ensures refused { IfErr result
+            (λ why. refusal self.old.limits self.old.thread (recorded self.old) event ≡ Some why) }
         ensures unchanged { OnErr result (self.new ≡ record self.old { room = self.new.room }) }
     {
         let mut looks: u32 = 0;
@@ -165,12 +180,16 @@ impl Recorder {
 
     // Records the event, where it may come next and there is room for it.
     fn try_record(&mut self, event: &Event) -> Result<u32, RecordFault>
-        ensures lawful { OnOk result (refusal self.old.limits self.old.thread (recorded self.old) event.now ≡ None) }
+        ensures lawful { OnOk result
+            (refusal self.old.limits self.old.thread (recorded self.old) event.now ≡ None) }
         ensures place { IfOk result (λ place. place ≡ length (recorded self.old)) }
-        ensures pushed { OnOk result (self.new ≡ with_pushed self.old (next_note self.old event.now) self.new.room) }
+        ensures pushed { OnOk result
+            (self.new ≡ with_pushed self.old (next_note self.old event.now) self.new.room) }
         ensures room { OnOk result (self.old.room ≤ self.new.room + 1) }
         ensures fault { IfErr result (λ fault. IsNotRecorded self.old event.now fault self.new) }
-        ensures succeeds { 0 < self.old.room → refusal self.old.limits self.old.thread (recorded self.old) event.now ≡ None → IsOk result }
+        ensures succeeds { 0 < self.old.room
+            → refusal self.old.limits self.old.thread (recorded self.old) event.now ≡ None
+            → IsOk result }
     {
         match self.taker.check(*event) {
             Ok(note) => self.push(event, &note),
@@ -180,12 +199,14 @@ impl Recorder {
 
     // Pushes the event's note, where there is room for it. The event may come next.
     fn push(&mut self, event: &Event, note: &Note) -> Result<u32, RecordFault>
-        requires lawful { refusal self.old.limits self.old.thread (recorded self.old) event.now ≡ None }
+        requires lawful { refusal self.old.limits self.old.thread (recorded self.old) event.now
+            ≡ None }
         requires its_note { note.now ≡ next_note self.old event.now }
         ensures place { IfOk result (λ place. place ≡ length (recorded self.old)) }
         ensures pushed { OnOk result (self.new ≡ with_pushed self.old note.now self.new.room) }
         ensures room { OnOk result (self.old.room ≤ self.new.room + 1) }
-        ensures full { IfErr result (λ fault. (fault ≡ Full event.now) × (self.new ≡ seen_full self.old)) }
+        ensures full { IfErr result
+            (λ fault. (fault ≡ Full event.now) × (self.new ≡ seen_full self.old)) }
         ensures succeeds { 0 < self.old.room → IsOk result }
     {
         let Ok(()) = self.lane.push(*note) else {

@@ -15,8 +15,11 @@ pub(crate) fn report_of_all(
     intake: &Intake,
     query: &Query,
 ) -> Result<Report, ReportFault>
-    ensures report { IfOk result (λ report. IsGoodlockReport query.now (logs_of intake.now.limits.threads intake.now.stream) report) }
-    ensures fault { IfErr result (λ fault. IsReportFault (logs_of intake.now.limits.threads intake.now.stream) fault) }
+    ensures report { IfOk result
+        (λ report. IsGoodlockReport query.now
+        (logs_of intake.now.limits.threads intake.now.stream) report) }
+    ensures fault { IfErr result
+        (λ fault. IsReportFault (logs_of intake.now.limits.threads intake.now.stream) fault) }
 {
     let logs = intake.logs();
     let edges = edges_of(alloc, logs)?;

@@ -39,7 +39,9 @@ fn pulled(accepted: &Accepted) -> Pulled
 
 // The edges that the body makes, whose note is the thread's next one, ascending.
 fn due(alloc: Global, tracker: &Tracker, body: &Body) -> Result<Vec<(Edge, Sample)>, Memory>
-    ensures { (thread : ℕ) (es : List Event) → Follows thread es tracker.now → IfOk result (λ edges. edges.items ≡ edges_due thread (with_body es body.now) (length es) body.now) }
+    ensures { (thread : ℕ) (es : List Event) → Follows thread es tracker.now
+        → IfOk result
+        (λ edges. edges.items ≡ edges_due thread (with_body es body.now) (length es) body.now) }
 {
     match *body {
         Body::Happened(event) => tracker.next_edges(alloc, &event),
@@ -50,7 +52,8 @@ fn due(alloc: Global, tracker: &Tracker, body: &Body) -> Result<Vec<(Edge, Sampl
 // Takes the event of the body, if it has one.
 fn follow(tracker: &mut Tracker, body: &Body)
     requires { MayTake tracker.old body.now }
-    ensures { (thread : ℕ) (es : List Event) → Follows thread es tracker.old → Follows thread (with_body es body.now) tracker.new }
+    ensures { (thread : ℕ) (es : List Event) → Follows thread es tracker.old
+        → Follows thread (with_body es body.now) tracker.new }
 {
     match *body {
         Body::Happened(event) => tracker.advance(event),
@@ -67,11 +70,17 @@ fn prepare(
     made: &mut Vec<(Edge, Sample)>,
     note: &Note,
 ) -> Result<(), Refused>
-    requires follows { Follows note.now.thread (events_of note.now.thread intake.old.stream) tracker.now }
+    requires follows { Follows note.now.thread
+        (events_of note.now.thread intake.old.stream) tracker.now }
     ensures next { OnOk result (note_refusal intake.old.limits intake.old.stream note.now ≡ None) }
     ensures reserved { OnOk result (1 ≤ spare_of intake.new note.now.thread) }
-    ensures grown { OnOk result (made.new.items ≡ made.old.items ++ edges_due note.now.thread (events_of note.now.thread (intake.old.stream ++ note.now ∷ [])) note.now.place note.now.body) }
-    ensures refused { IfErr result (λ why. IsRefusedFor intake.old.limits intake.old.stream note.now why) }
+    ensures grown { OnOk result
+        (made.new.items
+        ≡ made.old.items ++ edges_due note.now.thread
+        (events_of note.now.thread
+        (intake.old.stream ++ note.now ∷ [])) note.now.place note.now.body) }
+    ensures refused { IfErr result
+        (λ why. IsRefusedFor intake.old.limits intake.old.stream note.now why) }
     ensures unchanged { OnErr result (made.new.items ≡ made.old.items) }
     ensures limits { intake.new.limits ≡ intake.old.limits }
     ensures stream { intake.new.stream ≡ intake.old.stream }
@@ -89,10 +98,12 @@ fn accept(lane: &mut LaneOut, tracker: &mut Tracker, intake: &mut Intake, note: 
     requires reserved { 1 ≤ spare_of intake.old note.now.thread }
     requires may { MayTake tracker.old note.now.body }
     ensures lane { lane.new.lane ≡ lane.old.lane }
-    ensures popped { (front : Note) → IsPrefix (front ∷ []) lane.old.left → lane.new.popped ≡ lane.old.popped ++ front ∷ [] }
+    ensures popped { (front : Note) → IsPrefix (front ∷ []) lane.old.left
+        → lane.new.popped ≡ lane.old.popped ++ front ∷ [] }
     ensures stream { intake.new.stream ≡ intake.old.stream ++ note.now ∷ [] }
     ensures limits { intake.new.limits ≡ intake.old.limits }
-    ensures follows { (thread : ℕ) (es : List Event) → Follows thread es tracker.old → Follows thread (with_body es note.now.body) tracker.new }
+    ensures follows { (thread : ℕ) (es : List Event) → Follows thread es tracker.old
+        → Follows thread (with_body es note.now.body) tracker.new }
     ensures answer { result ≡ pulled_of (accepted_as note.now.place note.now.body) }
 {
     lane.pop_known();
@@ -116,10 +127,21 @@ impl Row {
     ) -> Result<Pulled, PullFault>
         requires follows { Follows thread (events_of thread intake.old.stream) self.old.tracker }
         requires range { AreWithinRange intake.old.limits }
-        ensures pull { IsSidePull intake.old.limits thread (record { row = pulling_of self.old; stream = intake.old.stream; made = made.old.items }) result (record { row = pulling_of self.new; stream = intake.new.stream; made = made.new.items }) }
+        ensures pull { IsSidePull intake.old.limits thread
+            (record {
+              row = pulling_of self.old;
+              stream = intake.old.stream;
+              made = made.old.items;
+            }) result
+            (record {
+              row = pulling_of self.new;
+              stream = intake.new.stream;
+              made = made.new.items;
+            }) }
         ensures follows { Follows thread (events_of thread intake.new.stream) self.new.tracker }
         ensures limits { intake.new.limits ≡ intake.old.limits }
-        ensures cause { BreaksForCause intake.old.limits thread intake.old.stream self.old → BreaksForCause intake.old.limits thread intake.new.stream self.new }
+        ensures cause { BreaksForCause intake.old.limits thread intake.old.stream self.old
+            → BreaksForCause intake.old.limits thread intake.new.stream self.new }
     {
         if let Some(refused) = self.broken {
             return Err(PullFault::Broken(refused));

@@ -32,8 +32,10 @@ fn keep(sent: &mut Vec<Sent>, ended: Sent)
 // Ends the outlet, and keeps the feed where its worker is there. Whether it is.
 fn end_one<R: Wait>(rt: &R, outlet: Outlet, sent: &mut Vec<Sent>) -> bool
     requires room { vec_len sent.old < vec_capacity sent.old }
-    ensures feeds { result ≡ true → map (λ s. s.feed) sent.new.items ≡ map (λ s. s.feed) sent.old.items ++ outlet.feed ∷ [] }
-    ensures sent { result ≡ true → map (λ s. s.sent) sent.new.items ≡ map (λ s. s.sent) sent.old.items ++ outlet.sent ∷ [] }
+    ensures feeds { result ≡ true
+        → map (λ s. s.feed) sent.new.items ≡ map (λ s. s.feed) sent.old.items ++ outlet.feed ∷ [] }
+    ensures sent { result ≡ true
+        → map (λ s. s.sent) sent.new.items ≡ map (λ s. s.sent) sent.old.items ++ outlet.sent ∷ [] }
     ensures len { vec_len sent.new ≤ vec_len sent.old + 1 }
     ensures capacity { vec_capacity sent.old ≤ vec_capacity sent.new }
 {
@@ -51,8 +53,10 @@ fn end_all<R: Wait>(rt: &R, outlets: Vec<Outlet>, sent: &mut Vec<Sent>) -> Resul
     requires fit { length outlets.items ≤ MAX_SHARDS }
     requires empty { sent.old.items ≡ [] }
     requires room { vec_len sent.old + length outlets.items ≤ vec_capacity sent.old }
-    ensures feeds { OnOk result (map (λ s. s.feed) sent.new.items ≡ map (λ o. o.feed) outlets.items) }
-    ensures sent { OnOk result (map (λ s. s.sent) sent.new.items ≡ map (λ o. o.sent) outlets.items) }
+    ensures feeds { OnOk result
+        (map (λ s. s.feed) sent.new.items ≡ map (λ o. o.feed) outlets.items) }
+    ensures sent { OnOk result
+        (map (λ s. s.sent) sent.new.items ≡ map (λ o. o.sent) outlets.items) }
 {
     let mut gone = None;
     let mut shard = 0;
@@ -104,15 +108,19 @@ impl Collector {
     pub fn run<R: Wait>(self, rt: &R, outlets: Vec<Outlet>) -> Gathered
         requires some { 1 ≤ length outlets.items }
         requires fit { length outlets.items ≤ MAX_SHARDS }
-        requires unsent { (shard : ℕ) (o : Sending) → slice_get outlets.items shard ≡ Some o → o.sent ≡ [] }
+        requires unsent { (shard : ℕ) (o : Sending) → slice_get outlets.items shard ≡ Some o
+            → o.sent ≡ [] }
         ensures session { result.session ≡ self.session }
         ensures limits { result.limits ≡ self.limits }
         ensures lanes { result.lanes ≡ map (λ row. row.lane) self.rows }
         ensures grown { IsPrefix self.stream result.stream }
-        ensures ended { result.fault ≡ None → (thread : ℕ) → thread < self.limits.threads → has_ended thread result.stream ≡ true }
+        ensures ended { result.fault ≡ None → (thread : ℕ) → thread < self.limits.threads
+            → has_ended thread result.stream ≡ true }
         ensures in_order { result.fault ≡ None → AreInOrder self.limits result.stream }
-        ensures feeds { result.fault ≡ None → map (λ s. s.feed) result.sent ≡ map (λ o. o.feed) outlets.items }
-        ensures shipped { result.fault ≡ None → map (λ s. s.sent) result.sent ≡ dealt (length outlets.items) (made_by result.stream) }
+        ensures feeds { result.fault ≡ None
+            → map (λ s. s.feed) result.sent ≡ map (λ o. o.feed) outlets.items }
+        ensures shipped { result.fault ≡ None
+            → map (λ s. s.sent) result.sent ≡ dealt (length outlets.items) (made_by result.stream) }
     {
         match Vec::with_capacity(self.alloc, outlets.len()) {
             Ok(sent) => self.run_into(rt, outlets, sent),
@@ -124,17 +132,21 @@ impl Collector {
     fn run_into<R: Wait>(self, rt: &R, outlets: Vec<Outlet>, sent: Vec<Sent>) -> Gathered
         requires some { 1 ≤ length outlets.items }
         requires fit { length outlets.items ≤ MAX_SHARDS }
-        requires unsent { (shard : ℕ) (o : Sending) → slice_get outlets.items shard ≡ Some o → o.sent ≡ [] }
+        requires unsent { (shard : ℕ) (o : Sending) → slice_get outlets.items shard ≡ Some o
+            → o.sent ≡ [] }
         requires empty { sent.items ≡ [] }
         requires room { vec_len sent + length outlets.items ≤ vec_capacity sent }
         ensures session { result.session ≡ self.session }
         ensures limits { result.limits ≡ self.limits }
         ensures lanes { result.lanes ≡ map (λ row. row.lane) self.rows }
         ensures grown { IsPrefix self.stream result.stream }
-        ensures ended { result.fault ≡ None → (thread : ℕ) → thread < self.limits.threads → has_ended thread result.stream ≡ true }
+        ensures ended { result.fault ≡ None → (thread : ℕ) → thread < self.limits.threads
+            → has_ended thread result.stream ≡ true }
         ensures in_order { result.fault ≡ None → AreInOrder self.limits result.stream }
-        ensures feeds { result.fault ≡ None → map (λ s. s.feed) result.sent ≡ map (λ o. o.feed) outlets.items }
-        ensures shipped { result.fault ≡ None → map (λ s. s.sent) result.sent ≡ dealt (length outlets.items) (made_by result.stream) }
+        ensures feeds { result.fault ≡ None
+            → map (λ s. s.feed) result.sent ≡ map (λ o. o.feed) outlets.items }
+        ensures shipped { result.fault ≡ None
+            → map (λ s. s.sent) result.sent ≡ dealt (length outlets.items) (made_by result.stream) }
     {
         let Collector {
             alloc,

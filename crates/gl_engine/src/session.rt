@@ -43,7 +43,8 @@ fn open_lanes(
     session: u64,
     limits: &Limits,
 ) -> Result<(Vec<Recorder>, Vec<Row>), Memory>
-    ensures fresh { IfOk result (λ ends. AreFresh session limits.now limits.now.threads ends.0.items ends.1.items) }
+    ensures fresh { IfOk result
+        (λ ends. AreFresh session limits.now limits.now.threads ends.0.items ends.1.items) }
     ensures range { AreWithinRange limits.now }
 {
     let mut recorders = Vec::new(alloc);

@@ -63,7 +63,8 @@ impl Gathered {
         ensures lists { IfOk result (λ settled. settled.0
             ≡ logs_of self.limits.threads self.stream) }
         ensures sent { IfOk result (λ settled. settled.1.items ≡ self.sent) }
-        ensures settled { IfOk result (λ settled. IsSettled receipts.old settled.0 settled.1.items) }
+        ensures settled { IfOk result
+            (λ settled. IsSettled receipts.old settled.0 settled.1.items) }
         ensures whole { OnOk result (self.fault ≡ None) }
         ensures fault { IfErr result (λ fault. IsSettleFault self receipts.old fault) }
         ensures complete { AreComplete self.session self.limits.threads receipts.old
@@ -85,13 +86,15 @@ impl Gathered {
     // Settles what was gathered, where there is one receipt of each thread and no other.
     fn settle_all(self, receipts: &mut [Receipt]) -> Result<(Settled, Vec<Sent>), SettleFault>
         requires ours { AreOurs self receipts.old }
-        requires own { AreOwnBelow self.session self.limits.threads receipts.old (length receipts.old) }
+        requires own { AreOwnBelow self.session self.limits.threads receipts.old
+            (length receipts.old) }
         requires all { AreThereBelow receipts.old self.limits.threads }
         ensures receipts { receipts.new ≡ receipts.old }
         ensures lists { IfOk result (λ settled. settled.0
             ≡ logs_of self.limits.threads self.stream) }
         ensures sent { IfOk result (λ settled. settled.1.items ≡ self.sent) }
-        ensures settled { IfOk result (λ settled. IsSettled receipts.old settled.0 settled.1.items) }
+        ensures settled { IfOk result
+            (λ settled. IsSettled receipts.old settled.0 settled.1.items) }
         ensures whole { OnOk result (self.fault ≡ None) }
         ensures fault { IfErr result (λ fault. IsSettleFault self receipts.old fault) }
         ensures complete { IfErr result IsMemoryOrGone }
@@ -161,7 +164,8 @@ impl Collector {
     // Settles what was collected, where all was: there is one receipt of each thread and no other.
     fn settle_all(self, receipts: &mut [Receipt]) -> Settled
         requires ours { AreOfRecorders self.session self.limits (lanes_of self) receipts.old }
-        requires own { AreOwnBelow self.session self.limits.threads receipts.old (length receipts.old) }
+        requires own { AreOwnBelow self.session self.limits.threads receipts.old
+            (length receipts.old) }
         requires all { AreThereBelow receipts.old self.limits.threads }
         requires ended { HaveEndedBelow self.stream self.limits.threads }
         ensures receipts { receipts.new ≡ receipts.old }

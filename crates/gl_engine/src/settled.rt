@@ -59,7 +59,8 @@ impl Settled {
         tables: Vec<Table>,
         query: &Query,
     ) -> Result<Report, ReportFault>
-        ensures report { IfOk result (λ report. IsReport query.now (union tables.items) self.now report) }
+        ensures report { IfOk result
+            (λ report. IsReport query.now (union tables.items) self.now report) }
         ensures fault { IfErr result (λ fault. IsReportFault self.now fault) }
         ensures recorded { (receipts : List Closed) (sent : List AllSent)
             → IsSettled receipts self.now sent → tables.items ≡ map (λ s. once s.sent) sent

@@ -97,7 +97,8 @@ impl Held {
         place: u32,
         seg: u32,
     ) -> Result<bool, HeldFault>
-        ensures answers { (es : List Event) → StandsFor es self.old → AnswersAcquire es lock mode loc place seg self.new result }
+        ensures answers { (es : List Event) → StandsFor es self.old
+            → AnswersAcquire es lock mode loc place seg self.new result }
         ensures unchanged { OnErr result (self.new ≡ self.old) }
     {
         match self.find(lock) {
@@ -133,7 +134,8 @@ impl Held {
     ///
     /// A refused release changes nothing.
     pub fn release(&mut self, lock: LockId) -> Result<bool, NotHeld>
-        ensures answers { (es : List Event) → StandsFor es self.old → AnswersRelease es lock self.new result }
+        ensures answers { (es : List Event) → StandsFor es self.old
+            → AnswersRelease es lock self.new result }
         ensures unchanged { OnErr result (self.new ≡ self.old) }
     {
         match self.find(lock) {
@@ -152,7 +154,8 @@ impl Held {
 
     // The place and the entry of the lock, if it has one. At most 64 entries are looked at.
     fn find(&self, lock: LockId) -> Option<(usize, HeldEntry)>
-        ensures found { IfSome result (λ r. (slice_get self.now r.0 ≡ Some r.1) × (r.1.lock ≡ lock)) }
+        ensures found { IfSome result
+            (λ r. (slice_get self.now r.0 ≡ Some r.1) × (r.1.lock ≡ lock)) }
         ensures absent { IfNone result (All (λ h. h.lock ≢ lock) self.now) }
     {
         for (i, entry) in self.entries.as_slice().iter().enumerate() {

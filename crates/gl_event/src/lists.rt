@@ -23,8 +23,10 @@ pub fn append_both<X: Copy, Y: Copy>(
     y: Y,
 ) -> Result<(), Memory>
     ensures first { xs.new.items ≡ (if is_ok result then xs.old.items ++ x ∷ [] else xs.old.items) }
-    ensures second { ys.new.items ≡ (if is_ok result then ys.old.items ++ y ∷ [] else ys.old.items) }
-    ensures room { vec_len xs.old < vec_capacity xs.old → vec_len ys.old < vec_capacity ys.old → IsOk result }
+    ensures second { ys.new.items
+        ≡ (if is_ok result then ys.old.items ++ y ∷ [] else ys.old.items) }
+    ensures room { vec_len xs.old < vec_capacity xs.old → vec_len ys.old < vec_capacity ys.old
+        → IsOk result }
 {
     xs.reserve(1)?;
     ys.push(y)?;
@@ -42,7 +44,8 @@ pub fn make_room<X: Copy, Y: Copy>(xs: &mut Vec<X>, ys: &mut Vec<Y>) -> Result<(
     ensures second { ys.new.items ≡ ys.old.items }
     ensures first_room { OnOk result (vec_len xs.new < vec_capacity xs.new) }
     ensures second_room { OnOk result (vec_len ys.new < vec_capacity ys.new) }
-    ensures room { vec_len xs.old < vec_capacity xs.old → vec_len ys.old < vec_capacity ys.old → IsOk result }
+    ensures room { vec_len xs.old < vec_capacity xs.old → vec_len ys.old < vec_capacity ys.old
+        → IsOk result }
 {
     xs.reserve(1)?;
     ys.reserve(1)?;

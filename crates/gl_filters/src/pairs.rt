@@ -177,7 +177,9 @@ pub fn compatible_at(
     requires one { i < length edges.now }
     requires other { j < length edges.now }
     requires sets { AreNumbered (guards_in edges.now) sets.now }
-    ensures { (e f : Edge) → slice_get (map (λ pair. pair.0) edges.now) i ≡ Some e → slice_get (map (λ pair. pair.0) edges.now) j ≡ Some f → result ≡ is_compatible (is_before order.now) mode e f }
+    ensures { (e f : Edge) → slice_get (map (λ pair. pair.0) edges.now) i ≡ Some e
+        → slice_get (map (λ pair. pair.0) edges.now) j ≡ Some f
+        → result ≡ is_compatible (is_before order.now) mode e f }
 {
     let entries = edges.entries();
     let e = &entries[i].0;

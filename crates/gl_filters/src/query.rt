@@ -74,7 +74,8 @@ impl Query {
     pub fn new(mode: Mode, len: u32, max: u32) -> Result<Query, BadQuery>
         ensures kept { IfOk result (λ q. q ≡ record { mode = mode; len = len; max = max }) }
         ensures good { IfOk result (λ q. first_out_of_range q ≡ None) }
-        ensures bad { IfErr result (λ e. first_out_of_range (record { mode = mode; len = len; max = max }) ≡ Some e) }
+        ensures bad { IfErr result
+            (λ e. first_out_of_range (record { mode = mode; len = len; max = max }) ≡ Some e) }
     {
         if len < 2 || len > MAX_LEN {
             return Err(BadQuery::Len);

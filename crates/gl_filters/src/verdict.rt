@@ -81,8 +81,12 @@ fn first_after(
 ) -> Option<usize>
     requires within { All (λ p. p < length table.now) cycle.now }
     requires there { i < length cycle.now }
-    ensures { MatchOption result (IsFree (clashes (is_before order.now) clash) (picked (edges_of_table table.now) cycle.now) i (length (picked (edges_of_table table.now) cycle.now)))
-        (λ j. IsFirstAfter (clashes (is_before order.now) clash) (picked (edges_of_table table.now) cycle.now) i j) }
+    ensures { MatchOption result
+        (IsFree (clashes (is_before order.now) clash)
+        (picked (edges_of_table table.now) cycle.now) i
+        (length (picked (edges_of_table table.now) cycle.now)))
+        (λ j. IsFirstAfter (clashes (is_before order.now) clash)
+        (picked (edges_of_table table.now) cycle.now) i j) }
 {
     let one = edge_at(table, cycle, i);
     for j in i + 1..cycle.len() {
@@ -102,8 +106,10 @@ fn first_pair(
     cycle: &[usize],
 ) -> Option<(usize, usize)>
     requires within { All (λ p. p < length table.now) cycle.now }
-    ensures { MatchOption result (NoPair (clashes (is_before order.now) clash) (picked (edges_of_table table.now) cycle.now))
-        (λ places. IsFirstPair (clashes (is_before order.now) clash) (picked (edges_of_table table.now) cycle.now) places.0 places.1) }
+    ensures { MatchOption result
+        (NoPair (clashes (is_before order.now) clash) (picked (edges_of_table table.now) cycle.now))
+        (λ places. IsFirstPair (clashes (is_before order.now) clash)
+        (picked (edges_of_table table.now) cycle.now) places.0 places.1) }
 {
     for i in 0..cycle.len() {
         if let Some(j) = first_after(clash, order, table, cycle, i) {
@@ -128,7 +134,9 @@ fn next_place(i: usize, count: usize) -> usize
 // The first place whose edge doesn't lead on to the next one, round.
 fn first_open(table: &[(Edge, Sample)], cycle: &[usize]) -> Option<usize>
     requires within { All (λ p. p < length table.now) cycle.now }
-    ensures { MatchOption result ((i : ℕ) → i < length (picked (edges_of_table table.now) cycle.now) → IsClosedAt (picked (edges_of_table table.now) cycle.now) i)
+    ensures { MatchOption result
+        ((i : ℕ) → i < length (picked (edges_of_table table.now) cycle.now)
+        → IsClosedAt (picked (edges_of_table table.now) cycle.now) i)
         (λ i. IsFirstOpen (picked (edges_of_table table.now) cycle.now) i) }
 {
     for i in 0..cycle.len() {
@@ -144,7 +152,9 @@ fn first_open(table: &[(Edge, Sample)], cycle: &[usize]) -> Option<usize>
 fn first_lesser(table: &[(Edge, Sample)], cycle: &[usize]) -> Option<usize>
     requires within { All (λ p. p < length table.now) cycle.now }
     requires some { 0 < length cycle.now }
-    ensures { MatchOption result ((i : ℕ) → i < length (picked (edges_of_table table.now) cycle.now) → IsNotLesserAt (picked (edges_of_table table.now) cycle.now) i)
+    ensures { MatchOption result
+        ((i : ℕ) → i < length (picked (edges_of_table table.now) cycle.now)
+        → IsNotLesserAt (picked (edges_of_table table.now) cycle.now) i)
         (λ i. IsFirstLesser (picked (edges_of_table table.now) cycle.now) i) }
 {
     let first = edge_at(table, cycle, 0);
@@ -165,8 +175,13 @@ fn first_pair_where(
     cycle: &[usize],
 ) -> Option<(usize, usize)>
     requires within { All (λ p. p < length table.now) cycle.now }
-    ensures { MatchOption result (asked ≡ true → NoPair (clashes (is_before order.now) clash) (picked (edges_of_table table.now) cycle.now))
-        (λ places. (asked ≡ true) × IsFirstPair (clashes (is_before order.now) clash) (picked (edges_of_table table.now) cycle.now) places.0 places.1) }
+    ensures { MatchOption result
+        (asked ≡ true
+        → NoPair (clashes (is_before order.now) clash)
+        (picked (edges_of_table table.now) cycle.now))
+        (λ places. (asked ≡ true)
+        × IsFirstPair (clashes (is_before order.now) clash)
+        (picked (edges_of_table table.now) cycle.now) places.0 places.1) }
 {
     if !asked {
         return None;
@@ -203,7 +218,8 @@ fn guard_at(table: &[(Edge, Sample)], cycle: &[usize], i: usize, j: usize) -> Lo
 // What the edges at these positions are, as a cycle that the query asks for.
 fn verdict_of(query: &Query, order: &Order, table: &[(Edge, Sample)], cycle: &[usize]) -> Verdict
     requires { All (λ p. p < length table.now) cycle.now }
-    ensures { IsVerdict (is_before order.now) query.now (picked (edges_of_table table.now) cycle.now) result }
+    ensures { IsVerdict (is_before order.now) query.now
+        (picked (edges_of_table table.now) cycle.now) result }
 {
     if cycle.len() < 2 {
         return Verdict::TooShort;
@@ -241,7 +257,8 @@ fn verdict_of(query: &Query, order: &Order, table: &[(Edge, Sample)], cycle: &[u
 /// pairs of edges, and no memory.
 pub fn judge(query: &Query, order: &Order, edges: &EdgeList, cycle: &[usize]) -> Verdict
     requires { All (λ p. p < length edges.now) cycle.now }
-    ensures { IsVerdict (is_before order.now) query.now (picked (edges_of_table edges.now) cycle.now) result }
+    ensures { IsVerdict (is_before order.now) query.now
+        (picked (edges_of_table edges.now) cycle.now) result }
 {
     verdict_of(query, order, edges.entries(), cycle)
 }

@@ -47,7 +47,8 @@ impl Model for Intake {
 
 // Why the note may not come after the events so far of the row's thread.
 fn row_refusal(row: &Row, note: &Note) -> Option<Refused>
-    ensures { (limits : Bounds) (es : List Event) → Tracks limits note.now.thread es row.now.taker → result ≡ refusal_after limits es row.now.has_ended note.now }
+    ensures { (limits : Bounds) (es : List Event) → Tracks limits note.now.thread es row.now.taker
+        → result ≡ refusal_after limits es row.now.has_ended note.now }
 {
     if row.has_ended {
         return Some(Refused::Late);
@@ -134,10 +135,14 @@ impl Intake {
     /// The events of each thread, in the order of thread numbers. They are at most 1,024 lists, and
     /// each is lawful under the intake's limits and under the greatest.
     pub fn logs(&self) -> &[Vec<Event>]
-        ensures value { map (λ log. log.items) result.now ≡ logs_of self.now.limits.threads self.now.stream }
-        ensures lawful { (thread : ℕ) → thread < self.now.limits.threads → IsLawful self.now.limits thread (events_of thread self.now.stream) }
+        ensures value { map (λ log. log.items) result.now
+            ≡ logs_of self.now.limits.threads self.now.stream }
+        ensures lawful { (thread : ℕ) → thread < self.now.limits.threads
+            → IsLawful self.now.limits thread (events_of thread self.now.stream) }
         ensures few { length result.now ≤ 1024 }
-        ensures lawful_lists { (thread : ℕ) (es : List Event) → slice_get (map (λ log. log.items) result.now) thread ≡ Some es → IsLawful greatest thread es }
+        ensures lawful_lists { (thread : ℕ) (es : List Event)
+            → slice_get (map (λ log. log.items) result.now) thread ≡ Some es
+            → IsLawful greatest thread es }
     {
         self.logs.as_slice()
     }
@@ -162,7 +167,9 @@ impl Intake {
 
     /// Whether each known thread has ended. One look at each thread.
     pub fn all_ended(&self) -> bool
-        ensures { IsTrue result ↔ ((thread : ℕ) → thread < self.now.limits.threads → IsTrue (has_ended thread self.now.stream)) }
+        ensures { IsTrue result ↔
+            ((thread : ℕ) → thread < self.now.limits.threads
+            → IsTrue (has_ended thread self.now.stream)) }
     {
         for row in &self.rows {
             if !row.has_ended {
@@ -182,7 +189,8 @@ impl Intake {
     pub fn ready(&mut self, note: &Note) -> Result<(), Refused>
         ensures next { OnOk result (note_refusal self.old.limits self.old.stream note.now ≡ None) }
         ensures reserved { OnOk result (1 ≤ spare_of self.new note.now.thread) }
-        ensures refused { IfErr result (λ why. IsRefusedFor self.old.limits self.old.stream note.now why) }
+        ensures refused { IfErr result
+            (λ why. IsRefusedFor self.old.limits self.old.stream note.now why) }
         ensures room { 1 ≤ spare_of self.old note.now.thread → result ≢ Err Memory }
         ensures limits { self.new.limits ≡ self.old.limits }
         ensures stream { self.new.stream ≡ self.old.stream }
@@ -203,7 +211,8 @@ impl Intake {
         ensures accepted { OnOk result (note_refusal self.old.limits self.old.stream note ≡ None) }
         ensures answer { IfOk result (λ answer. answer ≡ accepted_as note.place note.body) }
         ensures grown { OnOk result (self.new.stream ≡ self.old.stream ++ note ∷ []) }
-        ensures refused { IfErr result (λ why. IsRefusedFor self.old.limits self.old.stream note why) }
+        ensures refused { IfErr result
+            (λ why. IsRefusedFor self.old.limits self.old.stream note why) }
         ensures room { 1 ≤ spare_of self.old note.thread → result ≢ Err Memory }
         ensures unchanged { OnErr result (self.new.stream ≡ self.old.stream) }
         ensures limits { self.new.limits ≡ self.old.limits }

@@ -47,7 +47,9 @@ pub fn write_out<W: Sink>(output: &mut W, text: &[u8]) -> Result<(), WriteFault>
     requires { W.failed output.old ≡ false }
     ensures whole { OnOk result (Appends (W.contents output.old) (W.contents output.new) text.now) }
     ensures sound { OnOk result (W.failed output.new ≡ false) }
-    ensures front { IfErr result (λ fault. Appends (W.contents output.old) (W.contents output.new) (take fault.written text.now)) }
+    ensures front { IfErr result
+        (λ fault. Appends (W.contents output.old) (W.contents output.new)
+        (take fault.written text.now)) }
     ensures part { IfErr result (λ fault. fault.written < length text.now) }
     ensures broke { OnErr result (W.failed output.new ≡ true) }
 {

@@ -39,8 +39,12 @@ fn take_turn<R: Source>(
 ) -> Result<Turn, AllocError>
     requires not_failed { R.failed input.old ≡ false }
     requires room { length buffer.old ≡ CHUNK }
-    ensures bytes { IfOk result (λ _. (first : Option (List ℕ)) → Consumes first (R.remaining input.old) text.old.items → Consumes first (R.remaining input.new) text.new.items) }
-    ensures did { IfOk result (λ turn. TurnDid turn (R.remaining input.new) (R.failed input.new) text.old.items text.new.items) }
+    ensures bytes { IfOk result
+        (λ _. (first : Option (List ℕ)) → Consumes first (R.remaining input.old) text.old.items
+        → Consumes first (R.remaining input.new) text.new.items) }
+    ensures did { IfOk result
+        (λ turn. TurnDid turn (R.remaining input.new)
+        (R.failed input.new) text.old.items text.new.items) }
     ensures refused { OnErr result (R.failed input.new ≡ false) }
 {
     match input.read(buffer) {
@@ -65,7 +69,9 @@ pub fn read_whole<R: Source>(
 ) -> Result<Gathered, AllocError>
     requires not_failed { R.failed input.old ≡ false }
     requires few_turns { turns ≤ 2 ^ 40 }
-    ensures read { IfOk result (λ g. HasRead turns (R.remaining input.old) (R.remaining input.new) (R.failed input.new) g.text.items g.is_whole) }
+    ensures read { IfOk result
+        (λ g. HasRead turns (R.remaining input.old) (R.remaining input.new)
+        (R.failed input.new) g.text.items g.is_whole) }
     ensures refused { OnErr result (R.failed input.new ≡ false) }
 {
     let mut buffer = zeros(alloc, CHUNK)?;

@@ -75,7 +75,8 @@ pub fn lane(alloc: Global, capacity: u32) -> Result<(LaneIn, LaneOut), Memory>
     requires some { 1 ≤ capacity }
     requires fit { capacity ≤ MAX_RING }
     ensures one_lane { IfOk result (λ ends. ends.1.lane ≡ ends.0.lane) }
-    ensures empty { IfOk result (λ ends. (ends.0.pushed ≡ []) × (ends.1.popped ≡ []) × (ends.1.left ≡ [])) }
+    ensures empty { IfOk result
+        (λ ends. (ends.0.pushed ≡ []) × (ends.1.popped ≡ []) × (ends.1.left ≡ [])) }
     ensures room { IfOk result (λ ends. ends.0.room ≡ capacity) }
 {
     let (producer, consumer) = RingBuffer::with_protocol::<Global, Placed>(
@@ -90,8 +91,11 @@ impl LaneIn {
     pub fn push(&mut self, note: Note) -> Result<(), Note>
         requires placed { IsPlaced note }
         ensures lane { self.new.lane ≡ self.old.lane }
-        ensures pushed { OnOk result ((self.new.pushed ≡ self.old.pushed ++ note ∷ []) × (self.old.room ≤ self.new.room + 1)) }
-        ensures full { IfErr result (λ back. (back ≡ note) × (self.new.pushed ≡ self.old.pushed) × (self.new.room ≡ 0)) }
+        ensures pushed { OnOk result
+            ((self.new.pushed ≡ self.old.pushed ++ note ∷ [])
+            × (self.old.room ≤ self.new.room + 1)) }
+        ensures full { IfErr result
+            (λ back. (back ≡ note) × (self.new.pushed ≡ self.old.pushed) × (self.new.room ≡ 0)) }
         ensures succeeds { 0 < self.old.room → IsOk result }
     {
         match self.producer.push(note) {
@@ -118,7 +122,8 @@ impl LaneOut {
         ensures lane { self.new.lane ≡ self.old.lane }
         ensures popped { self.new.popped ≡ self.old.popped }
         ensures left { IsPrefix self.old.left self.new.left }
-        ensures shown { MatchOption result (self.new.left ≡ []) (λ note. IsPrefix (note ∷ []) self.new.left) }
+        ensures shown { MatchOption result (self.new.left ≡ [])
+            (λ note. IsPrefix (note ∷ []) self.new.left) }
     {
         if self.consumer.is_empty() {
             return None;
@@ -132,7 +137,8 @@ impl LaneOut {
         ensures popped { IfSome result (λ note. self.new.popped ≡ self.old.popped ++ note ∷ []) }
         ensures left { IfSome result (λ note. IsPrefix self.old.left (note ∷ self.new.left)) }
         ensures placed { IfSome result (λ note. IsPlaced note) }
-        ensures empty { IfNone result ((self.new.popped ≡ self.old.popped) × (self.old.left ≡ []) × (self.new.left ≡ [])) }
+        ensures empty { IfNone result
+            ((self.new.popped ≡ self.old.popped) × (self.old.left ≡ []) × (self.new.left ≡ [])) }
     {
         if self.consumer.is_empty() {
             return None;

@@ -60,7 +60,9 @@ fn settle_workers(
 // Settles what was gathered with the receipts. The lists are those that the receipts are for.
 fn settle(gathered: Gathered, receipts: &mut [Receipt]) -> Result<(Settled, Vec<Sent>), LiveFault>
     requires ours { AreReceipts (gathered_from gathered) receipts.old }
-    ensures lists { (lists : List (List Event)) → gathered.limits.threads ≡ length lists → All (IsReceiptOf (gathered_from gathered) lists) receipts.old → IfOk result (λ settled. settled.0 ≡ lists) }
+    ensures lists { (lists : List (List Event)) → gathered.limits.threads ≡ length lists
+        → All (IsReceiptOf (gathered_from gathered) lists) receipts.old
+        → IfOk result (λ settled. settled.0 ≡ lists) }
     ensures settled { IfOk result (λ settled. IsSettled receipts.old settled.0 settled.1.items) }
     ensures sent { IfOk result (λ settled. settled.1.items ≡ gathered.sent) }
     ensures whole { OnOk result (gathered.fault ≡ None) }
@@ -79,7 +81,9 @@ fn report_settled(
     tables: Vec<Table>,
     query: &Query,
 ) -> Result<Report, LiveFault>
-    ensures report { (receipts : List Closed) (sent : List AllSent) → IsSettled receipts settled sent → tables.items ≡ map (λ s. once s.sent) sent → IfOk result (λ report. IsGoodlockReport query.now settled report) }
+    ensures report { (receipts : List Closed) (sent : List AllSent)
+        → IsSettled receipts settled sent → tables.items ≡ map (λ s. once s.sent) sent
+        → IfOk result (λ report. IsGoodlockReport query.now settled report) }
     ensures fault { IfErr result (IsLiveFault settled) }
 {
     match settled.report(rt, tables, query) {
@@ -99,8 +103,12 @@ pub fn conclude(
     requires ours { AreReceipts (gathered_from ran.gathered) ran.receipts.items }
     requires empty { tables.items ≡ [] }
     requires none { vec_len tables ≡ 0 }
-    ensures report { (lists : List (List Event)) → ran.gathered.limits.threads ≡ length lists → All (IsReceiptOf (gathered_from ran.gathered) lists) ran.receipts.items → IfOk result (λ report. IsGoodlockReport query.now lists report) }
-    ensures fault { (lists : List (List Event)) → ran.gathered.limits.threads ≡ length lists → All (IsReceiptOf (gathered_from ran.gathered) lists) ran.receipts.items → IfErr result (IsLiveFault lists) }
+    ensures report { (lists : List (List Event)) → ran.gathered.limits.threads ≡ length lists
+        → All (IsReceiptOf (gathered_from ran.gathered) lists) ran.receipts.items
+        → IfOk result (λ report. IsGoodlockReport query.now lists report) }
+    ensures fault { (lists : List (List Event)) → ran.gathered.limits.threads ≡ length lists
+        → All (IsReceiptOf (gathered_from ran.gathered) lists) ran.receipts.items
+        → IfErr result (IsLiveFault lists) }
 {
     let Ran {
         gathered,
@@ -120,7 +128,8 @@ pub fn conclude(
 // The report of no lists.
 fn report_of_none(alloc: Global, lists: &[Vec<Event>], query: &Query) -> Result<Report, LiveFault>
     requires none { lists.now ≡ [] }
-    ensures report { IfOk result (λ report. IsGoodlockReport query.now (lists_of lists.now) report) }
+    ensures report { IfOk result
+        (λ report. IsGoodlockReport query.now (lists_of lists.now) report) }
     ensures fault { IfErr result (IsLiveFault (lists_of lists.now)) }
 {
     match report_over(alloc, EdgeList::new(alloc), lists, query) {
@@ -155,7 +164,8 @@ pub fn live_report<R: Threads + Wait + Sync, G: Gate + Sync>(
     requires shards_fit { options.now.shards ≤ MAX_SHARDS }
     requires some_ring { 1 ≤ options.now.ring }
     requires ring_fits { options.now.ring ≤ MAX_RING }
-    ensures report { IfOk result (λ report. IsGoodlockReport query.now (lists_of lists.now) report) }
+    ensures report { IfOk result
+        (λ report. IsGoodlockReport query.now (lists_of lists.now) report) }
     ensures fault { IfErr result (IsLiveFault (lists_of lists.now)) }
 {
     if lists.is_empty() {

@@ -74,7 +74,8 @@ pub fn close_wait<R: Wait>(rt: &R, recorder: Recorder) -> Option<Receipt>
 // where nobody is left to collect.
 fn record_list<R: Wait>(rt: &R, recorder: Recorder, list: &[Event]) -> Option<Receipt>
     ensures seat { IfSome result (λ receipt. left_by receipt ≡ seat_of recorder) }
-    ensures whole { IfSome result (λ receipt. recorded_whole receipt ≡ recorded recorder ++ list.now) }
+    ensures whole { IfSome result
+        (λ receipt. recorded_whole receipt ≡ recorded recorder ++ list.now) }
 {
     let mut recorder = recorder;
     let all = record_each(rt, &mut recorder, list);
@@ -92,7 +93,8 @@ fn list_of(lists: &[Vec<Event>], thread: ThreadId) -> Option<&[Event]>
 
 // Records the list of the recorder's thread, and closes the recorder.
 fn record_own<R: Wait>(rt: &R, recorder: Recorder, lists: &[Vec<Event>]) -> Option<Receipt>
-    ensures { (s : Seating) → IsRecorderOf s recorder → IfSome result (IsReceiptOf s (lists_of lists.now)) }
+    ensures { (s : Seating) → IsRecorderOf s recorder
+        → IfSome result (IsReceiptOf s (lists_of lists.now)) }
 {
     let Some(list) = list_of(lists, recorder.thread()) else {
         // a thread without a list has nothing to confirm
@@ -106,7 +108,9 @@ fn record_own<R: Wait>(rt: &R, recorder: Recorder, lists: &[Vec<Event>]) -> Opti
 // it is called off.
 fn record_all<R: Wait>(rt: &R, start: &Start, desk: Desk, lists: &[Vec<Event>]) -> Vec<Receipt>
     requires room { vec_len desk.receipts + length desk.recorders.items ≤ vec_capacity desk.receipts }
-    ensures { (s : Seating) → All (IsRecorderOf s) desk.recorders.items → All (IsReceiptOf s (lists_of lists.now)) desk.receipts.items → All (IsReceiptOf s (lists_of lists.now)) result.items }
+    ensures { (s : Seating) → All (IsRecorderOf s) desk.recorders.items
+        → All (IsReceiptOf s (lists_of lists.now)) desk.receipts.items
+        → All (IsReceiptOf s (lists_of lists.now)) result.items }
 {
     let Desk {
         recorders,
@@ -134,7 +138,8 @@ fn start_recorder<'s, E, R: Threads + Wait + Sync>(
 ) -> Option<Recording<'s>>
     requires room { vec_len desk.receipts + length desk.recorders.items ≤ vec_capacity desk.receipts }
     requires ours { All (IsRecorderOf (seating_of collector.now)) desk.recorders.items }
-    requires kept { All (IsReceiptOf (seating_of collector.now) (lists_of lists.now)) desk.receipts.items }
+    requires kept { All (IsReceiptOf (seating_of collector.now)
+        (lists_of lists.now)) desk.receipts.items }
     ensures collector { IfSome result (λ h. h.promise.collector.value ≡ collector.now) }
     ensures lists { IfSome result (λ h. h.promise.lists.now ≡ lists.now) }
 {
@@ -145,8 +150,11 @@ fn start_recorder<'s, E, R: Threads + Wait + Sync>(
     let recorder = scope.spawn_with(
         promise,
         move || -> Vec<Receipt>
-            requires room { vec_len desk.receipts + length desk.recorders.items ≤ vec_capacity desk.receipts }
-            ensures { (s : Seating) → All (IsRecorderOf s) desk.recorders.items → All (IsReceiptOf s (lists_of lists.entry.now)) desk.receipts.items → All (IsReceiptOf s (lists_of lists.entry.now)) result.items }
+            requires room { vec_len desk.receipts + length desk.recorders.items ≤ vec_capacity
+                desk.receipts }
+            ensures { (s : Seating) → All (IsRecorderOf s) desk.recorders.items
+                → All (IsReceiptOf s (lists_of lists.entry.now)) desk.receipts.items
+                → All (IsReceiptOf s (lists_of lists.entry.now)) result.items }
         { record_all(rt, start, desk, lists) },
     );
     recorder.ok()
@@ -165,7 +173,9 @@ pub fn start_recorders<'s, E, R: Threads + Wait + Sync>(
     requires desks { All (IsDeskOf (seating_of collector.now)) desks.items }
     requires empty { recorders.old.items ≡ [] }
     requires room { vec_len recorders.old + length desks.items ≤ vec_capacity recorders.old }
-    ensures { result ≡ true → All (λ h. (h.promise.collector.value ≡ collector.now) × (lists_of h.promise.lists.now ≡ lists_of lists.now)) recorders.new.items }
+    ensures { result ≡ true
+        → All (λ h. (h.promise.collector.value ≡ collector.now)
+        × (lists_of h.promise.lists.now ≡ lists_of lists.now)) recorders.new.items }
 {
     for desk in desks {
         let Some(recorder) = start_recorder(scope, rt, start, lists, collector, desk) else {
@@ -183,7 +193,11 @@ pub fn join_recorders<'a, R: Threads>(
     recorders: Vec<Recording<'a>>,
     receipts: &mut Vec<Receipt>,
 ) -> Result<(), Memory>
-    ensures { (c : Collecting) (lists : List (List Event)) → All (λ h. (h.promise.collector.value ≡ c) × (lists_of h.promise.lists.now ≡ lists)) recorders.entry.items → All (IsReceiptOf (seating_of c) lists) receipts.old.items → OnOk result (All (IsReceiptOf (seating_of c) lists) receipts.new.items) }
+    ensures { (c : Collecting) (lists : List (List Event))
+        → All (λ h. (h.promise.collector.value ≡ c)
+        × (lists_of h.promise.lists.now ≡ lists)) recorders.entry.items
+        → All (IsReceiptOf (seating_of c) lists) receipts.old.items
+        → OnOk result (All (IsReceiptOf (seating_of c) lists) receipts.new.items) }
 {
     for recorder in recorders {
         let mut left = recorder.join(rt);

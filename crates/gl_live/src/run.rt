@@ -49,9 +49,12 @@ fn run_threads<'s, E, R: Threads + Wait + Sync, G: Gate + Sync>(
     session: Session,
 ) -> Result<Ran, LiveFault>
     requires ready { IsReady (length lists.now) session }
-    ensures run { IfOk result (λ ran. HasRun (length session.outlets.items) ran.gathered ran.served.items) }
+    ensures run { IfOk result
+        (λ ran. HasRun (length session.outlets.items) ran.gathered ran.served.items) }
     ensures threads { IfOk result (λ ran. ran.gathered.limits.threads ≡ length lists.now) }
-    ensures receipts { IfOk result (λ ran. All (IsReceiptOf (gathered_from ran.gathered) (lists_of lists.now)) ran.receipts.items) }
+    ensures receipts { IfOk result
+        (λ ran. All
+        (IsReceiptOf (gathered_from ran.gathered) (lists_of lists.now)) ran.receipts.items) }
     ensures fault { (all : List (List Event)) → IfErr result (IsLiveFault all) }
 {
     let Session {
@@ -101,9 +104,12 @@ pub fn run_session<R: Threads + Wait + Sync, G: Gate + Sync>(
     session: Session,
 ) -> Result<Ran, LiveFault>
     requires ready { IsReady (length lists.now) session }
-    ensures run { IfOk result (λ ran. HasRun (length session.outlets.items) ran.gathered ran.served.items) }
+    ensures run { IfOk result
+        (λ ran. HasRun (length session.outlets.items) ran.gathered ran.served.items) }
     ensures threads { IfOk result (λ ran. ran.gathered.limits.threads ≡ length lists.now) }
-    ensures receipts { IfOk result (λ ran. All (IsReceiptOf (gathered_from ran.gathered) (lists_of lists.now)) ran.receipts.items) }
+    ensures receipts { IfOk result
+        (λ ran. All
+        (IsReceiptOf (gathered_from ran.gathered) (lists_of lists.now)) ran.receipts.items) }
     ensures fault { (all : List (List Event)) → IfErr result (IsLiveFault all) }
 {
     let begin = Start::new();
@@ -113,9 +119,14 @@ pub fn run_session<R: Threads + Wait + Sync, G: Gate + Sync>(
         rt,
         move |scope| -> Result<Ran, LiveFault>
             requires ready { IsReady (length lists.now) session }
-            ensures run { IfOk result (λ ran. HasRun (length session.outlets.items) ran.gathered ran.served.items) }
-            ensures threads { IfOk result (λ ran. ran.gathered.limits.threads ≡ length lists.entry.now) }
-            ensures receipts { IfOk result (λ ran. All (IsReceiptOf (gathered_from ran.gathered) (lists_of lists.entry.now)) ran.receipts.items) }
+            ensures run { IfOk result
+                (λ ran. HasRun (length session.outlets.items) ran.gathered ran.served.items) }
+            ensures threads { IfOk result
+                (λ ran. ran.gathered.limits.threads ≡ length lists.entry.now) }
+            ensures receipts { IfOk result
+                (λ ran. All
+                (IsReceiptOf (gathered_from ran.gathered)
+                (lists_of lists.entry.now)) ran.receipts.items) }
             ensures fault { (all : List (List Event)) → IfErr result (IsLiveFault all) }
         { run_threads(scope, rt, alloc, start, lists, gate, session) },
     )

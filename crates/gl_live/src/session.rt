@@ -73,7 +73,8 @@ fn grouped(
     count: u32,
 ) -> Result<Vec<Vec<Recorder>>, Memory>
     requires some { 1 ≤ count }
-    ensures { (s : Seating) → All (IsRecorderOf s) recorders.items → IfOk result (λ groups. All (λ group. All (IsRecorderOf s) group.items) groups.items) }
+    ensures { (s : Seating) → All (IsRecorderOf s) recorders.items
+        → IfOk result (λ groups. All (λ group. All (IsRecorderOf s) group.items) groups.items) }
 {
     let mut groups = empty_groups(alloc, count)?;
     for recorder in recorders {
@@ -97,7 +98,8 @@ fn desk(alloc: Global, recorders: Vec<Recorder>) -> Result<Desk, Memory>
 // The recorders' desks, so many.
 fn desks(alloc: Global, recorders: Vec<Recorder>, count: u32) -> Result<Vec<Desk>, Memory>
     requires some { 1 ≤ count }
-    ensures { (s : Seating) → All (IsRecorderOf s) recorders.items → IfOk result (λ desks. All (IsDeskOf s) desks.items) }
+    ensures { (s : Seating) → All (IsRecorderOf s) recorders.items
+        → IfOk result (λ desks. All (IsDeskOf s) desks.items) }
 {
     let groups = grouped(alloc, recorders, count)?;
     let mut desks = Vec::with_capacity(alloc, groups.len())?;
@@ -112,7 +114,8 @@ pub fn feeds(alloc: Global, count: u32, capacity: u32) -> Result<(Vec<Outlet>, V
     requires some { 1 ≤ capacity }
     requires fit { capacity ≤ MAX_RING }
     ensures count { IfOk result (λ ends. length ends.0.items ≡ count) }
-    ensures feeds { IfOk result (λ ends. map (λ i. i.feed) ends.1.items ≡ map (λ o. o.feed) ends.0.items) }
+    ensures feeds { IfOk result
+        (λ ends. map (λ i. i.feed) ends.1.items ≡ map (λ o. o.feed) ends.0.items) }
     ensures unsent { IfOk result (λ ends. All (λ o. o.sent ≡ []) ends.0.items) }
 {
     let mut outlets = Vec::with_capacity(alloc, count as usize)?;

@@ -35,9 +35,12 @@ fn report_streamed(
     requires ours { IfOk ran (λ r. AreReceipts (gathered_from r.gathered) r.receipts.items) }
     requires empty { tables.items ≡ [] }
     requires none { vec_len tables ≡ 0 }
-    ensures becomes { (limits : Bounds) (turns : ℕ) (input : Use) (items : Items) → IfOk ran (λ r. r.gathered.limits.threads ≡ limits.threads) → HasStreamed limits turns input limits.threads items ran
+    ensures becomes { (limits : Bounds) (turns : ℕ) (input : Use) (items : Items)
+        → IfOk ran (λ r. r.gathered.limits.threads ≡ limits.threads)
+        → HasStreamed limits turns input limits.threads items ran
         → Becomes query.now limits turns input items result }
-    ensures in_time { (old new : Option (List ℕ)) (items : Items) → OnOk ran (IsDone items) → FailsInTime old new items ran → FailsInTime old new items result }
+    ensures in_time { (old new : Option (List ℕ)) (items : Items) → OnOk ran (IsDone items)
+        → FailsInTime old new items ran → FailsInTime old new items result }
 {
     match ran {
         Ok(ran) => match conclude(rt, ran, tables, query) {
@@ -74,16 +77,22 @@ pub fn stream_report<R: Threads + Wait + Sync, S: Source, G: Gate + Sync>(
     gate: &G,
 ) -> (Result<Report, StreamFault>, Items)
     requires usable { CanBeAsked items (S.failed input.old) }
-    requires unread { IsUnread options.now.threads (S.remaining input.old) (S.failed input.old) items }
+    requires unread { IsUnread options.now.threads (S.remaining input.old)
+        (S.failed input.old) items }
     requires some_thread { 1 ≤ options.now.threads }
     requires threads_fit { options.now.threads ≤ MAX_THREADS }
     requires some_shard { 1 ≤ options.now.shards }
     requires shards_fit { options.now.shards ≤ MAX_SHARDS }
     requires some_ring { 1 ≤ options.now.ring }
     requires ring_fits { options.now.ring ≤ MAX_RING }
-    ensures becomes { (limits : Bounds) (turns : ℕ) (start : Option (List ℕ)) → limits.threads ≡ options.now.threads → HasTold limits turns (used start (S.remaining input.old) (S.failed input.old)) items [] nothing
-        → Becomes query.now limits turns (used start (S.remaining input.new) (S.failed input.new)) result.1 result.0 }
-    ensures in_time { FailsInTime (S.remaining input.old) (S.remaining input.new) result.1 result.0 }
+    ensures becomes { (limits : Bounds) (turns : ℕ) (start : Option (List ℕ))
+        → limits.threads ≡ options.now.threads
+        → HasTold limits turns
+        (used start (S.remaining input.old) (S.failed input.old)) items [] nothing
+        → Becomes query.now limits turns
+        (used start (S.remaining input.new) (S.failed input.new)) result.1 result.0 }
+    ensures in_time { FailsInTime (S.remaining input.old)
+        (S.remaining input.new) result.1 result.0 }
 {
     let Ok(session) = prepare_to_read(alloc, options) else {
         return (Err(StreamFault::Session(LiveFault::Memory)), items);

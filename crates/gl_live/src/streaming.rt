@@ -67,7 +67,8 @@ pub fn prepare_to_read(alloc: Global, options: &StreamOptions) -> Result<ReadSes
     requires some_ring { 1 ≤ options.now.ring }
     requires ring_fits { options.now.ring ≤ MAX_RING }
     ensures ready { IfOk result IsReadyToRead }
-    ensures threads { IfOk result (λ session. length session.recorders.items ≡ options.now.threads) }
+    ensures threads { IfOk result
+        (λ session. length session.recorders.items ≡ options.now.threads) }
     ensures shards { IfOk result (λ session. length session.outlets.items ≡ options.now.shards) }
 {
     let limits = session_limits(options.threads, options.ring);
@@ -87,7 +88,9 @@ pub fn prepare_to_read(alloc: Global, options: &StreamOptions) -> Result<ReadSes
 fn record_one<R: Wait>(rt: &R, recorders: &mut Vec<Recorder>, thread: u32, event: Event)
     requires may_take { MayTake recorders.old.items thread event }
     ensures count { length recorders.new.items ≡ length recorders.old.items }
-    ensures recorded { (s : Seating) (lists : List (List EventOf)) (threads : ℕ) → thread < threads → AreRecorded s lists recorders.old.items → AreRecorded s (listed threads lists thread event) recorders.new.items }
+    ensures recorded { (s : Seating) (lists : List (List EventOf)) (threads : ℕ) → thread < threads
+        → AreRecorded s lists recorders.old.items
+        → AreRecorded s (listed threads lists thread event) recorders.new.items }
 {
     let recorder = &mut recorders[thread as usize];
     let Ok(_) = recorder.record_wait(rt, event) else {
@@ -99,7 +102,9 @@ fn record_one<R: Wait>(rt: &R, recorders: &mut Vec<Recorder>, thread: u32, event
 fn record_item<R: Wait>(rt: &R, recorders: &mut Vec<Recorder>, item: Item)
     requires can_be_taken { CanBeTaken recorders.old.items item }
     ensures count { length recorders.new.items ≡ length recorders.old.items }
-    ensures recorded { (s : Seating) (names : NameLists) (told : Trace) → IsOfThreads (length names.threads) item → AreRecorded s told.lists recorders.old.items → AreRecorded s (with_item item names told).lists recorders.new.items }
+    ensures recorded { (s : Seating) (names : NameLists) (told : Trace)
+        → IsOfThreads (length names.threads) item → AreRecorded s told.lists recorders.old.items
+        → AreRecorded s (with_item item names told).lists recorders.new.items }
 {
     match item.event() {
         Some((thread, event)) => record_one(rt, recorders, thread, event),
@@ -115,14 +120,23 @@ fn record_next<R: Wait, S: Source>(
     recorders: &mut Vec<Recorder>,
 ) -> Result<bool, LinesFault>
     requires usable { CanBeAsked items.old (S.failed input.old) }
-    requires recording { IsRecording (S.remaining input.old) (S.failed input.old) items.old recorders.old.items }
+    requires recording { IsRecording (S.remaining input.old)
+        (S.failed input.old) items.old recorders.old.items }
     ensures usable { CanBeAsked items.new (S.failed input.new) }
     ensures count { length recorders.new.items ≡ length recorders.old.items }
-    ensures follows { OnOk result ((s : Seating) (limits : Bounds) (turns : ℕ) (start : Option (List ℕ)) → Follows s limits turns (used start (S.remaining input.old) (S.failed input.old)) items.old recorders.old.items
-        → Follows s limits turns (used start (S.remaining input.new) (S.failed input.new)) items.new recorders.new.items) }
+    ensures follows { OnOk result
+        ((s : Seating) (limits : Bounds) (turns : ℕ) (start : Option (List ℕ))
+        → Follows s limits turns
+        (used start (S.remaining input.old) (S.failed input.old)) items.old recorders.old.items
+        → Follows s limits turns
+        (used start (S.remaining input.new) (S.failed input.new)) items.new recorders.new.items) }
     ensures done { result ≡ Ok false → IsDone items.new }
-    ensures stops { IfErr result (λ fault. (s : Seating) (limits : Bounds) (turns : ℕ) (start : Option (List ℕ)) → Follows s limits turns (used start (S.remaining input.old) (S.failed input.old)) items.old recorders.old.items
-        → Stops limits turns (used start (S.remaining input.new) (S.failed input.new)) items.new fault) }
+    ensures stops { IfErr result
+        (λ fault. (s : Seating) (limits : Bounds) (turns : ℕ) (start : Option (List ℕ))
+        → Follows s limits turns
+        (used start (S.remaining input.old) (S.failed input.old)) items.old recorders.old.items
+        → Stops limits turns
+        (used start (S.remaining input.new) (S.failed input.new)) items.new fault) }
 {
     match items.next(input) {
         Ok(Item::End) => Ok(false),
@@ -143,13 +157,22 @@ fn record_items<R: Wait, S: Source>(
     recorders: &mut Vec<Recorder>,
 ) -> Result<(), LinesFault>
     requires usable { CanBeAsked items.old (S.failed input.old) }
-    requires recording { IsRecording (S.remaining input.old) (S.failed input.old) items.old recorders.old.items }
+    requires recording { IsRecording (S.remaining input.old)
+        (S.failed input.old) items.old recorders.old.items }
     ensures count { length recorders.new.items ≡ length recorders.old.items }
-    ensures follows { OnOk result ((s : Seating) (limits : Bounds) (turns : ℕ) (start : Option (List ℕ)) → Follows s limits turns (used start (S.remaining input.old) (S.failed input.old)) items.old recorders.old.items
-        → Follows s limits turns (used start (S.remaining input.new) (S.failed input.new)) items.new recorders.new.items) }
+    ensures follows { OnOk result
+        ((s : Seating) (limits : Bounds) (turns : ℕ) (start : Option (List ℕ))
+        → Follows s limits turns
+        (used start (S.remaining input.old) (S.failed input.old)) items.old recorders.old.items
+        → Follows s limits turns
+        (used start (S.remaining input.new) (S.failed input.new)) items.new recorders.new.items) }
     ensures done { OnOk result (IsDone items.new) }
-    ensures stops { IfErr result (λ fault. (s : Seating) (limits : Bounds) (turns : ℕ) (start : Option (List ℕ)) → Follows s limits turns (used start (S.remaining input.old) (S.failed input.old)) items.old recorders.old.items
-        → Stops limits turns (used start (S.remaining input.new) (S.failed input.new)) items.new fault) }
+    ensures stops { IfErr result
+        (λ fault. (s : Seating) (limits : Bounds) (turns : ℕ) (start : Option (List ℕ))
+        → Follows s limits turns
+        (used start (S.remaining input.old) (S.failed input.old)) items.old recorders.old.items
+        → Stops limits turns
+        (used start (S.remaining input.new) (S.failed input.new)) items.new fault) }
 {
     for _ in rt.forever() {
         match record_next(rt, items, input, recorders) {
@@ -164,7 +187,9 @@ fn record_items<R: Wait, S: Source>(
 // Closes all recorders, and keeps their receipts.
 fn close_all<R: Wait>(rt: &R, recorders: Vec<Recorder>, receipts: &mut Vec<Receipt>)
     requires room { vec_len receipts.old + length recorders.items ≤ vec_capacity receipts.old }
-    ensures { (s : Seating) (lists : List (List EventOf)) → All (HasTaken s lists) recorders.items → All (IsReceiptOf s lists) receipts.old.items → All (IsReceiptOf s lists) receipts.new.items }
+    ensures { (s : Seating) (lists : List (List EventOf)) → All (HasTaken s lists) recorders.items
+        → All (IsReceiptOf s lists) receipts.old.items
+        → All (IsReceiptOf s lists) receipts.new.items }
 {
     for recorder in recorders {
         if let Some(receipt) = close_wait(rt, recorder) {
@@ -238,12 +263,19 @@ fn record_text<'s, E, R: Threads + Wait + Sync, S: Source, G: Gate + Sync>(
 ) -> Result<Ran, StreamFault>
     requires ready { IsReadyToRead session }
     requires usable { CanBeAsked items.old (S.failed input.old) }
-    requires unread { IsUnread (length session.recorders.items) (S.remaining input.old) (S.failed input.old) items.old }
-    ensures ours { IfOk result (λ ran. AreReceipts (gathered_from ran.gathered) ran.receipts.items) }
-    ensures run { IfOk result (λ ran. HasRun (length session.outlets.items) ran.gathered ran.served.items) }
-    ensures threads { IfOk result (λ ran. ran.gathered.limits.threads ≡ length session.recorders.items) }
-    ensures streamed { (limits : Bounds) (turns : ℕ) (start : Option (List ℕ)) → HasTold limits turns (used start (S.remaining input.old) (S.failed input.old)) items.old [] nothing
-        → HasStreamed limits turns (used start (S.remaining input.new) (S.failed input.new)) (length session.recorders.items) items.new result }
+    requires unread { IsUnread (length session.recorders.items) (S.remaining input.old)
+        (S.failed input.old) items.old }
+    ensures ours { IfOk result
+        (λ ran. AreReceipts (gathered_from ran.gathered) ran.receipts.items) }
+    ensures run { IfOk result
+        (λ ran. HasRun (length session.outlets.items) ran.gathered ran.served.items) }
+    ensures threads { IfOk result
+        (λ ran. ran.gathered.limits.threads ≡ length session.recorders.items) }
+    ensures streamed { (limits : Bounds) (turns : ℕ) (start : Option (List ℕ))
+        → HasTold limits turns
+        (used start (S.remaining input.old) (S.failed input.old)) items.old [] nothing
+        → HasStreamed limits turns (used start (S.remaining input.new) (S.failed input.new))
+        (length session.recorders.items) items.new result }
     ensures done { OnOk result (IsDone items.new) }
     ensures in_time { FailsInTime (S.remaining input.old) (S.remaining input.new) items.new result }
 {
@@ -290,15 +322,23 @@ fn lend_text<'s, 'x, E, R: Threads + Wait + Sync, S: Source, G: Gate + Sync>(
 ) -> (Result<Ran, StreamFault>, Items, &'x mut S)
     requires ready { IsReadyToRead session }
     requires usable { CanBeAsked items (S.failed input.old) }
-    requires unread { IsUnread (length session.recorders.items) (S.remaining input.old) (S.failed input.old) items }
-    ensures ours { IfOk result.0 (λ ran. AreReceipts (gathered_from ran.gathered) ran.receipts.items) }
+    requires unread { IsUnread (length session.recorders.items) (S.remaining input.old)
+        (S.failed input.old) items }
+    ensures ours { IfOk result.0
+        (λ ran. AreReceipts (gathered_from ran.gathered) ran.receipts.items) }
     ensures same { result.2.ghost_name ≡ input.entry.ghost_name }
-    ensures run { IfOk result.0 (λ ran. HasRun (length session.outlets.items) ran.gathered ran.served.items) }
-    ensures threads { IfOk result.0 (λ ran. ran.gathered.limits.threads ≡ length session.recorders.items) }
-    ensures streamed { (limits : Bounds) (turns : ℕ) (start : Option (List ℕ)) → HasTold limits turns (used start (S.remaining input.old) (S.failed input.old)) items [] nothing
-        → HasStreamed limits turns (used start (S.remaining result.2.now) (S.failed result.2.now)) (length session.recorders.items) result.1 result.0 }
+    ensures run { IfOk result.0
+        (λ ran. HasRun (length session.outlets.items) ran.gathered ran.served.items) }
+    ensures threads { IfOk result.0
+        (λ ran. ran.gathered.limits.threads ≡ length session.recorders.items) }
+    ensures streamed { (limits : Bounds) (turns : ℕ) (start : Option (List ℕ))
+        → HasTold limits turns
+        (used start (S.remaining input.old) (S.failed input.old)) items [] nothing
+        → HasStreamed limits turns (used start (S.remaining result.2.now) (S.failed result.2.now))
+        (length session.recorders.items) result.1 result.0 }
     ensures done { OnOk result.0 (IsDone result.1) }
-    ensures in_time { FailsInTime (S.remaining input.old) (S.remaining result.2.now) result.1 result.0 }
+    ensures in_time { FailsInTime (S.remaining input.old)
+        (S.remaining result.2.now) result.1 result.0 }
 {
     let mut items = items;
     let ran = record_text(scope, rt, alloc, gate, session, &mut items, input);
@@ -319,14 +359,22 @@ pub fn read_session<R: Threads + Wait + Sync, S: Source, G: Gate + Sync>(
 ) -> (Result<Ran, StreamFault>, Items)
     requires ready { IsReadyToRead session }
     requires usable { CanBeAsked items (S.failed input.old) }
-    requires unread { IsUnread (length session.recorders.items) (S.remaining input.old) (S.failed input.old) items }
-    ensures ours { IfOk result.0 (λ ran. AreReceipts (gathered_from ran.gathered) ran.receipts.items) }
-    ensures run { IfOk result.0 (λ ran. HasRun (length session.outlets.items) ran.gathered ran.served.items) }
-    ensures threads { IfOk result.0 (λ ran. ran.gathered.limits.threads ≡ length session.recorders.items) }
-    ensures streamed { (limits : Bounds) (turns : ℕ) (start : Option (List ℕ)) → HasTold limits turns (used start (S.remaining input.old) (S.failed input.old)) items [] nothing
-        → HasStreamed limits turns (used start (S.remaining input.new) (S.failed input.new)) (length session.recorders.items) result.1 result.0 }
+    requires unread { IsUnread (length session.recorders.items) (S.remaining input.old)
+        (S.failed input.old) items }
+    ensures ours { IfOk result.0
+        (λ ran. AreReceipts (gathered_from ran.gathered) ran.receipts.items) }
+    ensures run { IfOk result.0
+        (λ ran. HasRun (length session.outlets.items) ran.gathered ran.served.items) }
+    ensures threads { IfOk result.0
+        (λ ran. ran.gathered.limits.threads ≡ length session.recorders.items) }
+    ensures streamed { (limits : Bounds) (turns : ℕ) (start : Option (List ℕ))
+        → HasTold limits turns
+        (used start (S.remaining input.old) (S.failed input.old)) items [] nothing
+        → HasStreamed limits turns (used start (S.remaining input.new) (S.failed input.new))
+        (length session.recorders.items) result.1 result.0 }
     ensures done { OnOk result.0 (IsDone result.1) }
-    ensures in_time { FailsInTime (S.remaining input.old) (S.remaining input.new) result.1 result.0 }
+    ensures in_time { FailsInTime (S.remaining input.old)
+        (S.remaining input.new) result.1 result.0 }
 {
     let (ran, items, _input) = thread::scope(
         thread::scope_env(),
@@ -334,15 +382,25 @@ pub fn read_session<R: Threads + Wait + Sync, S: Source, G: Gate + Sync>(
         move |scope| -> (Result<Ran, StreamFault>, Items, &mut S)
             requires ready { IsReadyToRead session }
             requires usable { CanBeAsked items (S.failed input.now) }
-            requires unread { IsUnread (length session.recorders.items) (S.remaining input.now) (S.failed input.now) items }
-            ensures ours { IfOk result.0 (λ ran. AreReceipts (gathered_from ran.gathered) ran.receipts.items) }
+            requires unread { IsUnread (length session.recorders.items) (S.remaining input.now)
+                (S.failed input.now) items }
+            ensures ours { IfOk result.0
+                (λ ran. AreReceipts (gathered_from ran.gathered) ran.receipts.items) }
             ensures same { result.2.ghost_name ≡ input.entry.ghost_name }
-            ensures run { IfOk result.0 (λ ran. HasRun (length session.outlets.items) ran.gathered ran.served.items) }
-            ensures threads { IfOk result.0 (λ ran. ran.gathered.limits.threads ≡ length session.recorders.items) }
-            ensures streamed { (limits : Bounds) (turns : ℕ) (start : Option (List ℕ)) → HasTold limits turns (used start (S.remaining input.entry.now) (S.failed input.entry.now)) items [] nothing
-                → HasStreamed limits turns (used start (S.remaining result.2.now) (S.failed result.2.now)) (length session.recorders.items) result.1 result.0 }
+            ensures run { IfOk result.0
+                (λ ran. HasRun (length session.outlets.items) ran.gathered ran.served.items) }
+            ensures threads { IfOk result.0
+                (λ ran. ran.gathered.limits.threads ≡ length session.recorders.items) }
+            ensures streamed { (limits : Bounds) (turns : ℕ) (start : Option (List ℕ))
+                → HasTold limits turns
+                (used start (S.remaining input.entry.now)
+                (S.failed input.entry.now)) items [] nothing
+                → HasStreamed limits turns
+                (used start (S.remaining result.2.now) (S.failed result.2.now))
+                (length session.recorders.items) result.1 result.0 }
             ensures done { OnOk result.0 (IsDone result.1) }
-            ensures in_time { FailsInTime (S.remaining input.entry.now) (S.remaining result.2.now) result.1 result.0 }
+            ensures in_time { FailsInTime (S.remaining input.entry.now)
+                (S.remaining result.2.now) result.1 result.0 }
         { lend_text(scope, rt, alloc, gate, session, items, input) },
     );
     (ran, items)

@@ -55,7 +55,8 @@ pub fn start_workers<'s, E, R: Threads + Wait + Sync, G: Gate + Sync>(
     requires fit { length inlets.items ≤ MAX_SHARDS }
     requires empty { workers.old.items ≡ [] }
     requires room { vec_len workers.old + length inlets.items ≤ vec_capacity workers.old }
-    ensures feeds { result ≡ true → map (λ w. w.promise.0.value.feed) workers.new.items ≡ map (λ i. i.feed) inlets.items }
+    ensures feeds { result ≡ true
+        → map (λ w. w.promise.0.value.feed) workers.new.items ≡ map (λ i. i.feed) inlets.items }
 {
     let mut shard = 0;
     for inlet in inlets {
@@ -72,7 +73,8 @@ pub fn start_workers<'s, E, R: Threads + Wait + Sync, G: Gate + Sync>(
 pub fn join_workers<R: Threads>(rt: &R, workers: Vec<Working>, served: &mut Vec<Served>)
     requires empty { served.old.items ≡ [] }
     requires room { vec_len served.old + length workers.items ≤ vec_capacity served.old }
-    ensures feeds { map (λ s. s.feed) served.new.items ≡ map (λ w. w.promise.0.value.feed) workers.items }
+    ensures feeds { map (λ s. s.feed) served.new.items
+        ≡ map (λ w. w.promise.0.value.feed) workers.items }
 {
     for worker in workers {
         keep(served, worker.join(rt));

@@ -101,7 +101,9 @@ fn threads_option<'a>(alloc: Global) -> Arg<'a>
 
 // A command that reports, with the number of its recorder threads.
 fn recording_command<'a>(alloc: Global) -> Result<clap::Command<'a>, AllocError>
-    ensures shape { IfOk result (λ c. app_of c ≡ with_rule (with_rule (query_app (codes "live")) json_rule) recorders_rule) }
+    ensures shape { IfOk result
+        (λ c. app_of c
+        ≡ with_rule (with_rule (query_app (codes "live")) json_rule) recorders_rule) }
     ensures local { IfOk result (λ c. (fields_of c).has_globals ≡ false) }
 {
     query_command(alloc, "live")?
@@ -138,7 +140,8 @@ pub(crate) fn live_command<'a>(alloc: Global) -> Result<clap::Command<'a>, Alloc
 // The number that was read for an option, where it is from 1 to the greatest.
 fn number_in(matches: &ArgMatches<'_>, id: &str, greatest: u32) -> Option<u32>
     ensures some { IfSome result (IsNumberIn (rows_of (found_of matches.now)) id.now greatest) }
-    ensures none { result ≡ None → (n : ℕ) → IsNumberIn (rows_of (found_of matches.now)) id.now greatest n → ⊥ }
+    ensures none { result ≡ None → (n : ℕ)
+        → IsNumberIn (rows_of (found_of matches.now)) id.now greatest n → ⊥ }
 {
     let number = number_at(matches, id)?;
     if number < 1 || number > greatest {
@@ -157,7 +160,8 @@ fn flag_in(matches: &ArgMatches<'_>, id: &str) -> bool
 /// The command that these values of its options ask for.
 pub(crate) fn live_in(options: &ArgMatches<'_>) -> Option<Command>
     ensures some { IfSome result (IsCommand (codes "live") (rows_of (found_of options.now))) }
-    ensures none { result ≡ None → (c : Command) → IsCommand (codes "live") (rows_of (found_of options.now)) c → ⊥ }
+    ensures none { result ≡ None → (c : Command)
+        → IsCommand (codes "live") (rows_of (found_of options.now)) c → ⊥ }
 {
     let query = query_in(options)?;
     let recorders = number_in(options, "recorders", 16)?;

@@ -193,21 +193,29 @@ fn predicting<'a>(alloc: Global) -> Result<clap::Command<'a>, AllocError>
 
 // And with the one that runs a session.
 fn recording<'a>(alloc: Global) -> Result<clap::Command<'a>, AllocError>
-    ensures { IfOk result (λ c. app_of c ≡ with_subcommand (with_subcommand program predict.top) live.top) }
+    ensures { IfOk result
+        (λ c. app_of c ≡ with_subcommand (with_subcommand program predict.top) live.top) }
 {
     predicting(alloc)?.subcommand(live_command(alloc)?)
 }
 
 // And with the one that counts.
 fn counting<'a>(alloc: Global) -> Result<clap::Command<'a>, AllocError>
-    ensures { IfOk result (λ c. app_of c ≡ with_subcommand (with_subcommand (with_subcommand program predict.top) live.top) stats.top) }
+    ensures { IfOk result
+        (λ c. app_of c
+        ≡ with_subcommand
+        (with_subcommand (with_subcommand program predict.top) live.top) stats.top) }
 {
     recording(alloc)?.subcommand(stats_command(alloc)?)
 }
 
 // And with the one that writes the trace.
 fn replaying<'a>(alloc: Global) -> Result<clap::Command<'a>, AllocError>
-    ensures { IfOk result (λ c. app_of c ≡ with_subcommand (with_subcommand (with_subcommand (with_subcommand program predict.top) live.top) stats.top) replay.top) }
+    ensures { IfOk result
+        (λ c. app_of c
+        ≡ with_subcommand
+        (with_subcommand
+        (with_subcommand (with_subcommand program predict.top) live.top) stats.top) replay.top) }
 {
     counting(alloc)?.subcommand(replay_command(alloc))
 }
@@ -238,14 +246,16 @@ fn mode_named(name: &str) -> Option<Mode>
 /// The number that was read for an option.
 pub(crate) fn number_at(matches: &ArgMatches<'_>, id: &str) -> Option<u32>
     ensures some { IfSome result (λ n. IsNumberAt (rows_of (found_of matches.now)) id.now n) }
-    ensures none { result ≡ None → (n : ℕ) → n < 2 ^ 32 → IsNumberAt (rows_of (found_of matches.now)) id.now n → ⊥ }
+    ensures none { result ≡ None → (n : ℕ) → n < 2 ^ 32
+        → IsNumberAt (rows_of (found_of matches.now)) id.now n → ⊥ }
 {
     matches.get_one::<u32>(id)
 }
 
 // The mode that was read.
 fn mode_in(matches: &ArgMatches<'_>) -> Option<Mode>
-    ensures { result ≡ option_and_then mode_named (first_of (codes "mode") (rows_of (found_of matches.now))) }
+    ensures { result ≡ option_and_then mode_named
+        (first_of (codes "mode") (rows_of (found_of matches.now))) }
 {
     match matches.get_str("mode") {
         Some(name) => mode_named(name),
@@ -307,7 +317,8 @@ fn refused(alloc: Global) -> Usage
 // The command that these values of its options ask for.
 fn predict_in(options: &ArgMatches<'_>) -> Option<Command>
     ensures some { IfSome result (IsCommand (codes "predict") (rows_of (found_of options.now))) }
-    ensures none { result ≡ None → (c : Command) → IsCommand (codes "predict") (rows_of (found_of options.now)) c → ⊥ }
+    ensures none { result ≡ None → (c : Command)
+        → IsCommand (codes "predict") (rows_of (found_of options.now)) c → ⊥ }
 {
     let query = query_in(options)?;
     Some(Command::Predict {
@@ -319,7 +330,8 @@ fn predict_in(options: &ArgMatches<'_>) -> Option<Command>
 // The command that these values of its options ask for.
 fn stats_in(options: &ArgMatches<'_>) -> Option<Command>
     ensures some { IfSome result (IsCommand (codes "stats") (rows_of (found_of options.now))) }
-    ensures none { result ≡ None → (c : Command) → IsCommand (codes "stats") (rows_of (found_of options.now)) c → ⊥ }
+    ensures none { result ≡ None → (c : Command)
+        → IsCommand (codes "stats") (rows_of (found_of options.now)) c → ⊥ }
 {
     let query = query_in(options)?;
     Some(Command::Stats { query })
@@ -328,7 +340,8 @@ fn stats_in(options: &ArgMatches<'_>) -> Option<Command>
 // The command that was entered, where its options have values in their ranges.
 fn command_in(matches: &ArgMatches<'_>) -> Option<Command>
     ensures some { IfSome result (IsEntered (subcommand_rows_of matches.now)) }
-    ensures none { result ≡ None → (c : Command) → IsEntered (subcommand_rows_of matches.now) c → ⊥ }
+    ensures none { result ≡ None → (c : Command) → IsEntered (subcommand_rows_of matches.now) c
+        → ⊥ }
 {
     if let Some(options) = matches.subcommand_matches("predict") {
         return predict_in(options);

@@ -42,7 +42,8 @@ impl Model for Taker {
 
 // What is known of the lock, where it is held.
 fn entry_of(held: &Held, lock: LockId) -> Option<HeldEntry>
-    ensures found { (es : List Event) → StandsFor es held.now → IfSome result (λ entry. (entry ≡ entry_of es lock) × (0 < depth es lock)) }
+    ensures found { (es : List Event) → StandsFor es held.now
+        → IfSome result (λ entry. (entry ≡ entry_of es lock) × (0 < depth es lock)) }
     ensures absent { (es : List Event) → StandsFor es held.now → IfNone result (depth es lock ≡ 0) }
 {
     for entry in held.entries() {
@@ -74,7 +75,8 @@ fn acquire_refusal(held: &Held, lock: LockId, mode: LockMode) -> Option<Refusal>
 
 // Why the lock can't be released.
 fn release_refusal(held: &Held, lock: LockId) -> Option<Refusal>
-    ensures { (es : List Event) → StandsFor es held.now → (mode : LockMode) (loc : ℕ) → result ≡ lock_refusal es (Release lock mode loc) }
+    ensures { (es : List Event) → StandsFor es held.now → (mode : LockMode) (loc : ℕ)
+        → result ≡ lock_refusal es (Release lock mode loc) }
 {
     if held.holds(lock) {
         return None;
@@ -86,7 +88,8 @@ impl Taker {
     /// The recorder of this thread, which has taken nothing yet.
     pub fn new(thread: ThreadId, limits: &Limits) -> Taker
         requires { thread < limits.now.threads }
-        ensures fresh { result ≡ record { thread = thread; limits = limits.now; taken = 0; segments = 0; held = [] } }
+        ensures fresh { result ≡ record
+            { thread = thread; limits = limits.now; taken = 0; segments = 0; held = [] } }
         ensures tracks { Tracks limits.now thread [] result }
     {
         Taker {
@@ -101,7 +104,8 @@ impl Taker {
     /// The note that `take` would answer this event, or the first reason why the event may not come
     /// next. Nothing changes. The cost is that of `take`.
     pub fn check(&self, event: Event) -> Result<Note, Refusal>
-        ensures { (limits : Bounds) (thread : ℕ) (es : List Event) → Tracks limits thread es self.now → result ≡ answer_to limits thread es event }
+        ensures { (limits : Bounds) (thread : ℕ) (es : List Event)
+            → Tracks limits thread es self.now → result ≡ answer_to limits thread es event }
     {
         self.answer(&event)
     }
@@ -111,8 +115,11 @@ impl Taker {
     ///
     /// It looks through the at most 64 held locks, and takes no memory.
     pub fn take(&mut self, event: Event) -> Result<Note, Refusal>
-        ensures answers { (limits : Bounds) (thread : ℕ) (es : List Event) → Tracks limits thread es self.old → result ≡ answer_to limits thread es event }
-        ensures tracks { (limits : Bounds) (thread : ℕ) (es : List Event) → Tracks limits thread es self.old → OnOk result (Tracks limits thread (es ++ event ∷ []) self.new) }
+        ensures answers { (limits : Bounds) (thread : ℕ) (es : List Event)
+            → Tracks limits thread es self.old → result ≡ answer_to limits thread es event }
+        ensures tracks { (limits : Bounds) (thread : ℕ) (es : List Event)
+            → Tracks limits thread es self.old
+            → OnOk result (Tracks limits thread (es ++ event ∷ []) self.new) }
         ensures unchanged { OnErr result (self.new ≡ self.old) }
     {
         let note = self.answer(&event)?;
@@ -126,7 +133,8 @@ impl Taker {
     /// It looks through the at most 64 held locks, and takes no memory.
     pub fn advance(&mut self, event: Event)
         requires { MayFollow self.old event }
-        ensures { (limits : Bounds) (thread : ℕ) (es : List Event) → Tracks limits thread es self.old → Tracks limits thread (es ++ event ∷ []) self.new }
+        ensures { (limits : Bounds) (thread : ℕ) (es : List Event)
+            → Tracks limits thread es self.old → Tracks limits thread (es ++ event ∷ []) self.new }
     {
         let has_room = self.taken < self.limits.events();
         prove!(has_room);
@@ -136,7 +144,8 @@ impl Taker {
     /// The thread whose events are taken.
     pub fn thread(&self) -> ThreadId
         ensures value { result ≡ self.now.thread }
-        ensures own { (limits : Bounds) (thread : ℕ) (es : List Event) → Tracks limits thread es self.now → result ≡ thread }
+        ensures own { (limits : Bounds) (thread : ℕ) (es : List Event)
+            → Tracks limits thread es self.now → result ≡ thread }
     {
         self.thread
     }
@@ -144,7 +153,8 @@ impl Taker {
     /// How many events were taken.
     pub fn taken(&self) -> u32
         ensures value { result ≡ self.now.taken }
-        ensures length { (limits : Bounds) (thread : ℕ) (es : List Event) → Tracks limits thread es self.now → result ≡ length es }
+        ensures length { (limits : Bounds) (thread : ℕ) (es : List Event)
+            → Tracks limits thread es self.now → result ≡ length es }
     {
         self.taken
     }
@@ -152,7 +162,8 @@ impl Taker {
     /// The mark that the thread has ended, with the number of events taken.
     pub fn end(&self) -> Note
         ensures value { result ≡ end_note self.now.thread self.now.taken }
-        ensures mark { (limits : Bounds) (thread : ℕ) (es : List Event) → Tracks limits thread es self.now → result ≡ end_note thread (length es) }
+        ensures mark { (limits : Bounds) (thread : ℕ) (es : List Event)
+            → Tracks limits thread es self.now → result ≡ end_note thread (length es) }
     {
         Note {
             thread: self.thread,
@@ -163,7 +174,8 @@ impl Taker {
 
     // The note of the event, or why it may not come next.
     fn answer(&self, event: &Event) -> Result<Note, Refusal>
-        ensures answers { (limits : Bounds) (thread : ℕ) (es : List Event) → Tracks limits thread es self.now → result ≡ answer_to limits thread es event.now }
+        ensures answers { (limits : Bounds) (thread : ℕ) (es : List Event)
+            → Tracks limits thread es self.now → result ≡ answer_to limits thread es event.now }
         ensures room { OnOk result (self.now.taken < MAX_EVENTS) }
     {
         if self.taken >= self.limits.events() {
@@ -181,7 +193,9 @@ impl Taker {
 
     // Why the event may not come next, where there is room for it.
     fn refusal(&self, event: &Event) -> Option<Refusal>
-        ensures { (limits : Bounds) (thread : ℕ) (es : List Event) → Tracks limits thread es self.now → self.now.taken < limits.events → result ≡ refusal limits thread es event.now }
+        ensures { (limits : Bounds) (thread : ℕ) (es : List Event)
+            → Tracks limits thread es self.now → self.now.taken < limits.events
+            → result ≡ refusal limits thread es event.now }
     {
         match *event {
             Event::Acquire { lock, mode, .. } => acquire_refusal(&self.held, lock, mode),
@@ -208,7 +222,9 @@ impl Taker {
     // Counts the event, which has to be lawful next, and keeps what the thread holds after it.
     fn keep(&mut self, event: &Event)
         requires { self.old.taken < MAX_EVENTS }
-        ensures { (limits : Bounds) (thread : ℕ) (es : List Event) → Tracks limits thread es self.old → refusal limits thread es event.now ≡ None → Tracks limits thread (es ++ event.now ∷ []) self.new }
+        ensures { (limits : Bounds) (thread : ℕ) (es : List Event)
+            → Tracks limits thread es self.old → refusal limits thread es event.now ≡ None
+            → Tracks limits thread (es ++ event.now ∷ []) self.new }
     {
         match *event {
             Event::Acquire { lock, mode, loc } => self.keep_acquire(lock, mode, loc),
@@ -222,7 +238,9 @@ impl Taker {
     // Counts an acquire, of either kind.
     fn keep_acquire(&mut self, lock: LockId, mode: LockMode, loc: LocId)
         requires { self.old.taken < MAX_EVENTS }
-        ensures { (limits : Bounds) (thread : ℕ) (es : List Event) (e : Event) → Tracks limits thread es self.old → IsAcquireOf lock mode e → location e ≡ loc → refusal limits thread es e ≡ None → Tracks limits thread (es ++ e ∷ []) self.new }
+        ensures { (limits : Bounds) (thread : ℕ) (es : List Event) (e : Event)
+            → Tracks limits thread es self.old → IsAcquireOf lock mode e → location e ≡ loc
+            → refusal limits thread es e ≡ None → Tracks limits thread (es ++ e ∷ []) self.new }
     {
         // check has shown that the lock can be acquired
         let _ = self
@@ -234,7 +252,10 @@ impl Taker {
     // Counts a release.
     fn keep_release(&mut self, lock: LockId)
         requires { self.old.taken < MAX_EVENTS }
-        ensures { (limits : Bounds) (thread loc : ℕ) (mode : LockMode) (es : List Event) → Tracks limits thread es self.old → refusal limits thread es (Release lock mode loc) ≡ None → Tracks limits thread (es ++ Release lock mode loc ∷ []) self.new }
+        ensures { (limits : Bounds) (thread loc : ℕ) (mode : LockMode) (es : List Event)
+            → Tracks limits thread es self.old
+            → refusal limits thread es (Release lock mode loc) ≡ None
+            → Tracks limits thread (es ++ Release lock mode loc ∷ []) self.new }
     {
         // check has shown that the lock is held
         let _ = self.held.release(lock);
@@ -244,7 +265,8 @@ impl Taker {
     // Counts a fork or a join.
     fn close_segment(&mut self)
         requires { self.old.taken < MAX_EVENTS }
-        ensures { self.new ≡ record self.old { taken = self.old.taken + 1; segments = self.old.segments + 1 } }
+        ensures { self.new
+            ≡ record self.old { taken = self.old.taken + 1; segments = self.old.segments + 1 } }
     {
         self.segments += 1;
         self.taken += 1;

@@ -42,7 +42,8 @@ pub fn is_exclusive(edge: &Edge) -> bool
 
 // Whether the edge at this position is of exclusive locks alone; true where there is none.
 fn is_exclusive_at(table: &[(Edge, Sample)], position: usize) -> bool
-    ensures { result ≡ option_map_or is_exclusive (slice_get (edges_of_table table.now) position) true }
+    ensures { result ≡ option_map_or is_exclusive
+        (slice_get (edges_of_table table.now) position) true }
 {
     if position >= table.len() {
         return true;
@@ -52,7 +53,9 @@ fn is_exclusive_at(table: &[(Edge, Sample)], position: usize) -> bool
 
 // Whether the edges at these positions are of exclusive locks alone.
 fn are_exclusive_at(table: &[(Edge, Sample)], positions: &[usize]) -> bool
-    ensures { result ≡ list_all (λ position. option_map_or is_exclusive (slice_get (edges_of_table table.now) position) true) positions.now }
+    ensures { result ≡ list_all
+        (λ position. option_map_or is_exclusive
+        (slice_get (edges_of_table table.now) position) true) positions.now }
 {
     for &position in positions {
         if !is_exclusive_at(table, position) {
@@ -64,7 +67,10 @@ fn are_exclusive_at(table: &[(Edge, Sample)], positions: &[usize]) -> bool
 
 // Whether each edge of each of these cycles is of exclusive locks alone.
 fn are_cycles_exclusive(table: &[(Edge, Sample)], cycles: &[Vec<usize>]) -> bool
-    ensures { result ≡ list_all (λ cycle. list_all (λ position. option_map_or is_exclusive (slice_get (edges_of_table table.now) position) true) cycle.items) cycles.now }
+    ensures { result ≡ list_all
+        (λ cycle. list_all
+        (λ position. option_map_or is_exclusive
+        (slice_get (edges_of_table table.now) position) true) cycle.items) cycles.now }
 {
     for cycle in cycles {
         if !are_exclusive_at(table, cycle.as_slice()) {

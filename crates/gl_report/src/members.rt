@@ -19,7 +19,9 @@ pub(crate) fn put_names(
     names: &Names,
     edge: &Edge,
 ) -> Result<(), Memory>
-    ensures { OnOk result (members_view members.new.entries ≡ with_names names.now edge.now (members_view members.old.entries)) }
+    ensures { OnOk result
+        (members_view members.new.entries
+        ≡ with_names names.now edge.now (members_view members.old.entries)) }
 {
     let guards = guards_value(alloc, names, &edge.guards)?;
     let held = lock_value(alloc, names, edge.held)?;
@@ -39,7 +41,9 @@ pub(crate) fn put_locations(
     names: &Names,
     sample: &Sample,
 ) -> Result<(), Memory>
-    ensures { OnOk result (members_view members.new.entries ≡ with_locations names.now sample.now (members_view members.old.entries)) }
+    ensures { OnOk result
+        (members_view members.new.entries
+        ≡ with_locations names.now sample.now (members_view members.old.entries)) }
 {
     let held_at = loc_value(alloc, names, sample.held_loc)?;
     let wanted_at = loc_value(alloc, names, sample.wanted_loc)?;
@@ -55,7 +59,9 @@ pub(crate) fn put_segments(
     alloc: Global,
     edge: &Edge,
 ) -> Result<(), Memory>
-    ensures { OnOk result (members_view members.new.entries ≡ with_segments edge.now (members_view members.old.entries)) }
+    ensures { OnOk result
+        (members_view members.new.entries
+        ≡ with_segments edge.now (members_view members.old.entries)) }
 {
     put(members, alloc, "first", Value::from(edge.first))?;
     put(members, alloc, "second", Value::from(edge.second))?;
@@ -68,7 +74,9 @@ pub(crate) fn put_modes(
     alloc: Global,
     edge: &Edge,
 ) -> Result<(), Memory>
-    ensures { OnOk result (members_view members.new.entries ≡ with_modes edge.now (members_view members.old.entries)) }
+    ensures { OnOk result
+        (members_view members.new.entries
+        ≡ with_modes edge.now (members_view members.old.entries)) }
 {
     let guard_modes = guard_modes_value(alloc, &edge.guards)?;
     let held_mode = lock_mode_value(alloc, edge.held_mode)?;

@@ -43,7 +43,8 @@ pub(crate) fn loc_name(names: &Names, loc: LocId) -> &[u8]
 
 // Adds who holds what since where.
 fn put_held(out: &mut Vec<u8>, names: &Names, edge: &Edge, sample: &Sample) -> Result<(), Memory>
-    ensures { OnOk result (out.new.items ≡ out.old.items ++ held_text names.now (edge.now, sample.now)) }
+    ensures { OnOk result
+        (out.new.items ≡ out.old.items ++ held_text names.now (edge.now, sample.now)) }
 {
     out.extend_from_slice(b"  ")?;
     out.extend_from_slice(thread_name(names, edge.thread))?;
@@ -56,7 +57,8 @@ fn put_held(out: &mut Vec<u8>, names: &Names, edge: &Edge, sample: &Sample) -> R
 
 // Adds what is wanted, and at which place.
 fn put_wanted(out: &mut Vec<u8>, names: &Names, edge: &Edge, sample: &Sample) -> Result<(), Memory>
-    ensures { OnOk result (out.new.items ≡ out.old.items ++ wanted_text names.now (edge.now, sample.now)) }
+    ensures { OnOk result
+        (out.new.items ≡ out.old.items ++ wanted_text names.now (edge.now, sample.now)) }
 {
     out.extend_from_slice(b" wants ")?;
     out.extend_from_slice(lock_name(names, edge.wanted))?;
@@ -73,7 +75,9 @@ fn put_edge(
     table: &[(Edge, Sample)],
     position: usize,
 ) -> Result<(), Memory>
-    ensures { OnOk result (out.new.items ≡ out.old.items ++ option_map_or (edge_line names.now) (slice_get table.now position) []) }
+    ensures { OnOk result
+        (out.new.items
+        ≡ out.old.items ++ option_map_or (edge_line names.now) (slice_get table.now position) []) }
 {
     if position >= table.len() {
         return Ok(());
@@ -113,7 +117,8 @@ fn put_cycle(
     number: usize,
     cycle: &[usize],
 ) -> Result<(), Memory>
-    ensures { OnOk result (out.new.items ≡ out.old.items ++ cycle_text names.now table.now number cycle.now) }
+    ensures { OnOk result
+        (out.new.items ≡ out.old.items ++ cycle_text names.now table.now number cycle.now) }
 {
     put_cycle_line(out, number, cycle.len())?;
     for &position in cycle {
@@ -141,7 +146,9 @@ fn put_last_line(out: &mut Vec<u8>, count: usize, more: bool) -> Result<(), Memo
 /// For each listed cycle a line that numbers it, and a line for each of its edges; then how many
 /// cycles are listed, and whether there are more. Err where memory was refused.
 pub fn text(alloc: Global, names: &Names, report: &Report) -> Result<Vec<u8>, Memory>
-    ensures { IfOk result (λ t. t.items ≡ report_text names.now report.now.edges report.now.found.cycles report.now.found.more) }
+    ensures { IfOk result
+        (λ t. t.items
+        ≡ report_text names.now report.now.edges report.now.found.cycles report.now.found.more) }
 {
     let mut out = Vec::new(alloc);
     let table = report.edges.entries();

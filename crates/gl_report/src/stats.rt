@@ -40,7 +40,8 @@ impl Stats {
     /// Takes no memory. Each event is looked at once.
     pub fn of(trace: &Trace, report: &Report) -> Stats
         requires few { length trace.now.lists ≤ 1024 }
-        requires lawful { (thread : ℕ) (es : List Event) → slice_get trace.now.lists thread ≡ Some es → IsLawful greatest thread es }
+        requires lawful { (thread : ℕ) (es : List Event)
+            → slice_get trace.now.lists thread ≡ Some es → IsLawful greatest thread es }
         ensures { result ≡ stats_of trace.now report.now }
     {
         let lists = trace.lists.as_slice();

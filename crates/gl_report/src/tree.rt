@@ -39,7 +39,9 @@ fn push_edge(
     names: &Names,
     pair: &(Edge, Sample),
 ) -> Result<(), Memory>
-    ensures { OnOk result (map view values.new.items ≡ map view values.old.items ++ edge_tree names.now pair.now ∷ []) }
+    ensures { OnOk result
+        (map view values.new.items
+        ≡ map view values.old.items ++ edge_tree names.now pair.now ∷ []) }
 {
     let value = edge_json(alloc, names, &pair.0, &pair.1)?;
     values.push(value)?;
@@ -59,7 +61,8 @@ fn edge_values(alloc: Global, names: &Names, table: &[(Edge, Sample)]) -> Result
 
 // Adds a cycle.
 fn push_cycle(alloc: Global, values: &mut Vec<Value>, cycle: &[usize]) -> Result<(), Memory>
-    ensures { OnOk result (map view values.new.items ≡ map view values.old.items ++ positions_tree cycle.now ∷ []) }
+    ensures { OnOk result
+        (map view values.new.items ≡ map view values.old.items ++ positions_tree cycle.now ∷ []) }
 {
     let value = positions_value(alloc, cycle)?;
     values.push(value)?;
@@ -68,7 +71,8 @@ fn push_cycle(alloc: Global, values: &mut Vec<Value>, cycle: &[usize]) -> Result
 
 // The cycles.
 fn cycle_values(alloc: Global, cycles: &[Vec<usize>]) -> Result<Vec<Value>, Memory>
-    ensures { IfOk result (λ vs. map view vs.items ≡ map positions_tree (map (λ cycle. cycle.items) cycles.now)) }
+    ensures { IfOk result
+        (λ vs. map view vs.items ≡ map positions_tree (map (λ cycle. cycle.items) cycles.now)) }
 {
     let mut values = Vec::new(alloc);
     for cycle in cycles {
@@ -115,7 +119,8 @@ pub fn json(alloc: Global, names: &Names, report: &Report) -> Result<Value, Memo
 /// The report as one line of compact JSON text, of format 2, ended by LF. Err where memory was
 /// refused.
 pub fn json_text(alloc: Global, names: &Names, report: &Report) -> Result<Vec<u8>, Memory>
-    ensures { IfOk result (λ t. t.items ≡ compact_text (report_tree names.now report.now) ++ codes "\n") }
+    ensures { IfOk result
+        (λ t. t.items ≡ compact_text (report_tree names.now report.now) ++ codes "\n") }
 {
     let value = json(alloc, names, report)?;
     let mut text = value.to_string(alloc)?.into_bytes();

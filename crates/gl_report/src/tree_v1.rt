@@ -42,7 +42,10 @@ fn push_edge(
     table: &[(Edge, Sample)],
     position: usize,
 ) -> Result<(), Memory>
-    ensures { OnOk result (map view values.new.items ≡ map view values.old.items ++ option_map_or (λ pair. edge_tree_v1 names.now pair ∷ []) (slice_get table.now position) []) }
+    ensures { OnOk result
+        (map view values.new.items
+        ≡ map view values.old.items ++ option_map_or (λ pair. edge_tree_v1 names.now pair ∷ [])
+        (slice_get table.now position) []) }
 {
     if position >= table.len() {
         return Ok(());
@@ -60,7 +63,9 @@ fn edge_values(
     table: &[(Edge, Sample)],
     cycle: &[usize],
 ) -> Result<Vec<Value>, Memory>
-    ensures { IfOk result (λ vs. map view vs.items ≡ map (edge_tree_v1 names.now) (filter_map (slice_get table.now) cycle.now)) }
+    ensures { IfOk result
+        (λ vs. map view vs.items
+        ≡ map (edge_tree_v1 names.now) (filter_map (slice_get table.now) cycle.now)) }
 {
     let mut values = Vec::new(alloc);
     for &position in cycle {
@@ -78,7 +83,9 @@ fn push_cycle(
     table: &[(Edge, Sample)],
     cycle: &[usize],
 ) -> Result<(), Memory>
-    ensures { OnOk result (map view values.new.items ≡ map view values.old.items ++ cycle_tree_v1 names.now table.now cycle.now ∷ []) }
+    ensures { OnOk result
+        (map view values.new.items
+        ≡ map view values.old.items ++ cycle_tree_v1 names.now table.now cycle.now ∷ []) }
 {
     let edges = edge_values(alloc, names, table, cycle)?;
     values.push(Value::from(edges))?;
@@ -92,7 +99,9 @@ fn cycle_values(
     table: &[(Edge, Sample)],
     cycles: &[Vec<usize>],
 ) -> Result<Vec<Value>, Memory>
-    ensures { IfOk result (λ vs. map view vs.items ≡ map (cycle_tree_v1 names.now table.now) (map (λ cycle. cycle.items) cycles.now)) }
+    ensures { IfOk result
+        (λ vs. map view vs.items
+        ≡ map (cycle_tree_v1 names.now table.now) (map (λ cycle. cycle.items) cycles.now)) }
 {
     let mut values = Vec::new(alloc);
     for cycle in cycles {
@@ -129,7 +138,8 @@ pub fn json_v1(alloc: Global, names: &Names, report: &Report) -> Result<Value, M
 /// refused.
 pub fn json_text_v1(alloc: Global, names: &Names, report: &Report) -> Result<Vec<u8>, Memory>
     requires exclusive { ListsExclusive report.now }
-    ensures { IfOk result (λ t. t.items ≡ compact_text (report_tree_v1 names.now report.now) ++ codes "\n") }
+    ensures { IfOk result
+        (λ t. t.items ≡ compact_text (report_tree_v1 names.now report.now) ++ codes "\n") }
 {
     let value = json_v1(alloc, names, report)?;
     let mut text = value.to_string(alloc)?.into_bytes();

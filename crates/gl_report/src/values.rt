@@ -44,7 +44,9 @@ fn push_lock(
     names: &Names,
     lock: LockId,
 ) -> Result<(), Memory>
-    ensures { OnOk result (map view values.new.items ≡ map view values.old.items ++ name_tree names.now.locks lock ∷ []) }
+    ensures { OnOk result
+        (map view values.new.items
+        ≡ map view values.old.items ++ name_tree names.now.locks lock ∷ []) }
 {
     let value = lock_value(alloc, names, lock)?;
     values.push(value)?;
@@ -53,7 +55,8 @@ fn push_lock(
 
 // The names of guard locks.
 fn guard_values(alloc: Global, names: &Names, guards: &[Guard]) -> Result<Vec<Value>, Memory>
-    ensures { IfOk result (λ vs. map view vs.items ≡ map (λ guard. name_tree names.now.locks guard.lock) guards.now) }
+    ensures { IfOk result
+        (λ vs. map view vs.items ≡ map (λ guard. name_tree names.now.locks guard.lock) guards.now) }
 {
     let mut values = Vec::new(alloc);
     for guard in guards {
@@ -90,7 +93,8 @@ pub(crate) fn lock_mode_value(alloc: Global, mode: LockMode) -> Result<Value, Me
 
 // Adds the mode of a lock.
 fn push_lock_mode(alloc: Global, values: &mut Vec<Value>, mode: LockMode) -> Result<(), Memory>
-    ensures { OnOk result (map view values.new.items ≡ map view values.old.items ++ lock_mode_tree mode ∷ []) }
+    ensures { OnOk result
+        (map view values.new.items ≡ map view values.old.items ++ lock_mode_tree mode ∷ []) }
 {
     let value = lock_mode_value(alloc, mode)?;
     values.push(value)?;
@@ -99,7 +103,8 @@ fn push_lock_mode(alloc: Global, values: &mut Vec<Value>, mode: LockMode) -> Res
 
 // The modes in which guard locks are held.
 fn guard_mode_values(alloc: Global, guards: &[Guard]) -> Result<Vec<Value>, Memory>
-    ensures { IfOk result (λ vs. map view vs.items ≡ map (λ guard. lock_mode_tree guard.mode) guards.now) }
+    ensures { IfOk result
+        (λ vs. map view vs.items ≡ map (λ guard. lock_mode_tree guard.mode) guards.now) }
 {
     let mut values = Vec::new(alloc);
     for guard in guards {
@@ -118,7 +123,8 @@ pub(crate) fn guard_modes_value(alloc: Global, guards: &Guards) -> Result<Value,
 
 // Adds a position.
 fn push_position(values: &mut Vec<Value>, position: usize) -> Result<(), Memory>
-    ensures { OnOk result (map view values.new.items ≡ map view values.old.items ++ number (unsigned position) ∷ []) }
+    ensures { OnOk result
+        (map view values.new.items ≡ map view values.old.items ++ number (unsigned position) ∷ []) }
 {
     values.push(Value::from(position))?;
     Ok(())
@@ -126,7 +132,8 @@ fn push_position(values: &mut Vec<Value>, position: usize) -> Result<(), Memory>
 
 // Positions.
 fn position_values(alloc: Global, positions: &[usize]) -> Result<Vec<Value>, Memory>
-    ensures { IfOk result (λ vs. map view vs.items ≡ map (λ position. number (unsigned position)) positions.now) }
+    ensures { IfOk result
+        (λ vs. map view vs.items ≡ map (λ position. number (unsigned position)) positions.now) }
 {
     let mut values = Vec::new(alloc);
     for &position in positions {

@@ -19,7 +19,8 @@ pub(crate) struct Known {
 // Whether the lists are lawful under the greatest limits.
 fn are_lawful(lists: &[Vec<Event>]) -> bool
     ensures few { IsTrue result → length lists.now ≤ 1024 }
-    ensures lawful { IsTrue result → (thread : ℕ) (es : List Event) → slice_get (map (λ v. v.items) lists.now) thread ≡ Some es → IsLawful greatest thread es }
+    ensures lawful { IsTrue result → (thread : ℕ) (es : List Event)
+        → slice_get (map (λ v. v.items) lists.now) thread ≡ Some es → IsLawful greatest thread es }
 {
     gl_recorder::are_lawful(&Limits::greatest(), lists)
 }
@@ -27,7 +28,8 @@ fn are_lawful(lists: &[Vec<Event>]) -> bool
 // The edges of the lists, for which memory may be refused once.
 fn edges(rt: &HostRuntime, lists: &[Vec<Event>]) -> Result<EdgeList, Stop>
     requires few { length lists.now ≤ 1024 }
-    requires lawful { (thread : ℕ) (es : List Event) → slice_get (map (λ v. v.items) lists.now) thread ≡ Some es → IsLawful greatest thread es }
+    requires lawful { (thread : ℕ) (es : List Event)
+        → slice_get (map (λ v. v.items) lists.now) thread ≡ Some es → IsLawful greatest thread es }
 {
     if let Ok(edges) = edges_of(rt.alloc(), lists) {
         return Ok(edges);
@@ -39,7 +41,8 @@ fn edges(rt: &HostRuntime, lists: &[Vec<Event>]) -> Result<EdgeList, Stop>
 // The order of the lists' segments.
 fn order_of(rt: &HostRuntime, lists: &[Vec<Event>]) -> Result<Order, Stop>
     requires few { length lists.now ≤ 1024 }
-    requires lawful { (thread : ℕ) (es : List Event) → slice_get (map (λ v. v.items) lists.now) thread ≡ Some es → IsLawful greatest thread es }
+    requires lawful { (thread : ℕ) (es : List Event)
+        → slice_get (map (λ v. v.items) lists.now) thread ≡ Some es → IsLawful greatest thread es }
 {
     match Order::of(rt.alloc(), lists) {
         Ok(order) => Ok(order),
@@ -51,7 +54,8 @@ fn order_of(rt: &HostRuntime, lists: &[Vec<Event>]) -> Result<Order, Stop>
 // The same, for which memory may be refused once.
 fn order(rt: &HostRuntime, lists: &[Vec<Event>]) -> Result<Order, Stop>
     requires few { length lists.now ≤ 1024 }
-    requires lawful { (thread : ℕ) (es : List Event) → slice_get (map (λ v. v.items) lists.now) thread ≡ Some es → IsLawful greatest thread es }
+    requires lawful { (thread : ℕ) (es : List Event)
+        → slice_get (map (λ v. v.items) lists.now) thread ≡ Some es → IsLawful greatest thread es }
 {
     if let Ok(order) = order_of(rt, lists) {
         return Ok(order);

@@ -68,7 +68,8 @@ fn run_alone<W: Wait>(
     ensures session { IfOk result (λ run. run.0.session ≡ collector.session) }
     ensures limits { IfOk result (λ run. run.0.limits ≡ collector.limits) }
     ensures lanes { IfOk result (λ run. run.0.lanes ≡ map (λ row. row.lane) collector.rows) }
-    ensures feeds { IfOk result (λ run. run.0.fault ≡ None → map (λ s. s.feed) run.0.sent ≡ run.1.feed ∷ []) }
+    ensures feeds { IfOk result
+        (λ run. run.0.fault ≡ None → map (λ s. s.feed) run.0.sent ≡ run.1.feed ∷ []) }
 {
     let (outlet, inlet) = ends(rt)?;
     let mut outlets = room(rt)?;

@@ -65,7 +65,8 @@ impl Clock {
 
     /// The counts up to the last one that isn't 0.
     pub fn front(&self, alloc: Global) -> Result<Vec<u32>, AllocError>
-        ensures { IfOk result (λ v. (thread : ℕ) → slice_index v.items thread ≡ slice_index self.now thread) }
+        ensures { IfOk result
+            (λ v. (thread : ℕ) → slice_index v.items thread ≡ slice_index self.now thread) }
     {
         let mut end = 0;
         for (thread, count) in self.ahead.iter().enumerate() {

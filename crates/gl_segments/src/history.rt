@@ -150,7 +150,10 @@ impl Growing {
         ensures thread { self.new.thread ≡ self.old.thread }
         ensures threads { OnOk result (length self.new.latest ≡ length self.old.latest) }
         ensures segments { OnOk result (self.new.segments ≡ self.old.segments + 1) }
-        ensures noted { OnOk result ((clocks : List (List ℕ)) → IsNoted self.old clocks → slice_index clock.now self.old.thread ≡ length clocks → IsNoted self.new (clocks ++ clock.now ∷ [])) }
+        ensures noted { OnOk result
+            ((clocks : List (List ℕ)) → IsNoted self.old clocks
+            → slice_index clock.now self.old.thread ≡ length clocks
+            → IsNoted self.new (clocks ++ clock.now ∷ [])) }
     {
         self.keep(alloc, clock)?;
         self.segments += 1;
@@ -164,7 +167,8 @@ impl Growing {
         ensures thread { self.new.thread ≡ self.old.thread }
         ensures segments { self.new.segments ≡ self.old.segments }
         ensures latest { OnOk result (self.new.latest ≡ clock.now) }
-        ensures noted { OnOk result ((clocks : List (List ℕ)) → IsNoted self.old clocks → IsNoted self.new clocks) }
+        ensures noted { OnOk result
+            ((clocks : List (List ℕ)) → IsNoted self.old clocks → IsNoted self.new clocks) }
     {
         if self.segments == 0 {
             return self.begin(alloc, clock);
@@ -177,7 +181,9 @@ impl Growing {
         ensures thread { self.new.thread ≡ self.old.thread }
         ensures segments { self.new.segments ≡ self.old.segments }
         ensures latest { OnOk result (self.new.latest ≡ clock.now) }
-        ensures noted { OnOk result ((clocks : List (List ℕ)) → length clocks ≡ 0 → IsNoted self.old clocks → IsNoted self.new clocks) }
+        ensures noted { OnOk result
+            ((clocks : List (List ℕ)) → length clocks ≡ 0 → IsNoted self.old clocks
+            → IsNoted self.new clocks) }
     {
         self.first = clock.front(alloc)?;
         self.latest = clock.copy(alloc)?;
@@ -191,7 +197,9 @@ impl Growing {
         ensures thread { self.new.thread ≡ self.old.thread }
         ensures segments { self.new.segments ≡ self.old.segments }
         ensures latest { OnOk result (self.new.latest ≡ clock.now) }
-        ensures noted { OnOk result ((clocks : List (List ℕ)) → 0 < length clocks → IsNoted self.old clocks → IsNoted self.new clocks) }
+        ensures noted { OnOk result
+            ((clocks : List (List ℕ)) → 0 < length clocks → IsNoted self.old clocks
+            → IsNoted self.new clocks) }
     {
         for number in 0..clock.threads() {
             let thread = ThreadId::new(number as u32);
@@ -206,7 +214,9 @@ impl Growing {
         ensures thread { self.new.thread ≡ self.old.thread }
         ensures segments { self.new.segments ≡ self.old.segments }
         ensures latest { OnOk result (self.new.latest ≡ slice_set self.old.latest thread count) }
-        ensures noted { OnOk result ((clocks : List (List ℕ)) → 0 < length clocks → IsNoted self.old clocks → IsNoted self.new clocks) }
+        ensures noted { OnOk result
+            ((clocks : List (List ℕ)) → 0 < length clocks → IsNoted self.old clocks
+            → IsNoted self.new clocks) }
     {
         if self.latest.ahead(thread) == count {
             return Ok(());

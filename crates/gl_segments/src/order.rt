@@ -44,7 +44,8 @@ impl Order {
     /// threads from which more segments of another thread are before.
     pub fn of(alloc: Global, lists: &[Vec<Event>]) -> Result<Order, OrderFault>
         requires few { length lists.now ≤ 1024 }
-        requires lawful { (thread : ℕ) (es : List Event) → slice_get (lists_of lists.now) thread ≡ Some es → IsLawful greatest thread es }
+        requires lawful { (thread : ℕ) (es : List Event)
+            → slice_get (lists_of lists.now) thread ≡ Some es → IsLawful greatest thread es }
         ensures ok { IfOk result (λ order. OrdersBy (lists_of lists.now) order) }
         ensures consistent { OnOk result (IsConsistent (lists_of lists.now)) }
         ensures fault { IfErr result (λ fault. IsFaultOf (lists_of lists.now) fault) }
@@ -59,7 +60,8 @@ impl Order {
     /// the thread. Takes time as the logarithm of how often such numbers grow along a's thread.
     pub fn ahead(&self, a: Segment, thread: ThreadId) -> u32
         ensures value { result ≡ ahead self.now a thread }
-        ensures counts { (lists : List (List Event)) → OrdersBy lists self.now → CountsBefore lists a thread result }
+        ensures counts { (lists : List (List Event)) → OrdersBy lists self.now
+            → CountsBefore lists a thread result }
     {
         self.count(a, thread)
     }
@@ -86,9 +88,13 @@ impl Order {
 // The clocks of all segments, or the least segment that is before itself, with a ring.
 fn histories(alloc: Global, steps: &Steps) -> Result<Vec<History>, OrderFault>
     requires { IsSound steps.now }
-    ensures ok { IfOk result (λ v. (lists : List (List Event)) → ShowsSteps lists steps.now → OrdersBy lists v.items) }
-    ensures consistent { OnOk result ((lists : List (List Event)) → ShowsSteps lists steps.now → IsConsistent lists) }
-    ensures fault { IfErr result (λ fault. (lists : List (List Event)) → ShowsSteps lists steps.now → IsFaultOf lists fault) }
+    ensures ok { IfOk result
+        (λ v. (lists : List (List Event)) → ShowsSteps lists steps.now → OrdersBy lists v.items) }
+    ensures consistent { OnOk result
+        ((lists : List (List Event)) → ShowsSteps lists steps.now → IsConsistent lists) }
+    ensures fault { IfErr result
+        (λ fault. (lists : List (List Event)) → ShowsSteps lists steps.now
+        → IsFaultOf lists fault) }
 {
     let mut histories = Vec::new(alloc);
     for thread in 0..steps.threads() {

@@ -57,7 +57,9 @@ impl Search {
         requires has { Has steps.now target }
         requires may_start { MayStart steps.now self.old.clock target }
         ensures target { self.new.target ≡ target }
-        ensures explored { OnOk result (Explores steps.now target self.new.clock self.new.found.items (length self.new.found.items)) }
+        ensures explored { OnOk result
+            (Explores steps.now target self.new.clock self.new.found.items
+            (length self.new.found.items)) }
     {
         self.begin(target)?;
         let mut done = 0;
@@ -72,7 +74,8 @@ impl Search {
     fn begin(&mut self, target: Segment) -> Result<(), AllocError>
         ensures target { self.new.target ≡ target }
         ensures clock { self.new.clock ≡ self.old.clock }
-        ensures found { OnOk result (self.new.found.items ≡ record { segment = target; next = 0 } ∷ []) }
+        ensures found { OnOk result
+            (self.new.found.items ≡ record { segment = target; next = 0 } ∷ []) }
     {
         let Segment { thread, index } = target;
         self.target = target;
@@ -87,11 +90,15 @@ impl Search {
         requires sound { IsSound steps.now }
         requires has { Has steps.now self.old.target }
         requires within { at < length self.old.found.items }
-        requires explored { Explores steps.now self.old.target self.old.clock self.old.found.items at }
+        requires explored { Explores steps.now self.old.target self.old.clock self.old.found.items
+            at }
         ensures target { self.new.target ≡ self.old.target }
-        ensures explored { OnOk result (Explores steps.now self.old.target self.new.clock self.new.found.items (at + 1)) }
+        ensures explored { OnOk result
+            (Explores steps.now self.old.target self.new.clock self.new.found.items (at + 1)) }
         ensures longer { OnOk result (length self.old.found.items ≤ length self.new.found.items) }
-        ensures room { OnOk result (unseen steps.now self.new.clock + length self.new.found.items ≡ unseen steps.now self.old.clock + length self.old.found.items) }
+        ensures room { OnOk result
+            (unseen steps.now self.new.clock + length self.new.found.items
+            ≡ unseen steps.now self.old.clock + length self.old.found.items) }
     {
         let segment = self.found[at].segment;
         for source in steps.sources(segment) {
@@ -106,8 +113,14 @@ impl Search {
         requires thread { source.thread < length self.old.clock }
         requires small { source.index + 1 < 2 ^ 32 }
         ensures target { self.new.target ≡ self.old.target }
-        ensures found { OnOk result (self.new.found.items ≡ self.old.found.items ++ links_back source at (length self.old.found.items) (source.index + 1 - slice_index self.old.clock source.thread)) }
-        ensures clock { OnOk result (self.new.clock ≡ slice_set self.old.clock source.thread (max (slice_index self.old.clock source.thread) (source.index + 1))) }
+        ensures found { OnOk result
+            (self.new.found.items
+            ≡ self.old.found.items ++ links_back source at (length self.old.found.items)
+            (source.index + 1 - slice_index self.old.clock source.thread)) }
+        ensures clock { OnOk result
+            (self.new.clock
+            ≡ slice_set self.old.clock source.thread
+            (max (slice_index self.old.clock source.thread) (source.index + 1))) }
     {
         let known = self.clock.ahead(source.thread);
         if source.index < known {
@@ -131,8 +144,11 @@ impl Search {
     /// The segments along the links from the target, which was found before itself, back to it.
     pub fn ring(&self, alloc: Global) -> Result<Vec<Segment>, AllocError>
         requires found { IsFound self.now.found.items self.now.target }
-        requires linked { (k : ℕ) (l : Link) → 0 < k → slice_get self.now.found.items k ≡ Some l → l.next < k }
-        ensures { IfOk result (λ v. (k : ℕ) × (l : Link) × (0 < k) × (slice_get self.now.found.items k ≡ Some l) × (l.segment ≡ self.now.target) × FollowsLinks self.now.found.items k v.items) }
+        requires linked { (k : ℕ) (l : Link) → 0 < k → slice_get self.now.found.items k ≡ Some l
+            → l.next < k }
+        ensures { IfOk result
+            (λ v. (k : ℕ) × (l : Link) × (0 < k) × (slice_get self.now.found.items k ≡ Some l)
+            × (l.segment ≡ self.now.target) × FollowsLinks self.now.found.items k v.items) }
     {
         for (k, link) in self.found.iter().enumerate() {
             if k > 0 && link.segment == self.target {

@@ -98,7 +98,9 @@ fn is_closer(event: Event) -> bool
 fn row(alloc: Global, cuts: &[Vec<Event>], thread: ThreadId) -> Result<Packed, AllocError>
     requires small { AreSmall (lists_of cuts.now) }
     requires within { thread < length cuts.now }
-    ensures { IfOk result (λ v. (es : List Event) → slice_get (lists_of cuts.now) thread ≡ Some es → IsRowOf (lists_of cuts.now) thread es v) }
+    ensures { IfOk result
+        (λ v. (es : List Event) → slice_get (lists_of cuts.now) thread ≡ Some es
+        → IsRowOf (lists_of cuts.now) thread es v) }
 {
     let mut row = Packed::new(alloc)?;
     row.push(&forks(alloc, cuts, thread)?)?;
@@ -137,7 +139,8 @@ fn after(
 // The segments that forks of the thread close.
 fn forks(alloc: Global, cuts: &[Vec<Event>], thread: ThreadId) -> Result<Vec<Segment>, AllocError>
     requires { AreSmall (lists_of cuts.now) }
-    ensures { IfOk result (λ v. (a : Segment) → Contains v.items a ↔ Forks (lists_of cuts.now) thread a) }
+    ensures { IfOk result
+        (λ v. (a : Segment) → Contains v.items a ↔ Forks (lists_of cuts.now) thread a) }
 {
     let mut forks = Vec::new(alloc);
     for (from, list) in cuts.iter().enumerate() {

@@ -121,7 +121,8 @@ fn send_message<R: Wait>(
     requires sends { (view pass.old).sends ≡ true }
     requires not_ended { ¬ HasEnded (view pass.old).sent }
     ensures seat { IsSeatAt (sends_on sender.now) pass.new }
-    ensures sent { MatchResult result (λ _. view pass.new ≡ and_sent (view pass.old) message) (λ back. (back ≡ message) × (view pass.new ≡ view pass.old)) }
+    ensures sent { MatchResult result (λ _. view pass.new ≡ and_sent (view pass.old) message)
+        (λ back. (back ≡ message) × (view pass.new ≡ view pass.old)) }
 {
     let mut message = message;
     for looks in 0..LOOKS {
@@ -149,7 +150,8 @@ impl Outlet {
     ) -> Result<(), (Edge, Sample)>
         ensures feed { (self.new.feed ≡ self.old.feed) × (self.new.capacity ≡ self.old.capacity) }
         ensures sent { OnOk result (self.new.sent ≡ self.old.sent ++ (edge, sample) ∷ []) }
-        ensures gone { IfErr result (λ back. (back ≡ (edge, sample)) × (self.new.sent ≡ self.old.sent)) }
+        ensures gone { IfErr result
+            (λ back. (back ≡ (edge, sample)) × (self.new.sent ≡ self.old.sent)) }
     {
         let message = Message::Pair((edge, sample));
         match send_message(rt, &self.sender, &mut self.pass, message) {

@@ -114,7 +114,9 @@ fn receive<R: Wait>(
     requires seat { IsSeatAt (receives_on receiver.now) pass.old }
     requires receives { (view pass.old).receives ≡ true }
     ensures seat { IsSeatAt (receives_on receiver.now) pass.new }
-    ensures received { MatchResult result (λ message. view pass.new ≡ and_got (view pass.old) message) (λ _. view pass.new ≡ view pass.old) }
+    ensures received { MatchResult result
+        (λ message. view pass.new ≡ and_got (view pass.old) message)
+        (λ _. view pass.new ≡ view pass.old) }
 {
     for looks in 0..LOOKS {
         match receiver.try_recv_as::<Receives, R>(rt, pass) {
@@ -129,7 +131,8 @@ fn receive<R: Wait>(
 // The table with one edge more; none where there is no memory for it, or was none for an earlier
 // one.
 fn with_edge(table: Option<Table>, edge: Edge, sample: Sample) -> Option<Table>
-    ensures { (pairs : List (Edge × Sample)) → IfSome table (λ old. old ≡ once pairs) → IfSome result (λ new. new ≡ once (pairs ++ (edge, sample) ∷ [])) }
+    ensures { (pairs : List (Edge × Sample)) → IfSome table (λ old. old ≡ once pairs)
+        → IfSome result (λ new. new ≡ once (pairs ++ (edge, sample) ∷ [])) }
 {
     let mut table = table?;
     match table.insert(edge, sample) {

@@ -89,7 +89,8 @@ impl Feed {
     ) -> Result<Feed, AllocError>
         requires few_turns { turns ≤ 2 ^ 40 }
         ensures fit { IfOk result IsFit }
-        ensures reads { IfOk result (λ f. (start : Option (List ℕ)) → ReadsOn limits.now turns start start f [] nothing) }
+        ensures reads { IfOk result
+            (λ f. (start : Option (List ℕ)) → ReadsOn limits.now turns start start f [] nothing) }
     {
         Ok(Feed {
             judge: Judge::new(alloc, *limits, seed),
@@ -106,10 +107,12 @@ impl Feed {
     pub(crate) fn next<R: Source>(&mut self, input: &mut R) -> Result<Step, LinesFault>
         requires fit { IsFit self.old }
         requires not_failed { R.failed input.old ≡ false }
-        ensures steps { StepsOn (R.remaining input.old) self.old (R.remaining input.new) (R.failed input.new) self.new result }
+        ensures steps { StepsOn (R.remaining input.old) self.old (R.remaining input.new)
+            (R.failed input.new) self.new result }
         ensures fit { OnOk result (IsFit self.new) }
         ensures found { IfOk result (λ step. is_idle step ≡ false) }
-        ensures known { (judged : Judged) → result ≡ Ok (Step.Told judged) → IsKnown judged (length self.new.judge.names.threads) }
+        ensures known { (judged : Judged) → result ≡ Ok (Step.Told judged)
+            → IsKnown judged (length self.new.judge.names.threads) }
         ensures sound { OnOk result (R.failed input.new ≡ false) }
     {
         let mut step = Step::More;
@@ -126,11 +129,14 @@ impl Feed {
     pub(crate) fn step<R: Source>(&mut self, input: &mut R) -> Result<Step, LinesFault>
         requires fit { IsFit self.old }
         requires not_failed { R.failed input.old ≡ false }
-        ensures steps { StepsOn (R.remaining input.old) self.old (R.remaining input.new) (R.failed input.new) self.new result }
-        ensures known { (judged : Judged) → result ≡ Ok (Step.Told judged) → IsKnown judged (length self.new.judge.names.threads) }
+        ensures steps { StepsOn (R.remaining input.old) self.old (R.remaining input.new)
+            (R.failed input.new) self.new result }
+        ensures known { (judged : Judged) → result ≡ Ok (Step.Told judged)
+            → IsKnown judged (length self.new.judge.names.threads) }
         ensures fit { OnOk result (IsFit self.new) }
         ensures smaller { OnOk result (fuel self.new < fuel self.old) }
-        ensures sound_at_fault { (number : ℕ) (kind : StdKind) → result ≡ Err (LinesFault.Line number kind) → R.failed input.new ≡ false }
+        ensures sound_at_fault { (number : ℕ) (kind : StdKind)
+            → result ≡ Err (LinesFault.Line number kind) → R.failed input.new ≡ false }
         ensures same_size { vec_len self.new.buffer ≡ vec_len self.old.buffer }
         ensures sound { OnOk result (R.failed input.new ≡ false) }
     {
@@ -147,11 +153,14 @@ impl Feed {
         requires fit { IsFit self.old }
         requires spent { self.old.start ≡ self.old.end }
         requires not_failed { R.failed input.old ≡ false }
-        ensures steps { StepsOn (R.remaining input.old) self.old (R.remaining input.new) (R.failed input.new) self.new result }
-        ensures known { (judged : Judged) → result ≡ Ok (Step.Told judged) → IsKnown judged (length self.new.judge.names.threads) }
+        ensures steps { StepsOn (R.remaining input.old) self.old (R.remaining input.new)
+            (R.failed input.new) self.new result }
+        ensures known { (judged : Judged) → result ≡ Ok (Step.Told judged)
+            → IsKnown judged (length self.new.judge.names.threads) }
         ensures fit { OnOk result (IsFit self.new) }
         ensures smaller { OnOk result (fuel self.new < fuel self.old) }
-        ensures sound_at_fault { (number : ℕ) (kind : StdKind) → result ≡ Err (LinesFault.Line number kind) → R.failed input.new ≡ false }
+        ensures sound_at_fault { (number : ℕ) (kind : StdKind)
+            → result ≡ Err (LinesFault.Line number kind) → R.failed input.new ≡ false }
         ensures same_size { vec_len self.new.buffer ≡ vec_len self.old.buffer }
         ensures sound { OnOk result (R.failed input.new ≡ false) }
     {
@@ -169,10 +178,18 @@ impl Feed {
     pub(crate) fn last(&mut self) -> Result<Judged, ReadFault>
         requires sound { IsSound self.old.judge }
         requires countable { self.old.judge.line + 1 < 2 ^ 64 }
-        ensures told { IfOk result (λ judged. (text : List ℕ) (told : Trace) → IsOver self.old text told → trace_of self.old.judge.limits text ≡ Ok (with_judged judged self.new.judge.names told)) }
-        ensures judged { IfOk result (λ judged. (text : List ℕ) (told : Trace) → IsOver self.old text told → HasJudged self.new.judge (with_judged judged self.new.judge.names told)) }
-        ensures known { IfOk result (λ judged. IsKnown judged (length self.new.judge.names.threads)) }
-        ensures fault { (number : ℕ) (kind : StdKind) → result ≡ Err (Line number kind) → (text : List ℕ) (told : Trace) → IsOver self.old text told → trace_of self.old.judge.limits text ≡ Err (Line number kind) }
+        ensures told { IfOk result
+            (λ judged. (text : List ℕ) (told : Trace) → IsOver self.old text told
+            → trace_of self.old.judge.limits text
+            ≡ Ok (with_judged judged self.new.judge.names told)) }
+        ensures judged { IfOk result
+            (λ judged. (text : List ℕ) (told : Trace) → IsOver self.old text told
+            → HasJudged self.new.judge (with_judged judged self.new.judge.names told)) }
+        ensures known { IfOk result
+            (λ judged. IsKnown judged (length self.new.judge.names.threads)) }
+        ensures fault { (number : ℕ) (kind : StdKind) → result ≡ Err (Line number kind)
+            → (text : List ℕ) (told : Trace) → IsOver self.old text told
+            → trace_of self.old.judge.limits text ≡ Err (Line number kind) }
     {
         if self.unfinished.is_empty() {
             return Ok(Judged::Blank);
@@ -184,7 +201,8 @@ impl Feed {
     pub(crate) fn drain<R: Source>(&mut self, input: &mut R) -> bool
         requires room { vec_len self.old.buffer ≡ CHUNK }
         requires not_failed { R.failed input.old ≡ false }
-        ensures { (turns : ℕ) (start : Option (List ℕ)) (text : List ℕ) → HasGiven turns start (R.remaining input.old) self.old.turns text
+        ensures { (turns : ℕ) (start : Option (List ℕ)) (text : List ℕ)
+            → HasGiven turns start (R.remaining input.old) self.old.turns text
             → HasDrained turns start (R.remaining input.new) (R.failed input.new) text result }
     {
         while self.turns > 0 {
@@ -224,9 +242,14 @@ impl Feed {
         requires left { 0 < self.old.turns }
         requires room { vec_len self.old.buffer ≡ CHUNK }
         requires not_failed { R.failed input.old ≡ false }
-        ensures filled { IfOk result (λ more. (turns : ℕ) (start : Option (List ℕ)) (text : List ℕ) → HasGiven turns start (R.remaining input.old) self.old.turns text
-            → HasFilled more turns start (R.remaining input.new) (R.failed input.new) self.new text) }
-        ensures broke { OnErr result ((turns : ℕ) (start : Option (List ℕ)) (text : List ℕ) → HasGiven turns start (R.remaining input.old) self.old.turns text
+        ensures filled { IfOk result
+            (λ more. (turns : ℕ) (start : Option (List ℕ)) (text : List ℕ)
+            → HasGiven turns start (R.remaining input.old) self.old.turns text
+            → HasFilled more turns start (R.remaining input.new)
+            (R.failed input.new) self.new text) }
+        ensures broke { OnErr result
+            ((turns : ℕ) (start : Option (List ℕ)) (text : List ℕ)
+            → HasGiven turns start (R.remaining input.old) self.old.turns text
             → HasRead turns start (R.remaining input.new) (R.failed input.new) text false) }
         ensures sound { OnOk result (R.failed input.new ≡ false) }
         ensures turn { OnOk result (self.new.turns + 1 ≡ self.old.turns) }
@@ -252,11 +275,19 @@ impl Feed {
         requires within { self.old.end ≤ vec_len self.old.buffer }
         requires few { length self.old.unfinished.items ≤ KEPT }
         requires countable { self.old.judge.line + 1 < 2 ^ 64 }
-        ensures some { IfOk result (λ o. IfSome o (λ judged. (text : List ℕ) (told : Trace) → IsAt self.old text told → IsAt self.new text (with_judged judged self.new.judge.names told))) }
-        ensures none { IfOk result (λ o. IfNone o ((text : List ℕ) (told : Trace) → IsAt self.old text told → IsAt self.new text told)) }
-        ensures known { IfOk result (λ o. IfSome o (λ judged. IsKnown judged (length self.new.judge.names.threads))) }
+        ensures some { IfOk result
+            (λ o. IfSome o
+            (λ judged. (text : List ℕ) (told : Trace) → IsAt self.old text told
+            → IsAt self.new text (with_judged judged self.new.judge.names told))) }
+        ensures none { IfOk result
+            (λ o. IfNone o
+            ((text : List ℕ) (told : Trace) → IsAt self.old text told → IsAt self.new text told)) }
+        ensures known { IfOk result
+            (λ o. IfSome o (λ judged. IsKnown judged (length self.new.judge.names.threads))) }
         ensures spent { IfOk result (λ o. IfNone o (self.new.start ≡ self.new.end)) }
-        ensures fault { (number : ℕ) (kind : StdKind) → result ≡ Err (Line number kind) → (text : List ℕ) (told : Trace) → IsAt self.old text told → IsFaulty self.old.judge.limits text number kind }
+        ensures fault { (number : ℕ) (kind : StdKind) → result ≡ Err (Line number kind)
+            → (text : List ℕ) (told : Trace) → IsAt self.old text told
+            → IsFaulty self.old.judge.limits text number kind }
         ensures sound { OnOk result (IsSound self.new.judge) }
         ensures order { OnOk result (self.new.start ≤ self.new.end) }
         ensures same_end { self.new.end ≡ self.old.end }
@@ -265,8 +296,10 @@ impl Feed {
         ensures few { OnOk result (length self.new.unfinished.items ≤ KEPT) }
         ensures limits { self.new.judge.limits ≡ self.old.judge.limits }
         ensures smaller { IfOk result (λ o. IfSome o (λ judged. self.old.start < self.new.start)) }
-        ensures line { IfOk result (λ o. IfSome o (λ judged. self.new.judge.line ≡ self.old.judge.line + 1)) }
-        ensures same_line { IfOk result (λ o. IfNone o (self.new.judge.line ≡ self.old.judge.line)) }
+        ensures line { IfOk result
+            (λ o. IfSome o (λ judged. self.new.judge.line ≡ self.old.judge.line + 1)) }
+        ensures same_line { IfOk result
+            (λ o. IfNone o (self.new.judge.line ≡ self.old.judge.line)) }
     {
         match cut(&self.buffer[..self.end][self.start..], LF) {
             Some((end, _)) => {
@@ -290,9 +323,14 @@ fn end_line(judge: &mut Judge, unfinished: &mut Vec<u8>, end: &[u8]) -> Result<J
     requires sound { IsSound judge.old }
     requires few { length unfinished.old.items ≤ KEPT }
     requires countable { judge.old.line + 1 < 2 ^ 64 }
-    ensures reaches { IfOk result (λ judged. (seen : List ℕ) (told : Trace) → Reaches judge.old unfinished.old.items seen told → Reaches judge.new unfinished.new.items (seen ++ end.now ++ LF ∷ []) (with_judged judged judge.new.names told)) }
+    ensures reaches { IfOk result
+        (λ judged. (seen : List ℕ) (told : Trace) → Reaches judge.old unfinished.old.items seen told
+        → Reaches judge.new unfinished.new.items (seen ++ end.now ++ LF ∷ [])
+        (with_judged judged judge.new.names told)) }
     ensures known { IfOk result (λ judged. IsKnown judged (length judge.new.names.threads)) }
-    ensures fault { (number : ℕ) (kind : StdKind) → result ≡ Err (Line number kind) → (seen : List ℕ) (told : Trace) → Reaches judge.old unfinished.old.items seen told → IsFaulty judge.old.limits (seen ++ end.now ++ LF ∷ []) number kind }
+    ensures fault { (number : ℕ) (kind : StdKind) → result ≡ Err (Line number kind)
+        → (seen : List ℕ) (told : Trace) → Reaches judge.old unfinished.old.items seen told
+        → IsFaulty judge.old.limits (seen ++ end.now ++ LF ∷ []) number kind }
     ensures sound { OnOk result (IsSound judge.new) }
     ensures empty { OnOk result (unfinished.new.items ≡ []) }
     ensures limits { judge.new.limits ≡ judge.old.limits }
@@ -310,7 +348,8 @@ fn end_line(judge: &mut Judge, unfinished: &mut Vec<u8>, end: &[u8]) -> Result<J
 // Adds what follows to the beginning of a line, as far as that is kept.
 fn keep(unfinished: &mut Vec<u8>, more: &[u8]) -> Result<(), AllocError>
     requires few { length unfinished.old.items ≤ KEPT }
-    ensures kept { OnOk result (unfinished.new.items ≡ take KEPT (unfinished.old.items ++ more.now)) }
+    ensures kept { OnOk result
+        (unfinished.new.items ≡ take KEPT (unfinished.old.items ++ more.now)) }
 {
     let room = KEPT - unfinished.len();
     if more.len() <= room {

@@ -55,7 +55,9 @@ impl Listing {
     fn new(alloc: Global, limits: &Limits, turns: u64, seed: Seed) -> Result<Listing, AllocError>
         requires few_turns { turns ≤ 2 ^ 40 }
         ensures fit { IfOk result (λ l. IsFit l.feed) }
-        ensures reads { IfOk result (λ l. (start : Option (List ℕ)) → ReadsOn limits.now turns start start l.feed [] nothing) }
+        ensures reads { IfOk result
+            (λ l. (start : Option (List ℕ))
+            → ReadsOn limits.now turns start start l.feed [] nothing) }
         ensures none { IfOk result (λ l. l.lists ≡ []) }
     {
         Ok(Listing {
@@ -69,13 +71,18 @@ impl Listing {
     fn take<R: Source>(&mut self, input: &mut R) -> Result<Progress, AllocError>
         requires fit { IsFit self.old.feed }
         requires not_failed { R.failed input.old ≡ false }
-        ensures meets { IfOk result (λ progress. (limits : Bounds) (turns : ℕ) (start : Option (List ℕ)) (text : List ℕ) → ReadsOn limits turns start (R.remaining input.old) self.old.feed text (listed_by self.old)
-            → Meets limits turns start (R.remaining input.new) (R.failed input.new) self.new text progress) }
+        ensures meets { IfOk result
+            (λ progress. (limits : Bounds) (turns : ℕ) (start : Option (List ℕ)) (text : List ℕ)
+            → ReadsOn limits turns start (R.remaining input.old) self.old.feed text
+            (listed_by self.old)
+            → Meets limits turns start (R.remaining input.new)
+            (R.failed input.new) self.new text progress) }
         ensures fit { result ≡ Ok Progress.More → IsFit self.new.feed }
         ensures fit_end { result ≡ Ok Progress.End → IsFit self.new.feed }
         ensures smaller { result ≡ Ok Progress.More → fuel self.new.feed < fuel self.old.feed }
         ensures sound { result ≡ Ok Progress.More → R.failed input.new ≡ false }
-        ensures sound_at_fault { (line : ℕ) (kind : Kind) → result ≡ Ok (Progress.Fault line kind) → R.failed input.new ≡ false }
+        ensures sound_at_fault { (line : ℕ) (kind : Kind) → result ≡ Ok (Progress.Fault line kind)
+            → R.failed input.new ≡ false }
         ensures room { vec_len self.new.feed.buffer ≡ vec_len self.old.feed.buffer }
     {
         match self.feed.step(input) {
@@ -94,7 +101,9 @@ impl Listing {
     // Puts an event into its thread's list.
     fn put(&mut self, judged: Judged) -> Result<(), AllocError>
         requires known { IsKnown judged (length self.old.feed.judge.names.threads) }
-        ensures lists { OnOk result ((told : Trace) → told.lists ≡ self.old.lists → self.new.lists ≡ (with_judged judged self.old.feed.judge.names told).lists) }
+        ensures lists { OnOk result
+            ((told : Trace) → told.lists ≡ self.old.lists
+            → self.new.lists ≡ (with_judged judged self.old.feed.judge.names told).lists) }
         ensures same { self.new.feed ≡ self.old.feed }
     {
         match judged {
@@ -111,7 +120,9 @@ impl Listing {
     /// What was heard, where the source has ended.
     fn finish(mut self) -> Result<Heard, AllocError>
         requires fit { IsFit self.feed }
-        ensures trace { IfOk result (λ h. (text : List ℕ) → IsOver self.feed text (listed_by self) → trace_of self.feed.judge.limits text ≡ h.trace) }
+        ensures trace { IfOk result
+            (λ h. (text : List ℕ) → IsOver self.feed text (listed_by self)
+            → trace_of self.feed.judge.limits text ≡ h.trace) }
         ensures whole { IfOk result (λ h. h.is_whole ≡ true) }
     {
         match self.feed.last() {
@@ -134,7 +145,9 @@ impl Listing {
     fn drain<R: Source>(mut self, input: &mut R, line: u64, kind: StdKind) -> Heard
         requires room { vec_len self.feed.buffer ≡ CHUNK }
         requires not_failed { R.failed input.old ≡ false }
-        ensures { (limits : Bounds) (turns : ℕ) (start : Option (List ℕ)) (text : List ℕ) → HasGiven turns start (R.remaining input.old) self.feed.turns text → IsFaulty limits text line kind
+        ensures { (limits : Bounds) (turns : ℕ) (start : Option (List ℕ)) (text : List ℕ)
+            → HasGiven turns start (R.remaining input.old) self.feed.turns text
+            → IsFaulty limits text line kind
             → HasHeard limits turns start (R.remaining input.new) (R.failed input.new) result }
     {
         let is_whole = self.feed.drain(input);
@@ -176,7 +189,9 @@ pub fn read_source<R: Source>(
 ) -> Result<Heard, AllocError>
     requires not_failed { R.failed input.old ≡ false }
     requires few_turns { turns ≤ 2 ^ 40 }
-    ensures heard { IfOk result (HasHeard limits.now turns (R.remaining input.old) (R.remaining input.new) (R.failed input.new)) }
+    ensures heard { IfOk result
+        (HasHeard limits.now turns (R.remaining input.old) (R.remaining input.new)
+        (R.failed input.new)) }
     ensures over { IfOk result (λ h. IfOk h.trace (IsTraceOver limits.now)) }
 {
     let mut listing = Listing::new(alloc, limits, turns, seed)?;

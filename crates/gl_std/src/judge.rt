@@ -86,10 +86,13 @@ impl Judge {
     pub(crate) fn take(&mut self, line: &[u8]) -> Result<Judged, ReadFault>
         requires sound { IsSound self.old }
         requires countable { self.old.line + 1 < 2 ^ 64 }
-        ensures ok { IfOk result (TellsAs self.old self.new (λ told. after_line self.old.limits self.old.line told line.now)) }
+        ensures ok { IfOk result
+            (TellsAs self.old self.new
+            (λ told. after_line self.old.limits self.old.line told line.now)) }
         ensures judged { IfOk result (HasJudgedMore self.old self.new) }
         ensures known { IfOk result (λ judged. IsKnown judged (length self.new.names.threads)) }
-        ensures fault { FailsAs self.old (λ told. after_line self.old.limits self.old.line told line.now) result }
+        ensures fault { FailsAs self.old
+            (λ told. after_line self.old.limits self.old.line told line.now) result }
         ensures sound { OnOk result (IsSound self.new) }
         ensures limits { self.new.limits ≡ self.old.limits }
         ensures line { OnOk result (self.new.line ≡ self.old.line + 1) }
@@ -104,10 +107,13 @@ impl Judge {
         requires sound { IsSound self.old }
         requires apart { AreApart (shown shape) }
         requires countable { self.old.line + 1 < 2 ^ 64 }
-        ensures ok { IfOk result (TellsAs self.old self.new (λ told. after_shape self.old.limits self.old.line told (shown shape.entry))) }
+        ensures ok { IfOk result
+            (TellsAs self.old self.new
+            (λ told. after_shape self.old.limits self.old.line told (shown shape.entry))) }
         ensures judged { IfOk result (HasJudgedMore self.old self.new) }
         ensures known { IfOk result (λ judged. IsKnown judged (length self.new.names.threads)) }
-        ensures fault { FailsAs self.old (λ told. after_shape self.old.limits self.old.line told (shown shape.entry)) result }
+        ensures fault { FailsAs self.old
+            (λ told. after_shape self.old.limits self.old.line told (shown shape.entry)) result }
         ensures limits { self.new.limits ≡ self.old.limits }
         ensures line { self.new.line ≡ self.old.line }
         ensures few_skipped { self.new.skipped ≤ self.old.skipped + 1 }
@@ -143,10 +149,15 @@ impl Judge {
         requires sound { IsSound self.old }
         requires apart { is_on_itself (shown_operation operation) thread.now operand.now ≡ false }
         requires countable { self.old.line + 1 < 2 ^ 64 }
-        ensures ok { IfOk result (TellsAs self.old self.new (λ told. after_call self.old.limits self.old.line told (shown_operation operation) thread.now operand.now location.now)) }
+        ensures ok { IfOk result
+            (TellsAs self.old self.new
+            (λ told. after_call self.old.limits self.old.line told
+            (shown_operation operation) thread.now operand.now location.now)) }
         ensures judged { IfOk result (HasJudgedMore self.old self.new) }
         ensures known { IfOk result (λ judged. IsKnown judged (length self.new.names.threads)) }
-        ensures fault { FailsAs self.old (λ told. after_call self.old.limits self.old.line told (shown_operation operation) thread.now operand.now location.now) result }
+        ensures fault { FailsAs self.old
+            (λ told. after_call self.old.limits self.old.line told
+            (shown_operation operation) thread.now operand.now location.now) result }
         ensures limits { self.new.limits ≡ self.old.limits }
         ensures line { self.new.line ≡ self.old.line }
         ensures few_skipped { self.new.skipped ≡ self.old.skipped }
@@ -166,12 +177,19 @@ impl Judge {
         found: &Found,
     ) -> Result<Judged, ReadFault>
         requires sound { IsSound self.old }
-        requires found { found.now ≡ found_in self.old.names (shown_operation operation) thread.now operand.now location.now }
+        requires found { found.now
+            ≡ found_in self.old.names
+            (shown_operation operation) thread.now operand.now location.now }
         requires countable { self.old.line + 1 < 2 ^ 64 }
-        ensures ok { IfOk result (TellsAs self.old self.new (λ told. after_call self.old.limits self.old.line told (shown_operation operation) thread.now operand.now location.now)) }
+        ensures ok { IfOk result
+            (TellsAs self.old self.new
+            (λ told. after_call self.old.limits self.old.line told
+            (shown_operation operation) thread.now operand.now location.now)) }
         ensures judged { IfOk result (HasJudgedMore self.old self.new) }
         ensures known { IfOk result (λ judged. IsKnown judged (length self.new.names.threads)) }
-        ensures fault { FailsAs self.old (λ told. after_call self.old.limits self.old.line told (shown_operation operation) thread.now operand.now location.now) result }
+        ensures fault { FailsAs self.old
+            (λ told. after_call self.old.limits self.old.line told
+            (shown_operation operation) thread.now operand.now location.now) result }
         ensures limits { self.new.limits ≡ self.old.limits }
         ensures line { self.new.line ≡ self.old.line }
         ensures few_skipped { self.new.skipped ≡ self.old.skipped }
@@ -211,7 +229,8 @@ impl Judge {
         location: &[u8],
     ) -> Found
         requires { is_on_itself (shown_operation operation) thread.now operand.now ≡ false }
-        ensures found { result ≡ found_in self.old.names (shown_operation operation) thread.now operand.now location.now }
+        ensures found { result ≡ found_in self.old.names
+            (shown_operation operation) thread.now operand.now location.now }
         ensures same { self.new ≡ self.old }
     {
         let acting = self.names.find_thread_near(thread, self.latest);
@@ -247,7 +266,9 @@ impl Judge {
     // The first limit that doesn't allow an event of these names.
     fn limit_reached(&self, operation: Operation, found: &Found) -> Option<StdKind>
         requires { IfSome found.now.thread (λ i. i < length self.now.standings.items) }
-        ensures fault { result ≡ limit_found self.now.limits self.now.names (count_of self.now.standings.items found.now.thread) (shown_operation operation) found.now }
+        ensures fault { result ≡ limit_found self.now.limits self.now.names
+            (count_of self.now.standings.items found.now.thread)
+            (shown_operation operation) found.now }
         ensures within { AreWithinRange self.now.limits }
     {
         let threads = u64::from(self.names.threads()) + found.new_threads(operation);
@@ -346,8 +367,13 @@ fn stand(
 ) -> Result<Ruling, AllocError>
     requires known { IfSome found.now.thread (λ i. i < vec_len standings.old) }
     requires fits { All (λ s. s.events + 1 < 2 ^ 32) standings.old.items }
-    ensures ruling { IfOk result (λ v. (lists : List (List Event)) → AreStanding lists standings.old.items → v ≡ ruling_of (lock_refusal (events_of lists found.now.thread) event) limit) }
-    ensures kept { result ≡ Ok Kept → (lists : List (List Event)) → AreStanding lists standings.old.items → AreStanding (with_lists lists (shown_operation operation) found.now event) standings.new.items }
+    ensures ruling { IfOk result
+        (λ v. (lists : List (List Event)) → AreStanding lists standings.old.items
+        → v ≡ ruling_of (lock_refusal (events_of lists found.now.thread) event) limit) }
+    ensures kept { result ≡ Ok Kept → (lists : List (List Event))
+        → AreStanding lists standings.old.items
+        → AreStanding
+        (with_lists lists (shown_operation operation) found.now event) standings.new.items }
     ensures stray { result ≡ Ok Stray → standings.new.items ≡ standings.old.items }
 {
     match stand_own(standings, found, event, limit)? {
@@ -369,8 +395,12 @@ fn stand_own(
 ) -> Result<Ruling, AllocError>
     requires known { IfSome found.now.thread (λ i. i < vec_len standings.old) }
     requires fits { All (λ s. s.events + 1 < 2 ^ 32) standings.old.items }
-    ensures ruling { IfOk result (λ v. (lists : List (List Event)) → AreStanding lists standings.old.items → v ≡ ruling_of (lock_refusal (events_of lists found.now.thread) event) limit) }
-    ensures kept { result ≡ Ok Kept → (lists : List (List Event)) → AreStanding lists standings.old.items → AreStanding (with_event lists found.now.thread event) standings.new.items }
+    ensures ruling { IfOk result
+        (λ v. (lists : List (List Event)) → AreStanding lists standings.old.items
+        → v ≡ ruling_of (lock_refusal (events_of lists found.now.thread) event) limit) }
+    ensures kept { result ≡ Ok Kept → (lists : List (List Event))
+        → AreStanding lists standings.old.items
+        → AreStanding (with_event lists found.now.thread event) standings.new.items }
     ensures stray { result ≡ Ok Stray → standings.new.items ≡ standings.old.items }
 {
     match found.thread {
@@ -388,7 +418,12 @@ fn add_partner(
     operation: Operation,
     found: &Found,
 ) -> Result<(), AllocError>
-    ensures { OnOk result ((lists : List (List Event)) → AreStanding lists standings.old.items → AreStanding (if is_on_thread (shown_operation operation) then with_list lists found.now.operand else lists) standings.new.items) }
+    ensures { OnOk result
+        ((lists : List (List Event)) → AreStanding lists standings.old.items
+        → AreStanding
+        (if is_on_thread
+        (shown_operation operation) then with_list lists found.now.operand else lists)
+        standings.new.items) }
 {
     if !operation.is_on_thread() {
         return Ok(());
@@ -409,7 +444,9 @@ fn stand_first(
     limit: Option<StdKind>,
 ) -> Result<Ruling, AllocError>
     ensures ruling { IfOk result (λ v. v ≡ ruling_of (lock_refusal [] event) limit) }
-    ensures kept { result ≡ Ok Kept → (lists : List (List Event)) → AreStanding lists standings.old.items → AreStanding (lists ++ (event ∷ []) ∷ []) standings.new.items }
+    ensures kept { result ≡ Ok Kept → (lists : List (List Event))
+        → AreStanding lists standings.old.items
+        → AreStanding (lists ++ (event ∷ []) ∷ []) standings.new.items }
     ensures stray { result ≡ Ok Stray → standings.new.items ≡ standings.old.items }
 {
     let mut standing = Standing::new();

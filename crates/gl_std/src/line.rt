@@ -111,7 +111,9 @@ fn shape_of_call<'a>(
     operand: Option<&'a [u8]>,
     location: &'a [u8],
 ) -> Shape<'a>
-    ensures { shown result ≡ shape_of_call thread.now (operation_of name.now) (option_map (λ o. o.now) operand.entry) location.now }
+    ensures { shown result
+        ≡ shape_of_call thread.now (operation_of name.now)
+        (option_map (λ o. o.now) operand.entry) location.now }
 {
     match operation_of(name) {
         Some(operation) => match operand {

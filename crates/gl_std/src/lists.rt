@@ -64,7 +64,9 @@ impl Lists {
 
 // Gives each of so many threads a list.
 fn grow(lists: &mut Vec<Vec<Event>>, alloc: Global, threads: usize) -> Result<(), AllocError>
-    ensures { OnOk result (map (λ es. es.items) lists.new.items ≡ map (λ es. es.items) lists.old.items ++ replicate (threads - vec_len lists.old) []) }
+    ensures { OnOk result
+        (map (λ es. es.items) lists.new.items
+        ≡ map (λ es. es.items) lists.old.items ++ replicate (threads - vec_len lists.old) []) }
 {
     while lists.len() < threads {
         lists.push(Vec::new(alloc))?;

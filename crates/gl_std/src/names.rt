@@ -168,7 +168,8 @@ impl Found {
 
     /// How many of the threads are new.
     pub(crate) fn new_threads(&self, operation: Operation) -> u64
-        ensures { result ≡ if_new self.now.thread + (if is_on_thread (shown_operation operation) then if_new self.now.operand else 0) }
+        ensures { result ≡ if_new self.now.thread +
+            (if is_on_thread (shown_operation operation) then if_new self.now.operand else 0) }
     {
         let partner = if operation.is_on_thread() {
             u64::from(self.operand.is_none())
@@ -180,7 +181,8 @@ impl Found {
 
     /// How many of the locks are new.
     pub(crate) fn new_locks(&self, operation: Operation) -> u64
-        ensures { result ≡ (if is_on_thread (shown_operation operation) then 0 else if_new self.now.operand) }
+        ensures { result ≡
+            (if is_on_thread (shown_operation operation) then 0 else if_new self.now.operand) }
     {
         if operation.is_on_thread() {
             return 0;
@@ -386,11 +388,15 @@ impl Names {
         operand: &[u8],
         location: &[u8],
     ) -> Result<(), AllocError>
-        requires found { found.now ≡ found_in self.old (shown_operation operation) thread.now operand.now location.now }
+        requires found { found.now
+            ≡ found_in self.old (shown_operation operation) thread.now operand.now location.now }
         requires threads { threads_after self.old (shown_operation operation) found.now < 2 ^ 32 }
         requires locks { locks_after self.old (shown_operation operation) found.now < 2 ^ 32 }
         requires locs { length self.old.locs + if_new found.now.loc < 2 ^ 32 }
-        ensures { OnOk result (self.new ≡ with_names self.old (shown_operation operation) found.now thread.now operand.now location.now) }
+        ensures { OnOk result
+            (self.new
+            ≡ with_names self.old
+            (shown_operation operation) found.now thread.now operand.now location.now) }
     {
         self.threads
             .tell(alloc, found.thread.map(ThreadId::number), thread)?;
@@ -408,10 +414,22 @@ impl Names {
         number: Option<u32>,
         name: &[u8],
     ) -> Result<(), AllocError>
-        requires found { number ≡ position (bytes_eq name.now) (if is_on_thread (shown_operation operation) then self.old.threads else self.old.locks) }
-        requires room { number ≡ None → length (if is_on_thread (shown_operation operation) then self.old.threads else self.old.locks) + 1 < 2 ^ 32 }
-        ensures threads { OnOk result (self.new.threads ≡ (if is_on_thread (shown_operation operation) then with_name self.old.threads number name.now else self.old.threads)) }
-        ensures locks { OnOk result (self.new.locks ≡ (if is_on_thread (shown_operation operation) then self.old.locks else with_name self.old.locks number name.now)) }
+        requires found { number ≡ position (bytes_eq name.now)
+            (if is_on_thread
+            (shown_operation operation) then self.old.threads else self.old.locks) }
+        requires room { number ≡ None
+            → length (if is_on_thread
+            (shown_operation operation) then self.old.threads else self.old.locks) + 1 < 2 ^ 32 }
+        ensures threads { OnOk result
+            (self.new.threads
+            ≡ (if is_on_thread
+            (shown_operation operation) then with_name self.old.threads number name.now else
+            self.old.threads)) }
+        ensures locks { OnOk result
+            (self.new.locks
+            ≡ (if is_on_thread
+            (shown_operation operation) then self.old.locks else with_name self.old.locks number
+            name.now)) }
         ensures locs { self.new.locs ≡ self.old.locs }
     {
         if operation.is_on_thread() {

@@ -75,8 +75,10 @@ impl Standing {
     /// changes nothing. After a fault the standing is of no use.
     pub(crate) fn take(&mut self, event: Event, limit: Option<StdKind>) -> Ruling
         requires fits { self.old.events + 1 < 2 ^ 32 }
-        ensures ruling { (es : List Event) → StandsAfter es self.old → result ≡ ruling_of (lock_refusal es event) limit }
-        ensures kept { result ≡ Kept → (es : List Event) → StandsAfter es self.old → StandsAfter (es ++ event ∷ []) self.new }
+        ensures ruling { (es : List Event) → StandsAfter es self.old
+            → result ≡ ruling_of (lock_refusal es event) limit }
+        ensures kept { result ≡ Kept → (es : List Event) → StandsAfter es self.old
+            → StandsAfter (es ++ event ∷ []) self.new }
         ensures stray { result ≡ Stray → self.new ≡ self.old }
     {
         match event {
@@ -92,8 +94,10 @@ impl Standing {
     fn close(&mut self, event: Event, limit: Option<StdKind>) -> Ruling
         requires fits { self.old.events + 1 < 2 ^ 32 }
         requires closes { closes event ≡ true }
-        ensures ruling { (es : List Event) → StandsAfter es self.old → result ≡ ruling_of (lock_refusal es event) limit }
-        ensures kept { result ≡ Kept → (es : List Event) → StandsAfter es self.old → StandsAfter (es ++ event ∷ []) self.new }
+        ensures ruling { (es : List Event) → StandsAfter es self.old
+            → result ≡ ruling_of (lock_refusal es event) limit }
+        ensures kept { result ≡ Kept → (es : List Event) → StandsAfter es self.old
+            → StandsAfter (es ++ event ∷ []) self.new }
         ensures stray { result ≡ Stray → self.new ≡ self.old }
     {
         if let Some(kind) = limit {
@@ -116,8 +120,10 @@ impl Standing {
         requires fits { self.old.events + 1 < 2 ^ 32 }
         requires acquires { IsAcquireOf lock mode event }
         requires located { loc ≡ location event }
-        ensures ruling { (es : List Event) → StandsAfter es self.old → result ≡ ruling_of (lock_refusal es event) limit }
-        ensures kept { result ≡ Kept → (es : List Event) → StandsAfter es self.old → StandsAfter (es ++ event ∷ []) self.new }
+        ensures ruling { (es : List Event) → StandsAfter es self.old
+            → result ≡ ruling_of (lock_refusal es event) limit }
+        ensures kept { result ≡ Kept → (es : List Event) → StandsAfter es self.old
+            → StandsAfter (es ++ event ∷ []) self.new }
         ensures stray { result ≡ Stray → self.new ≡ self.old }
     {
         match self.held.acquire(lock, mode, loc, self.events, self.closed) {
@@ -142,8 +148,10 @@ impl Standing {
         limit: Option<StdKind>,
     ) -> Ruling
         requires fits { self.old.events + 1 < 2 ^ 32 }
-        ensures ruling { (es : List Event) → StandsAfter es self.old → result ≡ ruling_of (lock_refusal es (Release lock mode loc)) limit }
-        ensures kept { result ≡ Kept → (es : List Event) → StandsAfter es self.old → StandsAfter (es ++ Release lock mode loc ∷ []) self.new }
+        ensures ruling { (es : List Event) → StandsAfter es self.old
+            → result ≡ ruling_of (lock_refusal es (Release lock mode loc)) limit }
+        ensures kept { result ≡ Kept → (es : List Event) → StandsAfter es self.old
+            → StandsAfter (es ++ Release lock mode loc ∷ []) self.new }
         ensures stray { result ≡ Stray → self.new ≡ self.old }
     {
         match self.held.release(lock) {

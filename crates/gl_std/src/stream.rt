@@ -84,7 +84,9 @@ impl Items {
     /// that was drawn at random.
     pub fn new(alloc: Global, limits: &Limits, turns: u64, seed: Seed) -> Result<Items, AllocError>
         requires few_turns { turns ≤ 2 ^ 40 }
-        ensures tells { IfOk result (λ i. (start : Option (List ℕ)) → HasTold limits.now turns (used start start false) i [] nothing) }
+        ensures tells { IfOk result
+            (λ i. (start : Option (List ℕ))
+            → HasTold limits.now turns (used start start false) i [] nothing) }
         ensures usable { IfOk result (λ i. CanBeAsked i false) }
     {
         let feed = Feed::new(alloc, limits, turns, seed)?;
@@ -102,9 +104,14 @@ impl Items {
     /// each of its names looked up at most once by hash.
     pub fn next<R: Source>(&mut self, input: &mut R) -> Result<Item, LinesFault>
         requires usable { CanBeAsked self.old (R.failed input.old) }
-        ensures tells { (limits : Bounds) (turns : ℕ) (start : Option (List ℕ)) (text : List ℕ) (told : Trace) → HasTold limits turns (used start (R.remaining input.old) (R.failed input.old)) self.old text told
-            → GoesOn limits turns (used start (R.remaining input.new) (R.failed input.new)) self.new text told result }
-        ensures known { (thread : ℕ) (event : EventOf) → result ≡ Ok (Item.Event thread event) → thread < length (names_of self.new).threads }
+        ensures tells { (limits : Bounds) (turns : ℕ) (start : Option (List ℕ)) (text : List ℕ)
+            (told : Trace)
+            → HasTold limits turns
+            (used start (R.remaining input.old) (R.failed input.old)) self.old text told
+            → GoesOn limits turns
+            (used start (R.remaining input.new) (R.failed input.new)) self.new text told result }
+        ensures known { (thread : ℕ) (event : EventOf) → result ≡ Ok (Item.Event thread event)
+            → thread < length (names_of self.new).threads }
         ensures usable { CanBeAsked self.new (R.failed input.new) }
         ensures end { result ≡ Ok Item.End → IsDone self.new }
         ensures item { OnOk result (HasNoFault self.new) }
@@ -124,9 +131,13 @@ impl Items {
         requires reading { self.old.stage ≡ Reading }
         requires fit { IsFit self.old.feed }
         requires not_failed { R.failed input.old ≡ false }
-        ensures tells { (limits : Bounds) (turns : ℕ) (start : Option (List ℕ)) (text : List ℕ) (told : Trace) → ReadsOn limits turns start (R.remaining input.old) self.old.feed text told
-            → GoesOn limits turns (used start (R.remaining input.new) (R.failed input.new)) self.new text told result }
-        ensures known { (thread : ℕ) (event : EventOf) → result ≡ Ok (Item.Event thread event) → thread < length (names_of self.new).threads }
+        ensures tells { (limits : Bounds) (turns : ℕ) (start : Option (List ℕ)) (text : List ℕ)
+            (told : Trace)
+            → ReadsOn limits turns start (R.remaining input.old) self.old.feed text told
+            → GoesOn limits turns
+            (used start (R.remaining input.new) (R.failed input.new)) self.new text told result }
+        ensures known { (thread : ℕ) (event : EventOf) → result ≡ Ok (Item.Event thread event)
+            → thread < length (names_of self.new).threads }
         ensures usable { CanBeAsked self.new (R.failed input.new) }
         ensures end { result ≡ Ok Item.End → IsDone self.new }
         ensures item { OnOk result (HasNoFault self.new) }
@@ -146,9 +157,13 @@ impl Items {
     // `next`, where the source has ended.
     fn finish(&mut self) -> Result<Item, LinesFault>
         requires fit { IsFit self.old.feed }
-        ensures tells { (limits : Bounds) (turns : ℕ) (input : Use) (text : List ℕ) (told : Trace) → HasRead turns input.before input.after input.failed text true → self.old.feed.judge.limits ≡ limits → IsOver self.old.feed text told
-            → HasTold limits turns input self.new text (with_answer result (names_of self.new) told) }
-        ensures known { (thread : ℕ) (event : EventOf) → result ≡ Ok (Item.Event thread event) → thread < length (names_of self.new).threads }
+        ensures tells { (limits : Bounds) (turns : ℕ) (input : Use) (text : List ℕ) (told : Trace)
+            → HasRead turns input.before input.after input.failed text true
+            → self.old.feed.judge.limits ≡ limits → IsOver self.old.feed text told
+            → HasTold limits turns input self.new text
+            (with_answer result (names_of self.new) told) }
+        ensures known { (thread : ℕ) (event : EventOf) → result ≡ Ok (Item.Event thread event)
+            → thread < length (names_of self.new).threads }
         ensures usable { (failed : Bool) → CanBeAsked self.new failed }
         ensures end { OnOk result (IsDone self.new) }
         ensures fault { IfErr result (HasFault self.new) }
@@ -172,9 +187,13 @@ impl Items {
     /// The names so far, how many lines were skipped, and how many were strays. After a line at fault,
     /// or where memory was refused, they say nothing.
     pub fn parts(self) -> (Names, u64, u64)
-        ensures names { (limits : Bounds) (turns : ℕ) (input : Use) (text : List ℕ) (told : Trace) → CanBeNamed self → HasTold limits turns input self text told → result.0 ≡ told.names }
-        ensures skipped { (limits : Bounds) (turns : ℕ) (input : Use) (text : List ℕ) (told : Trace) → CanBeNamed self → HasTold limits turns input self text told → result.1 ≡ told.skipped }
-        ensures stray { (limits : Bounds) (turns : ℕ) (input : Use) (text : List ℕ) (told : Trace) → CanBeNamed self → HasTold limits turns input self text told → result.2 ≡ told.stray }
+        ensures names { (limits : Bounds) (turns : ℕ) (input : Use) (text : List ℕ) (told : Trace)
+            → CanBeNamed self → HasTold limits turns input self text told → result.0 ≡ told.names }
+        ensures skipped { (limits : Bounds) (turns : ℕ) (input : Use) (text : List ℕ) (told : Trace)
+            → CanBeNamed self → HasTold limits turns input self text told
+            → result.1 ≡ told.skipped }
+        ensures stray { (limits : Bounds) (turns : ℕ) (input : Use) (text : List ℕ) (told : Trace)
+            → CanBeNamed self → HasTold limits turns input self text told → result.2 ≡ told.stray }
     {
         self.feed.into_parts()
     }
@@ -199,7 +218,10 @@ impl<R: Source + Drop> Lines<R> {
     ) -> Result<Lines<R>, AllocError>
         requires not_failed { R.failed input ≡ false }
         requires few_turns { turns ≤ 2 ^ 40 }
-        ensures tells { IfOk result (λ l. HasTold limits.now turns (used (R.remaining input) (R.remaining (source_of l)) (R.failed (source_of l))) (items_of l) [] nothing) }
+        ensures tells { IfOk result
+            (λ l. HasTold limits.now turns
+            (used (R.remaining input) (R.remaining (source_of l)) (R.failed (source_of l)))
+            (items_of l) [] nothing) }
         ensures usable { IfOk result (λ l. CanBeAsked (items_of l) (R.failed (source_of l))) }
     {
         let items = Items::new(alloc, limits, turns, seed)?;
@@ -209,15 +231,23 @@ impl<R: Source + Drop> Lines<R> {
     /// The next item, as [`Items::next`] answers it.
     pub fn next(&mut self) -> Result<Item, LinesFault>
         requires usable { CanBeAsked (items_of self.old) (R.failed (source_of self.old)) }
-        ensures tells { (limits : Bounds) (turns : ℕ) (start : Option (List ℕ)) (text : List ℕ) (told : Trace) → HasTold limits turns (used start (R.remaining (source_of self.old)) (R.failed (source_of self.old))) (items_of self.old) text told
-            → GoesOn limits turns (used start (R.remaining (source_of self.new)) (R.failed (source_of self.new))) (items_of self.new) text told result }
-        ensures known { (thread : ℕ) (event : EventOf) → result ≡ Ok (Item.Event thread event) → thread < length (names_of (items_of self.new)).threads }
+        ensures tells { (limits : Bounds) (turns : ℕ) (start : Option (List ℕ)) (text : List ℕ)
+            (told : Trace)
+            → HasTold limits turns
+            (used start (R.remaining (source_of self.old)) (R.failed (source_of self.old)))
+            (items_of self.old) text told
+            → GoesOn limits turns
+            (used start (R.remaining (source_of self.new)) (R.failed (source_of self.new)))
+            (items_of self.new) text told result }
+        ensures known { (thread : ℕ) (event : EventOf) → result ≡ Ok (Item.Event thread event)
+            → thread < length (names_of (items_of self.new)).threads }
         ensures usable { CanBeAsked (items_of self.new) (R.failed (source_of self.new)) }
         ensures end { result ≡ Ok Item.End → IsDone (items_of self.new) }
         ensures item { OnOk result (HasNoFault (items_of self.new)) }
         ensures fault { IfErr result (HasFault (items_of self.new)) }
         ensures end_again { IsDone (items_of self.old) → result ≡ Ok Item.End }
-        ensures fault_again { (fault : LinesFault) → HasFault (items_of self.old) fault → result ≡ Err fault }
+        ensures fault_again { (fault : LinesFault) → HasFault (items_of self.old) fault
+            → result ≡ Err fault }
     {
         self.items.next(&mut self.input)
     }
@@ -225,9 +255,15 @@ impl<R: Source + Drop> Lines<R> {
     /// The names so far, how many lines were skipped, how many were strays, and the source. After a
     /// line at fault, or where memory was refused, the first three say nothing.
     pub fn parts(self) -> (Names, u64, u64, R)
-        ensures names { (limits : Bounds) (turns : ℕ) (input : Use) (text : List ℕ) (told : Trace) → CanBeNamed (items_of self) → HasTold limits turns input (items_of self) text told → result.0 ≡ told.names }
-        ensures skipped { (limits : Bounds) (turns : ℕ) (input : Use) (text : List ℕ) (told : Trace) → CanBeNamed (items_of self) → HasTold limits turns input (items_of self) text told → result.1 ≡ told.skipped }
-        ensures stray { (limits : Bounds) (turns : ℕ) (input : Use) (text : List ℕ) (told : Trace) → CanBeNamed (items_of self) → HasTold limits turns input (items_of self) text told → result.2 ≡ told.stray }
+        ensures names { (limits : Bounds) (turns : ℕ) (input : Use) (text : List ℕ) (told : Trace)
+            → CanBeNamed (items_of self) → HasTold limits turns input (items_of self) text told
+            → result.0 ≡ told.names }
+        ensures skipped { (limits : Bounds) (turns : ℕ) (input : Use) (text : List ℕ) (told : Trace)
+            → CanBeNamed (items_of self) → HasTold limits turns input (items_of self) text told
+            → result.1 ≡ told.skipped }
+        ensures stray { (limits : Bounds) (turns : ℕ) (input : Use) (text : List ℕ) (told : Trace)
+            → CanBeNamed (items_of self) → HasTold limits turns input (items_of self) text told
+            → result.2 ≡ told.stray }
         ensures source { result.3 ≡ source_of self }
     {
         let (names, skipped, stray) = self.items.parts();

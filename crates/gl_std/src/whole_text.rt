@@ -41,9 +41,12 @@ impl Reader {
     fn take(&mut self, line: &[u8]) -> Result<(), ReadFault>
         requires ready { IsReady self.old }
         requires countable { self.old.judge.line + 1 < 2 ^ 64 }
-        ensures ok { OnOk result (after_line self.old.judge.limits self.old.judge.line (told_by self.old) line.now ≡ Ok (told_by self.new)) }
+        ensures ok { OnOk result
+            (after_line self.old.judge.limits self.old.judge.line (told_by self.old) line.now
+            ≡ Ok (told_by self.new)) }
         ensures fault { (number : ℕ) (kind : StdKind) → result ≡ Err (Line number kind)
-            → after_line self.old.judge.limits self.old.judge.line (told_by self.old) line.now ≡ Err (Line number kind) }
+            → after_line self.old.judge.limits self.old.judge.line (told_by self.old) line.now
+            ≡ Err (Line number kind) }
         ensures ready { OnOk result (IsReady self.new) }
         ensures limits { self.new.judge.limits ≡ self.old.judge.limits }
         ensures line { OnOk result (self.new.judge.line ≡ self.old.judge.line + 1) }
@@ -81,7 +84,8 @@ impl Reader {
 /// can be chosen to make this slow.
 pub fn read_trace(alloc: Global, bytes: &[u8], limits: &Limits) -> Result<Trace, ReadFault>
     ensures trace { IfOk result (λ t. trace_of limits.now bytes.now ≡ Ok t) }
-    ensures fault { (line : ℕ) (kind : StdKind) → result ≡ Err (Line line kind) → trace_of limits.now bytes.now ≡ Err (Line line kind) }
+    ensures fault { (line : ℕ) (kind : StdKind) → result ≡ Err (Line line kind)
+        → trace_of limits.now bytes.now ≡ Err (Line line kind) }
     ensures over { IfOk result (IsTraceOver limits.now) }
 {
     read_seeded(alloc, bytes, limits, Seed::fixed())
@@ -96,7 +100,8 @@ pub fn read_seeded(
     seed: Seed,
 ) -> Result<Trace, ReadFault>
     ensures trace { IfOk result (λ t. trace_of limits.now bytes.now ≡ Ok t) }
-    ensures fault { (line : ℕ) (kind : StdKind) → result ≡ Err (Line line kind) → trace_of limits.now bytes.now ≡ Err (Line line kind) }
+    ensures fault { (line : ℕ) (kind : StdKind) → result ≡ Err (Line line kind)
+        → trace_of limits.now bytes.now ≡ Err (Line line kind) }
     ensures over { IfOk result (IsTraceOver limits.now) }
 {
     let mut reader = Reader::new(alloc, *limits, seed);

@@ -79,7 +79,8 @@ fn put_event(
     event: &Event,
 ) -> Result<(), AllocError>
     requires { IsNamed names.now event.now }
-    ensures { OnOk result (text.new.items ≡ text.old.items ++ written_event names.now thread.now event.now) }
+    ensures { OnOk result
+        (text.new.items ≡ text.old.items ++ written_event names.now thread.now event.now) }
 {
     let location = location_name(names, event);
     text.extend_from_slice(thread)?;
@@ -101,7 +102,8 @@ fn put_list(
     events: &[Event],
 ) -> Result<(), AllocError>
     requires { All (IsNamed names.now) events.now }
-    ensures { OnOk result (text.new.items ≡ text.old.items ++ written_list names.now thread.now events.now) }
+    ensures { OnOk result
+        (text.new.items ≡ text.old.items ++ written_list names.now thread.now events.now) }
 {
     for event in events {
         put_event(text, names, thread, event)?;
@@ -117,7 +119,8 @@ fn put_list(
 /// Takes memory for the text alone. Time grows with its length.
 pub fn write_trace(alloc: Global, trace: &Trace) -> Result<Vec<u8>, AllocError>
     requires one_list_each { length trace.now.lists ≡ length trace.now.names.threads }
-    requires named { (thread : ℕ) (es : List Event) → slice_get trace.now.lists thread ≡ Some es → All (IsNamed trace.now.names) es }
+    requires named { (thread : ℕ) (es : List Event) → slice_get trace.now.lists thread ≡ Some es
+        → All (IsNamed trace.now.names) es }
     ensures { IfOk result (λ text. text.items ≡ written trace.now.names trace.now.lists) }
 {
     let lists = trace.lists.as_slice();

@@ -47,7 +47,9 @@ fn fresh_feeds(alloc: Global, shards: u32) -> Result<Vec<Feed>, Memory>
 
 // Whether every edge that was shipped is worked, in all feeds.
 fn are_worked(feeds: &[Feed]) -> bool
-    ensures { IsTrue result ↔ ((k : ℕ) (shard : Shard) → slice_get feeds.now k ≡ Some shard → shard.worked ≡ length shard.shipped) }
+    ensures { IsTrue result ↔
+        ((k : ℕ) (shard : Shard) → slice_get feeds.now k ≡ Some shard
+        → shard.worked ≡ length shard.shipped) }
 {
     for feed in feeds {
         if !feed.is_worked() {

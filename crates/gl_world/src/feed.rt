@@ -75,7 +75,8 @@ impl Feed {
     /// Puts the next edge into the table, and says whether there was one.
     pub fn work(&mut self, alloc: Global) -> Result<bool, Memory>
         ensures had { IfOk result (λ had. had ≡ has_work self.old) }
-        ensures worked { OnOk result (self.new ≡ (if has_work self.old then work_edge self.old else self.old)) }
+        ensures worked { OnOk result
+            (self.new ≡ (if has_work self.old then work_edge self.old else self.old)) }
         ensures memory { OnErr result (IsTrue (has_work self.old)) }
         ensures unchanged { OnErr result (self.new ≡ self.old) }
     {

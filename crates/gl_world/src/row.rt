@@ -47,7 +47,8 @@ impl Model for Row {
 // Takes the event of the body, if it has one.
 fn follow(tracker: &mut Tracker, body: &Body)
     requires { MayTake tracker.old body.now }
-    ensures { (thread : ℕ) (es : List Event) → Follows thread es tracker.old → Follows thread (with_body es body.now) tracker.new }
+    ensures { (thread : ℕ) (es : List Event) → Follows thread es tracker.old
+        → Follows thread (with_body es body.now) tracker.new }
 {
     match *body {
         Body::Happened(event) => tracker.advance(event),
@@ -60,7 +61,8 @@ impl Row {
     pub fn new(alloc: Global, thread: ThreadId, limits: &Limits, wishes: Vec<Event>) -> Row
         requires known { thread < limits.now.threads }
         requires range { AreWithinRange limits.now }
-        ensures { result ≡ record { thread = thread; limits = limits.now; lane = fresh_lane wishes.items } }
+        ensures { result ≡ record
+            { thread = thread; limits = limits.now; lane = fresh_lane wishes.items } }
     {
         Row {
             thread,
@@ -110,7 +112,10 @@ impl Row {
     /// The edges that the next note makes, which is this one, ascending.
     pub fn due(&self, alloc: Global, note: &Note) -> Result<Vec<(Edge, Sample)>, Memory>
         requires { IsFrontOf self.now.limits self.now.thread self.now.lane note.now }
-        ensures { IfOk result (λ edges. edges.items ≡ edges_due self.now.thread (taken_of self.now.thread self.now.lane) note.now.place note.now.body) }
+        ensures { IfOk result
+            (λ edges. edges.items
+            ≡ edges_due self.now.thread
+            (taken_of self.now.thread self.now.lane) note.now.place note.now.body) }
     {
         match note.body {
             Body::Happened(event) => self.tracker.next_edges(alloc, &event),
@@ -129,9 +134,16 @@ impl Row {
 
     /// The thread takes its next wish, where that is enabled.
     pub fn take(&mut self) -> Result<Did, AllocError>
-        ensures moved { OnOk result (self.new ≡ record self.old { lane = (take_turn self.old.limits self.old.thread self.old.lane).lane }) }
-        ensures answer { IfOk result (λ did. did ≡ (take_turn self.old.limits self.old.thread self.old.lane).did) }
-        ensures memory { OnErr result (IsTrue (grows (take_turn self.old.limits self.old.thread self.old.lane).did)) }
+        ensures moved { OnOk result
+            (self.new
+            ≡ record self.old {
+              lane =
+                  (take_turn self.old.limits self.old.thread self.old.lane).lane;
+            }) }
+        ensures answer { IfOk result
+            (λ did. did ≡ (take_turn self.old.limits self.old.thread self.old.lane).did) }
+        ensures memory { OnErr result
+            (IsTrue (grows (take_turn self.old.limits self.old.thread self.old.lane).did)) }
         ensures unchanged { OnErr result (self.new ≡ self.old) }
     {
         if self.has_closed {
@@ -145,9 +157,16 @@ impl Row {
 
     /// The thread closes its lane by an end mark, where that is enabled.
     pub fn end(&mut self) -> Result<Did, AllocError>
-        ensures moved { OnOk result (self.new ≡ record self.old { lane = (end_turn self.old.limits self.old.thread self.old.lane).lane }) }
-        ensures answer { IfOk result (λ did. did ≡ (end_turn self.old.limits self.old.thread self.old.lane).did) }
-        ensures memory { OnErr result (IsTrue (grows (end_turn self.old.limits self.old.thread self.old.lane).did)) }
+        ensures moved { OnOk result
+            (self.new
+            ≡ record self.old {
+              lane =
+                  (end_turn self.old.limits self.old.thread self.old.lane).lane;
+            }) }
+        ensures answer { IfOk result
+            (λ did. did ≡ (end_turn self.old.limits self.old.thread self.old.lane).did) }
+        ensures memory { OnErr result
+            (IsTrue (grows (end_turn self.old.limits self.old.thread self.old.lane).did)) }
         ensures unchanged { OnErr result (self.new ≡ self.old) }
     {
         if self.has_closed {
@@ -182,9 +201,24 @@ impl Row {
     fn take_wish(&mut self, wish: &Event) -> Result<Did, AllocError>
         requires next { slice_get self.old.lane.wishes self.old.lane.used ≡ Some wish.now }
         requires running { has_closed self.old.thread self.old.lane ≡ false }
-        ensures moved { OnOk result (self.new ≡ record self.old { lane = (take_judged self.old.limits self.old.thread self.old.lane wish.now (refusal self.old.limits self.old.thread (taken_of self.old.thread self.old.lane) wish.now)).lane }) }
-        ensures answer { IfOk result (λ did. did ≡ (take_judged self.old.limits self.old.thread self.old.lane wish.now (refusal self.old.limits self.old.thread (taken_of self.old.thread self.old.lane) wish.now)).did) }
-        ensures memory { OnErr result (IsTrue (grows (take_judged self.old.limits self.old.thread self.old.lane wish.now (refusal self.old.limits self.old.thread (taken_of self.old.thread self.old.lane) wish.now)).did)) }
+        ensures moved { OnOk result
+            (self.new
+            ≡ record self.old {
+              lane =
+                  (take_judged self.old.limits self.old.thread self.old.lane wish.now
+                  (refusal self.old.limits self.old.thread
+                  (taken_of self.old.thread self.old.lane) wish.now)).lane;
+            }) }
+        ensures answer { IfOk result
+            (λ did. did
+            ≡ (take_judged self.old.limits self.old.thread self.old.lane wish.now
+            (refusal self.old.limits self.old.thread
+            (taken_of self.old.thread self.old.lane) wish.now)).did) }
+        ensures memory { OnErr result
+            (IsTrue (grows
+            (take_judged self.old.limits self.old.thread self.old.lane wish.now
+            (refusal self.old.limits self.old.thread
+            (taken_of self.old.thread self.old.lane) wish.now)).did)) }
         ensures unchanged { OnErr result (self.new ≡ self.old) }
     {
         match self.taker.check(*wish) {
@@ -206,9 +240,12 @@ impl Row {
     fn keep(&mut self, wish: &Event, note: &Note) -> Result<(), AllocError>
         requires next { slice_get self.old.lane.wishes self.old.lane.used ≡ Some wish.now }
         requires running { has_closed self.old.thread self.old.lane ≡ false }
-        requires lawful { refusal self.old.limits self.old.thread (taken_of self.old.thread self.old.lane) wish.now ≡ None }
-        requires its_note { note.now ≡ event_note self.old.thread (taken_of self.old.thread self.old.lane) wish.now }
-        ensures moved { OnOk result (self.new ≡ record self.old { lane = push_note (use_wish self.old.lane) note.now }) }
+        requires lawful { refusal self.old.limits self.old.thread
+            (taken_of self.old.thread self.old.lane) wish.now ≡ None }
+        requires its_note { note.now
+            ≡ event_note self.old.thread (taken_of self.old.thread self.old.lane) wish.now }
+        ensures moved { OnOk result
+            (self.new ≡ record self.old { lane = push_note (use_wish self.old.lane) note.now }) }
         ensures unchanged { OnErr result (self.new ≡ self.old) }
     {
         append_both(&mut self.taken, &mut self.pushed, *wish, *note)?;

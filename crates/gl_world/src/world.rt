@@ -53,7 +53,8 @@ fn fresh_rows(
     wishes: Vec<Vec<Event>>,
 ) -> Result<Vec<Row>, AllocError>
     requires { length wishes.items ≡ limits.now.threads }
-    ensures lanes { IfOk result (λ rows. lanes_of rows.items ≡ map (λ w. fresh_lane w.items) wishes.items) }
+    ensures lanes { IfOk result
+        (λ rows. lanes_of rows.items ≡ map (λ w. fresh_lane w.items) wishes.items) }
     ensures keepers { IfOk result (λ rows. AreKeepers limits.now rows.items) }
     ensures range { AreWithinRange limits.now }
 {
@@ -118,7 +119,8 @@ impl World {
         requires each_thread { length wishes.items ≡ limits.now.threads }
         requires some_shard { 1 ≤ shards }
         requires shards_fit { shards ≤ MAX_SHARDS }
-        ensures state { IfOk result (λ world. world ≡ start limits.now shards (map (λ w. w.items) wishes.items)) }
+        ensures state { IfOk result
+            (λ world. world ≡ start limits.now shards (map (λ w. w.items) wishes.items)) }
         ensures lanes { IfOk result (λ world. length world.lanes ≡ world.limits.threads) }
     {
         let intake = Intake::new(alloc, limits)?;
@@ -141,9 +143,11 @@ impl World {
     /// of an acquire takes a step for each pair of held locks, and a worker's step a look-up among the
     /// edges of its shard.
     pub fn step(&mut self, next: Step) -> Result<Did, Memory>
-        ensures moved { IfOk result (λ did. step self.old next ≡ record { after = self.new; did = did }) }
+        ensures moved { IfOk result
+            (λ did. step self.old next ≡ record { after = self.new; did = did }) }
         ensures limits { OnOk result (self.new.limits ≡ self.old.limits) }
-        ensures shards { OnOk result (length self.new.dispatch.shards ≡ length self.old.dispatch.shards) }
+        ensures shards { OnOk result
+            (length self.new.dispatch.shards ≡ length self.old.dispatch.shards) }
         ensures lanes { length self.new.lanes ≡ self.new.limits.threads }
         ensures memory { OnErr result (IsTrue (grows (step self.old next).did)) }
         ensures unchanged { OnErr result (self.new ≡ self.old) }
@@ -161,7 +165,9 @@ impl World {
         ensures shards { length self.new.dispatch.shards ≡ length self.old.dispatch.shards }
         ensures lanes { length self.new.lanes ≡ self.new.limits.threads }
         ensures within { IfErr result (λ stop. stop.0 < length steps.now) }
-        ensures memory { IfErr result (λ stop. (next : Step) → slice_get steps.now stop.0 ≡ Some next → IsTrue (grows (step self.new next).did)) }
+        ensures memory { IfErr result
+            (λ stop. (next : Step) → slice_get steps.now stop.0 ≡ Some next
+            → IsTrue (grows (step self.new next).did)) }
         ensures stopped { IfErr result (λ stop. self.new ≡ run self.old (take stop.0 steps.now)) }
     {
         // Tells the proof that each thread has a lane.
@@ -178,7 +184,8 @@ impl World {
     /// The events that the thread took.
     pub fn taken(&self, thread: ThreadId) -> &[Event]
         requires { thread < self.now.limits.threads }
-        ensures { (lane : Lane) → slice_get self.now.lanes thread ≡ Some lane → result.now ≡ taken_of thread lane }
+        ensures { (lane : Lane) → slice_get self.now.lanes thread ≡ Some lane
+            → result.now ≡ taken_of thread lane }
     {
         self.rows[thread.number() as usize].taken()
     }
@@ -188,8 +195,10 @@ impl World {
     pub fn log(&self, thread: ThreadId) -> &[Event]
         requires { thread < self.now.limits.threads }
         ensures value { result.now ≡ events_of thread self.now.stream }
-        ensures front { (lane : Lane) → slice_get self.now.lanes thread ≡ Some lane → IsPrefixOf result.now (taken_of thread lane) }
-        ensures whole { IsDrained self.now → (lane : Lane) → slice_get self.now.lanes thread ≡ Some lane → result.now ≡ taken_of thread lane }
+        ensures front { (lane : Lane) → slice_get self.now.lanes thread ≡ Some lane
+            → IsPrefixOf result.now (taken_of thread lane) }
+        ensures whole { IsDrained self.now → (lane : Lane)
+            → slice_get self.now.lanes thread ≡ Some lane → result.now ≡ taken_of thread lane }
     {
         self.intake.log(thread)
     }
@@ -207,7 +216,8 @@ impl World {
     /// sample.
     pub fn table(&self, shard: u32) -> &Table
         requires { shard < length self.now.dispatch.shards }
-        ensures { (s : Shard) → slice_get self.now.dispatch.shards shard ≡ Some s → result.now ≡ table_of s }
+        ensures { (s : Shard) → slice_get self.now.dispatch.shards shard ≡ Some s
+            → result.now ≡ table_of s }
     {
         self.dispatcher.table(shard)
     }
@@ -231,8 +241,11 @@ impl World {
     pub fn report(&self, query: &Query) -> Result<Report, ReportFault>
         ensures report { IfOk result (λ report. IsReportOf query.now self.now report) }
         ensures fault { IfErr result (λ fault. IsReportFault (collected_lists self.now) fault) }
-        ensures drained { IsDrained self.now → IfOk result (λ report. IsGoodlockReport query.now (taken_lists self.now.lanes) report) }
-        ensures drained_fault { IsDrained self.now → IfErr result (λ fault. IsReportFault (taken_lists self.now.lanes) fault) }
+        ensures drained { IsDrained self.now
+            → IfOk result
+            (λ report. IsGoodlockReport query.now (taken_lists self.now.lanes) report) }
+        ensures drained_fault { IsDrained self.now
+            → IfErr result (λ fault. IsReportFault (taken_lists self.now.lanes) fault) }
     {
         let tables = self.dispatcher.tables()?;
         let edges = merge(self.alloc, tables)?;
@@ -241,7 +254,8 @@ impl World {
 
     // Makes the step.
     fn make(&mut self, next: Step) -> Result<Did, Memory>
-        ensures moved { IfOk result (λ did. step self.old next ≡ record { after = self.new; did = did }) }
+        ensures moved { IfOk result
+            (λ did. step self.old next ≡ record { after = self.new; did = did }) }
         ensures memory { OnErr result (IsTrue (grows (step self.old next).did)) }
         ensures unchanged { OnErr result (self.new ≡ self.old) }
     {
@@ -256,7 +270,8 @@ impl World {
     }
 
     fn take(&mut self, thread: ThreadId) -> Result<Did, Memory>
-        ensures moved { IfOk result (λ did. step self.old (Take thread) ≡ record { after = self.new; did = did }) }
+        ensures moved { IfOk result
+            (λ did. step self.old (Take thread) ≡ record { after = self.new; did = did }) }
         ensures memory { OnErr result (IsTrue (grows (step self.old (Take thread)).did)) }
         ensures unchanged { OnErr result (self.new ≡ self.old) }
     {
@@ -269,7 +284,8 @@ impl World {
     }
 
     fn end(&mut self, thread: ThreadId) -> Result<Did, Memory>
-        ensures moved { IfOk result (λ did. step self.old (End thread) ≡ record { after = self.new; did = did }) }
+        ensures moved { IfOk result
+            (λ did. step self.old (End thread) ≡ record { after = self.new; did = did }) }
         ensures memory { OnErr result (IsTrue (grows (step self.old (End thread)).did)) }
         ensures unchanged { OnErr result (self.new ≡ self.old) }
     {
@@ -282,7 +298,8 @@ impl World {
     }
 
     fn pull(&mut self, thread: ThreadId) -> Result<Did, Memory>
-        ensures moved { IfOk result (λ did. step self.old (Pull thread) ≡ record { after = self.new; did = did }) }
+        ensures moved { IfOk result
+            (λ did. step self.old (Pull thread) ≡ record { after = self.new; did = did }) }
         ensures memory { OnErr result (IsTrue (grows (step self.old (Pull thread)).did)) }
         ensures unchanged { OnErr result (self.new ≡ self.old) }
     {
@@ -300,8 +317,10 @@ impl World {
     // the note is accepted.
     fn collect(&mut self, thread: ThreadId, note: &Note) -> Result<Did, Memory>
         requires known { thread < length self.old.lanes }
-        requires front { (lane : Lane) → slice_get self.old.lanes thread ≡ Some lane → slice_get lane.pushed lane.popped ≡ Some note.now }
-        ensures moved { IfOk result (λ did. step self.old (Pull thread) ≡ record { after = self.new; did = did }) }
+        requires front { (lane : Lane) → slice_get self.old.lanes thread ≡ Some lane
+            → slice_get lane.pushed lane.popped ≡ Some note.now }
+        ensures moved { IfOk result
+            (λ did. step self.old (Pull thread) ≡ record { after = self.new; did = did }) }
         ensures unchanged { OnErr result (self.new ≡ self.old) }
     {
         let index = thread.number() as usize;
@@ -331,11 +350,14 @@ impl World {
 
     // Offers the collector the note, which isn't next in the thread's lane.
     fn refuse(&mut self, thread: ThreadId, place: u32, note: &Note) -> Did
-        requires other { (lane : Lane) → slice_get self.old.lanes thread ≡ Some lane → place ≢ lane.popped }
+        requires other { (lane : Lane) → slice_get self.old.lanes thread ≡ Some lane
+            → place ≢ lane.popped }
         requires known { thread < length self.old.lanes }
-        requires there { (lane : Lane) → slice_get self.old.lanes thread ≡ Some lane → slice_get lane.pushed place ≡ Some note.now }
+        requires there { (lane : Lane) → slice_get self.old.lanes thread ≡ Some lane
+            → slice_get lane.pushed place ≡ Some note.now }
         ensures unchanged { self.new ≡ self.old }
-        ensures moved { step self.old (Again thread place) ≡ record { after = self.new; did = result } }
+        ensures moved { step self.old (Again thread place)
+            ≡ record { after = self.new; did = result } }
     {
         match self.intake.offer(*note) {
             Err(why) => Did::Refused(why),
@@ -345,7 +367,8 @@ impl World {
     }
 
     fn ship(&mut self) -> Result<Did, Memory>
-        ensures moved { IfOk result (λ did. step self.old Ship ≡ record { after = self.new; did = did }) }
+        ensures moved { IfOk result
+            (λ did. step self.old Ship ≡ record { after = self.new; did = did }) }
         ensures memory { OnErr result (IsTrue (grows (step self.old Ship).did)) }
         ensures unchanged { OnErr result (self.new ≡ self.old) }
     {
@@ -353,7 +376,8 @@ impl World {
     }
 
     fn work(&mut self, shard: u32) -> Result<Did, Memory>
-        ensures moved { IfOk result (λ did. step self.old (Work shard) ≡ record { after = self.new; did = did }) }
+        ensures moved { IfOk result
+            (λ did. step self.old (Work shard) ≡ record { after = self.new; did = did }) }
         ensures memory { OnErr result (IsTrue (grows (step self.old (Work shard)).did)) }
         ensures unchanged { OnErr result (self.new ≡ self.old) }
     {
