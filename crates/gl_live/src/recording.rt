@@ -6,7 +6,7 @@ ghost use Rattle.gl_segments.specs.Orders.{lists_of};
 ghost use Rattle.gl_event.specs.declared.events.Event.{Event};
 ghost use Rattle.gl_engine.specs.Collecting.{Collecting};
 ghost use Rattle.gl_engine.specs.Recording.{recorded, recorded_whole};
-ghost use Rattle.gl_live.specs.bodies.Desks.{IsDeskOf};
+ghost use Rattle.gl_live.specs.bodies.Desks.{HasRoom, IsDeskOf};
 ghost use Rattle.gl_live.specs.bodies.Seats.{Seating, seating_of, seat_of, left_by, IsRecorderOf, IsReceiptOf};
 
 use crate::room::keep;
@@ -107,7 +107,7 @@ fn record_own<R: Wait>(rt: &R, recorder: Recorder, lists: &[Vec<Event>]) -> Opti
 // Records the lists of the recorders' threads, one after the other, once the run begins. Nothing, where
 // it is called off.
 fn record_all<R: Wait>(rt: &R, start: &Start, desk: Desk, lists: &[Vec<Event>]) -> Vec<Receipt>
-    requires room { vec_len desk.receipts + length desk.recorders.items ≤ vec_capacity desk.receipts }
+    requires room { HasRoom desk }
     ensures { (s : Seating) → All (IsRecorderOf s) desk.recorders.items
         → All (IsReceiptOf s (lists_of lists.now)) desk.receipts.items
         → All (IsReceiptOf s (lists_of lists.now)) result.items }
@@ -136,7 +136,7 @@ fn start_recorder<'s, E, R: Threads + Wait + Sync>(
     collector: &Collector,
     desk: Desk,
 ) -> Option<Recording<'s>>
-    requires room { vec_len desk.receipts + length desk.recorders.items ≤ vec_capacity desk.receipts }
+    requires room { HasRoom desk }
     requires ours { All (IsRecorderOf (seating_of collector.now)) desk.recorders.items }
     requires kept { All (IsReceiptOf (seating_of collector.now)
         (lists_of lists.now)) desk.receipts.items }
@@ -150,8 +150,7 @@ fn start_recorder<'s, E, R: Threads + Wait + Sync>(
     let recorder = scope.spawn_with(
         promise,
         move || -> Vec<Receipt>
-            requires room { vec_len desk.receipts + length desk.recorders.items ≤ vec_capacity
-                desk.receipts }
+            requires room { HasRoom desk }
             ensures { (s : Seating) → All (IsRecorderOf s) desk.recorders.items
                 → All (IsReceiptOf s (lists_of lists.entry.now)) desk.receipts.items
                 → All (IsReceiptOf s (lists_of lists.entry.now)) result.items }
