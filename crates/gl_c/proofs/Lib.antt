@@ -1,4 +1,6 @@
+pub mod Counts
 mod LaneSteps
 mod MadeSteps
+pub mod Pulls
 mod SessionSteps
 pub mod Unsettled
