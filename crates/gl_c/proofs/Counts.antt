@@ -6,10 +6,8 @@ use Rattle.gl_event.specs.declared.notes.Body.{Body}
 use Rattle.gl_event.specs.declared.notes.Body.TheVariants as body
 use Rattle.gl_intake.specs.Stream.{is_end, accepted_as}
 use Rattle.gl_engine.specs.Collecting.{pulled_of}
-use Rattle.gl_engine.specs.declared.pulled.Pulled.{Pulled}
 use Rattle.gl_engine.specs.declared.pulled.Pulled.TheVariants.{Event, Ended}
 use Rattle.gl_c.specs.Pulling.{both, counted}
-use Rattle.gl_c.specs.declared.pulling.PulledCount.{PulledCount}
 
 pub event_counted : (thread place at : ℕ) (b : Body) → Event at ≡ pulled_of (accepted_as place b) → counted (record { thread = thread; place = place; body = b } ∷ []) ≡ record { events = 1; ended = 0 }
 event_counted thread place at (body.Happened e) is = refl

@@ -3,4 +3,5 @@ mod LaneSteps
 mod MadeSteps
 pub mod Pulls
 mod SessionSteps
+pub mod Turns
 pub mod Unsettled

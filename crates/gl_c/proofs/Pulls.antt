@@ -5,12 +5,12 @@ use Rattle.std.proofs.lemmas.List.{append-nil}
 use Rattle.std.proofs.lemmas.List.Elements.{All-nil}
 use Rattle.gl_event.specs.declared.notes.Note.{Note}
 use Rattle.gl_intake.specs.declared.notes.Refused.{Refused}
-use Rattle.gl_engine.specs.Collecting.{Collecting, Pulling, Side, as_of, side_of, with_side, IsPull}
+use Rattle.gl_engine.specs.Collecting.{Collecting, Pulling, Side, as_of, with_side, IsPull}
 use Rattle.gl_engine.specs.declared.pulled.Pulled.{Pulled}
 use Rattle.gl_engine.specs.declared.pulled.Pulled.TheVariants.{Empty, Event, Ended}
 use Rattle.gl_engine.specs.declared.pulled.PullFault.{PullFault}
 use Rattle.gl_engine.specs.declared.pulled.PullFault.TheVariants.{Broken, Memory}
-use Rattle.gl_c.specs.Pulling.{both, counted, none_pulled, ArePulled, AreOfThread, HasBroken, IsNoPull, IsOnePull, IsPullEnd, IsStillThat}
+use Rattle.gl_c.specs.Pulling.{both, counted, none_pulled, ArePulled, AreOfThread, IsNoPull, IsOnePull, IsStillThat}
 use Rattle.gl_c.specs.declared.codes.TheConstants.{OK, MEMORY, BROKEN}
 use Rattle.gl_c.specs.declared.pulling.PulledCount.{PulledCount}
 use Rattle.gl_c.proofs.Counts.{counted-append, end_counted, event_counted}

@@ -1,7 +1,7 @@
 -- What numbering locks and places does.
 use Rattle.std.specs.Prelude.{◌≡◌, ℕ, ◌+◌, ◌^◌, List, [], ◌∷◌, None, length, position}
 use Rattle.std.specs.Str.{bytes_eq}
-use Rattle.gl_std.specs.Names.{NameLists, number_of, with_new}
+use Rattle.gl_std.specs.Names.{number_of, with_new}
 use Rattle.gl_std.specs.declared.names.numbering.NamesFault.{NamesFault}
 use Rattle.gl_std.specs.declared.names.numbering.NamesFault.TheVariants as names_fault
 use Rattle.gl_c.specs.Calls.{IsOneOf}

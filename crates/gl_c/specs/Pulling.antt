@@ -1,5 +1,5 @@
 -- What pulls change of a session.
-use Rattle.std.specs.Prelude.{◌≡◌, ℕ, ◌+◌, ◌<◌, ◌≤◌, not, List, [], ◌∷◌, ◌++◌, Option, Some, None, count_by, slice_get, All, AllPairs, ◌==◌}
+use Rattle.std.specs.Prelude.{◌≡◌, ℕ, ◌+◌, ◌<◌, ◌≤◌, not, List, [], ◌∷◌, ◌++◌, Some, count_by, slice_get, All, AllPairs, ◌==◌}
 use Rattle.gl_event.specs.declared.notes.Note.{Note}
 use Rattle.gl_intake.specs.Stream.{is_end}
 use Rattle.gl_intake.specs.declared.notes.Refused.{Refused}

@@ -1,5 +1,5 @@
 -- What a pull answers is what was pulled.
-use Rattle.std.proofs.Common.{◌≡◌, ◌<◌, Ok, Err, length, ap, ◌∙◌, arith}
+use Rattle.std.proofs.Common.{◌<◌, Ok, Err, length, ap, ◌∙◌, arith}
 use Rattle.gl_c.proofs.Pulls.{broken_pull, empty_pull, end_pull, event_pull, memory_pull}
 use Rattle.gl_c.specs.Pulling.{IsStillThat}
 use Rattle.gl_c.proofs.pulling.pull_one.Goals as goal
