@@ -1,6 +1,6 @@
 -- What pulls one after the other come to.
 use Rattle.std.proofs.Common.{◌≡◌, ℕ, zero, suc, ◌<◌, List, [], ◌∷◌, ◌++◌, length, Some, None, Result, Ok, Err, refl, sym, ap, subst, ◌∙◌, append_assoc, arith, inl, inr}
-use Rattle.std.specs.Prelude.{slice_get, slice_set, All}
+use Rattle.std.specs.Prelude.{slice_get, slice_set, option_and_then, All, IsSome}
 use Rattle.std.proofs.lemmas.List.{append-nil}
 use Rattle.std.proofs.lemmas.List.Elements.{All-nil}
 use Rattle.gl_event.specs.declared.notes.Note.{Note}
@@ -10,7 +10,7 @@ use Rattle.gl_engine.specs.declared.pulled.Pulled.{Pulled}
 use Rattle.gl_engine.specs.declared.pulled.Pulled.TheVariants.{Empty, Event, Ended}
 use Rattle.gl_engine.specs.declared.pulled.PullFault.{PullFault}
 use Rattle.gl_engine.specs.declared.pulled.PullFault.TheVariants.{Broken, Memory}
-use Rattle.gl_c.specs.Pulling.{both, counted, none_pulled, ArePulled, AreOfThread, IsNoPull, IsOnePull, IsStillThat}
+use Rattle.gl_c.specs.Pulling.{both, broken_at, counted, none_pulled, AreOthersSame, ArePulled, AreOfThread, IsNoPull, IsOnePull, IsStillThat}
 use Rattle.gl_c.specs.declared.codes.TheConstants.{OK, MEMORY, BROKEN}
 use Rattle.gl_c.specs.declared.pulling.PulledCount.{PulledCount}
 use Rattle.gl_c.proofs.Counts.{counted-append, end_counted, event_counted}
@@ -27,6 +27,14 @@ written [] i old new here = (let clash : None ≡ Some old = here in cc)
 written (x ∷ xs) zero old new here = refl
 written (x ∷ xs) (suc i) old new here = written xs i old new here
 
+-- and nothing else changed
+pub unwritten : {X : Type 0} (xs : List X) (i j : ℕ) (x : X) → (j ≡ i → ⊥) → slice_get (slice_set xs i x) j ≡ slice_get xs j
+unwritten [] i j x differ = refl
+unwritten (y ∷ xs) zero zero x differ = absurd (differ refl)
+unwritten (y ∷ xs) zero (suc j) x differ = refl
+unwritten (y ∷ xs) (suc i) zero x differ = refl
+unwritten (y ∷ xs) (suc i) (suc j) x differ = unwritten xs i j x (λ same. differ (ap suc same))
+
 all_one : {X : Type 0} (P : X → Type 0) (x : X) → P x → All P (x ∷ [])
 all_one P x holds zero d within = holds
 all_one P x holds (suc k) d within = absurd (omega arith)
@@ -34,6 +42,12 @@ all_one P x holds (suc k) d within = absurd (omega arith)
 -- ---- one pull, off a lane that has this row
 
 module _ (thread : ℕ) (old new : Collecting) (still : IsStillThat old new) (row : Pulling) (here : slice_get old.rows thread ≡ Some row) where
+  broken_here : (side : Side) → new ≡ with_side old thread side → broken_at new thread ≡ side.row.broken
+  broken_here side moved = ap (λ (c : Collecting). broken_at c thread) moved ∙ ap (option_and_then (λ (r : Pulling). r.broken)) (written old.rows thread row side.row here)
+
+  others_same : (side : Side) → new ≡ with_side old thread side → AreOthersSame thread old new
+  others_same side moved other differ = ap (λ (c : Collecting). broken_at c other) moved ∙ ap (option_and_then (λ (r : Pulling). r.broken)) (unwritten old.rows thread other side.row differ)
+
   moved_one : (side : Side) (note : Note) (one : PulledCount) → new ≡ with_side old thread side → side.stream ≡ old.stream ++ as_of thread note ∷ [] → counted (as_of thread note ∷ []) ≡ one
       → ArePulled (AreOfThread thread) old new one
   moved_one side note one moved joins counts = record {
@@ -50,6 +64,8 @@ module _ (thread : ℕ) (old new : Collecting) (still : IsStillThat old new) (ro
       record {
         pulled = moved_one is.side note _ is.moved (ap (λ (s : Side). s.stream) is.tells.moved) (event_counted thread note.place place note.body is.tells.answer_is);
         is_one = refl;
+        whole = broken_here is.side is.moved ∙ ap (λ (s : Side). s.row.broken) is.tells.moved ∙ is.tells.running;
+        others = others_same is.side is.moved;
       }
 
   end_pulled : (count : ℕ) → IsPull old thread row (Ok (Ended count)) new → IsOnePull thread old (record { events = 0; ended = 1 }) new
@@ -58,6 +74,8 @@ module _ (thread : ℕ) (old new : Collecting) (still : IsStillThat old new) (ro
       record {
         pulled = moved_one is.side note _ is.moved (ap (λ (s : Side). s.stream) is.tells.moved) (end_counted thread note.place count note.body is.tells.answer_is);
         is_one = refl;
+        whole = broken_here is.side is.moved ∙ ap (λ (s : Side). s.row.broken) is.tells.moved ∙ is.tells.running;
+        others = others_same is.side is.moved;
       }
 
   moved_none : (side : Side) → new ≡ with_side old thread side → side.stream ≡ old.stream → ArePulled (AreOfThread thread) old new none_pulled
@@ -72,13 +90,23 @@ module _ (thread : ℕ) (old new : Collecting) (still : IsStillThat old new) (ro
   empty_pulled : IsPull old thread row (Ok Empty) new → IsNoPull thread old OK new
   empty_pulled is = record {
     none = moved_none is.side is.moved (ap (λ (s : Side). s.stream) is.tells.1);
-    ends = record { answers = refl; broken = λ answer. (let clash : OK ≡ BROKEN = answer in cc) };
+    ends = record {
+      answers = refl;
+      broken = λ answer. (let clash : OK ≡ BROKEN = answer in cc);
+      whole = λ _ _. broken_here is.side is.moved ∙ ap (λ (s : Side). s.row.broken) is.tells.1 ∙ is.tells.0;
+    };
+    others = others_same is.side is.moved;
   }
 
   memory_pulled : IsPull old thread row (Err Memory) new → IsNoPull thread old MEMORY new
   memory_pulled is = record {
     none = moved_none is.side is.moved (ap (λ (s : Side). s.stream) is.tells.1);
-    ends = record { answers = refl; broken = λ answer. (let clash : MEMORY ≡ BROKEN = answer in cc) };
+    ends = record {
+      answers = refl;
+      broken = λ answer. (let clash : MEMORY ≡ BROKEN = answer in cc);
+      whole = λ _ _. broken_here is.side is.moved ∙ ap (λ (s : Side). s.row.broken) is.tells.1 ∙ is.tells.0;
+    };
+    others = others_same is.side is.moved;
   }
 
   broken_side : (side : Side) (why : Refused) → new ≡ with_side old thread side → side.stream ≡ old.stream → side.row.broken ≡ Some why → IsNoPull thread old BROKEN new
@@ -86,14 +114,10 @@ module _ (thread : ℕ) (old new : Collecting) (still : IsStillThat old new) (ro
     none = moved_none side moved same;
     ends = record {
       answers = refl;
-      broken = λ _. record {
-        thread = thread;
-        row = side.row;
-        why = why;
-        here = ap (λ (c : Collecting). slice_get c.rows thread) moved ∙ written old.rows thread row side.row here;
-        broken = broken;
-      };
+      broken = λ _. subst IsSome (sym (broken_here side moved ∙ broken)) refl;
+      whole = λ unless _. absurd (unless refl);
     };
+    others = others_same side moved;
   }
 
   broken_pulled : (why : Refused) → IsPull old thread row (Err (Broken why)) new → IsNoPull thread old BROKEN new

@@ -1,13 +1,14 @@
 -- The notes of each thread in turn.
-use Rattle.std.proofs.Common.{◌≡◌, ℕ, ◌+◌, ◌-◌, ◌<◌, ◌≤◌, List, [], ◌++◌, length, cond, eqb, Bool, false, refl, sym, ap, subst, arith, inl, inr, get_or}
-use Rattle.std.specs.Prelude.{All, AllPairs, count_by}
+use Rattle.std.proofs.Common.{◌≡◌, ℕ, ◌+◌, ◌-◌, ◌<◌, ◌≤◌, List, [], ◌++◌, length, cond, eqb, Bool, false, refl, sym, ap, subst, arith, inl, inr, get_or, None, ◌∙◌}
+use Rattle.std.specs.Prelude.{All, AllPairs, count_by, option_and_then}
 use Rattle.std.proofs.lemmas.Bool.{cases_lt, ne_eqb}
 use Rattle.std.proofs.lemmas.List.{get_or_append_left, get_or-append_right, length-append}
 use Rattle.std.proofs.lemmas.List.Elements.{All-append, All-nil}
 use Rattle.std.proofs.lemmas.List.Sums.{count_by-le-length, sum_by-append, sum_by-le}
 use Rattle.gl_event.specs.declared.notes.Note.{Note}
-use Rattle.gl_engine.specs.Collecting.{Collecting}
-use Rattle.gl_c.specs.Pulling.{both, ArePulled, AreInTurns, AreInTurnsBelow, AreOfThread}
+use Rattle.std.proofs.lemmas.Option.{slice_get_past}
+use Rattle.gl_engine.specs.Collecting.{Collecting, Pulling}
+use Rattle.gl_c.specs.Pulling.{both, ArePulled, AreInTurns, AreInTurnsBelow, AreOfThread, broken_at, AreOthersSame}
 use Rattle.gl_c.specs.declared.pulling.PulledCount.{PulledCount}
 use Rattle.gl_c.proofs.Counts.{total_counted}
 use Rattle.gl_c.proofs.Pulls.{pulled_more}
@@ -40,8 +41,8 @@ of_thread thread note = eqb note.thread thread
 count_none : (thread : ℕ) (notes : List Note) → ((k : ℕ) (d : Note) → k < length notes → (get_or notes k d).thread ≡ thread → ⊥) → count_by (of_thread thread) notes ≡ 0
 count_none thread notes others =
     let none_each : All (λ (note : Note). cond (of_thread thread note) 1 0 ≤ 0) notes = λ k d within.
-        (let no : of_thread thread (get_or notes k d) ≡ false = ne_eqb _ _ (others k d within) in
-        subst (λ (b : Bool). cond b 1 0 ≤ 0) (sym no) (omega arith)) in
+    (let no : of_thread thread (get_or notes k d) ≡ false = ne_eqb _ _ (others k d within) in
+    subst (λ (b : Bool). cond b 1 0 ≤ 0) (sym no) (omega arith)) in
     omega (arith, sum_by-le (λ (note : Note). cond (of_thread thread note) 1 0) 0 notes none_each)
 
 -- the next thread's notes, of which there are no more than a ring holds
@@ -91,3 +92,20 @@ next_pulls ring number a b c some more all first then few sums =
 -- the notes are of the threads in turn, however far they have come
 pub turns_of : (ring number : ℕ) (a b : Collecting) (count : PulledCount) → ArePulled (AreInTurnsBelow ring number) a b count → ArePulled (AreInTurns ring) a b count
 turns_of ring number a b count pulled = record { still = pulled.still; notes = pulled.notes; theirs = pulled.theirs.in_turns; joined = pulled.joined; count_is = pulled.count_is }
+
+-- the lanes of the threads so far aren't broken after the next thread's pulls
+pub whole_next : (number : ℕ) (old new : Collecting) → ((t : ℕ) → t < number → broken_at old t ≡ None) → AreOthersSame number old new → broken_at new number ≡ None
+    → (t : ℕ) → t < number + 1 → broken_at new t ≡ None
+whole_next number old new before others here t below =
+    elim (cases_lt t number) [
+      | inl earlier ↦ others t (λ same. omega arith) ∙ before t earlier
+      | inr last ↦ let is : t ≡ number = omega arith in subst (λ (k : ℕ). broken_at new k ≡ None) (sym is) here
+    ]
+
+-- where no thread's lane is broken, none is
+pub whole_all : (threads : ℕ) (c : Collecting) → length c.rows ≤ threads → ((t : ℕ) → t < threads → broken_at c t ≡ None) → (t : ℕ) → broken_at c t ≡ None
+whole_all threads c count each t =
+    elim (cases_lt t threads) [
+      | inl known ↦ each t known
+      | inr past ↦ ap (option_and_then (λ (r : Pulling). r.broken)) (slice_get_past c.rows t (omega arith))
+    ]

@@ -1,9 +1,9 @@
 -- What pulls change of a session.
-use Rattle.std.specs.Prelude.{◌≡◌, ℕ, ◌+◌, ◌<◌, ◌≤◌, not, List, [], ◌∷◌, ◌++◌, Some, count_by, slice_get, All, AllPairs, ◌==◌}
+use Rattle.std.specs.Prelude.{◌≡◌, ℕ, ◌+◌, ◌<◌, ◌≤◌, ◌==◌, not, List, [], ◌∷◌, ◌++◌, Option, None, count_by, option_and_then, slice_get, All, AllPairs, IsSome}
 use Rattle.gl_event.specs.declared.notes.Note.{Note}
 use Rattle.gl_intake.specs.Stream.{is_end}
 use Rattle.gl_intake.specs.declared.notes.Refused.{Refused}
-use Rattle.gl_engine.specs.Collecting.{Collecting, Pulling, lanes_of}
+use Rattle.gl_engine.specs.Collecting.{Collecting, lanes_of}
 use Rattle.gl_c.specs.Calls.{IsOneOf}
 use Rattle.gl_c.specs.declared.codes.TheConstants.{OK, MEMORY, MISUSE, RANGE, BROKEN}
 use Rattle.gl_c.specs.declared.pulling.PulledCount.{PulledCount}
@@ -42,28 +42,38 @@ pub record ArePulled (AreTheirs : List Note → Type 0) (old new : Collecting) (
 abbrev pub AreOfThread : ℕ → List Note → Type 0
 AreOfThread thread notes = All (λ note. note.thread ≡ thread) notes
 
--- the lane of a thread is broken: its front note may not come next
-pub record HasBroken (now : Collecting) : Type 0 where
-  pub thread : ℕ
-  pub row : Pulling
-  pub why : Refused
-  pub here : slice_get now.rows thread ≡ Some row
-  pub broken : row.broken ≡ Some why
+-- why the thread's lane is broken, if it is: its front note may not come next
+abbrev pub broken_at : Collecting → ℕ → Option Refused
+broken_at c thread = option_and_then (λ row. row.broken) (slice_get c.rows thread)
 
--- how pulls end: all is well, memory was refused, or a lane is broken
-pub record IsPullEnd (now : Collecting) (answer : ℕ) : Type 0 where
+-- no other thread's lane breaks
+abbrev pub AreOthersSame : ℕ → Collecting → Collecting → Type 0
+AreOthersSame thread old new = (other : ℕ) → (other ≡ thread → ⊥) → broken_at new other ≡ broken_at old other
+
+-- how pulls off the thread's lane end: all is well, memory was refused, or the lane is broken. Where none was asked for, its lane isn't looked at
+pub record IsLaneEnd (thread most : ℕ) (now : Collecting) (answer : ℕ) : Type 0 where
   pub answers : IsOneOf answer (OK ∷ MEMORY ∷ BROKEN ∷ [])
-  pub broken : answer ≡ BROKEN → HasBroken now
+  pub broken : answer ≡ BROKEN → IsSome (broken_at now thread)
+  pub whole : (answer ≡ BROKEN → ⊥) → 0 < most → broken_at now thread ≡ None
+
+-- how pulls off all lanes end: no lane is broken, or as many notes were pulled as were asked for; memory was refused; or a lane is broken
+pub record IsEndOfAll (most : ℕ) (now : Collecting) (count : PulledCount) (answer : ℕ) : Type 0 where
+  pub answers : IsOneOf answer (OK ∷ MEMORY ∷ BROKEN ∷ [])
+  pub broken : answer ≡ BROKEN → (thread : ℕ) × IsSome (broken_at now thread)
+  pub whole : answer ≡ OK → count.events + count.ended < most → (thread : ℕ) → broken_at now thread ≡ None
 
 -- one of the thread's notes was pulled
 pub record IsOnePull (thread : ℕ) (old : Collecting) (one : PulledCount) (new : Collecting) : Type 0 where
   pub pulled : ArePulled (AreOfThread thread) old new one
   pub is_one : one.events + one.ended ≡ 1
+  pub whole : broken_at new thread ≡ None
+  pub others : AreOthersSame thread old new
 
 -- none of them was, for this reason
 pub record IsNoPull (thread : ℕ) (old : Collecting) (answer : ℕ) (new : Collecting) : Type 0 where
   pub none : ArePulled (AreOfThread thread) old new none_pulled
-  pub ends : IsPullEnd new answer
+  pub ends : IsLaneEnd thread 1 new answer
+  pub others : AreOthersSame thread old new
 
 -- notes of each thread in turn, from the first one on, of none more than a ring holds
 pub record AreInTurns (ring : ℕ) (notes : List Note) : Type 0 where
@@ -76,15 +86,25 @@ pub record AreInTurnsBelow (ring number : ℕ) (notes : List Note) : Type 0 wher
   pub below : All (λ note. note.thread < number) notes
 
 -- at most so many such notes were pulled
-pub record ArePulls (AreTheirs : List Note → Type 0) (most : ℕ) (old : Running) (count : PulledCount) (answer : ℕ) (new : Running) : Type 0 where
+pub record ArePulls (AreTheirs : List Note → Type 0) (most : ℕ) (old : Running) (count : PulledCount) (new : Running) : Type 0 where
   pub limits : new.limits ≡ old.limits
   pub pulled : ArePulled AreTheirs old.collector new.collector count
   pub most_are : count.events + count.ended ≤ most
-  pub ends : IsPullEnd new.collector answer
+
+-- at most so many notes were pulled off the thread's lane
+pub record IsPullOff (thread most : ℕ) (old : Running) (count : PulledCount) (answer : ℕ) (new : Running) : Type 0 where
+  pub moved : ArePulls (AreOfThread thread) most old count new
+  pub ends : IsLaneEnd thread most new.collector answer
+  pub others : AreOthersSame thread old.collector new.collector
+
+-- at most so many notes were pulled, off each lane in turn
+pub record IsPullAll (most : ℕ) (old : Running) (count : PulledCount) (answer : ℕ) (new : Running) : Type 0 where
+  pub moved : ArePulls (AreInTurns old.limits.ring) most old count new
+  pub ends : IsEndOfAll most new.collector count answer
 
 -- at most so many of the thread's notes were pulled, if there is such a thread
 pub record IsPullOfLane (thread most : ℕ) (old : Running) (count : PulledCount) (answer : ℕ) (new : Running) : Type 0 where
-  pub known : thread < old.limits.threads → ArePulls (AreOfThread thread) most old count answer new
+  pub known : thread < old.limits.threads → IsPullOff thread most old count answer new
   pub unknown : old.limits.threads ≤ thread → (answer ≡ RANGE) × (count ≡ none_pulled) × (new ≡ old)
 
 -- a session that runs changes so, and another one is as it was

@@ -50,7 +50,8 @@ fn take_receipt(session: &mut SessionState, receipt: Receipt) -> Result<(), (Rec
     ensures free { OnOk result (state_refusal session.old (Closed receipt) ≡ None) }
     ensures back { IfErr result (λ back. (back.0 ≡ receipt) × (back.1 ≡ OK → ⊥)) }
     ensures same { OnErr result (HasReceipts session.old session.old.receipts.items session.new) }
-    ensures why { IfErr result (λ back. IsAnswer (state_refusal session.old (Closed receipt)) back.1) }
+    ensures why { IfErr result
+        (λ back. IsAnswer (state_refusal session.old (Closed receipt)) back.1) }
 {
     if !is_wanted(session, &receipt) {
         return Err((receipt, STRANGE));

@@ -127,7 +127,8 @@ pub extern "C" fn goodlock_cycles(
     more: &mut bool,
 ) -> u32
     ensures { IsCall
-        (λ old new. (result ≡ OK) × (new ≡ old) × (cycles.new ≡ length old.report.found.cycles)
+        (λ old new. (result ≡ OK) × (new ≡ old)
+        × (cycles.new ≡ length old.report.found.cycles)
         × (more.new ≡ old.report.found.more))
         ((result ≡ MISUSE) × (cycles.new ≡ cycles.old) × (more.new ≡ more.old))
         report.old.value report.new.value }

@@ -21,7 +21,8 @@ fn names_code(fault: NamesFault) -> u32
 
 // The number of the lock with this name.
 fn number_lock(alloc: Global, names: &mut Names, name: &[u8], lock: &mut u32) -> u32
-    ensures numbered { IsNumbering names.old.locks name.now lock.old result lock.new names.new.locks }
+    ensures numbered { IsNumbering names.old.locks name.now lock.old result
+        lock.new names.new.locks }
     ensures rest { names.new ≡ record names.old { locks = names.new.locks } }
 {
     match names.number_lock(alloc, name) {
@@ -54,7 +55,8 @@ pub extern "C" fn goodlock_lock(
 
 // The number of the place with this name.
 fn number_place(alloc: Global, names: &mut Names, name: &[u8], place: &mut u32) -> u32
-    ensures numbered { IsNumbering names.old.locs name.now place.old result place.new names.new.locs }
+    ensures numbered { IsNumbering names.old.locs name.now place.old result
+        place.new names.new.locs }
     ensures rest { names.new ≡ record names.old { locs = names.new.locs } }
 {
     match names.number_loc(alloc, name) {

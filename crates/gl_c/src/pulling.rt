@@ -1,7 +1,7 @@
 //! Pulling notes off the lanes of a session.
 ghost use Rattle.std.specs.Prelude.{◌≡◌, ◌<◌, ◌+◌, ◌^◌, IfOk, IfErr};
 ghost use Rattle.gl_c.specs.Calls.{IsCall};
-ghost use Rattle.gl_c.specs.Pulling.{both, none_pulled, AreInTurns, AreOfThread, ArePulls, IsPullOfLane, IsPulling, IsOnePull, IsNoPull};
+ghost use Rattle.gl_c.specs.Pulling.{both, none_pulled, IsNoPull, IsOnePull, IsPullAll, IsPullOff, IsPullOfLane, IsPulling};
 ghost use Rattle.gl_c.specs.declared.codes.TheConstants.{MISUSE};
 
 use crate::codes::{BROKEN, MEMORY, MISUSE, OK, RANGE};
@@ -69,7 +69,7 @@ fn pull_one(running: &mut Running, thread: ThreadId) -> Result<PulledCount, u32>
 // Pulls at most so many notes off the thread's lane, and what is answered.
 fn pull_off(running: &mut Running, thread: ThreadId, most: u32) -> (PulledCount, u32)
     requires known { thread < running.old.limits.threads }
-    ensures { ArePulls (AreOfThread thread) most running.old result.0 result.1 running.new }
+    ensures { IsPullOff thread most running.old result.0 result.1 running.new }
 {
     let mut pulled = none_pulled();
     for _ in 0..most {
@@ -84,8 +84,7 @@ fn pull_off(running: &mut Running, thread: ThreadId, most: u32) -> (PulledCount,
 // Pulls at most so many notes in all, off each lane in turn from the first thread's on, and off none
 // more than its ring holds, so that a busy one doesn't keep the others waiting.
 fn pull_all(running: &mut Running, most: u32) -> (PulledCount, u32)
-    ensures { ArePulls (AreInTurns running.old.limits.ring) most
-        running.old result.0 result.1 running.new }
+    ensures { IsPullAll most running.old result.0 result.1 running.new }
 {
     let threads = running.limits.threads();
     let ring = running.limits.ring();
@@ -119,9 +118,7 @@ pub extern "C" fn goodlock_pull(
     most: u32,
     pulled: &mut PulledCount,
 ) -> u32
-    ensures { IsCall (λ old new. IsPulling
-        (λ was count answer now. ArePulls (AreInTurns was.limits.ring) most was count answer now)
-        old pulled.new result new)
+    ensures { IsCall (λ old new. IsPulling (IsPullAll most) old pulled.new result new)
         ((result ≡ MISUSE) × (pulled.new ≡ none_pulled)) session.old.value session.new.value }
 {
     *pulled = none_pulled();
