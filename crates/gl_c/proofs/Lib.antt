@@ -1,4 +1,7 @@
+pub mod Counts
 mod LaneSteps
 mod MadeSteps
+pub mod Pulls
 mod SessionSteps
+pub mod Turns
 pub mod Unsettled

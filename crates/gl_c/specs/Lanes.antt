@@ -1,9 +1,10 @@
 -- What the calls on a lane do.
-use Rattle.std.specs.Prelude.{◌≡◌, ℕ, ◌<◌, Option, Some, None, length}
+use Rattle.std.specs.Prelude.{◌≡◌, ℕ, ◌<◌, [], ◌∷◌, Option, Some, None, length}
 use Rattle.gl_event.specs.Lawful.{refusal}
 use Rattle.gl_event.specs.declared.events.Event.{Event}
 use Rattle.gl_event.specs.declared.events.Refusal.{Refusal}
 use Rattle.gl_engine.specs.Recording.{Recording, recorded, next_note, with_pushed, seen_full, closed_of}
+use Rattle.gl_c.specs.Calls.{IsOneOf}
 use Rattle.gl_c.specs.Numbered.{event_of, refusal_code}
 use Rattle.gl_c.specs.declared.codes.TheConstants.{OK, FULL, MISUSE, RANGE, UNCONFIRMED}
 use Rattle.gl_c.specs.declared.lane_state.LaneState.{LaneState}
@@ -14,6 +15,7 @@ pub record IsRecordOn (old : Recording) (event : Event) (place : ℕ) (answer : 
   pub done : answer ≡ OK → (refusal old.limits old.thread (recorded old) event ≡ None) × (told ≡ length (recorded old)) × (new ≡ with_pushed old (next_note old event) new.room)
   pub full : answer ≡ FULL → (refusal old.limits old.thread (recorded old) event ≡ None) × (told ≡ place) × (new ≡ seen_full old)
   pub refused : (why : Refusal) → refusal old.limits old.thread (recorded old) event ≡ Some why → (answer ≡ refusal_code why) × (told ≡ place) × (new ≡ old)
+  pub else : refusal old.limits old.thread (recorded old) event ≡ None → IsOneOf answer (OK ∷ FULL ∷ [])
   pub sure : 0 < old.room → refusal old.limits old.thread (recorded old) event ≡ None → answer ≡ OK
 
 -- the event is recorded, if there is a kind of event with this number

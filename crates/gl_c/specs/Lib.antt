@@ -1,8 +1,14 @@
 pub mod Calls
+pub mod HandingIn
 pub mod Handles
+pub mod LaneOpening
 pub mod LaneOwns
 pub mod Lanes
 pub mod MadeOwns
+pub mod Naming
 pub mod Numbered
+pub mod Opening
+pub mod Pulling
+pub mod Reporting
 pub mod SessionOwns
-pub mod Sessions
+pub mod Settling

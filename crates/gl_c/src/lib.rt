@@ -18,15 +18,20 @@
 #![tactic(auto)]
 
 mod codes;
+mod handing_in;
 mod lane;
 mod lane_calls;
+mod lane_opening;
 mod lane_state;
 mod loose;
 mod made;
 mod made_calls;
 mod made_state;
+mod naming;
 mod numbered;
 mod opening;
+mod pulling;
+mod reporting;
 mod session;
-mod session_calls;
 mod session_state;
+mod settling;

@@ -3,7 +3,7 @@ ghost use Rattle.std.specs.Prelude.{◌≡◌, ◌++◌, None, codes, length};
 ghost use Rattle.serde_json.specs.Written.{compact_text};
 ghost use Rattle.gl_report.specs.Text.{report_text};
 ghost use Rattle.gl_report.specs.Tree.{report_tree};
-ghost use Rattle.gl_c.specs.Calls.{IsCall, IsGiven, IsGivenOf};
+ghost use Rattle.gl_c.specs.Calls.{IsCall, IsGiven, IsGiving, IsGivingOf};
 ghost use Rattle.gl_c.specs.declared.codes.TheConstants.{OK, MISUSE};
 
 use crate::codes::{MEMORY, MISUSE, OK};
@@ -33,10 +33,9 @@ fn give_text(
     buffer: &mut [u8],
     needed: &mut usize,
 ) -> u32
-    ensures { result ≡ OK
-        → IsGiven (report_text session.now.names made.now.report.edges
+    ensures { IsGiving (report_text session.now.names made.now.report.edges
         made.now.report.found.cycles made.now.report.found.more)
-        buffer.old buffer.new needed.new }
+        buffer.old needed.old result buffer.new needed.new }
 {
     let Ok(text) = text(alloc, &session.names, &made.report) else {
         return MEMORY;
@@ -56,10 +55,9 @@ pub extern "C" fn goodlock_text(
 ) -> u32
     ensures session { session.new.value ≡ session.old.value }
     ensures report { report.new.value ≡ report.old.value }
-    ensures given { result ≡ OK
-        → IsGivenOf (λ state made. report_text state.names made.report.edges
+    ensures given { IsGivingOf (λ state made. report_text state.names made.report.edges
         made.report.found.cycles made.report.found.more)
-        session.old.value report.old.value buffer.old buffer.new needed.new }
+        session.old.value report.old.value buffer.old needed.old result buffer.new needed.new }
 {
     let Some(state) = session.take(alloc) else {
         return MISUSE;
@@ -82,9 +80,8 @@ fn give_json(
     buffer: &mut [u8],
     needed: &mut usize,
 ) -> u32
-    ensures { result ≡ OK
-        → IsGiven (compact_text (report_tree session.now.names made.now.report) ++ codes "\n")
-        buffer.old buffer.new needed.new }
+    ensures { IsGiving (compact_text (report_tree session.now.names made.now.report) ++ codes "\n")
+        buffer.old needed.old result buffer.new needed.new }
 {
     let Ok(text) = json_text(alloc, &session.names, &made.report) else {
         return MEMORY;
@@ -104,9 +101,9 @@ pub extern "C" fn goodlock_json(
 ) -> u32
     ensures session { session.new.value ≡ session.old.value }
     ensures report { report.new.value ≡ report.old.value }
-    ensures given { result ≡ OK
-        → IsGivenOf (λ state made. compact_text (report_tree state.names made.report) ++ codes "\n")
-        session.old.value report.old.value buffer.old buffer.new needed.new }
+    ensures given { IsGivingOf
+        (λ state made. compact_text (report_tree state.names made.report) ++ codes "\n")
+        session.old.value report.old.value buffer.old needed.old result buffer.new needed.new }
 {
     let Some(state) = session.take(alloc) else {
         return MISUSE;
@@ -130,8 +127,11 @@ pub extern "C" fn goodlock_cycles(
     more: &mut bool,
 ) -> u32
     ensures { IsCall
-        (λ old new. (result ≡ OK) × (new ≡ old) × (cycles.new ≡ length old.report.found.cycles)
-        × (more.new ≡ old.report.found.more)) (result ≡ MISUSE) report.old.value report.new.value }
+        (λ old new. (result ≡ OK) × (new ≡ old)
+        × (cycles.new ≡ length old.report.found.cycles)
+        × (more.new ≡ old.report.found.more))
+        ((result ≡ MISUSE) × (cycles.new ≡ cycles.old) × (more.new ≡ more.old))
+        report.old.value report.new.value }
 {
     let Some(made) = report.take(alloc) else {
         return MISUSE;

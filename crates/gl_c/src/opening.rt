@@ -1,10 +1,12 @@
-//! Opening a session.
-ghost use Rattle.std.specs.Prelude.{◌≡◌, [], IfOk};
-ghost use Rattle.gl_c.specs.Sessions.{IsNewSession};
+//! Opening a session, and freeing it.
+ghost use Rattle.std.specs.Prelude.{◌≡◌, [], None, IfOk};
+ghost use Rattle.gl_c.specs.Opening.{limits_of, IsNewSession, IsOpening};
 
+use crate::codes::{MEMORY, MISUSE, OK, RANGE};
+use crate::session::Session;
 use crate::session_state::{Running, SessionState, Stage};
 use gl_engine::open;
-use gl_event::{Limits, Memory};
+use gl_event::{Limits, MAX_EVENTS, MAX_NAMES, Memory};
 use gl_std::{Names, Seed};
 use itoa::Buffer;
 use std::alloc::{AllocError, Global};
@@ -35,8 +37,8 @@ fn thread_names(alloc: Global, threads: u32) -> Result<Names, Memory>
     Ok(names)
 }
 
-/// A new session of this number.
-pub fn open_session(alloc: Global, number: u64, limits: &Limits) -> Result<SessionState, Memory>
+// A new session of this number.
+fn open_session(alloc: Global, number: u64, limits: &Limits) -> Result<SessionState, Memory>
     ensures { IfOk result (λ state. IsNewSession number limits.now state) }
 {
     let names = thread_names(alloc, limits.threads())?;
@@ -52,4 +54,40 @@ pub fn open_session(alloc: Global, number: u64, limits: &Limits) -> Result<Sessi
             collector,
         }),
     })
+}
+
+/// Opens a session.
+#[unsafe(no_mangle)]
+pub extern "C" fn goodlock_open(
+    alloc: Global,
+    number: u64,
+    threads: u32,
+    ring: u32,
+    session: &mut Session,
+) -> u32
+    ensures { IsOpening number (limits_of threads ring) session.old.value result session.new.value }
+{
+    if let Some(state) = session.take(alloc) {
+        session.put(state);
+        return MISUSE;
+    }
+    let Ok(limits) = Limits::new(threads, ring, MAX_EVENTS, MAX_NAMES) else {
+        return RANGE;
+    };
+    let Ok(state) = open_session(alloc, number, &limits) else {
+        return MEMORY;
+    };
+    let Ok(state) = Box::new(alloc, state) else {
+        return MEMORY;
+    };
+    session.put(state);
+    OK
+}
+
+/// Frees the session.
+#[unsafe(no_mangle)]
+pub extern "C" fn goodlock_session_free(alloc: Global, session: &mut Session)
+    ensures { session.new.value ≡ None }
+{
+    drop(session.take(alloc));
 }

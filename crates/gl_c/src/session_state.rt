@@ -1,5 +1,5 @@
 //! What a session's handle is of.
-ghost use Rattle.std.specs.Prelude.{◌≡◌};
+ghost use Rattle.std.specs.Prelude.{◌≡◌, length};
 
 use gl_engine::{Collector, Receipt, Recorder, Settled};
 use gl_event::Limits;
@@ -14,6 +14,8 @@ pub struct Running {
     pub collector: Collector,
     /// The limits are those of what collects.
     pub ghost same: { collector.limits ≡ limits },
+    /// It collects from a lane of each thread.
+    pub ghost rows: { length collector.rows ≡ limits.threads },
 }
 
 /// How far a session has come.

@@ -1,6 +1,6 @@
 use Rattle.std.proofs.Common.{arith, ◌∙◌}
 use Rattle.gl_engine.proofs.Confirming.{receipt_none, receipt_found, receipt_past}
-use Rattle.gl_c.proofs.session_calls.has_receipt.Goals as goal
+use Rattle.gl_c.proofs.handing_in.has_receipt.Goals as goal
 
 pub loop-receipt-init : goal.loop-receipt-init
 loop-receipt-init c = receipt_none c.args.thread
