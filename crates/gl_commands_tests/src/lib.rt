@@ -4,6 +4,7 @@
 //! a text that can't be read to its end, [`Cut`](cut::Cut).
 #![tactic(auto)]
 
+#[cfg(test)]
 pub mod cut;
 #[cfg(test)]
 mod tests;
