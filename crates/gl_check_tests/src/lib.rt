@@ -6,4 +6,5 @@
 
 #[cfg(test)]
 mod tests;
+#[cfg(test)]
 pub mod traces;

@@ -4,7 +4,9 @@
 //! of lists of events is in [`lawful`], and [`stepping`] follows a thread event by event.
 #![tactic(auto)]
 
+#[cfg(test)]
 pub mod lawful;
+#[cfg(test)]
 pub mod stepping;
 #[cfg(test)]
 mod tests;

@@ -77,7 +77,8 @@ fn pull_list(collector: &mut Collector, thread: ThreadId)
 
 // Why it isn't settled, and the collector.
 fn why_of(fault: UnsettledFault) -> (Why, Collector)
-    ensures { (c : Collecting) (receipts : List Closed) → IsUnsettledFault c receipts fault → result.1 ≡ c }
+    ensures { (c : Collecting) (receipts : List Closed) → IsUnsettledFault c receipts fault
+        → result.1 ≡ c }
 {
     match fault {
         UnsettledFault::Strange { at, collector } => (Why::Strange(at), collector),

@@ -21,7 +21,8 @@ fn close_one(recorder: Recorder, events: &[Event]) -> Option<Receipt>
 
 // Each recorder records its list and closes.
 fn close_all(alloc: Global, recorders: Vec<Recorder>, lists: &[&[Event]]) -> Option<Vec<Receipt>>
-    ensures { IfSome result (λ receipts. map left_by receipts.items ≡ map owner_of recorders.items) }
+    ensures { IfSome result
+        (λ receipts. map left_by receipts.items ≡ map owner_of recorders.items) }
 {
     let mut receipts = Vec::new(alloc);
     for recorder in recorders {

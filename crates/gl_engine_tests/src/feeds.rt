@@ -9,8 +9,11 @@ use std::sync::Wait;
 /// So many feeds, each with room for eight edges.
 pub fn feeds(alloc: Global, workers: u32) -> Option<(Vec<Outlet>, Vec<Inlet>)>
     ensures count { IfSome result (λ ends. length ends.0.items ≡ workers) }
-    ensures unsent { IfSome result (λ ends. (shard : ℕ) (o : Sending) → slice_get ends.0.items shard ≡ Some o → o.sent ≡ []) }
-    ensures one_feed { IfSome result (λ ends. map (λ (o : Sending). o.feed) ends.0.items ≡ map (λ (i : Receiving). i.feed) ends.1.items) }
+    ensures unsent { IfSome result
+        (λ ends. (shard : ℕ) (o : Sending) → slice_get ends.0.items shard ≡ Some o → o.sent ≡ []) }
+    ensures one_feed { IfSome result
+        (λ ends. map (λ (o : Sending). o.feed) ends.0.items
+        ≡ map (λ (i : Receiving). i.feed) ends.1.items) }
 {
     let mut outlets = Vec::new(alloc);
     let mut inlets = Vec::new(alloc);
@@ -39,7 +42,8 @@ pub fn tables_of<R: Wait>(
     sent: Vec<Sent>,
     inlets: Vec<Inlet>,
 ) -> Option<Vec<Table>>
-    requires one_feed { map (λ (s : AllSent). s.feed) sent.items ≡ map (λ (i : Receiving). i.feed) inlets.items }
+    requires one_feed { map (λ (s : AllSent). s.feed) sent.items
+        ≡ map (λ (i : Receiving). i.feed) inlets.items }
 {
     let (mut sent, mut inlets) = (sent, inlets);
     let mut tables = Vec::new(alloc);

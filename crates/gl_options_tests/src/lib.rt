@@ -4,6 +4,7 @@
 //! is the session that runs unless options say otherwise, [`defaults`].
 #![tactic(auto)]
 
+#[cfg(test)]
 pub mod defaults;
 #[cfg(test)]
 mod tests;

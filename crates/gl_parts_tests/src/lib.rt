@@ -5,6 +5,7 @@
 //! of the tests is a writer, [`Narrow`](narrow::Narrow).
 #![tactic(auto)]
 
+#[cfg(test)]
 pub mod narrow;
 #[cfg(test)]
 mod tests;

@@ -4,6 +4,7 @@
 //! prints the reports that format 1 stands for.
 #![tactic(auto)]
 
+#[cfg(test)]
 pub mod format_1;
 #[cfg(test)]
 mod tests;

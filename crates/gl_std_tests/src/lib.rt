@@ -4,6 +4,7 @@
 //! them texts that come in pieces and may fail.
 #![tactic(auto)]
 
+#[cfg(test)]
 pub mod pieces;
 #[cfg(test)]
 mod tests;

@@ -68,7 +68,8 @@ fn ring_of_one_ended(rt: HostRuntime) -> Result<(), Fail> {
 fn through(alloc: Global, first: Note, second: Note) -> Result<Option<(Note, Note)>, Memory>
     requires first { IsPlaced first }
     requires second { IsPlaced second }
-    ensures { IfOk result (λ popped. IfSome popped (λ notes. (notes.0 ≡ first) × (notes.1 ≡ second))) }
+    ensures { IfOk result
+        (λ popped. IfSome popped (λ notes. (notes.0 ≡ first) × (notes.1 ≡ second))) }
 {
     let (mut recorder, mut collector) = lane(alloc, 2)?;
     let (Ok(()), Ok(())) = (recorder.push(first), recorder.push(second)) else {
