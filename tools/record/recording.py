@@ -13,6 +13,8 @@ MARK_TEXT = b"goodlock recording\n"
 MARK_BYTES = 4096
 UNRECORDED_PLACE = 64
 CONVERTED = ".converted"
+# Files of live.py, there while a report is made.
+COPY, ASIDE = "copy", "report"
 
 EXTENT_NAME = re.compile(r"([0-9]{1,18})\.([0-9]{1,18})\.([0-9]{1,18})")
 USER_NAME = re.compile(r"u([0-9]{1,18})")
@@ -108,6 +110,10 @@ class Recording:
             os.unlink(path)
         for place, _ in list(self.places())[1:]:
             rmdir_if_empty(place)
+        for name in (COPY, ASIDE):
+            path = os.path.join(away, name)
+            if os.path.isfile(path) and not os.path.islink(path):
+                os.unlink(path)
         if self.mark():
             os.unlink(os.path.join(away, MARK))
         return rmdir_if_empty(away)
