@@ -26,6 +26,7 @@ FOREIGN = 0xFFFFFFFF
 SITE_SHIFT, SITE_MASK = 5, (1 << 27) - 1
 OBJECT_SHIFT = 32
 KINDS = 32
+NO_KINDS = (0,) * KINDS
 UPGRADE, BEYOND, AGAIN = 9, 10, 11
 NO_THREAD = 0xFFFFFFFFFFFFFFFF
 THREAD_LIMIT = 1024  # goodlock reads no more threads
@@ -56,14 +57,21 @@ class Lock:
 
 
 class Thread:
+    """There may be very many."""
+
+    __slots__ = (
+        "number", "parent", "child", "routine", "unmade", "children", "left_out", "lost", "others", "object", "when", "chunks",
+        "kinds", "path", "name", "routine_name",
+    )
+
     def __init__(self, values, when):
         (self.number, self.parent, self.child, self.routine, self.unmade) = values[:5]
         self.children = values[6]
         (self.left_out, self.lost, self.others) = values[8:11]
-        self.object = values[11:]
+        self.object = values[11:] if any(values[11:]) else ()
         self.when = when
         self.chunks = []  # (order, path, offset of the words, how many)
-        self.kinds = [0] * KINDS
+        self.kinds = NO_KINDS
         self.path = None
         self.name = None
         self.routine_name = None  # that its recorder told
@@ -217,16 +225,20 @@ def read_events(recording):
     return events
 
 
-def read_processes(recording, events=None, modules=None):
+def read_processes(recording):
     """All processes, by (pid, image), and what is damaged. The events that are there are found before the tables are read: of a
-    process that still runs, the tables then have all that these events name. `modules`: those that are known, by path."""
-    events = read_events(recording) if events is None else events
-    modules = {} if modules is None else modules
+    process that still runs, the tables then have all that these events name."""
+    events = read_events(recording)
+    return processes_of(events, read_tables(recording, events), {})
+
+
+def processes_of(events, tables, modules):
+    """All processes, by (pid, image), and what is damaged, of what was read. `modules`: those that are known, by path."""
     processes, faults = {}, []
-    for key, tables in read_tables(recording, events).items():
+    for key, found in tables.items():
         process = Process(key)
         try:
-            for words in tables:
+            for words in found:
                 process.read_table(words, modules)
             for thread, order, path, offset, count in sorted(events[key]):
                 process.threads[thread].chunks.append((path, offset, count))
@@ -301,7 +313,7 @@ def scan_events(process, threads):
     answer.frombytes(run_program("goodlock_lines", ["scan"], packed + packed_numbers(process.no_locks) + packed_chunks(threads, files)))
     place = 0
     while answer[place] != NO_THREAD:
-        process.threads[answer[place]].kinds = answer[place + 1 : place + 1 + KINDS].tolist()
+        process.threads[answer[place]].kinds = answer[place + 1 : place + 1 + KINDS]
         place += 1 + KINDS
     firsts = answer[place + 1 + KINDS :].tolist()
     return zip(firsts[::2], firsts[1::2])

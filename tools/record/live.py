@@ -6,19 +6,17 @@ import os
 import re
 import select
 import signal
+import struct
 import time
 from array import array
 
 from build import BuildError
 from convert import (
-    AGAIN,
-    BEYOND,
-    HELD_LIMIT,
+    CHUNK_HEAD,
     OBJECT_SHIFT,
     SITE_MASK,
     SITE_SHIFT,
     THREAD_LIMIT,
-    UPGRADE,
     ConvertError,
     Sources,
     Summary,
@@ -29,7 +27,7 @@ from convert import (
     packed_text,
     packed_texts,
     process_paths,
-    read_processes,
+    processes_of,
     run_program,
     shortened,
     take_name,
@@ -40,6 +38,7 @@ from recording import ASIDE, COPY, maps_file
 
 WAY_JSON, WAY_SETTLED, WAY_SHORT = 1, 2, 4
 CYCLES = 1000
+BATCH = 16  # windows that are reported at once
 # What the library answers, and what goodlock_live adds.
 OK, INCONSISTENT, WITHOUT_EVENTS = 0, 10, 1000
 CODES = {
@@ -63,9 +62,11 @@ END_LIMIT = 5
 
 
 class Copied:
-    """What goodlock_live copied of one process: where its events are, a hash of them, and threads that wait for each other."""
+    """What goodlock_live copied of one process: where its events and tables are, a hash of the events, and threads that wait for
+    each other."""
 
-    def __init__(self, words, path):
+    def __init__(self, words, extents, path):
+        self.tables = [(next(words), extents[next(words)], next(words)) for _ in range(next(words))]
         self.chunks = []  # as convert.read_events
         for order in range(next(words)):
             thread, offset, count = next(words), next(words), next(words)
@@ -87,12 +88,27 @@ def copy_events(recording):
     answer = array("Q")
     answer.frombytes(run_program("goodlock_live", ["copy", path], b"".join(request)))
     words = iter(answer)
-    return {key: Copied(words, path) for key in extents}
+    return {key: Copied(words, paths, path) for key, paths in extents.items()}
+
+
+def read_tables(tables):
+    """The words of these chunks of tables, as far as they are in use by now."""
+    found = []
+    for _, path, offset in sorted(tables):
+        with open(path, "rb") as file:
+            head = os.pread(file.fileno(), CHUNK_HEAD, offset)
+            length, used = struct.unpack_from("=IQ", head, 12)
+            words = array("Q")
+            words.frombytes(os.pread(file.fileno(), min(8 * used, length - CHUNK_HEAD) // 8 * 8, offset + CHUNK_HEAD))
+        found.append(words)
+    return found
 
 
 def named_processes(recording, copied, modules):
     """All processes with their names, and what is damaged. The tables are read after the events: they have all that these name."""
-    processes, faults = read_processes(recording, {key: copy.chunks for key, copy in copied.items()}, modules)
+    events = {key: copy.chunks for key, copy in copied.items()}
+    tables = {key: read_tables(copy.tables) for key, copy in copied.items()}
+    processes, faults = processes_of(events, tables, modules)
     sources = Sources(processes.values())
     for process in processes.values():
         name_process(process, sources)
@@ -119,21 +135,24 @@ class Report:
 
 
 def answered_reports(process, sets, ways, path):
-    """A report for each of these sets of threads; None stands for all."""
+    """A report for each of these sets of threads; None stands for all. Of several, each is a line of JSON."""
     names = process.names
     files, packed = packed_files(names.order)
-    common = [packed, packed_numbers(process.no_locks), packed_texts(names.locks), packed_texts(names.places.all())]
-    common.append(array("Q", [1]).tobytes() + packed_text(path) + array("Q", [ways]).tobytes())
-    start = b"".join(common)
+    parts = [packed, packed_numbers(process.no_locks), packed_texts(names.locks), packed_texts(names.places.all())]
+    parts.append(array("Q", [len(sets)]).tobytes())
     for members in sets:
-        with open(os.open(path, os.O_WRONLY | os.O_CREAT | os.O_TRUNC | os.O_CLOEXEC | os.O_NOFOLLOW, 0o600), "wb"):
-            pass
         order = [thread for thread in names.order if members is None or thread.number in members]
-        texts = packed_texts({thread.number: thread.name for thread in order})
-        answer = array("Q")
-        answer.frombytes(run_program("goodlock_live", ["report"], start + texts + packed_chunks(order, files)))
-        with open(path, "rb") as file:
-            yield Report(*answer, file.read())
+        parts += [packed_text(path), array("Q", [ways]).tobytes()]
+        parts += [packed_texts({thread.number: thread.name for thread in order}), packed_chunks(order, files)]
+    os.close(os.open(path, os.O_WRONLY | os.O_CREAT | os.O_TRUNC | os.O_CLOEXEC | os.O_NOFOLLOW, 0o600))
+    answer = array("Q")
+    answer.frombytes(run_program("goodlock_live", ["report"], b"".join(parts)))
+    with open(path, "rb") as file:
+        for _ in sets:
+            code, cycles, more = answer[:3]
+            del answer[:3]
+            written = b"" if code != OK else file.read() if len(sets) == 1 else file.readline()
+            yield Report(code, cycles, more, written)
 
 
 def report_of(recording, process, is_settled, is_json, is_short):
@@ -143,7 +162,9 @@ def report_of(recording, process, is_settled, is_json, is_short):
     sets = windows(process)
     if not sets:
         return next(answered_reports(process, [None], ways, aside))
-    return merged(answered_reports(process, sets, WAY_SETTLED * is_settled + WAY_JSON + WAY_SHORT, aside), is_json)
+    ways = WAY_SETTLED * is_settled + WAY_JSON + WAY_SHORT
+    parts = [sets[at : at + BATCH] for at in range(0, len(sets), BATCH)]
+    return merged((report for part in parts for report in answered_reports(process, part, ways, aside)), is_json)
 
 
 def merged(reports, is_json):

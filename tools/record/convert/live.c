@@ -8,7 +8,8 @@
  *
  *     number of processes;   each: number of its extents, and the path of each as a text
  *
- * It answers, for each process: the number of chunks, each: thread, offset in the copy, number of words; a hash of the events that
+ * It answers, for each process: the number of chunks of tables, each: order, extent, offset of the chunk; the number of chunks of
+ * events, each: thread, offset in the copy, number of words; a hash of the events that
  * stay, which changes with each that is news; the
  * number of threads that wait for each other, each: thread, the word of the acquire that waits, the thread that has the lock.
  * That of `report`:
@@ -122,6 +123,7 @@ static int holding_step(struct holding *holding, uint64_t word)
 struct place {
     const struct chunk *chunk;
     uint64_t room; /* words of it that are in the file */
+    uint64_t extent, offset;
 };
 
 struct row {
@@ -135,17 +137,17 @@ struct recorded {
     uint64_t thread_count;
 };
 
-static void row_add(struct row *row, const struct chunk *chunk, uint64_t room)
+static void row_add(struct row *row, struct place place)
 {
     if (row->count == row->room) {
         row->room = 2 * row->room + 64;
         row->places = memory(row->places, row->room * sizeof *row->places);
     }
-    row->places[row->count++] = (struct place){chunk, room};
+    row->places[row->count++] = place;
 }
 
 /* The chunks of an extent, as far as there are any now: they follow one another, as recording.read_chunks has it. */
-static void extent_read(struct recorded *recorded, const char *bytes, size_t size)
+static void extent_read(struct recorded *recorded, uint64_t extent, const char *bytes, size_t size)
 {
     size_t at = 0;
     while (at + sizeof(struct chunk) <= size) {
@@ -160,13 +162,14 @@ static void extent_read(struct recorded *recorded, const char *bytes, size_t siz
         }
         if (length > size - at)
             length = size - at;
+        struct place place = {chunk, (length - sizeof *chunk) / 8, extent, at};
         if (length > sizeof *chunk)
-            row_add(magic == CHUNK_EVENTS ? &recorded->events : &recorded->tables, chunk, (length - sizeof *chunk) / 8);
+            row_add(magic == CHUNK_EVENTS ? &recorded->events : &recorded->tables, place);
         at += length < CHUNK_UNIT ? CHUNK_UNIT : length;
     }
 }
 
-static void extent_map(struct recorded *recorded, struct text path)
+static void extent_map(struct recorded *recorded, uint64_t extent, struct text path)
 {
     char *name = strndup(path.bytes, path.size);
     int file = open(name, O_RDONLY | O_CLOEXEC | O_NOFOLLOW | O_NONBLOCK);
@@ -179,7 +182,7 @@ static void extent_map(struct recorded *recorded, struct text path)
         bytes = mmap(NULL, (size_t)status.st_size, PROT_READ, MAP_SHARED, file, 0);
     close(file);
     if (bytes != MAP_FAILED)
-        extent_read(recorded, bytes, (size_t)status.st_size);
+        extent_read(recorded, extent, bytes, (size_t)status.st_size);
 }
 
 static void thread_note(struct recorded *recorded, const struct thread_record *record)
@@ -210,6 +213,17 @@ static void tables_read(struct recorded *recorded)
                 thread_note(recorded, (const struct thread_record *)record);
             at += size;
         }
+    }
+}
+
+static void tables_put(const struct recorded *recorded)
+{
+    uint64_t count = recorded->tables.count;
+    output_put((const char *)&count, sizeof count);
+    for (size_t i = 0; i < count; i++) {
+        const struct place *place = &recorded->tables.places[i];
+        uint64_t answer[] = {place->chunk->order, place->extent, place->offset};
+        output_put((const char *)answer, sizeof answer);
     }
 }
 
@@ -407,9 +421,11 @@ static void process_copy(struct request *request)
     struct copied copied;
     memset(&recorded, 0, sizeof recorded);
     memset(&copied, 0, sizeof copied);
-    for (uint64_t left = next_word(request); left > 0; left--)
-        extent_map(&recorded, next_text(request));
+    uint64_t extents = next_word(request);
+    for (uint64_t extent = 0; extent < extents; extent++)
+        extent_map(&recorded, extent, next_text(request));
     tables_read(&recorded);
+    tables_put(&recorded);
     if (recorded.events.count > 0)
         qsort(recorded.events.places, recorded.events.count, sizeof *recorded.events.places, by_thread);
     uint64_t count = recorded.events.count;
@@ -732,7 +748,7 @@ static void report_write(struct report *report, goodlock_report *made, uint64_t 
         report->code = print(&report->session, made, bytes, size, &size);
     output_flush();
     int answers = output_file;
-    output_file = open(path, O_WRONLY | O_CLOEXEC);
+    output_file = open(path, O_WRONLY | O_APPEND | O_CLOEXEC);
     if (output_file < 0)
         fail(path);
     if (report->code == GOODLOCK_OK && ways & WAY_SHORT)
