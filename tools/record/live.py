@@ -34,7 +34,7 @@ from convert import (
     windows,
 )
 from family import FORWARDED, adopt_orphans
-from recording import ASIDE, COPY, maps_file
+from recording import maps_file
 
 WAY_JSON, WAY_SETTLED, WAY_SHORT = 1, 2, 4
 CYCLES = 1000
@@ -84,7 +84,7 @@ def copy_events(recording):
     request = [array("Q", [len(extents)]).tobytes()]
     for paths in extents.values():
         request += [array("Q", [len(paths)]).tobytes()] + [packed_text(path) for path in paths]
-    path = os.path.join(recording.directory, COPY)
+    path = recording.work_file("copy")
     answer = array("Q")
     answer.frombytes(run_program("goodlock_live", ["copy", path], b"".join(request)))
     words = iter(answer)
@@ -157,7 +157,7 @@ def answered_reports(process, sets, ways, path):
 
 def report_of(recording, process, is_settled, is_json, is_short):
     """The report of a process: of all its threads, or, where goodlock doesn't read so many, of all windows together."""
-    aside = os.path.join(recording.directory, ASIDE)
+    aside = recording.work_file("report")
     ways = WAY_SETTLED * is_settled + WAY_JSON * is_json + WAY_SHORT * is_short
     sets = windows(process)
     if not sets:
@@ -278,7 +278,10 @@ class Follower:
     def try_to_look(self, wants_lines):
         """What can't be done now is said once; the program and its recording go on."""
         try:
-            self.look(wants_lines)
+            try:
+                self.look(wants_lines)
+            finally:
+                self.recording.remove_work()
         except (BuildError, ConvertError, OSError) as error:
             if str(error) not in self.faults:
                 self.faults.add(str(error))
@@ -467,11 +470,12 @@ def report_recording(recording, path, first, running, ended_by):
         summary.settle(running, ended_by if is_first and summary.process.key == max(k for k in processes if k[0] == first) else 0)
         if summary.events:
             summary.report = report_of(recording, summary.process, not summary.open, path.endswith(".json"), False)
-    write_reports(recording, summaries)
+    recording.remove_work()
+    write_reports(summaries)
     return summaries, faults
 
 
-def write_reports(recording, summaries):
+def write_reports(summaries):
     """Writes each report aside, and gives it its name."""
     for summary in summaries:
         if summary.report is None or summary.report.code != OK:
