@@ -352,11 +352,11 @@ def processes_by_exec_and_in_the_background():
 
 @test
 def copies_are_of_one_moment():
-    """Threads leave out six words at a time while they are looked at: each copy is a list that was there once."""
+    """Threads leave out whole rounds while they are looked at: each copy is a list that was there once."""
     import live as module
     from recording import Recording
 
-    running = Live(["./live", "gates", "20000000"])
+    running = Live(["./live", "gates", "3000000"])
     wait_for(lambda: [n for n in os.listdir(".") if ".raw." in n] and os.path.exists(running.raw() + "/recording"), "a recording")
     recording = Recording(os.path.realpath(running.raw()))
     looks = partial = 0
@@ -365,7 +365,7 @@ def copies_are_of_one_moment():
         for words in module_words(module, recording):
             looks += 1
             check_rounds(words)
-            partial += len(words) % 6 != 0
+            partial += len(words) % ROUND != 0
     check(looks >= 100 and partial > 0, "%d lists, %d of them within a round" % (looks, partial))
     running.process.terminate()
     running.end()
@@ -382,23 +382,30 @@ def module_words(module, recording):
                 yield [(word & 31, word >> 32) for word in words if word]
 
 
+MANY = 20  # locks of a round, besides the gate
+ROUND = 2 * (MANY + 1)
+
+
 def check_rounds(words):
-    """Rounds of: acquire the gate, one, other; release one, other, the gate."""
-    for start in range(0, len(words), 6):
-        part = words[start : start + 6]
-        locks = [lock for _, lock in words[:3]]
-        whole = [(1, locks[0])] + [(1, lock) for lock in locks[1:]] + [(2, lock) for lock in locks[1:] + locks[:1]]
-        check(len(set(locks)) == len(locks) and part == whole[: len(part)], "not a round: %s" % words)
+    """Two rounds with other locks, which are news: acquire the gate and many, release these and the gate. Then a part of either: in
+    a copy that isn't of one moment it would be of both."""
+    rounds = words[:ROUND], words[ROUND : 2 * ROUND]
+    for found in rounds:
+        locks = [lock for _, lock in found[: MANY + 1]]
+        whole = [(1, lock) for lock in locks] + [(2, lock) for lock in locks[1:] + locks[:1]]
+        check(len(set(locks)) == len(locks) and found == whole[: len(found)], "not a round: %s" % words)
+    rest = words[2 * ROUND :]
+    check(rest in [found[: len(rest)] for found in rounds], "not a part of a round: %s" % words)
 
 
 @test
 def no_cycle_comes_of_a_look():
     """Opposite orders below a gate, at full speed: no report so far has a cycle."""
-    live = Live(["./live", "gates", "6000000"], ["--every", "0.1"])
+    live = Live(["./live", "gates", "1000000"], ["--every", "0.1"])
     live.end(status=0)
     lines = lines_of()
     check(len(lines) > 3 and not any(line["cycles"] for line in lines), "%d lines" % len(lines))
-    check(read_report()["cycles"] == [] and len(read_report()["edges"]) == 6, str(read_report()))
+    check(read_report()["cycles"] == [] and len(read_report()["edges"]) == 2 * 2 * 21 * 20 // 2, "edges")
 
 
 @test

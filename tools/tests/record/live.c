@@ -67,16 +67,20 @@ static void comes_later(void)
     pause();
 }
 
-/* Opposite orders below a gate, which isn't the lock that is released last: what is left out is several words at once. */
+/* Opposite orders below a gate, of some locks and of others in turn. The locks aren't released in the order in which they were
+ * taken: so what is left out is a whole round at once. */
+enum { MANY = 20 };
+
+static pthread_mutex_t many[2][MANY];
+
 static void *gated(void *order)
 {
-    pthread_mutex_t *first = order ? &a : &b, *second = order ? &b : &a;
     for (int i = 0; i < number; i++) {
         pthread_mutex_lock(&gate);
-        pthread_mutex_lock(first);
-        pthread_mutex_lock(second);
-        pthread_mutex_unlock(first);
-        pthread_mutex_unlock(second);
+        for (int j = 0; j < MANY; j++)
+            pthread_mutex_lock(&many[i % 2][order ? j : MANY - 1 - j]);
+        for (int j = 0; j < MANY; j++)
+            pthread_mutex_unlock(&many[i % 2][order ? j : MANY - 1 - j]);
         pthread_mutex_unlock(&gate);
     }
     return NULL;
