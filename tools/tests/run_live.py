@@ -278,6 +278,13 @@ def thread_that_waits_for_itself():
 
 
 @test
+def lock_that_another_thread_gave_back():
+    """Whoever took it first doesn't hold it any more: the program goes on, and nobody says that it hangs."""
+    done = Run(["./cycles", "false_handed_over"], ["--live"], "r.json")
+    check(done.status == 0 and " hangs: " not in done.said, done.said)
+
+
+@test
 def line_every_so_often():
     live = Live(["./live", "waits"], ["--every", "0.3"]).is_ready()
     start = time.monotonic()

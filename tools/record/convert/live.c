@@ -283,6 +283,7 @@ struct waits {
     struct hold *holds;
     struct wait *waits;
     size_t hold_count, hold_room, wait_count, wait_room;
+    struct locks strays; /* that some thread released which didn't hold it: so nobody knows who has it */
 };
 
 static void waits_add(struct waits *waits, const struct holding *holding, uint32_t thread)
@@ -323,6 +324,8 @@ static int wait_is_kept_up(struct waits *waits, struct wait *wait)
     for (size_t i = 0; i < waits->hold_count; i++) {
         const struct hold *hold = &waits->holds[i];
         if (hold->lock != (uint32_t)(wait->word >> OBJECT_SHIFT) || (hold->thread == wait->thread) != itself)
+            continue;
+        if (locks_have(&waits->strays, hold->lock))
             continue;
         struct wait *other = kind == EVENT_SHARED_ACQUIRE && hold->shared ? NULL : wait_of(waits, hold->thread);
         if (other && other->stays) {
@@ -406,7 +409,9 @@ static void chunk_copy(const struct recorded *recorded, size_t i, struct copied 
     for (uint64_t at = 0; at < count; at++) {
         if (at < stay || !is_last)
             copied->hash = hash_step(copied->hash, copied->words[at]);
-        holding_step(&copied->holding, copied->words[at]);
+        unsigned kind = copied->words[at] % KINDS;
+        if (!holding_step(&copied->holding, copied->words[at]) && (kind == EVENT_RELEASE || kind == EVENT_SHARED_RELEASE))
+            locks_add(&copied->waits.strays, copied->words[at] >> OBJECT_SHIFT);
     }
     copied->hash = hash_step(copied->hash, (uint64_t)thread << 32 | stay);
     if (is_last) {
@@ -440,6 +445,7 @@ static void process_copy(struct request *request)
     free(copied.words);
     free(copied.waits.holds);
     free(copied.waits.waits);
+    free(copied.waits.strays.bits);
 }
 
 static void copy_all(struct request *request, const char *path)
