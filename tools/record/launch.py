@@ -176,12 +176,12 @@ def read_own_arguments(arguments):
 # --- Before the run -----------------------------------------------------------------------------------
 
 
-def library():
-    """The preload library's path."""
+def built_before(name):
+    """The path of what has to be there before anything is run."""
     from build import BuildError, built
 
     try:
-        return built("goodlock_record.so")
+        return built(name)
     except BuildError as error:
         raise Failed(str(error))
 
@@ -190,7 +190,7 @@ class Preload:
     """The preload library under a path that the loader can read: a link, where its own has spaces or colons in it."""
 
     def __init__(self):
-        self.path = library()
+        self.path = built_before("goodlock_record.so")
         self.directory = None
         if any(mark in self.path for mark in PRELOAD_SEPARATORS):
             self.directory = self.make_directory()
@@ -248,6 +248,8 @@ def record(settings):
     from recording import new_recording
 
     recorder.prepare()
+    for name in ("goodlock_lines", "goodlock_live") * settings.live:
+        built_before(name)
     try:
         recording = new_recording(settings.trace)
     except OSError as error:

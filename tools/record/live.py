@@ -464,10 +464,10 @@ def report_recording(recording, path, first, running, ended_by):
         if os.path.lexists(taken):
             raise ConvertError("%s exists already" % taken)
     order = sorted(processes, key=lambda key: (key[0] != first, key))
+    last_image = max((key for key in processes if key[0] == first), default=None)
     summaries = [LiveSummary(processes[key], paths[key], copied[key]) for key in order]
     for summary in summaries:
-        is_first = summary.process.key[0] == first
-        summary.settle(running, ended_by if is_first and summary.process.key == max(k for k in processes if k[0] == first) else 0)
+        summary.settle(running, ended_by if summary.process.key == last_image else 0)
         if summary.events:
             summary.report = report_of(recording, summary.process, not summary.open, path.endswith(".json"), False)
     recording.remove_work()

@@ -692,51 +692,69 @@ static const char *object_end(const char *at, const char *end)
     return at + 1;
 }
 
-/* A JSON report with those edges only that stand in a cycle. Its keys are in order: cycles, edges, .., trim. */
-static void put_short(const struct report *report, const char *json, size_t size)
+static const char before_edges[] = "],\"edges\":[", before_trim[] = "\"trim\":";
+
+static const char *found_in(const char *at, const char *end, const char *mark)
 {
-    static const char before_edges[] = "],\"edges\":[", before_trim[] = "\"trim\":", mark[] = "\"thread\":\"";
-    const char *end = json + size;
-    const char *edges = memmem(json, size, before_edges, strlen(before_edges));
-    struct numbers kept = {NULL, 0, 0};
-    if (!edges) {
+    const char *found = memmem(at, (size_t)(end - at), mark, strlen(mark));
+    if (!found) {
         errno = EINVAL;
         fail("report");
     }
+    return found;
+}
+
+/* Numbers the edges that stand in a cycle anew; gives the end of all edges. */
+static const char *edges_number(struct numbers *kept, const char *json, const char *edges, const char *end)
+{
     for (const char *at = json; at < edges; at++)
         if (*at >= '0' && *at <= '9')
-            *number_at(&kept, strtoull(at, (char **)&at, 10)) = 0;
-    const char *first = edges + strlen(before_edges), *rest = first;
-    for (uint64_t i = 0; *rest != ']'; i++) {
-        if (number_of(&kept, i) != NO_NUMBER)
-            kept.of[i] = (uint32_t)kept.used++;
-        rest = object_end(rest, end);
-        rest += *rest == ',';
+            *number_at(kept, strtoull(at, (char **)&at, 10)) = 0;
+    const char *at = edges + strlen(before_edges);
+    for (uint64_t i = 0; *at != ']'; i++) {
+        if (number_of(kept, i) != NO_NUMBER)
+            kept->of[i] = (uint32_t)kept->used++;
+        at = object_end(at, end);
+        at += *at == ',';
     }
+    return at;
+}
+
+static void put_cycles(const struct numbers *kept, const char *json, const char *edges)
+{
     for (const char *at = json; at < edges;) {
         char digits[24];
         if (*at >= '0' && *at <= '9')
-            output_put(digits, (size_t)snprintf(digits, sizeof digits, "%u", kept.of[strtoull(at, (char **)&at, 10)]));
+            output_put(digits, (size_t)snprintf(digits, sizeof digits, "%u", kept->of[strtoull(at, (char **)&at, 10)]));
         else
             output_put(at++, 1);
     }
-    output_put(before_edges, strlen(before_edges));
-    uint64_t left = kept.used;
+}
+
+static void put_edges(const struct report *report, const struct numbers *kept, const char *at, const char *end)
+{
+    uint64_t left = kept->used;
     for (uint64_t i = 0; left > 0; i++) {
-        const char *after = object_end(first, end);
-        if (number_of(&kept, i) != NO_NUMBER) {
-            put_named(report, first, (size_t)(after - first), mark, 1);
+        const char *after = object_end(at, end);
+        if (number_of(kept, i) != NO_NUMBER) {
+            put_named(report, at, (size_t)(after - at), "\"thread\":\"", 1);
             if (--left > 0)
                 output_put(",", 1);
         }
-        first = after + 1;
+        at = after + 1;
     }
-    const char *trim = memmem(rest, (size_t)(end - rest), before_trim, strlen(before_trim));
-    if (!trim) {
-        errno = EINVAL;
-        fail("report");
-    }
-    trim += strlen(before_trim);
+}
+
+/* A JSON report with those edges only that stand in a cycle. Its keys are in order: cycles, edges, .., trim. */
+static void put_short(const struct report *report, const char *json, size_t size)
+{
+    struct numbers kept = {NULL, 0, 0};
+    const char *end = json + size, *edges = found_in(json, end, before_edges);
+    const char *rest = edges_number(&kept, json, edges, end);
+    put_cycles(&kept, json, edges);
+    output_put(before_edges, strlen(before_edges));
+    put_edges(report, &kept, edges + strlen(before_edges), end);
+    const char *trim = found_in(rest, end, before_trim) + strlen(before_trim);
     output_put(rest, (size_t)(trim - rest));
     output_put(*trim == '[' ? "[]}\n" : "null}\n", *trim == '[' ? 4 : 6);
     free(kept.of);
@@ -768,37 +786,47 @@ static void report_write(struct report *report, goodlock_report *made, uint64_t 
     free(bytes);
 }
 
+/* Records all events, and makes and writes the report. */
+static void report_session(struct request *request, struct report *report, const int *files, uint64_t ways, const char *path,
+                           uint64_t *answer)
+{
+    goodlock_report made = {NULL};
+    size_t cycles = 0;
+    bool more = false;
+    session_open(report);
+    report->thread = NO_THREAD;
+    events_read(request, files, record_use, report);
+    if (ways & WAY_SETTLED)
+        session_settle(report);
+    uint32_t (*make)(goodlock_session *, uint32_t, uint32_t, uint32_t, goodlock_report *) =
+        ways & WAY_SETTLED ? goodlock_settled_report : goodlock_report_so_far;
+    if (report->code == GOODLOCK_OK)
+        report->code = make(&report->session, GOODLOCK_FULL_MODE, LENGTH, CYCLES, &made);
+    if (report->code == GOODLOCK_OK)
+        report->code = goodlock_cycles(&made, &cycles, &more);
+    if (report->code == GOODLOCK_OK)
+        report_write(report, &made, ways, path);
+    goodlock_report_free(&made);
+    answer[1] = cycles;
+    answer[2] = more;
+}
+
 static void report_make(struct request *request, struct report *report, const int *files)
 {
     struct text path = next_text(request);
     char *name = strndup(path.bytes, path.size);
-    uint64_t ways = next_word(request);
-    size_t cycles = 0;
-    bool more = false;
+    uint64_t ways = next_word(request), answer[3] = {0, 0, 0};
     report->threads = next_texts(request);
     uint64_t at = request->at;
     report->thread = NO_THREAD;
-    events_read(request, files, mention_use, report);
     report->code = WITHOUT_EVENTS;
+    events_read(request, files, mention_use, report);
     if (report->lanes_of.used > 0) {
-        session_open(report);
         request->at = at;
-        report->thread = NO_THREAD;
-        events_read(request, files, record_use, report);
-        goodlock_report made = {NULL};
-        if (ways & WAY_SETTLED)
-            session_settle(report);
-        if (report->code == GOODLOCK_OK)
-            report->code = (ways & WAY_SETTLED ? goodlock_settled_report : goodlock_report_so_far)(
-                &report->session, GOODLOCK_FULL_MODE, LENGTH, CYCLES, &made);
-        if (report->code == GOODLOCK_OK)
-            report->code = goodlock_cycles(&made, &cycles, &more);
-        if (report->code == GOODLOCK_OK)
-            report_write(report, &made, ways, name);
-        goodlock_report_free(&made);
+        report_session(request, report, files, ways, name, answer);
     }
     session_end(report);
-    uint64_t answer[] = {report->code, cycles, more};
+    answer[0] = report->code;
     output_put((const char *)answer, sizeof answer);
     free(name);
 }
