@@ -247,12 +247,13 @@ def cycle_is_told_while_it_runs():
     live.process.stdin.write(b"\n")
     live.process.stdin.flush()
     live.wait_for_words("1 cycle so far")
-    check(cycles_in(lines_of()[0]) == ORDERS, str(lines_of()))
+    found = [[("main", "b", "a"), ("main.1:one_way", "a", "b")]]
+    check(cycles_in(lines_of()[0]) == found, str(lines_of()))
     check(not os.path.exists("r.json"), "the settled report is there")
     time.sleep(2)
     check(len(lines_of()) == 1, "%d lines" % len(lines_of()))
     live.end(signal.SIGTERM, 128 + signal.SIGTERM)
-    check("so far, as signal 15 ended the process" in live.said and cycles_in(read_report()) == ORDERS, live.said)
+    check("so far, as signal 15 ended the process" in live.said and cycles_in(read_report()) == found, live.said)
 
 
 @test
@@ -329,7 +330,7 @@ def lines_are_reports():
     shown = subprocess.run([os.path.join(TOOLS, "goodlock-view"), "--text", "line.json"], stdout=subprocess.PIPE).stdout.decode()
     check("finding 1: 1 cycle in 1 report" in shown, shown)
     with open("line.json") as file:
-        check(len(json.load(file)["edges"]) == 2, "edges")
+        check(len(json.load(file)["edges"]) == 2 and len(read_report()["edges"]) == 3, "edges")
 
 
 @test
@@ -457,17 +458,20 @@ def killed_recorder():
 
 @test
 def killed_companion():
-    """The report at the end doesn't need it."""
+    """The report at the end doesn't need it, and what it left goes with the recording."""
     live = Live(["./live", "waits"]).is_ready()
     live.wait_for_words("1 cycle so far")
     with open("/proc/%d/task/%d/children" % (live.process.pid, live.process.pid)) as file:
         children = set(map(int, file.read().split()))
     (companion,) = children - {child_named(live.process.pid)}
     os.kill(companion, signal.SIGKILL)
+    with open("%s/copy.%d" % (live.raw(), companion), "w") as file:
+        file.write("part of a copy")
     time.sleep(0.1)
     live.process.send_signal(signal.SIGUSR1)
     live.end(signal.SIGTERM, 128 + signal.SIGTERM)
     check(cycles_in(read_report()) == ORDERS, live.said)
+    check(not [name for name in os.listdir(".") if ".raw." in name and name.startswith("r.json")], "the recording is there")
 
 
 @test

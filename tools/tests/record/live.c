@@ -50,6 +50,7 @@ static void in_turn(void *(*first)(void *), void *(*second)(void *))
 static void waits(void)
 {
     in_turn(one_way, other_way);
+    both(&gate, &b);
     ready();
     pause();
 }
@@ -58,12 +59,12 @@ static void waits(void)
 static void comes_later(void)
 {
     char line[16];
-    pthread_t thread, other;
+    pthread_t thread;
     pthread_create(&thread, NULL, one_way, NULL);
     ready();
     if (!fgets(line, sizeof line, stdin))
         return;
-    pthread_create(&other, NULL, other_way, NULL);
+    other_way(NULL);
     pause();
 }
 
