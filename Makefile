@@ -26,7 +26,7 @@ COMMANDS := goodlock goodlock-record goodlock-predict-all goodlock-view
 INSTALL ?= install
 
 all: $(OUT)/goodlock man library
-	$(MAKE) -C tools
+	$(MAKE) -C tools $(if $(wildcard $(LIBRARY)),ARCHIVE="$(abspath $(LIBRARY))")
 	$(MAKE) -C tools/view
 
 $(OUT)/goodlock: $(PROGRAM) FORCE

@@ -80,6 +80,7 @@ echo "four threads, two nested locks each, $turns turns"
 plain=$(three_times cost "$work/nested" $turns)
 row plain "$plain" "$plain"
 row goodlock-record "$(three_times cost "$record" -o "$work/trace" "$work/nested" $turns)" "$plain"
+row "goodlock-record --live" "$(three_times cost "$record" --live --every 1 -o "$work/trace" "$work/nested" $turns)" "$plain"
 for compiler in gcc clang; do
     if $compiler -O2 -fsanitize=thread -pthread -o "$work/tsan" "$here/record/nested.c" 2> /dev/null; then
         row "ThreadSanitizer, $compiler" "$(three_times cost "$work/tsan" $turns)" "$plain"
@@ -98,6 +99,7 @@ echo "memcached, 4 threads, $connections connections, $requests requests"
 plain=$(three_times server_cost "$requests")
 row plain "$plain" "$plain"
 row goodlock-record "$(three_times server_cost "$requests" "$record" -o "$work/trace")" "$plain"
+row "goodlock-record --live" "$(three_times server_cost "$requests" "$record" --live --every 1 -o "$work/trace")" "$plain"
 if command -v valgrind > /dev/null; then
     time=$(server_cost $((requests / 20)) valgrind --tool=helgrind)
     row Helgrind "$(awk -v t="$time" 'BEGIN { print t * 20 }')" "$plain"

@@ -35,12 +35,13 @@ _goodlock_record() {
         -o) _goodlock_files -f && return ;;
         --convert) _goodlock_files -d && return ;;
         --frames) _goodlock_words "1 2 4 8 16" && return ;;
+        --every) return ;;
     esac
     # The program that is recorded, and then its own words.
     for ((at = 1; at < COMP_CWORD; at++)); do
         word=${COMP_WORDS[at]}
         case $word in
-            -o | --convert | --frames) at=$((at + 1)) ;;
+            -o | --convert | --frames | --every) at=$((at + 1)) ;;
             --) at=$((at + 1)) && break ;;
             -*) ;;
             *) break ;;
@@ -49,7 +50,7 @@ _goodlock_record() {
     if [ "$at" -lt "$COMP_CWORD" ]; then
         _goodlock_files -f
     elif [[ ${COMP_WORDS[COMP_CWORD]} == -* ]]; then
-        _goodlock_words "-o --frames --all --convert --help"
+        _goodlock_words "-o --frames --all --live --every --convert --help"
     else
         _goodlock_files -c -A file
     fi

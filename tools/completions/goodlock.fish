@@ -18,10 +18,12 @@ complete -c goodlock -n '__fish_seen_subcommand_from live' -x -l ring -d 'Notes 
 complete -c goodlock -n '__fish_seen_subcommand_from live' -l stream -d 'Record each event as it is read'
 complete -c goodlock -n '__fish_seen_subcommand_from live' -x -l threads -d 'Threads that a trace may name'
 
-complete -c goodlock-record -r -s o -d 'The trace'
+complete -c goodlock-record -r -s o -d 'The trace or report'
 complete -c goodlock-record -x -l frames -d 'Callers that a place has'
 complete -c goodlock-record -l all -d 'Record every event'
-complete -c goodlock-record -r -l convert -d 'Write the traces of what was left behind'
+complete -c goodlock-record -l live -d 'A report of the running program, and no trace'
+complete -c goodlock-record -x -l every -d 'A report so far every so many seconds'
+complete -c goodlock-record -r -l convert -d 'Write the traces or reports of what was left behind'
 complete -c goodlock-record -l help -d 'Print help'
 complete -c goodlock-record -a '(__fish_complete_subcommand)'
 

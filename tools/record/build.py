@@ -10,8 +10,14 @@ class BuildError(Exception):
     pass
 
 
-def newest_source():
+# In a checkout, what is linked from it is as new as it.
+ARCHIVE = os.path.join(os.path.dirname(TOOLS), "prebuilt", "libgoodlock.a")
+
+
+def newest_source(name):
     newest = os.stat(os.path.join(TOOLS, "Makefile")).st_mtime
+    if name == "goodlock_live" and os.path.exists(ARCHIVE):
+        newest = max(newest, os.stat(ARCHIVE).st_mtime)
     for directory, _, names in os.walk(SOURCES):
         for name in names:
             if name.endswith((".c", ".h")):
@@ -22,7 +28,7 @@ def newest_source():
 def built(name):
     """The path of what is built under this name; it is built here if it is missing or older than a source."""
     path = os.path.join(TOOLS, "out", name)
-    if not os.path.exists(path) or os.stat(path).st_mtime < newest_source():
+    if not os.path.exists(path) or os.stat(path).st_mtime < newest_source(name):
         import subprocess
 
         try:

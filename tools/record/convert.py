@@ -26,6 +26,7 @@ FOREIGN = 0xFFFFFFFF
 SITE_SHIFT, SITE_MASK = 5, (1 << 27) - 1
 OBJECT_SHIFT = 32
 KINDS = 32
+NO_KINDS = (0,) * KINDS
 UPGRADE, BEYOND, AGAIN = 9, 10, 11
 NO_THREAD = 0xFFFFFFFFFFFFFFFF
 THREAD_LIMIT = 1024  # goodlock reads no more threads
@@ -56,14 +57,21 @@ class Lock:
 
 
 class Thread:
+    """There may be very many."""
+
+    __slots__ = (
+        "number", "parent", "child", "routine", "unmade", "children", "left_out", "lost", "others", "object", "when", "chunks",
+        "kinds", "path", "name", "routine_name",
+    )
+
     def __init__(self, values, when):
         (self.number, self.parent, self.child, self.routine, self.unmade) = values[:5]
         self.children = values[6]
         (self.left_out, self.lost, self.others) = values[8:11]
-        self.object = values[11:]
+        self.object = values[11:] if any(values[11:]) else ()
         self.when = when
         self.chunks = []  # (order, path, offset of the words, how many)
-        self.kinds = [0] * KINDS
+        self.kinds = NO_KINDS
         self.path = None
         self.name = None
         self.routine_name = None  # that its recorder told
@@ -206,20 +214,31 @@ def read_chunks(path):
         place += max(length, CHUNK_UNIT)
 
 
-def read_processes(recording):
-    """All processes, by (pid, image), and what is damaged. The events that are there are found before the tables are read: of a
-    process that still runs, the tables then have all that these events name."""
+def read_events(recording):
+    """Where the events of each process are, by (pid, image): for each chunk thread, order, file, offset and number of words."""
     events = {}
     for pid, image, _, path in recording.extents():
         found = events.setdefault((pid, image), [])
         for magic, thread, order, offset, words in read_chunks(path):
             if magic == CHUNK_EVENTS and len(words):
                 found.append((thread, order, path, offset, len(words)))
-    processes, modules, faults = {}, {}, []
-    for key, tables in read_tables(recording, events).items():
+    return events
+
+
+def read_processes(recording):
+    """All processes, by (pid, image), and what is damaged. The events that are there are found before the tables are read: of a
+    process that still runs, the tables then have all that these events name."""
+    events = read_events(recording)
+    return processes_of(events, read_tables(recording, events), {})
+
+
+def processes_of(events, tables, modules):
+    """All processes, by (pid, image), and what is damaged, of what was read. `modules`: those that are known, by path."""
+    processes, faults = {}, []
+    for key, found in tables.items():
         process = Process(key)
         try:
-            for words in tables:
+            for words in found:
                 process.read_table(words, modules)
             for thread, order, path, offset, count in sorted(events[key]):
                 process.threads[thread].chunks.append((path, offset, count))
@@ -277,13 +296,13 @@ def packed_chunks(threads, files):
     return array("Q", [len(chunks) // 4]).tobytes() + chunks.tobytes()
 
 
-def run_lines(way, request):
-    """What goodlock_lines answers."""
+def run_program(name, arguments, request):
+    """What a program that is built of convert/ answers."""
     import subprocess
 
-    done = subprocess.run([built("goodlock_lines"), way], input=request, stdout=subprocess.PIPE, stderr=subprocess.PIPE)
+    done = subprocess.run([built(name)] + arguments, input=request, stdout=subprocess.PIPE, stderr=subprocess.PIPE)
     if done.returncode != 0:
-        raise ConvertError(done.stderr.decode(errors="replace").strip() or "goodlock_lines ended by signal %d" % -done.returncode)
+        raise ConvertError(done.stderr.decode(errors="replace").strip() or "%s ended by signal %d" % (name, -done.returncode))
     return done.stdout
 
 
@@ -291,10 +310,10 @@ def scan_events(process, threads):
     """Counts each thread's events by kind; the thread and word of each lock's first event, in the order of these threads."""
     files, packed = packed_files(threads)
     answer = array("Q")
-    answer.frombytes(run_lines("scan", packed + packed_numbers(process.no_locks) + packed_chunks(threads, files)))
+    answer.frombytes(run_program("goodlock_lines", ["scan"], packed + packed_numbers(process.no_locks) + packed_chunks(threads, files)))
     place = 0
     while answer[place] != NO_THREAD:
-        process.threads[answer[place]].kinds = answer[place + 1 : place + 1 + KINDS].tolist()
+        process.threads[answer[place]].kinds = answer[place + 1 : place + 1 + KINDS]
         place += 1 + KINDS
     firsts = answer[place + 1 + KINDS :].tolist()
     return zip(firsts[::2], firsts[1::2])
@@ -584,9 +603,12 @@ class Summary:
             yield "%s: %d acquires by threads that held %d locks (`beyond` lines): goodlock skips these" % (
                 self.path, self.kinds[BEYOND], HELD_LIMIT)
         if len(self.process.threads) > THREAD_LIMIT:
-            yield "%s: goodlock reads at most %d threads, it will refuse this trace" % (self.path, THREAD_LIMIT)
-            yield "%s.window1 to .window%d have at most %d threads each, born one after the other: a cycle is seen only where all its threads are in one" % (
-                self.path, len(windows(self.process)), THREAD_LIMIT)
+            yield from self.too_many_lines()
+
+    def too_many_lines(self):
+        yield "%s: goodlock reads at most %d threads, it will refuse this trace" % (self.path, THREAD_LIMIT)
+        yield "%s.window1 to .window%d have at most %d threads each, born one after the other: a cycle is seen only where all its threads are in one" % (
+            self.path, len(windows(self.process)), THREAD_LIMIT)
 
     def name(self):
         return "process %d (%s)" % (self.process.key[0], shortened(self.process.command))
@@ -618,7 +640,7 @@ def write_lines(process, traces):
     for path, members in traces:
         order = [thread for thread in names.order if members is None or thread.number in members]
         parts += [packed_text(path), packed_texts({thread.number: thread.name for thread in order}), packed_chunks(order, files)]
-    run_lines("write", b"".join(parts))
+    run_program("goodlock_lines", ["write"], b"".join(parts))
 
 
 def windows(process):
@@ -637,16 +659,22 @@ def windows(process):
     return [kept.union(others[start : start + room]) for start in starts]
 
 
-def trace_paths(processes, trace, first):
+def process_paths(keys, trace, first):
     """The first image of the first process has the trace's own name; others add their process's number, and the image's
-    from the second on. Nothing that exists is overwritten."""
+    from the second on."""
     paths = {}
-    for key in processes:
+    for key in keys:
         pid, image = key
         if pid == first and image == 0:
             paths[key] = trace
         else:
             paths[key] = "%s.%d" % (trace, pid) + (".%d" % image if image else "")
+    return paths
+
+
+def trace_paths(processes, trace, first):
+    """The path of each process's trace. Nothing that exists is overwritten."""
+    paths = process_paths(processes, trace, first)
     for key, path in paths.items():
         for taken in [path] + ["%s.window%d" % (path, i + 1) for i in range(len(windows(processes[key])))]:
             if os.path.lexists(taken):

@@ -56,6 +56,18 @@ class Family:
         self.token = os.fsencode(os.path.basename(recording.directory)) + b"/"
         self.say = say
         self.strangers = frozenset(descendants(os.getpid()))  # children from before: an exec may bring some
+        self.companion = None  # of a live recording: SIGUSR1 is for it
+
+    def accompany(self, companion):
+        self.companion = companion
+        self.strangers |= {companion.process}
+
+    def is_asked(self, info):
+        """Whether a signal asks for a report so far, which it does then."""
+        if self.companion is None or info.si_signo != signal.SIGUSR1:
+            return False
+        self.companion.ask()
+        return True
 
     def recorded(self):
         """Those that write files of the recording, or may."""
@@ -73,6 +85,8 @@ class Family:
                 return status
             if ended == first:
                 status = how
+            if self.companion:
+                self.companion.ended(ended)
 
     def wait_for_first(self, process):
         """Waits for the program, and hands signals on to it; its wait status."""
@@ -81,6 +95,8 @@ class Family:
             if status is not None:
                 return status
             info = signal.sigwaitinfo(WAITED)
+            if self.is_asked(info):
+                continue
             if info.si_signo != signal.SIGCHLD and info.si_code != FROM_KERNEL:
                 os.kill(process, info.si_signo)  # not waited for yet: its number is its own
 
@@ -116,7 +132,7 @@ class Family:
                 self.say("waiting for process %s, which runs on" % ", ".join(map(str, sorted(running))))
                 told = True
             info = signal.sigtimedwait(WAITED, LOOK if running else MOMENT)
-            if info is None or info.si_signo == signal.SIGCHLD:
+            if info is None or info.si_signo == signal.SIGCHLD or self.is_asked(info):
                 continue
             if stop:
                 return False

@@ -1,7 +1,17 @@
 """Records the lock events of a program, unchanged, as a trace that goodlock reads.
 
     goodlock-record [-o TRACE] [--frames N] [--all] [--] PROGRAM [ARGUMENT..]
-    goodlock-record [-o TRACE] --convert DIRECTORY
+    goodlock-record --live [--every S] [-o REPORT] [--frames N] [--all] [--] PROGRAM [ARGUMENT..]
+    goodlock-record [--live] [-o FILE] --convert DIRECTORY
+
+-o TRACE, -o REPORT  the file, else goodlock.std, or goodlock.report with --live
+--frames N           show N callers in a location (1 to 16)
+--all                leave no repeats out
+--live               no trace: follow the program while it runs, and write the report of what it did at its end, as JSON where
+                     REPORT ends in .json. SIGUSR1 to goodlock-record adds a report so far to REPORT.lines, and so does a
+                     cycle that is new, and a hang
+--every S            with --live, add a report so far to REPORT.lines every S seconds
+--convert DIRECTORY  no run: write the trace, or with --live the report, of what a recording left behind
 
 docs/RECORDING.md explains it.
 """
@@ -20,11 +30,12 @@ STATUS_FAILED = 125
 STATUS_NOT_EXECUTABLE = 126
 STATUS_NOT_FOUND = 127
 FRAMES_LIMIT = 16
+SECONDS_LEAST, SECONDS_MOST = 0.1, 1000000
 # The loader takes these in the path of a preload library as separators and variables.
 PRELOAD_SEPARATORS = " :$\t\n"
 LINK_DIRECTORIES = ("/tmp", "/var/tmp", "/dev/shm")
 
-USAGE = "usage: goodlock-record [-o TRACE] [--frames N] [--all] [--] PROGRAM [ARGUMENT..]"
+USAGE = "usage: goodlock-record [--live [--every S]] [-o FILE] [--frames N] [--all] [--] PROGRAM [ARGUMENT..]"
 
 
 class Failed(Exception):
@@ -92,9 +103,11 @@ def fill_closed_descriptors():
 
 class Settings:
     def __init__(self):
-        self.trace = "goodlock.std"
+        self.trace = None
         self.frames = 1
         self.all = False
+        self.live = False
+        self.every = None
         self.convert = None
         self.command = []
 
@@ -105,7 +118,29 @@ def read_frames(text):
     return int(text)
 
 
-def read_arguments(arguments, explanation=__doc__, usage=USAGE):
+def read_seconds(text):
+    try:
+        seconds = float(text)
+    except ValueError:
+        seconds = 0
+    if not SECONDS_LEAST <= seconds <= SECONDS_MOST:
+        raise Failed("--every takes a number of seconds, from %g to %d" % (SECONDS_LEAST, SECONDS_MOST))
+    return seconds
+
+
+def read_value(settings, word, value):
+    """An option that takes a value."""
+    if word == "-o":
+        settings.trace = value
+    elif word == "--frames":
+        settings.frames = read_frames(value)
+    elif word == "--every":
+        settings.every = read_seconds(value)
+    else:
+        settings.convert = value
+
+
+def read_arguments(arguments, explanation=__doc__, usage=USAGE, flags=("--all",), values=("-o", "--frames", "--convert")):
     settings = Settings()
     rest = list(arguments)
     while rest and rest[0].startswith("-"):
@@ -115,35 +150,38 @@ def read_arguments(arguments, explanation=__doc__, usage=USAGE):
         if word in ("-h", "--help"):
             print(explanation.strip())
             sys.exit(0)
-        if word == "--all":
-            settings.all = True
+        if word in flags:
+            setattr(settings, word[2:], True)
             continue
-        if word not in ("-o", "--frames", "--convert"):
+        if word not in values:
             raise Failed("unknown option %s\n%s" % (word, usage))
         if not rest:
             raise Failed("%s takes a value\n%s" % (word, usage))
-        value = rest.pop(0)
-        if word == "-o":
-            settings.trace = value
-        elif word == "--frames":
-            settings.frames = read_frames(value)
-        else:
-            settings.convert = value
+        read_value(settings, word, rest.pop(0))
     settings.command = rest
     if not settings.command and settings.convert is None:
         raise Failed(usage)
+    settings.trace = settings.trace or ("goodlock.report" if settings.live else "goodlock.std")
+    return settings
+
+
+def read_own_arguments(arguments):
+    """Those of goodlock-record: it can follow a program, too."""
+    settings = read_arguments(arguments, flags=("--all", "--live"), values=("-o", "--frames", "--convert", "--every"))
+    if settings.every and not settings.live:
+        raise Failed("--every is for --live\n" + USAGE)
     return settings
 
 
 # --- Before the run -----------------------------------------------------------------------------------
 
 
-def library():
-    """The preload library's path."""
+def built_before(name):
+    """The path of what has to be there before anything is run."""
     from build import BuildError, built
 
     try:
-        return built("goodlock_record.so")
+        return built(name)
     except BuildError as error:
         raise Failed(str(error))
 
@@ -152,7 +190,7 @@ class Preload:
     """The preload library under a path that the loader can read: a link, where its own has spaces or colons in it."""
 
     def __init__(self):
-        self.path = library()
+        self.path = built_before("goodlock_record.so")
         self.directory = None
         if any(mark in self.path for mark in PRELOAD_SEPARATORS):
             self.directory = self.make_directory()
@@ -205,11 +243,13 @@ def started_program(settings, environment, mask):
 
 
 def record(settings):
-    """Runs the program; the recording, the program's number and status, and which processes still run."""
+    """Runs the program; the recording, the program's number and wait status, and which processes still run."""
     from family import WAITED, Family, adopt_orphans
     from recording import new_recording
 
     recorder.prepare()
+    for name in ("goodlock_lines", "goodlock_live") * settings.live:
+        built_before(name)
     try:
         recording = new_recording(settings.trace)
     except OSError as error:
@@ -222,14 +262,28 @@ def record(settings):
     mask = signal.pthread_sigmask(signal.SIG_BLOCK, WAITED)
     try:
         process = started_program(settings, environment, mask)
+        if settings.live:
+            follow(settings, recording, process, family)
         status = family.wait_for_first(process)
         running = [] if family.wait_for_others() else family.recorded()
     except Failed:
         recording.remove()
         raise
     finally:
+        if family.companion:
+            family.companion.end()
         recorder.clean_up()
-    return recording, process, exit_status(status), running
+    return recording, process, status, running
+
+
+def follow(settings, recording, process, family):
+    """Starts what looks at the recording while the program runs."""
+    from live import Companion, Follower
+
+    try:
+        family.accompany(Companion(Follower(recording, settings.trace, process, settings.every, say)))
+    except OSError as error:
+        say("no reports so far: %s" % error)
 
 
 def exit_status(status):
@@ -255,14 +309,19 @@ def recording_at(path):
     return recording
 
 
-def convert_all(recording, settings, first, running):
-    """Writes the traces; whether there is an event in any, and whether any process began its files. `running`: the processes
-    that still write, as was seen before anything is read."""
+def convert_all(recording, settings, first, running, ended_by):
+    """Writes the traces or reports; whether there is an event in any, and whether any process began its files. `running`: the
+    processes that still write, as was seen before anything is read. `ended_by`: the signal that ended the first process."""
     from build import BuildError
     from convert import ConvertError, convert_recording, summary_lines
 
     try:
-        summaries, faults = convert_recording(recording, settings.trace, first)
+        if settings.live:
+            from live import report_recording
+
+            summaries, faults = report_recording(recording, settings.trace, first, running, ended_by)
+        else:
+            summaries, faults = convert_recording(recording, settings.trace, first)
     except (BuildError, ConvertError, OSError) as error:
         raise Failed("%s (what was recorded is kept in %s)" % (error, recording.directory))
     for line in summary_lines(summaries) + faults:
@@ -292,16 +351,20 @@ def keep_or_remove(recording, running, faults):
 
 
 def run(settings):
-    if os.path.lexists(settings.trace):
-        raise Failed("%s exists already; nothing was run" % settings.trace)
+    for path in [settings.trace] + [settings.trace + ".lines"] * settings.live:
+        if os.path.lexists(path):
+            raise Failed("%s exists already; nothing was run" % path)
     if settings.convert is not None:
         recording, first, status = recording_at(settings.convert), None, 0
         running = recording.writers()
     else:
         recording, first, status, running = record(settings)
-    found, loaded = convert_all(recording, settings, first, running)
+    ended_by = os.WTERMSIG(status) if os.WIFSIGNALED(status) else 0
+    status = exit_status(status)
+    found, loaded = convert_all(recording, settings, first, running, ended_by)
     if not found:
-        say("no events, no trace: %s (the program's own status was %d)" % (recorder.reason(loaded), status))
+        what = "report" if settings.live else "trace"
+        say("no events, no %s: %s (the program's own status was %d)" % (what, recorder.reason(loaded), status))
         return STATUS_NO_EVENTS
     return status
 
@@ -322,4 +385,4 @@ def main(read, used):
 
 
 if __name__ == "__main__":
-    sys.exit(main(read_arguments, Recorder()))
+    sys.exit(main(read_own_arguments, Recorder()))

@@ -33,7 +33,7 @@ struct chunk {
     uint32_t order;  /* counts the chunks of this thread, or of the tables */
     uint32_t bytes;  /* size of the chunk, this head included */
     uint64_t used;   /* how many words are in use */
-    uint64_t reserved;
+    uint64_t kept;   /* at least so many of them won't be left out any more; a recorder may leave it 0 */
     uint64_t words[];
 };
 

@@ -89,7 +89,8 @@ uint64_t *acquire_write_further(struct thread *thread, uint64_t word, struct hel
         held->depth++;
     if (held)
         keep_above(thread, held);
-    thread->news += (uint64_t)key_is_news(thread, key_of(context, word));
+    if (key_is_news(thread, key_of(context, word)))
+        news_add(thread);
     return word_store(thread, word);
 }
 

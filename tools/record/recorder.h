@@ -242,16 +242,17 @@ static inline int word_is_in_chunk(struct thread *thread, const uint64_t *place)
 }
 
 /* Takes the words from here on away. Zero first: should the process be killed in between, zeros stand for no
- * events. */
+ * events. The last word first, and then the count of what was left out: so a reader of the running process finds a list that
+ * was there once, or another count (convert/live.c). */
 static inline void words_leave_out(struct thread *thread, uint64_t *start)
 {
     struct chunk *chunk = thread->chunk;
     uint64_t used = chunk->used;
     uint64_t first = (uint64_t)(start - chunk->words);
-    uint64_t place = first;
+    uint64_t place = used;
     do
-        *(volatile uint64_t *)&chunk->words[place] = 0;
-    while (unlikely(++place < used));
+        *(volatile uint64_t *)&chunk->words[--place] = 0;
+    while (unlikely(place > first));
     used_set_back(&chunk->used, used, first);
     thread->record->left_out += used - first;
 }
@@ -284,6 +285,20 @@ static inline uint64_t key_of(uint64_t context, uint64_t word)
 
 /* A key that was taken away. */
 #define KEY_GONE 1
+
+/* What the thread has stored so far won't be left out any more. */
+static inline void words_keep(struct thread *thread)
+{
+    struct chunk *chunk = thread->chunk;
+    __atomic_store_n(&chunk->kept, chunk->used, __ATOMIC_RELEASE);
+}
+
+/* News: the locks that are held now were acquired before it, and so all these words stay. */
+static inline void news_add(struct thread *thread)
+{
+    thread->news++;
+    words_keep(thread);
+}
 
 /* Whether it isn't among the keys of this segment; it is afterwards. Where nothing is to be left out, all is news. */
 int key_is_news_further(struct thread *thread, uint64_t key);
@@ -418,7 +433,8 @@ static inline __attribute__((always_inline)) uint64_t *acquire_write(struct thre
     context = key_of(context, word);
     held_add(thread, count, word, context);
     thread->levels[count] = (struct level){NULL, thread->news};
-    thread->news += (uint64_t)key_is_news(thread, context);
+    if (key_is_news(thread, context))
+        news_add(thread);
     return thread->levels[count].place = word_store(thread, word);
 }
 

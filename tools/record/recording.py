@@ -15,6 +15,8 @@ UNRECORDED_PLACE = 64
 CONVERTED = ".converted"
 
 EXTENT_NAME = re.compile(r"([0-9]{1,18})\.([0-9]{1,18})\.([0-9]{1,18})")
+# Of live.py, there while a report is made: the events' copy and the report, with the number of the process that makes it.
+WORK_NAME = re.compile(r"(copy|report)\.[0-9]{1,18}")
 USER_NAME = re.compile(r"u([0-9]{1,18})")
 CHUNK_HEAD = 32
 RECORD_PROCESS, RECORD_START = 1, 6
@@ -96,6 +98,20 @@ class Recording:
                 found.append("%d" % process)
         return found + (["of the recorder"] if self.launcher_is_at_work() else [])
 
+    # --- Making reports
+
+    def work_file(self, what):
+        """A path that no other process uses, for a copy or report."""
+        return os.path.join(self.directory, "%s.%d" % (what, os.getpid()))
+
+    def remove_work(self, names=None):
+        """Removes such files: this process's, or all of these names."""
+        names = names or re.compile(r"(copy|report)\.%d" % os.getpid())
+        for name in os.listdir(self.directory):
+            path = os.path.join(self.directory, name)
+            if names.fullmatch(name) and stat.S_ISREG(os.lstat(path).st_mode):
+                os.unlink(path)
+
     # --- Removing
 
     def remove(self):
@@ -108,6 +124,7 @@ class Recording:
             os.unlink(path)
         for place, _ in list(self.places())[1:]:
             rmdir_if_empty(place)
+        self.remove_work(WORK_NAME)
         if self.mark():
             os.unlink(os.path.join(away, MARK))
         return rmdir_if_empty(away)

@@ -67,11 +67,17 @@ def build_id(data, sections):
     return None
 
 
+# What c++filt has answered already: a report so far asks for the same names again.
+readable_names = {}
+
+
 def demangled(names):
     """A dictionary from mangled names to readable ones, without parameters."""
-    mangled = sorted({n for n in names if n.startswith("_Z")})
-    output = run_tool("c++filt", ["-p"], mangled) if mangled else None
-    return dict(zip(mangled, output.split("\n"))) if output else {}
+    mangled = {n for n in names if n.startswith("_Z")}
+    asked = sorted(mangled - readable_names.keys())
+    output = run_tool("c++filt", ["-p"], asked) if asked else None
+    readable_names.update(zip(asked, output.split("\n")) if output else ())
+    return {name: readable_names[name] for name in mangled if name in readable_names}
 
 
 class Module:
@@ -82,6 +88,7 @@ class Module:
         self.name = os.path.basename(path) or "?"
         self.symbols = None
         self.starts = None
+        self.lines = {}  # what addr2line has answered already
 
     def load(self):
         """Reads the symbols: those of the file itself, else those of its separate debug file, else the exported ones."""
@@ -127,9 +134,13 @@ class Module:
 
     def lines_of(self, addresses):
         """For each address the list of (function, path, line) of the calls inlined there, the innermost first."""
-        if not os.path.isfile(self.path):
-            return {}
-        asked = ["0x%x" % address for address in sorted(set(addresses))]
+        asked = sorted(set(addresses) - self.lines.keys())
+        if asked and os.path.isfile(self.path):
+            self.lines.update(dict.fromkeys(asked, ()))
+            self.lines.update(self.lines_found(["0x%x" % address for address in asked]))
+        return self.lines
+
+    def lines_found(self, asked):
         output = run_tool("addr2line", ["-e", self.path, "-i", "-f", "-a"], asked)
         found = {}
         frames = None

@@ -315,7 +315,9 @@ static int thread_begin_c11(void *value)
 static uint64_t *fork_write(struct thread *thread, struct beginning *beginning, uint32_t site)
 {
     segment_end(thread);
-    return word_store(thread, event_word(EVENT_FORK, site, (uint32_t)beginning->record->thread));
+    uint64_t *place = word_store(thread, event_word(EVENT_FORK, site, (uint32_t)beginning->record->thread));
+    words_keep(thread);
+    return place;
 }
 
 EXPORTED int pthread_create(pthread_t *handle, const pthread_attr_t *attributes, void *(*routine)(void *),
@@ -373,6 +375,7 @@ static void join_write(struct thread *thread, uint64_t number, uint32_t site, in
     }
     segment_end(thread);
     word_store(thread, event_word(EVENT_JOIN, site, (uint32_t)(number - 1)));
+    words_keep(thread);
 }
 
 #define JOIN(handle, success, call)                                  \

@@ -54,6 +54,9 @@ def test_the_installed_recorder_builds_nothing(prefix, path, tmp_path, monkeypat
     monkeypatch.setenv("PATH", str(tools))
     assert run(path / "goodlock-record", "-o", "bank.std", "./bank")[0] == 0
     assert "bank.cc:18" in (tmp_path / "bank.std").read_text()
+    if archive() is not None:
+        assert run(path / "goodlock-record", "--live", "-o", "bank.txt", "./bank")[0] == 0
+        assert "cycles: 1\n" in (tmp_path / "bank.txt").read_text()
 
 
 def test_uninstalling_leaves_no_file(copy, tmp_path):

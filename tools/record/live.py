@@ -1,0 +1,490 @@
+"""Reports of a program while it runs: a process beside the launcher that follows the files of the recording, and the reports at the
+end. The events are copied and reported by goodlock_live (convert/live.c); the names are those that a trace would have (convert.py)."""
+
+import json
+import os
+import re
+import select
+import signal
+import struct
+import time
+from array import array
+
+from build import BuildError
+from convert import (
+    CHUNK_HEAD,
+    OBJECT_SHIFT,
+    SITE_MASK,
+    SITE_SHIFT,
+    THREAD_LIMIT,
+    ConvertError,
+    Sources,
+    Summary,
+    name_process,
+    packed_chunks,
+    packed_files,
+    packed_numbers,
+    packed_text,
+    packed_texts,
+    process_paths,
+    processes_of,
+    run_program,
+    shortened,
+    take_name,
+    windows,
+)
+from family import FORWARDED, adopt_orphans
+from recording import maps_file
+
+WAY_JSON, WAY_SETTLED, WAY_SHORT = 1, 2, 4
+CYCLES = 1000
+BATCH = 16  # windows that are reported at once
+# What the library answers, and what goodlock_live adds.
+OK, INCONSISTENT, WITHOUT_EVENTS = 0, 10, 1000
+CODES = {
+    1: "there wasn't enough memory",
+    4: "it has more threads than goodlock reads",
+    INCONSISTENT: "its forks and joins order a part of a thread before itself",
+    11: "it has more names than goodlock keeps",
+    20: "a thread has more events than goodlock keeps",
+    25: "a lock was taken too often by a thread that held it",
+}
+
+# Seconds: between two looks at the files, and until a report is made of what is never quiet. A look takes a tenth of the time
+# at most.
+LOOK = 0.5
+UNQUIET = 10
+SHARE = 10
+END_LIMIT = 5
+
+
+# --- The copy of the events ------------------------------------------------------------------------------
+
+
+class Copied:
+    """What goodlock_live copied of one process: where its events and tables are, a hash of the events, and threads that wait for
+    each other."""
+
+    def __init__(self, words, extents, path):
+        self.tables = [(next(words), extents[next(words)], next(words)) for _ in range(next(words))]
+        self.chunks = []  # as convert.read_events
+        for order in range(next(words)):
+            thread, offset, count = next(words), next(words), next(words)
+            if count:
+                self.chunks.append((thread, order, path, offset, count))
+        self.hash = next(words)
+        self.round = [(next(words), next(words), next(words)) for _ in range(next(words))]
+
+
+def copy_events(recording):
+    """The events of all processes as they are now, by (pid, image)."""
+    extents = {}
+    for pid, image, _, path in recording.extents():
+        extents.setdefault((pid, image), []).append(path)
+    request = [array("Q", [len(extents)]).tobytes()]
+    for paths in extents.values():
+        request += [array("Q", [len(paths)]).tobytes()] + [packed_text(path) for path in paths]
+    path = recording.work_file("copy")
+    answer = array("Q")
+    answer.frombytes(run_program("goodlock_live", ["copy", path], b"".join(request)))
+    words = iter(answer)
+    return {key: Copied(words, paths, path) for key, paths in extents.items()}
+
+
+def read_tables(tables):
+    """The words of these chunks of tables, as far as they are in use by now."""
+    found = []
+    for _, path, offset in sorted(tables):
+        with open(path, "rb") as file:
+            head = os.pread(file.fileno(), CHUNK_HEAD, offset)
+            length, used = struct.unpack_from("=IQ", head, 12)
+            words = array("Q")
+            words.frombytes(os.pread(file.fileno(), min(8 * used, length - CHUNK_HEAD) // 8 * 8, offset + CHUNK_HEAD))
+        found.append(words)
+    return found
+
+
+def named_processes(recording, copied, modules):
+    """All processes with their names, and what is damaged. The tables are read after the events: they have all that these name."""
+    events = {key: copy.chunks for key, copy in copied.items()}
+    tables = {key: read_tables(copy.tables) for key, copy in copied.items()}
+    processes, faults = processes_of(events, tables, modules)
+    sources = Sources(processes.values())
+    for process in processes.values():
+        name_process(process, sources)
+    return processes, faults
+
+
+# --- Reports ---------------------------------------------------------------------------------------------
+
+
+class Report:
+    """What goodlock_live answered for one report, and what it wrote."""
+
+    def __init__(self, code, cycles, more, data):
+        self.code = code
+        self.cycles = cycles
+        self.more = more
+        self.data = data
+
+    def count(self):
+        return "%d cycle%s%s" % (self.cycles, "" if self.cycles == 1 else "s", " (more)" if self.more else "")
+
+    def fault(self):
+        return CODES.get(self.code, "goodlock answers %d" % self.code)
+
+
+def answered_reports(process, sets, ways, path):
+    """A report for each of these sets of threads; None stands for all. Of several, each is a line of JSON."""
+    names = process.names
+    files, packed = packed_files(names.order)
+    parts = [packed, packed_numbers(process.no_locks), packed_texts(names.locks), packed_texts(names.places.all())]
+    parts.append(array("Q", [len(sets)]).tobytes())
+    for members in sets:
+        order = [thread for thread in names.order if members is None or thread.number in members]
+        parts += [packed_text(path), array("Q", [ways]).tobytes()]
+        parts += [packed_texts({thread.number: thread.name for thread in order}), packed_chunks(order, files)]
+    os.close(os.open(path, os.O_WRONLY | os.O_CREAT | os.O_TRUNC | os.O_CLOEXEC | os.O_NOFOLLOW, 0o600))
+    answer = array("Q")
+    answer.frombytes(run_program("goodlock_live", ["report"], b"".join(parts)))
+    with open(path, "rb") as file:
+        for _ in sets:
+            code, cycles, more = answer[:3]
+            del answer[:3]
+            written = b"" if code != OK else file.read() if len(sets) == 1 else file.readline()
+            yield Report(code, cycles, more, written)
+
+
+def report_of(recording, process, is_settled, is_json, is_short):
+    """The report of a process: of all its threads, or, where goodlock doesn't read so many, of all windows together."""
+    aside = recording.work_file("report")
+    ways = WAY_SETTLED * is_settled + WAY_JSON * is_json + WAY_SHORT * is_short
+    sets = windows(process)
+    if not sets:
+        return next(answered_reports(process, [None], ways, aside))
+    ways = WAY_SETTLED * is_settled + WAY_JSON + WAY_SHORT
+    parts = [sets[at : at + BATCH] for at in range(0, len(sets), BATCH)]
+    return merged((report for part in parts for report in answered_reports(process, part, ways, aside)), is_json)
+
+
+def merged(reports, is_json):
+    """The cycles of all these reports, each once, as one report."""
+    edges, cycles, more = {}, {}, False
+    whole = {"cycles": [], "edges": [], "format": 2, "len": 4, "max": CYCLES, "mode": "full", "more": False, "trim": []}
+    for report in reports:
+        if report.code not in (OK, WITHOUT_EVENTS):
+            return report
+        if report.code == WITHOUT_EVENTS:
+            continue
+        part = json.loads(report.data)
+        more = more or part["more"]
+        if part["trim"] is None:
+            whole["trim"] = None
+        for cycle in part["cycles"]:
+            places = tuple(edges.setdefault(identity(part["edges"][at]), (len(edges), part["edges"][at]))[0] for at in cycle)
+            cycles.setdefault(places)
+    listed = list(cycles)[:CYCLES]
+    kept = sorted({at for cycle in listed for at in cycle})
+    numbers = {at: number for number, at in enumerate(kept)}
+    whole["edges"] = [edge for at, edge in edges.values() if at in numbers]
+    whole["cycles"] = [[numbers[at] for at in cycle] for cycle in listed]
+    whole["more"] = more or len(cycles) > CYCLES
+    text = json.dumps(whole, sort_keys=True, separators=(",", ":")) + "\n" if is_json else text_of(whole)
+    return Report(OK, len(listed), whole["more"], text.encode("utf-8", "surrogateescape"))
+
+
+def identity(edge):
+    """What tells an edge from others in whichever window it is: its positions among the events are another one's there."""
+    return json.dumps([edge[key] for key in sorted(edge) if key not in ("first", "second", "place")])
+
+
+def text_of(report):
+    """A report as `goodlock predict` prints it."""
+    lines = []
+    for number, cycle in enumerate(report["cycles"], 1):
+        lines.append("cycle %d: %d edges" % (number, len(cycle)))
+        for at in cycle:
+            edge = {key: plain(value) for key, value in report["edges"][at].items() if isinstance(value, str)}
+            lines.append("  {thread} holds {held} since {held_at} wants {wanted} at {wanted_at}".format(**edge))
+    lines.append("cycles: %d%s" % (len(report["cycles"]), " (more)" if report["more"] else ""))
+    return "\n".join(lines) + "\n"
+
+
+def plain(name):
+    """A name of a JSON report, where bytes that can't be printed stand as a backslash, x and two digits."""
+    data = re.sub(rb"\\x([0-9a-f]{2})", lambda match: bytes([int(match.group(1), 16)]), name.encode())
+    return data.decode("utf-8", "surrogateescape")
+
+
+def round_text(process, found):
+    """Who waits for whom."""
+    parts = []
+    for thread, word, holder in found:
+        lock = process.names.locks.get(word >> OBJECT_SHIFT, "?")
+        place = process.names.places.text(word >> SITE_SHIFT & SITE_MASK)
+        who = "itself" if thread == holder else process.names.thread_name(holder)
+        parts.append("%s waits for %s at %s, which %s holds" % (process.names.thread_name(thread), lock, place, who))
+    return "; ".join(parts)
+
+
+# --- While the program runs ------------------------------------------------------------------------------
+
+
+class Followed:
+    """What is known of a process that is followed."""
+
+    def __init__(self):
+        self.hash = None  # of its events at the last look
+        self.reported = None  # of those that the last report is of
+        self.told = None  # those that the last line is of
+        self.cycles = 0
+        self.round = None
+        self.hangs = None
+
+
+class Follower:
+    """Looks at the files of a recording again and again, and writes lines of reports so far."""
+
+    def __init__(self, recording, path, first, every, say):
+        self.recording = recording
+        self.path = path
+        self.first = first
+        self.every = every
+        self.say = say
+        self.token = os.fsencode(os.path.basename(recording.directory)) + b"/"
+        self.followed = {}
+        self.modules = {}
+        self.faults = set()
+        self.made = time.monotonic()
+        self.files = set()
+
+    def follow(self, pipe):
+        """Goes on until the launcher closes its end of the pipe. A byte asks for lines now."""
+        now = time.monotonic()
+        look, line = now + LOOK, now + self.every if self.every else float("inf")
+        while True:
+            ready, _, _ = select.select([pipe], [], [], max(0, min(look, line) - time.monotonic()))
+            if ready and not os.read(pipe, 4096):
+                return
+            reap()
+            start = time.monotonic()
+            is_due = start >= line
+            self.try_to_look(bool(ready) or is_due)
+            now = time.monotonic()
+            look = now + max(LOOK, SHARE * (now - start))
+            if is_due:
+                line = max(line + self.every, now)
+
+    def try_to_look(self, wants_lines):
+        """What can't be done now is said once; the program and its recording go on."""
+        try:
+            try:
+                self.look(wants_lines)
+            finally:
+                self.recording.remove_work()
+        except (BuildError, ConvertError, OSError) as error:
+            if str(error) not in self.faults:
+                self.faults.add(str(error))
+                self.say("no report so far: %s" % error)
+
+    def look(self, wants_lines):
+        copied = copy_events(self.recording)
+        due = {}
+        for key, copy in copied.items():
+            followed = self.followed.setdefault(key, Followed())
+            if copy.chunks:
+                due[key] = self.what_is_due(key, copy, followed, wants_lines)
+            followed.hash, followed.round = copy.hash, copy.round
+        if not any(due.values()):
+            return
+        processes, _ = named_processes(self.recording, copied, self.modules)
+        paths = process_paths(processes, self.path, self.first)
+        for key in due:
+            if due[key] and key in processes:
+                self.report(processes[key], copied[key], paths[key], due[key])
+        self.made = time.monotonic()
+
+    def what_is_due(self, key, copy, followed, wants_lines):
+        """Why a report is to be made of a process now, if it is."""
+        if copy.round and copy.round == followed.round and copy.round != followed.hangs:
+            return "hangs"
+        if wants_lines and (copy.hash != followed.told or maps_file(key[0], self.token)):
+            return "asked"
+        is_quiet = copy.hash == followed.hash or time.monotonic() > self.made + UNQUIET
+        return "quiet" if copy.hash != followed.reported and is_quiet else None
+
+    def report(self, process, copy, path, why):
+        """Makes a report so far: it is written if somebody asked, and if it has more cycles than those before."""
+        followed = self.followed[process.key]
+        report = report_of(self.recording, process, False, True, True)
+        followed.reported = copy.hash
+        if report.code == WITHOUT_EVENTS:
+            return
+        if report.code != OK:
+            raise ConvertError("%s: %s" % (path, report.fault()))
+        has_more = report.cycles > followed.cycles
+        if why != "quiet" or has_more:
+            self.write_line(path + ".lines", report.data)
+            followed.told = copy.hash
+        if has_more:
+            self.say("%s.lines: %s so far; %s" % (path, report.count(), described(process)))
+        followed.cycles = report.cycles
+        if why == "hangs":
+            followed.hangs = copy.round
+            self.say("%s hangs: %s" % (described(process), round_text(process, copy.round)))
+
+    def write_line(self, path, data):
+        """Adds a line to a file that this recording made."""
+        flags = os.O_WRONLY | os.O_APPEND | os.O_CLOEXEC | os.O_NOFOLLOW
+        if path not in self.files:
+            flags |= os.O_CREAT | os.O_EXCL
+        file = os.open(path, flags, 0o666)
+        self.files.add(path)
+        try:
+            while data:
+                data = data[os.write(file, data) :]
+        finally:
+            os.close(file)
+
+
+def reap():
+    try:
+        while os.waitpid(-1, os.WNOHANG)[0]:
+            pass
+    except ChildProcessError:
+        pass
+
+
+def described(process):
+    return "process %d (%s)" % (process.key[0], shortened(process.command))
+
+
+class Companion:
+    """The process beside the launcher. It has a group of its own, which a terminal's signals don't reach."""
+
+    def __init__(self, follower):
+        reading, writing = os.pipe()
+        self.pipe = writing
+        self.process = os.fork()
+        if self.process == 0:
+            os.close(writing)
+            self.run(follower, reading)
+        os.setpgid(self.process, self.process)
+        os.close(reading)
+
+    def run(self, follower, reading):
+        """In the child. Doesn't return."""
+        try:
+            for number in FORWARDED + (signal.SIGTTOU,):
+                signal.signal(number, signal.SIG_IGN)
+            signal.pthread_sigmask(signal.SIG_SETMASK, ())
+            adopt_orphans()  # what feeds a tool may outlive it, and is none of the program's
+            follower.follow(reading)
+        except BaseException as failure:
+            follower.say("no further report so far: internal error: %r" % failure)
+        finally:
+            os._exit(0)
+
+    def ask(self):
+        """Lines now."""
+        try:
+            os.write(self.pipe, b"\n")
+        except OSError:
+            pass
+
+    def ended(self, process):
+        """Some child of the launcher's ended."""
+        if process == self.process:
+            self.process = None
+
+    def end(self):
+        """Ends it, at once after a moment."""
+        os.close(self.pipe)
+        limit = time.monotonic() + END_LIMIT
+        while self.process is not None and os.waitpid(self.process, os.WNOHANG)[0] == 0:
+            if time.monotonic() > limit:
+                os.killpg(self.process, signal.SIGKILL)
+                os.waitpid(self.process, 0)
+                return
+            time.sleep(0.005)
+
+
+# --- At the end ------------------------------------------------------------------------------------------
+
+
+class LiveSummary(Summary):
+    """What is said of a process whose report was made."""
+
+    def __init__(self, process, path, copy):
+        super().__init__(process, path)
+        self.copy = copy
+        self.report = None
+        self.open = None  # why the report isn't settled
+
+    def settle(self, running, ended_by):
+        """Says what stands against the report being that of all that the process does."""
+        if str(self.process.key[0]) in map(str, running):
+            self.open = "the process still runs"
+        elif ended_by:
+            self.open = "signal %d ended the process" % ended_by
+        elif self.lost["events"]:
+            self.open = "events were lost"
+        elif self.copy.round:
+            self.open = "it ended while threads waited for each other"
+
+    def lines(self):
+        yield from super().lines()
+        if self.report is None or self.report.code == WITHOUT_EVENTS:
+            return
+        if self.report.code != OK:
+            yield "%s: no report: %s" % (self.path, self.report.fault())
+            return
+        state = "so far, as %s" % self.open if self.open else "settled"
+        yield "%s: %s; %s" % (self.path, self.report.count(), state)
+        if self.copy.round:
+            yield "%s hung: %s" % (self.name(), round_text(self.process, self.copy.round))
+
+    def special_lines(self):
+        for line in super().special_lines():
+            yield line.replace("goodlock skips these", "the report skips these")
+
+    def too_many_lines(self):
+        yield "%s: goodlock reads at most %d threads at once: the report has the cycles whose threads are in one of %d windows" % (
+            self.path, THREAD_LIMIT, len(windows(self.process)))
+
+
+def report_recording(recording, path, first, running, ended_by):
+    """Writes the report of each process; what is said of each, the first process's first, and what was damaged."""
+    copied = copy_events(recording)
+    processes, faults = named_processes(recording, copied, {})
+    if first is None and processes:
+        first = min(processes)[0]
+    paths = process_paths(processes, path, first)
+    for taken in paths.values():
+        if os.path.lexists(taken):
+            raise ConvertError("%s exists already" % taken)
+    order = sorted(processes, key=lambda key: (key[0] != first, key))
+    last_image = max((key for key in processes if key[0] == first), default=None)
+    summaries = [LiveSummary(processes[key], paths[key], copied[key]) for key in order]
+    for summary in summaries:
+        summary.settle(running, ended_by if summary.process.key == last_image else 0)
+        if summary.events:
+            summary.report = report_of(recording, summary.process, not summary.open, path.endswith(".json"), False)
+    recording.remove_work()
+    write_reports(summaries)
+    return summaries, faults
+
+
+def write_reports(summaries):
+    """Writes each report aside, and gives it its name."""
+    for summary in summaries:
+        if summary.report is None or summary.report.code != OK:
+            continue
+        aside = "%s.part.%s" % (summary.path, os.urandom(4).hex())
+        try:
+            with open(os.open(aside, os.O_WRONLY | os.O_CREAT | os.O_EXCL | os.O_CLOEXEC, 0o666), "wb") as file:
+                file.write(summary.report.data)
+            take_name(aside, summary.path)
+        finally:
+            if os.path.lexists(aside):
+                os.unlink(aside)

@@ -1,0 +1,238 @@
+/* Programs for goodlock-record --live: the first argument names one. What each is predicted to do stands in run_live.py. */
+#define _GNU_SOURCE
+#include <pthread.h>
+#include <signal.h>
+#include <stdio.h>
+#include <stdlib.h>
+#include <string.h>
+#include <unistd.h>
+
+static pthread_mutex_t a = PTHREAD_MUTEX_INITIALIZER, b = PTHREAD_MUTEX_INITIALIZER, gate = PTHREAD_MUTEX_INITIALIZER;
+static int number;
+
+static void both(pthread_mutex_t *first, pthread_mutex_t *second)
+{
+    pthread_mutex_lock(first);  /* @first */
+    pthread_mutex_lock(second); /* @second */
+    pthread_mutex_unlock(second);
+    pthread_mutex_unlock(first);
+}
+
+static void *one_way(void *unused)
+{
+    both(&a, &b);
+    return unused;
+}
+
+static void *other_way(void *unused)
+{
+    both(&b, &a);
+    return unused;
+}
+
+static void ready(void)
+{
+    puts("ready");
+    fflush(stdout);
+}
+
+/* One after the other, so that the run ends well; no event tells so. */
+static void in_turn(void *(*first)(void *), void *(*second)(void *))
+{
+    pthread_t threads[2];
+    pthread_create(&threads[0], NULL, first, NULL);
+    usleep(20000);
+    pthread_create(&threads[1], NULL, second, NULL);
+    for (int i = 0; i < 2; i++)
+        pthread_join(threads[i], NULL);
+}
+
+static void waits(void)
+{
+    in_turn(one_way, other_way);
+    both(&gate, &b);
+    ready();
+    pause();
+}
+
+/* The second order comes when a line is read. */
+static void comes_later(void)
+{
+    char line[16];
+    pthread_t thread;
+    pthread_create(&thread, NULL, one_way, NULL);
+    ready();
+    if (!fgets(line, sizeof line, stdin))
+        return;
+    other_way(NULL);
+    pause();
+}
+
+/* Opposite orders below a gate, of some locks and of others in turn. The locks aren't released in the order in which they were
+ * taken: so what is left out is a whole round at once. */
+enum { MANY = 20 };
+
+static pthread_mutex_t many[2][MANY];
+
+static void *gated(void *order)
+{
+    for (int i = 0; i < number; i++) {
+        pthread_mutex_lock(&gate);
+        for (int j = 0; j < MANY; j++)
+            pthread_mutex_lock(&many[i % 2][order ? j : MANY - 1 - j]);
+        for (int j = 0; j < MANY; j++)
+            pthread_mutex_unlock(&many[i % 2][order ? j : MANY - 1 - j]);
+        pthread_mutex_unlock(&gate);
+    }
+    return NULL;
+}
+
+static void gates(void)
+{
+    pthread_t threads[2];
+    for (long i = 0; i < 2; i++)
+        pthread_create(&threads[i], NULL, gated, (void *)i);
+    for (int i = 0; i < 2; i++)
+        pthread_join(threads[i], NULL);
+}
+
+static void *short_lived(void *unused)
+{
+    pthread_mutex_lock(&gate);
+    pthread_mutex_unlock(&gate);
+    return unused;
+}
+
+/* So many threads come and go, and then two with opposite orders. */
+static void churn(void)
+{
+    for (int i = 0; i < number; i++) {
+        pthread_t thread;
+        pthread_create(&thread, NULL, short_lived, NULL);
+        pthread_join(thread, NULL);
+    }
+    in_turn(one_way, other_way);
+}
+
+static volatile sig_atomic_t taken;
+
+static void takes(int unused)
+{
+    (void)unused;
+    taken++;
+}
+
+/* Takes the signal that goodlock-record takes too, and as many of its own as it sends itself. */
+static void own_signal(void)
+{
+    signal(SIGUSR1, takes);
+    in_turn(one_way, other_way);
+    for (int i = 0; i < 3; i++)
+        raise(SIGUSR1);
+    printf("taken %d\n", (int)taken);
+    fflush(stdout);
+    pause();
+}
+
+/* The child has a cycle, its parent none. */
+static void forks(void)
+{
+    both(&a, &b);
+    pid_t child = fork();
+    if (child == 0) {
+        in_turn(one_way, other_way);
+        ready();
+        pause();
+    }
+    printf("%d\n", (int)child);
+    fflush(stdout);
+    pause();
+}
+
+static void *turns(void *order)
+{
+    for (int i = 0; i < number; i++)
+        both(order ? &a : &gate, &b);
+    return NULL;
+}
+
+/* The same again and again. */
+static void repeats(void)
+{
+    pthread_t threads[2];
+    for (long i = 0; i < 2; i++)
+        pthread_create(&threads[i], NULL, turns, (void *)i);
+    for (int i = 0; i < 2; i++)
+        pthread_join(threads[i], NULL);
+    ready();
+    pause();
+}
+
+/* Ends itself by a signal that can't be caught. */
+static void killed(void)
+{
+    in_turn(one_way, other_way);
+    raise(SIGKILL);
+}
+
+/* Random events. Against the order of the locks one is only tried, so that no run hangs. */
+static void *random_thread(void *seed)
+{
+    static pthread_mutex_t locks[5] = {PTHREAD_MUTEX_INITIALIZER, PTHREAD_MUTEX_INITIALIZER, PTHREAD_MUTEX_INITIALIZER,
+                                       PTHREAD_MUTEX_INITIALIZER, PTHREAD_MUTEX_INITIALIZER};
+    static pthread_rwlock_t shared = PTHREAD_RWLOCK_INITIALIZER;
+    unsigned state = (unsigned)(size_t)seed;
+    for (int i = 0; i < 200; i++) {
+        int first = rand_r(&state) % 5, second = rand_r(&state) % 5, what = rand_r(&state) % 8;
+        pthread_t thread;
+        if (what == 0 && first != second) {
+            pthread_mutex_lock(&locks[first]);
+            if (pthread_mutex_trylock(&locks[second]) == 0)
+                pthread_mutex_unlock(&locks[second]);
+            pthread_mutex_unlock(&locks[first]);
+        } else if (what == 1) {
+            pthread_rwlock_rdlock(&shared);
+            pthread_mutex_lock(&locks[first]);
+            pthread_mutex_unlock(&locks[first]);
+            pthread_rwlock_unlock(&shared);
+        } else if (what == 2 && i % 50 == 0) {
+            pthread_create(&thread, NULL, short_lived, NULL);
+            pthread_join(thread, NULL);
+        } else if (first < second) {
+            both(&locks[first], &locks[second]);
+        }
+    }
+    both(&locks[state % 2], &locks[2 + state % 3]);
+    return NULL;
+}
+
+/* Threads with random events, which race; then it waits to be killed. */
+static void races(void)
+{
+    pthread_t threads[6];
+    for (int i = 0; i < 6; i++)
+        pthread_create(&threads[i], NULL, random_thread, (void *)(size_t)(number * 6 + i));
+    for (int i = 0; i < 6; i++)
+        pthread_join(threads[i], NULL);
+    in_turn(one_way, other_way);
+    ready();
+    pause();
+}
+
+int main(int count, char **arguments)
+{
+    static const struct {
+        const char *name;
+        void (*run)(void);
+    } programs[] = {
+        {"waits", waits}, {"comes_later", comes_later}, {"gates", gates}, {"churn", churn}, {"own_signal", own_signal},
+        {"forks", forks}, {"repeats", repeats}, {"killed", killed}, {"races", races},
+    };
+    number = count > 2 ? atoi(arguments[2]) : 0;
+    for (size_t i = 0; count > 1 && i < sizeof programs / sizeof programs[0]; i++)
+        if (strcmp(programs[i].name, arguments[1]) == 0) {
+            programs[i].run();
+            return 0;
+        }
+    return 98;
+}
