@@ -16,7 +16,7 @@ import sys
 import tempfile
 import traceback
 
-TOP = pathlib.Path(__file__).resolve().parent.parent
+TOP = pathlib.Path(__file__).resolve().parent.parent.parent
 CRATES = "low:\nside:\nmiddle: low bstr  # with a library of the toolchain's\ntwin: low\ngoodlock: clap middle twin low\n"
 LIBRARIES = ("low", "middle", "twin")
 WORDS = ("predict", "--len", "a b")

@@ -16,14 +16,14 @@ import shutil
 import subprocess
 import sys
 
-TOP = pathlib.Path(__file__).resolve().parent.parent
+TOP = pathlib.Path(__file__).resolve().parent.parent.parent
 PACKAGE = "tools/view/goodlock_view"
 PYTHON = (
     "tools/view/",
     "tools/tests/view/",
     "tools/tests/install/",
     "tests/by_pytest.py",
-    "tests/lint.py",
+    "tests/texts/lint.py",
     "tools/goodlock-view",
 )
 NOT_LAID_OUT = ("tools/record/", "tools/tests/record/")

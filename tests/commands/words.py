@@ -1,5 +1,5 @@
 #!/usr/bin/env python3
-"""Compares what the program says of its command line with tests/words.txt: versions, helps and refusals, to the letter.
+"""Compares what the program says of its command line with tests/commands/words.txt: versions, helps and refusals, to the letter.
 
     words.py PROGRAM
 
