@@ -254,7 +254,11 @@ def worked_others():
     odd = b"T 0|acq(a\xc3\xa9)|x|y\\\nT 0|acq(\x7f)|\n"
     odd_edge = edge("T 0", "a\\xc3\\xa9", "x|y\\x5c", "\\x7f", "", 1)
     ring = worked_traces.lines(*worked_traces.RING)
-    ring_edges = [edge("T0", "a", "1", "b", "2", 1), edge("T1", "b", "3", "c", "4", 1), edge("T2", "c", "5", "a", "6", 1)]
+    ring_edges = [
+        edge("T0", "a", "1", "b", "2", 1),
+        edge("T1", "b", "3", "c", "4", 1),
+        edge("T2", "c", "5", "a", "6", 1),
+    ]
     invalid = "cycle 0 is not valid"
     return [
         ("checked_line, of itself", CROSSED_LINE, CROSSED, NONE),
@@ -376,7 +380,21 @@ def dumped(tree, random_=None):
     return text.encode()
 
 
-NUMBERS = ["0", "1", "2", "4294967295", "4294967296", "18446744073709551616", "-1", "-0", "1.0", "1e0", "1e999", "16", "17"]
+NUMBERS = [
+    "0",
+    "1",
+    "2",
+    "4294967295",
+    "4294967296",
+    "18446744073709551616",
+    "-1",
+    "-0",
+    "1.0",
+    "1e0",
+    "1e999",
+    "16",
+    "17",
+]
 OTHERS = ["null", "true", "false", '""', '"x"', '"s"', "[]", "{}", "[0]", '"full"', '["a"]', "1.5", "NaN", '"\\ud800"']
 
 
@@ -534,7 +552,11 @@ class Tamper:
             self.tree["more"] = not self.tree["more"]
             return SAME
         value = self.random.choice(
-            {"len": [1, 2, 3, 16, 17], "max": [0, 1, 2, 100_000, 100_001], "mode": ["basic", "guarded", "full", "none"]}[key]
+            {
+                "len": [1, 2, 3, 16, 17],
+                "max": [0, 1, 2, 100_000, 100_001],
+                "mode": ["basic", "guarded", "full", "none"],
+            }[key]
         )
         self.tree[key] = value
         is_out = value in {"len": (1, 17), "max": (0, 100_001), "mode": ("none",)}[key]
@@ -674,7 +696,11 @@ class Tests:
             path = os.path.join(tempfile.gettempdir(), f"goodlock-checks-{self.failed}.in")
             with open(path, "wb") as file:
                 file.write(given)
-            self.that(name, False, f"answers differ on {path}\n    check.py: {compare.show(expected)}\n    program: {compare.show(got)}")
+            self.that(
+                name,
+                False,
+                f"answers differ on {path}\n    check.py: {compare.show(expected)}\n    program: {compare.show(got)}",
+            )
         else:
             self.that(name, True, "")
 
@@ -702,7 +728,9 @@ def main():
     program = os.path.abspath(options.program) if options.program else None
     has_check = program is not None and has_command(program, "check")
     if not has_check:
-        print(f"{program or 'no program'}: no command check, so its answers are SKIPPED: tests/checker/check.py is tried alone")
+        print(
+            f"{program or 'no program'}: no command check, so its answers are SKIPPED: tests/checker/check.py is tried alone"
+        )
     has_format_2 = has_check and compare.run([program, "check"], EMPTY_LINE)[2] == 0
     if has_check and not has_format_2:
         print(f"{program}: check reads no reports of format 2, so what it says of them is SKIPPED")
@@ -720,12 +748,16 @@ def main():
         random_ = random.Random(f"{options.seed}/{number}/report")
         trace = random_traces.case(options.seed, number, 28)
         query = reference.Query(
-            random_.choice(["basic", "guarded", "full"]), random_.choice([2, 3, 4, 5, 16]), random_.choice([1, 2, 5, 1000])
+            random_.choice(["basic", "guarded", "full"]),
+            random_.choice([2, 3, 4, 5, 16]),
+            random_.choice([1, 2, 5, 1000]),
         )
         form = random_.choice([1, 2, 2])
         text, expected = true_report(trace, query, form)
         before = answered(text, trace)
-        tests.that(f"case {number}, true", before[: len(expected)] == expected, f"expected {expected}, check.py {before}")
+        tests.that(
+            f"case {number}, true", before[: len(expected)] == expected, f"expected {expected}, check.py {before}"
+        )
         tests.by_program(f"case {number}, true", text, trace)
         if program is not None:
             words = ["--mode", query.mode, "--len", str(query.length), "--max", str(query.most), "--json"]
@@ -735,7 +767,9 @@ def main():
                 form_of_own = json.loads(own)["format"]
                 _, wanted = true_report(trace, query, form_of_own)
                 got = answered(own[:-1], trace)
-                tests.that(f"case {number}, the program's own", got[: len(wanted)] == wanted, f"{wanted}, check.py {got}")
+                tests.that(
+                    f"case {number}, the program's own", got[: len(wanted)] == wanted, f"{wanted}, check.py {got}"
+                )
                 tests.by_program(f"case {number}, the program's own", own[:-1], trace)
         if expected[0] != "yes":
             seen[expected[0]] = seen.get(expected[0], 0) + 1
@@ -746,7 +780,9 @@ def main():
             seen[answer[0]] = seen.get(answer[0], 0) + 1
             name = f"case {number}, change {turn}"
             known = known if expected[0] == "yes" else None
-            tests.that(name, is_as_known(known, answer, before), f"known is {known}, check.py {answer}: {other[:300]!r}")
+            tests.that(
+                name, is_as_known(known, answer, before), f"known is {known}, check.py {answer}: {other[:300]!r}"
+            )
             tests.by_program(name, other, other_trace)
             if options.only is not None:
                 print(f"{other.decode('latin-1')}\n{other_trace.decode('latin-1')}\nknown {known}, answer {answer}")

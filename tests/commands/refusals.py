@@ -276,7 +276,7 @@ class Tests:
         """Input that can't be read, output that can't be written."""
         output, errors, status = ample
 
-        def run(command="exec \"$@\"", **streams):
+        def run(command='exec "$@"', **streams):
             """A shell runs the program, to close its descriptors."""
             streams = {"stdin": subprocess.PIPE, "stdout": subprocess.PIPE, "stderr": subprocess.PIPE} | streams
             child = subprocess.Popen(["sh", "-c", command, "sh", self.runner.program, *words.split()], **streams)

@@ -273,7 +273,9 @@ def wrong_edges(report, edge, *way):
         return changed(report, *way, 1, *rest_and_value)
 
     for name in ("first", "second", "place"):
-        yield from wrong_numbers(f"{edge}/properties/{name}/$ref/$ref", lambda value, name=name: with_value(name, value))
+        yield from wrong_numbers(
+            f"{edge}/properties/{name}/$ref/$ref", lambda value, name=name: with_value(name, value)
+        )
 
     # A byte that isn't escaped or needn't be, upper-case digits, a digit too few, an unknown escape, a letter that
     # isn't one byte.

@@ -29,7 +29,9 @@ class Maker:
         self.odd = odd
 
     def line(self, thread, call):
-        places = [str(len(self.made) + 1)] * 4 + ["Pool.java:88", "", "a|b", "x y"] + (["\r", "(1)"] if self.odd else [])
+        places = (
+            [str(len(self.made) + 1)] * 4 + ["Pool.java:88", "", "a|b", "x y"] + (["\r", "(1)"] if self.odd else [])
+        )
         self.made.append(f"{thread}|{call}|{self.random.choice(places)}")
 
     def acquire(self, thread, lock):

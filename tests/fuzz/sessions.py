@@ -136,7 +136,11 @@ OPPOSITE = worked_traces.lines(*worked_traces.OPPOSITE)
 # The same again and again: more than a pipe and the program's buffer hold, by a thousand events.
 LONG = worked_traces.lines(*worked_traces.OPPOSITE[:4]) * 3000 + OPPOSITE
 REFUSED = {
-    "a bad line": ([], worked_traces.lines(*worked_traces.OPPOSITE[:2]) + b"T0|rel(a|3\n", worked_traces.refused(3, "bad operand")),
+    "a bad line": (
+        [],
+        worked_traces.lines(*worked_traces.OPPOSITE[:2]) + b"T0|rel(a|3\n",
+        worked_traces.refused(3, "bad operand"),
+    ),
     "one thread too few": (["--threads", "1"], OPPOSITE, worked_traces.refused(5, "too many threads")),
     "a bad line after many": (["--ring", "16"], LONG + b"T0\n", worked_traces.refused(12_007, "no bar")),
 }

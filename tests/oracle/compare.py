@@ -135,7 +135,10 @@ def main():
                 compare(f"{name}, mode {mode}", answers)
         for name, words, text, by_hand in worked_traces.worked_of_commands():
             if "--json" in words:  # the reference is tried in both formats
-                answers = [("by hand", worked_traces.in_format(by_hand, 1)), ("reference", by_reference(words.split(), text, 1))]
+                answers = [
+                    ("by hand", worked_traces.in_format(by_hand, 1)),
+                    ("reference", by_reference(words.split(), text, 1)),
+                ]
                 compare(f"{name}, {words}, format 1", answers)
             answers = [("by hand", worked_traces.in_format(by_hand)), ("reference", by_reference(words.split(), text))]
             if plain(words) in commands and (has_stream or "--threads" not in words):

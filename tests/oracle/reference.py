@@ -71,9 +71,7 @@ def held(events):
 
 def opened(events, lock):
     """The last place at which the lock was acquired at depth 0."""
-    return max(
-        q for q, e in enumerate(events) if e[0] in ACQUIRES and e[1] == lock and depth(events[:q], lock) == 0
-    )
+    return max(q for q, e in enumerate(events) if e[0] in ACQUIRES and e[1] == lock and depth(events[:q], lock) == 0)
 
 
 def held_mode(events, lock):
@@ -494,7 +492,9 @@ def main():
         options.most or stage.most,
         stage.with_forks and not options.skip_forks,
     )
-    output, errors, status = answer(options.command, sys.stdin.buffer.read(), query, options.format if options.json else None)
+    output, errors, status = answer(
+        options.command, sys.stdin.buffer.read(), query, options.format if options.json else None
+    )
     sys.stdout.buffer.write(output)
     sys.stdout.flush()
     sys.stderr.buffer.write(errors)

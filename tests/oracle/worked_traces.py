@@ -11,9 +11,7 @@ def lines(*events, end="\n"):
 
 
 OPPOSITE = ["T0 acq a @1", "T0 acq b @2", "T0 rel b @3", "T0 rel a @4", "T1 acq b @5", "T1 acq a @6"]
-OPPOSITE_REPORT = (
-    b"cycle 1: 2 edges\n  T0 holds a since 1 wants b at 2\n  T1 holds b since 5 wants a at 6\ncycles: 1\n"
-)
+OPPOSITE_REPORT = b"cycle 1: 2 edges\n  T0 holds a since 1 wants b at 2\n  T1 holds b since 5 wants a at 6\ncycles: 1\n"
 NONE = (b"cycles: 0\n", b"", 0)
 GATE = [
     "T0 acq g @1", "T0 acq a @2", "T0 acq b @3", "T0 rel b @4", "T0 rel a @5", "T0 rel g @6",
@@ -182,9 +180,7 @@ def worked(stage):
         for i, (word, lock) in enumerate([("acq", "a"), ("acq", "b"), ("rel", "b"), ("rel", "a")], 1)
     ]
     least = cycle(1, "T0 a 1 b 2", "T1 b 4001 a 4002") + b"cycles: 1\n"
-    two = (
-        cycle(1, "T0 a 1 b 2", "T1 b 9 a 10") + cycle(2, "T0 c 5 d 6", "T1 d 13 c 14") + b"cycles: 2\n"
-    )
+    two = cycle(1, "T0 a 1 b 2", "T1 b 9 a 10") + cycle(2, "T0 c 5 d 6", "T1 d 13 c 14") + b"cycles: 2\n"
     forks = ["M fork T0 @1", "M join T0 @2", "M fork T1 @3"]
     holding = ["M acq a @1", "M fork T1 @2", "M acq b @3", "T1 acq b @4", "T1 acq a @5"]
     return [
