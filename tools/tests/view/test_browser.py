@@ -115,7 +115,9 @@ def many_findings():
     cycles += [pair("late", "index", ("writer", "last"), ("z.c:1", "2", "3", "4"))]
     write("r.json", report(*cycles))
     write("known", '[["t3.c:1","2"],["3","4"]]\n')
-    write("c.json", '{"outcome":"deadlocked","pairs":[["t1.c:1","2"],["3","4"]],"text":["deadlocked in try 1"],"tries":1}')
+    write(
+        "c.json", '{"outcome":"deadlocked","pairs":[["t1.c:1","2"],["3","4"]],"text":["deadlocked in try 1"],"tries":1}'
+    )
     view("r.json", "-o", "p.html", "--known", "known", "--confirmed", "c.json", "--most", "5")
 
 
