@@ -24,6 +24,7 @@ PYTHON = (
     "tools/view/",
     "tools/tests/view/",
     "tools/tests/install/",
+    "tools/tests/layout/",
     "tools/gate/",
     "tools/goodlock-view",
     "tests/",
