@@ -66,7 +66,9 @@ def main():
     programs = [shlex.split(options.first), shlex.split(options.second)]
     os.makedirs(FOLDER, exist_ok=True)
     differ = False
-    print(f"{options.runs} runs of each on {options.events} lines; seconds are least and median, M are million instructions")
+    print(
+        f"{options.runs} runs of each on {options.events} lines; seconds are least and median, M are million instructions"
+    )
     print("| Trace | First | Second | Second/first | First | Second | Second/first |")
     print("|---|---|---|---|---|---|---|")
     for shape in options.shapes.split(","):

@@ -131,7 +131,9 @@ class Maker:
         """Blocks of these threads. In a ring each thread runs each piece of code."""
         if self.options.is_ring or size >= len(threads) * len(self.sections):
             pairs = [(thread, section) for thread in threads for section in self.sections]
-            pairs += [(self.random.choice(threads), self.random.choice(self.sections)) for _ in range(size - len(pairs))]
+            pairs += [
+                (self.random.choice(threads), self.random.choice(self.sections)) for _ in range(size - len(pairs))
+            ]
         else:
             pairs = [(self.random.choice(threads), self.random.choice(self.sections)) for _ in range(size)]
         blocks = [self.block(thread, section) for thread, section in pairs]

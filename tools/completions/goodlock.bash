@@ -74,11 +74,11 @@ _goodlock_view() {
     COMPREPLY=()
     case ${COMP_WORDS[COMP_CWORD - 1]} in
         --source) _goodlock_files -d && return ;;
-        -o | --html | --sarif | --dot | --known | --write-known) _goodlock_files -f && return ;;
+        -o | --html | --sarif | --dot | --known | --confirmed | --write-known) _goodlock_files -f && return ;;
         --category | --most) return ;;
     esac
     if [[ ${COMP_WORDS[COMP_CWORD]} == -* ]]; then
-        _goodlock_words "--source --html --sarif --category --dot --text --known --write-known --most --version --help"
+        _goodlock_words "--source --html --sarif --category --dot --text --known --confirmed --write-known --most --version --help"
     else
         _goodlock_files -f
     fi

@@ -79,7 +79,9 @@ class Carried:
     def check(self, compare, is_built):
         """Compares it with what is said of it, and with what was built here."""
         says, own = self.says.read_text(), toolchain()
-        compare(f"{self.file.relative_to(TOP)} is the file that {self.sums.name} names", self.sums.read_text() == self.sum())
+        compare(
+            f"{self.file.relative_to(TOP)} is the file that {self.sums.name} names", self.sums.read_text() == self.sum()
+        )
         compare("it may be used as it stands", os.access(self.file, os.X_OK if self.mode & 0o100 else os.R_OK))
         compare("it was built from the sources at hand", says.startswith(f"sources {self.sources()}\n"))
         if own is None:

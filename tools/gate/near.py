@@ -98,7 +98,9 @@ def main(words):
         refused, accepted = try_edits(command, crate) if crate in proved else (0, 0)
         passed, failed = passed + refused, failed + accepted
     others = sum(len(command.edits_of(crate)[0]) for crate in crates if crate not in changed)
-    print(f"left out: the proof of {len(crates) - len(wanted) - len(below)} crates that stand on nothing changed, {others} edits of")
+    print(
+        f"left out: the proof of {len(crates) - len(wanted) - len(below)} crates that stand on nothing changed, {others} edits of"
+    )
     print("other crates, a proof from nothing, each program as two compilers build it, the tests in crates as they run")
     print(f"{passed} passed, {failed} failed")
     return 1 if failed else 0

@@ -14,25 +14,16 @@ sys.path[:0] = [os.path.join(os.path.dirname(HERE), "record"), HERE]
 sys.pycache_prefix = os.path.join(os.path.dirname(HERE), "out", "python")
 
 import launch as recording  # noqa: E402
+from options import split_options  # noqa: E402
 
 USAGE = __doc__.split("\n\n")[1]
 
 
 def read_arguments(arguments):
     """The options of all recorders, and --jdk."""
-    rest = []
-    jdk = False
-    arguments = list(arguments)
-    while arguments and arguments[0].startswith("-") and arguments[0] != "--":
-        word = arguments.pop(0)
-        if word == "--jdk":
-            jdk = True
-            continue
-        rest.append(word)
-        if word in ("-o", "--frames", "--convert") and arguments:
-            rest.append(arguments.pop(0))
-    settings = recording.read_arguments(rest + arguments, __doc__, USAGE)
-    settings.jdk = jdk
+    own, others = split_options(arguments, {"--jdk": False})
+    settings = recording.read_arguments(others, __doc__, USAGE)
+    settings.jdk = "--jdk" in own
     return settings
 
 

@@ -15,6 +15,7 @@ sys.path.insert(0, os.path.join(os.path.dirname(HERE), "record"))
 sys.pycache_prefix = os.path.join(os.path.dirname(HERE), "out", "python")
 
 import launch as recording  # noqa: E402
+from options import split_options  # noqa: E402
 
 USAGE = __doc__.split("\n\n")[1]
 START = os.path.join(HERE, "start")
@@ -37,20 +38,11 @@ def with_interpreter(command, interpreter):
 
 
 def read_arguments(arguments):
-    interpreter = None
-    rest = []
-    arguments = list(arguments)
-    while arguments and arguments[0].startswith("-") and arguments[0] != "--":
-        word = arguments.pop(0)
-        if word == "--python":
-            if not arguments:
-                raise recording.Failed("--python takes a value\n" + USAGE)
-            interpreter = arguments.pop(0)
-            continue
-        rest.append(word)
-        if word in ("-o", "--frames", "--convert") and arguments:
-            rest.append(arguments.pop(0))
-    settings = recording.read_arguments(rest + arguments, __doc__, USAGE)
+    own, others = split_options(arguments, {"--python": True})
+    interpreter = own.get("--python")
+    if "--python" in own and interpreter is None:
+        raise recording.Failed("--python takes a value\n" + USAGE)
+    settings = recording.read_arguments(others, __doc__, USAGE)
     if settings.convert is None:
         settings.command = with_interpreter(settings.command, interpreter)
     return settings

@@ -12,7 +12,7 @@ import traceback
 TESTS = os.path.dirname(os.path.realpath(__file__))
 TOOLS = os.path.dirname(TESTS)
 RECORD = os.path.join(TOOLS, "goodlock-record")
-REFERENCE = os.path.join(os.path.dirname(TOOLS), "tests", "reference.py")
+REFERENCE = os.path.join(os.path.dirname(TOOLS), "tests", "oracle", "reference.py")
 NO_EVENTS, REFUSED = 124, 125
 
 

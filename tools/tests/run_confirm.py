@@ -19,6 +19,7 @@ sys.dont_write_bytecode = True
 from run_record import C_FLAGS, RECORD, REFERENCE, SOURCES, TOOLS, build, check, run_all  # noqa: E402
 
 CONFIRM = os.path.join(TOOLS, "goodlock-confirm")
+VIEW = os.path.join(TOOLS, "goodlock-view")
 NOT_SEEN, DEADLOCKED, ERROR = 0, 1, 125
 RUN_TESTS = []
 
@@ -152,6 +153,8 @@ def output_for_tools():
     with open("confirmed.json") as file:
         value = json.load(file)
     check(value["outcome"] == "deadlocked" and value["text"] == out.rstrip("\n").split("\n"), str(value))
+    shown = subprocess.run([VIEW, "--confirmed", "confirmed.json", predict("opposite")], stdout=subprocess.PIPE).stdout
+    check(shown.startswith(b"finding 1: confirmed 1 cycle in 1 report\n"), shown.decode())
     with open(predict("opposite")) as file:
         edges = json.load(file)["edges"]
     check(sorted(map(tuple, value["pairs"])) == sorted((e["held_at"], e["wanted_at"]) for e in edges), str(value))

@@ -115,7 +115,10 @@ def many_findings():
     cycles += [pair("late", "index", ("writer", "last"), ("z.c:1", "2", "3", "4"))]
     write("r.json", report(*cycles))
     write("known", '[["t3.c:1","2"],["3","4"]]\n')
-    view("r.json", "-o", "p.html", "--known", "known", "--most", "5")
+    write(
+        "c.json", '{"outcome":"deadlocked","pairs":[["t1.c:1","2"],["3","4"]],"text":["deadlocked in try 1"],"tries":1}'
+    )
+    view("r.json", "-o", "p.html", "--known", "known", "--confirmed", "c.json", "--most", "5")
 
 
 def shown(driver):
@@ -154,6 +157,8 @@ def test_filters_and_order(driver):
     assert shown(driver) == ["t3"]
     put(driver, "state", "new")
     assert len(shown(driver)) == 5
+    put(driver, "state", "confirmed")
+    assert shown(driver) == ["t1"]
     put(driver, "state", "")
     put(driver, "threads", "3")
     assert shown(driver) == ["ring"]

@@ -144,9 +144,10 @@ def is_flow(flow):
 
 def is_result(result, rules):
     required = {"ruleId", "ruleIndex", "level", "message", "locations", "relatedLocations", "partialFingerprints"}
-    keys(result, required | {"codeFlows", "occurrenceCount"}, {"suppressions"})
+    keys(result, required | {"codeFlows", "occurrenceCount"}, {"suppressions", "properties"})
     assert result["ruleId"] == rules[result["ruleIndex"]]["id"]
-    assert result["level"] == "warning"
+    assert result.get("properties", {"confirmed": True}) == {"confirmed": True}
+    assert result["level"] == ("error" if "properties" in result else "warning")
     is_message(result["message"])
     # Code hosts refuse a result that isn't in a file, and show the first location alone.
     assert len(result["locations"]) == 1

@@ -11,6 +11,7 @@ from collections.abc import Callable, Sequence
 from typing import Any, NoReturn
 
 from . import TOOL, __version__
+from .confirmed import read_confirmations
 from .dot import dot_of
 from .files import reports_of, write_files, write_text
 from .findings import Summary, places_of, read_reports
@@ -76,6 +77,7 @@ def _add_options(add: Callable[..., argparse.Action]) -> None:
     add("--dot", metavar="FILE", help="write a graph for Graphviz")
     add("--text", action="store_true", help="print the findings (if nothing else is written, always)")
     add("--known", metavar="FILE", help="findings that are accepted: only others give status 1")
+    add("--confirmed", metavar="FILE", action="append", default=[], help="an outcome of goodlock-confirm (repeatable)")
     add("--write-known", metavar="FILE", help="write the present findings as accepted ones")
     add("--most", metavar="N", type=_whole_number, default=200, help="findings drawn in the page and the graph (200)")
     add("-V", "--version", action="version", version=f"{TOOL} {__version__}", help="print version")
@@ -97,9 +99,10 @@ def _outputs_of(options: argparse.Namespace) -> dict[str, str]:
 def _check_paths(options: argparse.Namespace) -> None:
     if options.source is not None and not os.path.isdir(options.source):
         raise Refusal(f"{file_name(options.source)}: not a directory")
-    if options.reports.count("-") > 1:
+    read = options.reports + options.confirmed
+    if read.count("-") > 1:
         raise Refusal("standard input can't be read twice")
-    inputs = {os.path.realpath(path) for path in options.reports if path != "-"}
+    inputs = {os.path.realpath(path) for path in read if path != "-"}
     outputs = _outputs_of(options)
     for key, path in outputs.items():
         others = inputs | {other for k, other in outputs.items() if k != key}
@@ -114,11 +117,13 @@ def _check_paths(options: argparse.Namespace) -> None:
 def _run(arguments: Sequence[str]) -> int:
     options = _options_of(arguments)
     known = None if options.known is None else read_known(options.known)
+    confirmations = read_confirmations(options.confirmed)
     reports, findings = read_reports(options.reports)
     sources: Sources | None = None
     if options.source is not None:
         sources = Sources(options.source, files_of(places_of(findings)))
     summary = Summary(reports, findings, known, Fingerprints(sources))
+    summary.confirm(confirmations)
     makers: dict[str, Callable[[], str]] = {
         "html": lambda: Page(summary, sources, options.most).made(),
         "sarif": lambda: sarif_of(summary, sources, options.category),

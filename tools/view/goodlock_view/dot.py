@@ -12,6 +12,7 @@ def _label(*lines: str) -> str:
 
 def _finding(number: int, finding: Finding) -> str:
     title = f"finding {number}: {counted(finding.cycles, 'cycle')}" + (", known" if finding.is_known else "")
+    title += ", confirmed" if finding.confirmation else ""
     lines = [f"  subgraph cluster_{number} {{", f"    label={_label(title)};"]
     for at, edge in enumerate(finding.sample):
         lines.append(f"    f{number}_{at} [label={_label(shortened(edge.held, 40))}];")

@@ -6,6 +6,7 @@ import functools
 from collections.abc import Iterable
 from typing import NamedTuple
 
+from .confirmed import Confirmation
 from .files import bytes_of
 from .fingerprints import Fingerprints
 from .known import Known
@@ -36,6 +37,7 @@ class Finding:
         self.edges: set[Edge] = set()
         self.id = ""
         self.is_known = False
+        self.confirmation: Confirmation | None = None  # of a run that came to it
 
     def add(self, cycle: Cycle, report: str) -> None:
         """Counts a cycle of this finding."""
@@ -106,13 +108,30 @@ class Summary:
         self.unseen = known.without(*present) if known is not None else 0
         self.cycles = sum(report.listed for report in reports)
         self.cut = [report for report in reports if report.more]
+        self.confirmed: int | None = None  # where no confirmation was given
+        self.unmatched = 0
+
+    def confirm(self, confirmations: list[Confirmation]) -> None:
+        """Marks the findings that runs came to, and counts the confirmations of findings that aren't here."""
+        findings = {frozenset(finding.pairs): finding for finding in self.findings}
+        for confirmation in confirmations:
+            finding = findings.get(confirmation.pairs)
+            if finding is None:
+                self.unmatched += 1
+            elif confirmation.is_deadlocked and finding.confirmation is None:
+                finding.confirmation = confirmation
+        self.confirmed = sum(1 for finding in self.findings if finding.confirmation) if confirmations else None
+
+    def states(self, finding: Finding) -> list[str]:
+        """What is said of a finding: whether it is new or known, where that was asked, and whether it is confirmed."""
+        words = [("known" if finding.is_known else "new")] if self.has_known else []
+        return words + (["confirmed"] if finding.confirmation else [])
 
     def headline(self) -> str:
         """How many findings there are."""
-        text = counted(len(self.findings), "finding")
-        if self.has_known:
-            text += f" ({self.new:,} new, {len(self.findings) - self.new:,} known)"
-        return text
+        counts = [f"{self.new:,} new", f"{len(self.findings) - self.new:,} known"] if self.has_known else []
+        counts += [f"{self.confirmed:,} confirmed"] if self.confirmed is not None else []
+        return counted(len(self.findings), "finding") + (f" ({', '.join(counts)})" if counts else "")
 
     def counts(self) -> str:
         """How many cycles there are, in how many reports."""

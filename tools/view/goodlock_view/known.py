@@ -50,13 +50,14 @@ def read_known(path: str) -> Known:
         if match:
             known.ids.add(match[1].decode("ascii"))
         elif line.startswith(b"["):
-            known.pairs.add(_pairs_of(parsed(line, name, number), f"{name}: line {number}"))
+            known.pairs.add(pairs_of(parsed(line, name, number), f"{name}: line {number}"))
         else:
             raise Refusal(f"{name}: line {number}: begins with neither an id of 16 digits (0-9, a-f) nor an array")
     return known
 
 
-def _pairs_of(value: Json, where: str) -> frozenset[Pair]:
+def pairs_of(value: Json, where: str) -> frozenset[Pair]:
+    """The pairs of places of one finding, checked; where they are said is told in a refusal."""
     if type(value) is not list or not value or not all(_is_pair(pair) for pair in value):
         raise Refusal(f"{where}: not a non-empty array of pairs [held_at, wanted_at]")
     for place in (place for pair in value for place in pair):

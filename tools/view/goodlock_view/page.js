@@ -25,7 +25,7 @@
   tools.hidden = false;
   const items = [...document.querySelectorAll("[data-cycles]")].map((element, rank) => ({
     element, rank, home: element.parentNode, cycles: Number(element.dataset.cycles), threads: element.dataset.threads,
-    state: element.dataset.state, place: element.querySelector(".places").textContent, text: null,
+    state: element.dataset.state.split(" "), place: element.querySelector(".places").textContent, text: null,
   }));
   const orders = {
     rank: (a, b) => a.rank - b.rank,
@@ -35,7 +35,7 @@
 
   function isAsked(item, words) {
     if (control("threads").value && control("threads").value !== item.threads) return false;
-    if (control("state") && control("state").value && control("state").value !== item.state) return false;
+    if (control("state") && control("state").value && !item.state.includes(control("state").value)) return false;
     if (words.length === 0) return true;
     if (item.text === null) item.text = item.element.textContent.toLowerCase();
     return words.every((word) => item.text.includes(word));

@@ -28,6 +28,8 @@ _FRAMES = 5  # frames of a place whose source is shown
 _REST = 2_000  # findings beyond those drawn that are listed in a line each
 _NAMES = 1_000  # threads or locks of a finding that are listed
 _SHORT = 64  # characters of a name that are shown
+_LINES = 200  # lines of a confirmation that are shown
+_LINE = 300  # characters of each
 _OPEN = 3  # findings that are open where there are more than a few
 _FEW = 5
 _HELD = "held since here"
@@ -202,13 +204,19 @@ class Page:
         unseen = self._summary.unseen
         if unseen:
             notes += f'<p class="faint">{counted(unseen, "known finding")} didn\'t come up in these reports.</p>'
+        unmatched = self._summary.unmatched
+        if unmatched:
+            verb = "is of a finding that isn't" if unmatched == 1 else "are of findings that aren't"
+            notes += f'<p class="faint">{counted(unmatched, "confirmation")} {verb} in these reports.</p>'
         return notes
 
     def _tools(self) -> str:
         """Search, filters and order, which the script shows."""
         state = ""
-        if self._summary.has_known:
-            options = "".join(f'<option value="{word}">{word}</option>' for word in ("new", "known"))
+        words = ["new", "known"] if self._summary.has_known else []
+        words += ["confirmed"] if self._summary.confirmed else []
+        if words:
+            options = "".join(f'<option value="{word}">{word}</option>' for word in words)
             state = f'<label>State <select id="state"><option value="">any</option>{options}</select></label>\n'
         sizes = sorted({len(finding.sample) for finding in self._summary.findings})
         threads = "".join(f'<option value="{size}">{size}</option>' for size in sizes)
@@ -216,7 +224,7 @@ class Page:
 
     def _data(self, finding: Finding) -> str:
         """What the script filters and orders by."""
-        state = ("known" if finding.is_known else "new") if self._summary.has_known else ""
+        state = " ".join(self._summary.states(finding))
         return f'data-cycles="{finding.cycles}" data-threads="{len(finding.sample)}" data-state="{state}"'
 
     def _anchor(self, finding: Finding) -> str:
@@ -225,10 +233,18 @@ class Page:
         return f"finding-{finding.id}" + (f"-{count}" if count > 1 else "")
 
     def _badge(self, finding: Finding) -> str:
-        if not self._summary.has_known:
+        return "".join(f' <span class="badge {word}">{word}</span>' for word in self._summary.states(finding))
+
+    def _confirmation(self, finding: Finding) -> str:
+        """What goodlock-confirm said of the run that came to the deadlock."""
+        if finding.confirmation is None:
             return ""
-        state = "known" if finding.is_known else "new"
-        return f' <span class="badge {state}">{state}</span>'
+        head, *lines = (escaped(shortened(line, _LINE, "…")) for line in finding.confirmation.text)
+        rest = len(lines) - _LINES
+        lines = lines[:_LINES] + ([f"and {counted(rest, 'more line')}"] if rest > 0 else [])
+        shown = "".join(f"<span>{line}</span>" for line in lines)
+        source = f'<div class="source"><pre>{shown}</pre></div>'
+        return f'<details class="small"><summary>Confirmed: a run {head}</summary>{source}</details>'
 
     def _places(self, finding: Finding, most: int = 3) -> str:
         """The pairs of places that make the finding."""
@@ -277,6 +293,7 @@ class Page:
             f"{self._places(finding)}</summary>",
             f'{Picture(finding.sample).drawn()}<p class="legend small faint">{legend}</p>',
             f'<p class="small faint">{which} in full:</p><ol class="edges">{edges}</ol>',
+            self._confirmation(finding),
             self._names.listed("Threads", sorted(threads, key=by_numbers)),
             self._names.listed("Locks", sorted(locks, key=by_numbers)),
             self._names.listed("Reports", list(finding.reports)) if len(self._summary.reports) > 1 else "",

@@ -168,7 +168,7 @@ class _Results:
         value = {
             "ruleId": _RULE_ID,
             "ruleIndex": 0,
-            "level": "warning",
+            "level": "error" if finding.confirmation else "warning",
             "message": {"text": _message(finding, numbers)},
             "locations": [self._primary(finding)],
             "relatedLocations": related,
@@ -180,6 +180,8 @@ class _Results:
         if self._has_known:
             accepted = [{"kind": "external", "status": "accepted"}]
             value["suppressions"] = accepted if finding.is_known else []
+        if finding.confirmation:
+            value["properties"] = {"confirmed": True}
         return value
 
 
@@ -200,7 +202,8 @@ def _message(finding: Finding, numbers: dict[int, int]) -> str:
         edges.append(f"and {len(finding.sample) - 8} threads more")
     verb = "is" if finding.cycles == 1 else "are"
     text = f"Predicted deadlock of {len(finding.sample)} threads: {'; '.join(edges)}. "
-    return text + f"{counted(finding.cycles, 'cycle')} of the reports {verb} this."
+    text += f"{counted(finding.cycles, 'cycle')} of the reports {verb} this."
+    return text + (" Confirmed: a run of the program came to it." if finding.confirmation else "")
 
 
 def sarif_of(summary: Summary, sources: Sources | None, category: str) -> str:

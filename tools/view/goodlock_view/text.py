@@ -20,8 +20,8 @@ def edge_text(edge: Edge, most: int = 72) -> str:
     return f"{thread} holds {held} since {held_at} wants {wanted} at {wanted_at}"
 
 
-def _finding_text(number: int, finding: Finding, has_known: bool) -> str:
-    state = (" known" if finding.is_known else " new") if has_known else ""
+def _finding_text(number: int, finding: Finding, states: list[str]) -> str:
+    state = "".join(f" {word}" for word in states)
     reports = f" in {counted(len(finding.reports), 'report')}"
     lines = [f"finding {number}:{state} {counted(finding.cycles, 'cycle')}{reports}"]
     lines += [f"  {edge_text(edge)}" for edge in finding.sample]
@@ -32,9 +32,11 @@ def _finding_text(number: int, finding: Finding, has_known: bool) -> str:
 
 def text_of(summary: Summary) -> str:
     """All findings as text."""
-    parts = [_finding_text(n, f, summary.has_known) for n, f in enumerate(summary.findings, 1)]
+    parts = [_finding_text(n, f, summary.states(f)) for n, f in enumerate(summary.findings, 1)]
     parts += [f"{warning}\n" for warning in summary.warnings()]
     if summary.unseen:
         parts.append(f"known findings that weren't seen: {summary.unseen:,}\n")
+    if summary.unmatched:
+        parts.append(f"confirmations of findings that aren't here: {summary.unmatched:,}\n")
     parts.append(f"{summary.headline()}, {summary.counts()}\n")
     return "".join(parts)

@@ -1,12 +1,12 @@
 #!/usr/bin/env python3
-"""Compares answers about reports: by hand, of tests/check.py, and of a program's command `check`.
+"""Compares answers about reports: by hand, of tests/checker/check.py, and of a program's command `check`.
 
     tamper.py [--cases N] [--seed S] [--only K] [PROGRAM]
 
 Worked reports have answers by hand. Random ones are made by the reference from random traces, in both formats, and then
 tampered with: a field changed, an edge dropped or doubled, a cycle rotated, two swapped, a name escaped otherwise, numbers
 at their bounds, text that is no JSON, another trace. What is known of the answer beforehand must come. A PROGRAM that has
-`check` must answer like tests/check.py byte for byte; of one that has only `predict`, its own reports are checked. The
+`check` must answer like tests/checker/check.py byte for byte; of one that has only `predict`, its own reports are checked. The
 last line is `N passed, N failed`, with one for each answer.
 """
 
@@ -14,15 +14,18 @@ import argparse
 import copy
 import json
 import os
+import pathlib
 import random
 import subprocess
 import sys
 import tempfile
 
 sys.dont_write_bytecode = True
-import check  # noqa: E402
-import compare  # noqa: E402
-import reference  # noqa: E402
+sys.path.insert(0, str(pathlib.Path(__file__).resolve().parent.parent))
+
+from checker import check  # noqa: E402
+from fuzz import random_traces  # noqa: E402
+from oracle import compare, reference, worked_traces  # noqa: E402
 
 # --- Worked reports, with answers by hand ---------------------------------------------------------------
 
@@ -51,7 +54,7 @@ def spelled(tree):
     return json.dumps(tree, sort_keys=True, separators=(",", ":")).encode()
 
 
-OPPOSITE = compare.lines(*compare.OPPOSITE)
+OPPOSITE = worked_traces.lines(*worked_traces.OPPOSITE)
 OPPOSITE_EDGES = [edge("T0", "a", "1", "b", "2", 1), edge("T1", "b", "5", "a", "6", 1)]
 PLAIN_EDGES = [without_modes(edge_) for edge_ in OPPOSITE_EDGES]
 OPPOSITE_LINE = (
@@ -59,7 +62,7 @@ OPPOSITE_LINE = (
     b'"wanted_at":"2"},{"first":0,"guards":["b"],"held":"b","held_at":"5","place":1,"second":0,"thread":"T1",'
     b'"wanted":"a","wanted_at":"6"}]],"format":1,"len":4,"max":1000,"mode":"full","more":false}'
 )
-CROSSED = compare.lines("T0 acq a @1", "T0 acq b @2", "T0 rel a @3", "T0 acq c @4")
+CROSSED = worked_traces.lines("T0 acq a @1", "T0 acq b @2", "T0 rel a @3", "T0 acq c @4")
 CROSSED_LINE = (
     b'{"cycles":[],"edges":[{"first":0,"guard_modes":["x"],"guards":["a"],"held":"a","held_at":"1","held_mode":"x",'
     b'"place":1,"second":0,"thread":"T0","wanted":"b","wanted_at":"2","wanted_mode":"x"},{"first":0,"guard_modes":["x"],'
@@ -217,10 +220,10 @@ def worked_others():
     crossed = json.loads(CROSSED_LINE)
     later = copy.deepcopy(crossed)
     later["edges"][1]["place"] = 2
-    unclosed, loop = b"T0|acq(|3", compare.lines("T0 join T1 @1", "T1 join T0 @2")
+    unclosed, loop = b"T0|acq(|3", worked_traces.lines("T0 join T1 @1", "T1 join T0 @2")
     # T0 takes a, a, b, releases a once and takes c; T1 takes c and then a.
-    nested = compare.lines("T0 acq a @1", "T0 acq a @2", "T0 acq b @3", "T0 rel a @4", "T0 acq c @5")
-    nested += compare.lines("T1 acq c @6", "T1 acq a @7")
+    nested = worked_traces.lines("T0 acq a @1", "T0 acq a @2", "T0 acq b @3", "T0 rel a @4", "T0 acq c @5")
+    nested += worked_traces.lines("T1 acq c @6", "T1 acq a @7")
     nested_edges = [
         edge("T0", "a", "1", "b", "3", 2), edge("T0", "a", "1", "c", "5", 4, ["a", "b"]),
         edge("T0", "b", "3", "c", "5", 4, ["a", "b"]), edge("T1", "c", "6", "a", "7", 1),
@@ -229,29 +232,33 @@ def worked_others():
     def judged(cycle, **keys):
         return changed(report([cycle], nested_edges), **keys)
 
-    joined = compare.lines("M fork T0 @1", "M join T0 @2", "M fork T1 @3", *compare.OPPOSITE)
+    joined = worked_traces.lines("M fork T0 @1", "M join T0 @2", "M fork T1 @3", *worked_traces.OPPOSITE)
     # T1's part is over before T0's, which is the thread that is named first, begins.
-    later_first = compare.lines("T0 fork T1 @0", "T1 acq b @1", "T1 acq a @2", "T0 join T1 @3", "T0 acq a @4")
-    later_first += compare.lines("T0 acq b @5")
+    later_first = worked_traces.lines("T0 fork T1 @0", "T1 acq b @1", "T1 acq a @2", "T0 join T1 @3", "T0 acq a @4")
+    later_first += worked_traces.lines("T0 acq b @5")
     later_edges = [edge("T0", "a", "4", "b", "5", 3, first=2, second=2), edge("T1", "b", "1", "a", "2", 1)]
     later_edges = sorted(later_edges, key=lambda edge_: edge_["thread"])
-    loop_of_three = compare.lines("T0 join T1 @1", "T1 join T0 @2", "T1 fork X @3")
-    gate = compare.lines(*compare.GATE)
+    loop_of_three = worked_traces.lines("T0 join T1 @1", "T1 join T0 @2", "T1 fork X @3")
+    gate = worked_traces.lines(*worked_traces.GATE)
     gate_edges = [
         edge("T0", "g", "1", "a", "2", 1), edge("T0", "g", "1", "b", "3", 2, ["g", "a"]),
         edge("T0", "a", "2", "b", "3", 2, ["g", "a"]), edge("T1", "g", "7", "a", "9", 2, ["g", "b"]),
         edge("T1", "g", "7", "b", "8", 1), edge("T1", "b", "8", "a", "9", 2, ["g", "b"]),
     ]  # fmt: skip
-    readers = compare.lines("T0 racq a @1", "T0 acq b @2", "T1 acq b @3", "T1 racq a @4")
+    readers = worked_traces.lines("T0 racq a @1", "T0 acq b @2", "T1 acq b @3", "T1 racq a @4")
     readers_edges = [
         edge("T0", "a", "1", "b", "2", 1, modes="sx", guard_modes="s"), edge("T1", "b", "3", "a", "4", 1, modes="xs"),
     ]  # fmt: skip
-    reader = compare.lines("T0 racq a @1", "T0 acq b @2", "T1 acq b @3", "T1 acq a @4")
+    reader = worked_traces.lines("T0 racq a @1", "T0 acq b @2", "T1 acq b @3", "T1 acq a @4")
     reader_edges = [readers_edges[0], edge("T1", "b", "3", "a", "4", 1)]
     odd = b"T 0|acq(a\xc3\xa9)|x|y\\\nT 0|acq(\x7f)|\n"
     odd_edge = edge("T 0", "a\\xc3\\xa9", "x|y\\x5c", "\\x7f", "", 1)
-    ring = compare.lines(*compare.RING)
-    ring_edges = [edge("T0", "a", "1", "b", "2", 1), edge("T1", "b", "3", "c", "4", 1), edge("T2", "c", "5", "a", "6", 1)]
+    ring = worked_traces.lines(*worked_traces.RING)
+    ring_edges = [
+        edge("T0", "a", "1", "b", "2", 1),
+        edge("T1", "b", "3", "c", "4", 1),
+        edge("T2", "c", "5", "a", "6", 1),
+    ]
     invalid = "cycle 0 is not valid"
     return [
         ("checked_line, of itself", CROSSED_LINE, CROSSED, NONE),
@@ -315,20 +322,20 @@ def worked_others():
     ]  # fmt: skip
 
 
-def worked_traces():
+def worked_of_traces():
     """Each trace that predict refuses, with the empty report. A trace with other limits kept isn't refused."""
-    for name, text, by_hand_, _ in compare.worked("full"):
+    for name, text, by_hand_, _ in worked_traces.worked("full"):
         if by_hand_ is not None and by_hand_[2] == 2:
             yield name, EMPTY_LINE, text, by_hand_[1].decode()[len("goodlock: ") : -1]
-    yield "64 locks held", EMPTY_LINE, compare.lines(*[f"T{i % 2} acq l{i // 2} @{i}" for i in range(128)]), TABLE
-    yield "a depth of 1,000,000", EMPTY_LINE, compare.lines("T0 acq a @1") * 1_000_000, NONE
-    yield "1,024 threads", EMPTY_LINE, compare.lines(*[f"T{i} fork T{i + 1} @1" for i in range(1023)]), NONE
-    yield "1,025 threads", EMPTY_LINE, compare.lines(*[f"T{i} fork T{i + 1} @1" for i in range(1024)]), TOO_MANY
+    yield "64 locks held", EMPTY_LINE, worked_traces.lines(*[f"T{i % 2} acq l{i // 2} @{i}" for i in range(128)]), TABLE
+    yield "a depth of 1,000,000", EMPTY_LINE, worked_traces.lines("T0 acq a @1") * 1_000_000, NONE
+    yield "1,024 threads", EMPTY_LINE, worked_traces.lines(*[f"T{i} fork T{i + 1} @1" for i in range(1023)]), NONE
+    yield "1,025 threads", EMPTY_LINE, worked_traces.lines(*[f"T{i} fork T{i + 1} @1" for i in range(1024)]), TOO_MANY
 
 
 def worked():
     """Name, report, trace, the line of the answer, and for some the verdict."""
-    rows = [*worked_opposite(), *worked_shapes(), *worked_others(), *worked_traces()]
+    rows = [*worked_opposite(), *worked_shapes(), *worked_others(), *worked_of_traces()]
     return [(*row, None)[:5] for row in rows]
 
 
@@ -373,7 +380,21 @@ def dumped(tree, random_=None):
     return text.encode()
 
 
-NUMBERS = ["0", "1", "2", "4294967295", "4294967296", "18446744073709551616", "-1", "-0", "1.0", "1e0", "1e999", "16", "17"]
+NUMBERS = [
+    "0",
+    "1",
+    "2",
+    "4294967295",
+    "4294967296",
+    "18446744073709551616",
+    "-1",
+    "-0",
+    "1.0",
+    "1e0",
+    "1e999",
+    "16",
+    "17",
+]
 OTHERS = ["null", "true", "false", '""', '"x"', '"s"', "[]", "{}", "[0]", '"full"', '["a"]', "1.5", "NaN", '"\\ud800"']
 
 
@@ -531,7 +552,11 @@ class Tamper:
             self.tree["more"] = not self.tree["more"]
             return SAME
         value = self.random.choice(
-            {"len": [1, 2, 3, 16, 17], "max": [0, 1, 2, 100_000, 100_001], "mode": ["basic", "guarded", "full", "none"]}[key]
+            {
+                "len": [1, 2, 3, 16, 17],
+                "max": [0, 1, 2, 100_000, 100_001],
+                "mode": ["basic", "guarded", "full", "none"],
+            }[key]
         )
         self.tree[key] = value
         is_out = value in {"len": (1, 17), "max": (0, 100_001), "mode": ("none",)}[key]
@@ -572,7 +597,7 @@ class Tamper:
             del parts[self.random.randrange(len(parts))]
             self.trace = b"\n".join(parts)
         else:
-            self.trace = compare.damaged(self.random, self.trace)
+            self.trace = random_traces.damaged(self.random, self.trace)
         return None
 
     KEEPING_SHAPE = [field, field, field, escape, edges, edges, cycles, cycles, positions, trim, trim, asked]
@@ -584,7 +609,7 @@ class Tamper:
         if way < 0.08:
             return dumped(self.tree, self.random), self.trace, SAME
         if way < 0.2:
-            text = compare.damaged(self.random, dumped(self.tree)) if way < 0.14 else self.cut(dumped(self.tree))
+            text = random_traces.damaged(self.random, dumped(self.tree)) if way < 0.14 else self.cut(dumped(self.tree))
             return text.replace(b"\n", b" "), self.trace, None
         if self.random.random() < 0.15:
             self.random.choice(self.KEEPING_SHAPE)(self)
@@ -616,7 +641,7 @@ def is_as_known(known, answer, before):
 
 
 def answered(text, trace):
-    """The answer of tests/check.py as a tuple."""
+    """The answer of tests/checker/check.py as a tuple."""
     try:
         return ("yes", *check.check(text, trace))
     except check.Fault as fault:
@@ -658,7 +683,7 @@ class Tests:
             print(f"{name}: {told}")
 
     def by_program(self, name, text, trace):
-        """The program's answer is that of tests/check.py, byte for byte."""
+        """The program's answer is that of tests/checker/check.py, byte for byte."""
         if not self.has_check:
             return
         if not self.has_format_2 and is_of_format_2(text):
@@ -671,7 +696,11 @@ class Tests:
             path = os.path.join(tempfile.gettempdir(), f"goodlock-checks-{self.failed}.in")
             with open(path, "wb") as file:
                 file.write(given)
-            self.that(name, False, f"answers differ on {path}\n    check.py: {compare.show(expected)}\n    program: {compare.show(got)}")
+            self.that(
+                name,
+                False,
+                f"answers differ on {path}\n    check.py: {compare.show(expected)}\n    program: {compare.show(got)}",
+            )
         else:
             self.that(name, True, "")
 
@@ -699,7 +728,9 @@ def main():
     program = os.path.abspath(options.program) if options.program else None
     has_check = program is not None and has_command(program, "check")
     if not has_check:
-        print(f"{program or 'no program'}: no command check, so its answers are SKIPPED: tests/check.py is tried alone")
+        print(
+            f"{program or 'no program'}: no command check, so its answers are SKIPPED: tests/checker/check.py is tried alone"
+        )
     has_format_2 = has_check and compare.run([program, "check"], EMPTY_LINE)[2] == 0
     if has_check and not has_format_2:
         print(f"{program}: check reads no reports of format 2, so what it says of them is SKIPPED")
@@ -715,14 +746,18 @@ def main():
     seen = {}
     for number in range(options.cases) if options.only is None else [options.only]:
         random_ = random.Random(f"{options.seed}/{number}/report")
-        trace = compare.case(options.seed, number, 28)
+        trace = random_traces.case(options.seed, number, 28)
         query = reference.Query(
-            random_.choice(["basic", "guarded", "full"]), random_.choice([2, 3, 4, 5, 16]), random_.choice([1, 2, 5, 1000])
+            random_.choice(["basic", "guarded", "full"]),
+            random_.choice([2, 3, 4, 5, 16]),
+            random_.choice([1, 2, 5, 1000]),
         )
         form = random_.choice([1, 2, 2])
         text, expected = true_report(trace, query, form)
         before = answered(text, trace)
-        tests.that(f"case {number}, true", before[: len(expected)] == expected, f"expected {expected}, check.py {before}")
+        tests.that(
+            f"case {number}, true", before[: len(expected)] == expected, f"expected {expected}, check.py {before}"
+        )
         tests.by_program(f"case {number}, true", text, trace)
         if program is not None:
             words = ["--mode", query.mode, "--len", str(query.length), "--max", str(query.most), "--json"]
@@ -732,7 +767,9 @@ def main():
                 form_of_own = json.loads(own)["format"]
                 _, wanted = true_report(trace, query, form_of_own)
                 got = answered(own[:-1], trace)
-                tests.that(f"case {number}, the program's own", got[: len(wanted)] == wanted, f"{wanted}, check.py {got}")
+                tests.that(
+                    f"case {number}, the program's own", got[: len(wanted)] == wanted, f"{wanted}, check.py {got}"
+                )
                 tests.by_program(f"case {number}, the program's own", own[:-1], trace)
         if expected[0] != "yes":
             seen[expected[0]] = seen.get(expected[0], 0) + 1
@@ -743,7 +780,9 @@ def main():
             seen[answer[0]] = seen.get(answer[0], 0) + 1
             name = f"case {number}, change {turn}"
             known = known if expected[0] == "yes" else None
-            tests.that(name, is_as_known(known, answer, before), f"known is {known}, check.py {answer}: {other[:300]!r}")
+            tests.that(
+                name, is_as_known(known, answer, before), f"known is {known}, check.py {answer}: {other[:300]!r}"
+            )
             tests.by_program(name, other, other_trace)
             if options.only is not None:
                 print(f"{other.decode('latin-1')}\n{other_trace.decode('latin-1')}\nknown {known}, answer {answer}")

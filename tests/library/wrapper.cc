@@ -89,7 +89,7 @@ template <class M, class N> static void opposite(M &one, N &other)
             one.unlock();
         });
 }
-#line 90 "tests/library_wrapper.cc"
+#line 90 "tests/library/wrapper.cc"
 
 static void locks()
 {
@@ -128,7 +128,7 @@ static void locks()
             goodlock::guard<goodlock::shared_mutex> first(w);
             r.lock();
             r.unlock();
-#line 130 "tests/library_wrapper.cc"
+#line 130 "tests/library/wrapper.cc"
         });
     goodlock::recursive_mutex x, y;
     in_a_thread([&] { std::lock_guard<goodlock::recursive_mutex> first(x), again(x), second(y); });

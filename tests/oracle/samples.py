@@ -5,7 +5,7 @@
 
 Each output is that of `goodlock predict`, unless the text before it names other words, as `goodlock stats` or
 `--len 5`. The program gets these words; further arguments in place of `predict`. `goodlock check` reads the sample's report
-as JSON before the sample, and tests/check.py answers too. The last line is `N passed, N failed`, with one for each answer
+as JSON before the sample, and tests/checker/check.py answers too. The last line is `N passed, N failed`, with one for each answer
 that was compared.
 """
 
@@ -15,10 +15,12 @@ import subprocess
 import sys
 
 sys.dont_write_bytecode = True
-import check  # noqa: E402
-import compare  # noqa: E402
+sys.path.insert(0, str(pathlib.Path(__file__).resolve().parent.parent))
 
-SAMPLES = pathlib.Path(__file__).resolve().parent.parent / "samples"
+from checker import check  # noqa: E402
+from oracle import compare  # noqa: E402
+
+SAMPLES = pathlib.Path(__file__).resolve().parent.parent.parent / "samples"
 
 
 def main():

@@ -5,7 +5,7 @@
 
 LIST has commands with commas between them ("predict, predict --json"); the table below knows some more. The answer
 must be the one of an undisturbed run, which is written by hand, or what the disturbance asks for. A preload
-library, which gcc builds in a temporary folder, does the refusing (tests/refuse.c). As many commands and traces as
+library, which gcc builds in a temporary folder, does the refusing (tests/commands/refuse.c). As many commands and traces as
 there are processors are tried side by side. The last line is `N passed, N failed`.
 """
 
@@ -22,7 +22,9 @@ import tempfile
 import typing
 
 sys.dont_write_bytecode = True
-import compare  # noqa: E402
+sys.path.insert(0, str(pathlib.Path(__file__).resolve().parent.parent))
+
+from oracle import compare, worked_traces  # noqa: E402
 
 SOURCE = pathlib.Path(__file__).resolve().parent / "refuse.c"
 
@@ -33,30 +35,30 @@ READ_FAILED = (b"", b"goodlock: read failed\n", 4)
 UNCONFIRMED = (b"", b"goodlock: session not confirmed\n", 4)
 WRITE_FAILED = b"goodlock: write failed\n"
 
-WORKED = {name: (text, answer) for name, text, answer, _ in compare.worked("full")}
+WORKED = {name: (text, answer) for name, text, answer, _ in worked_traces.worked("full")}
 TRACES = {name: WORKED[name][0] for name in ("opposite_order", "joined_before", "first_of_two_cycles", "join_loop")}
-TRACES["bad line"] = compare.lines("T0 acq a @1") + b"T0|rel(a|2\n" + compare.lines("T0 acq b @3")
+TRACES["bad line"] = worked_traces.lines("T0 acq a @1") + b"T0|rel(a|2\n" + worked_traces.lines("T0 acq b @3")
 
-BAD_LINE = compare.refused(2, "bad operand")
+BAD_LINE = worked_traces.refused(2, "bad operand")
 LOOP = WORKED["join_loop"][1]
 TEXTS = {name: WORKED[name][1] for name in TRACES if name in WORKED} | {"bad line": BAD_LINE}
-JOINED = [compare.edge("T0", "a", 1, "b", 2, 1), compare.edge("T1", "b", 5, "a", 6, 1)]
+JOINED = [worked_traces.edge("T0", "a", 1, "b", 2, 1), worked_traces.edge("T1", "b", 5, "a", 6, 1)]
 TWO_CYCLES = [
-    compare.edge("T0", "a", 1, "b", 2, 1), compare.edge("T0", "c", 5, "d", 6, 5),
-    compare.edge("T1", "b", 9, "a", 10, 1), compare.edge("T1", "d", 13, "c", 14, 5),
+    worked_traces.edge("T0", "a", 1, "b", 2, 1), worked_traces.edge("T0", "c", 5, "d", 6, 5),
+    worked_traces.edge("T1", "b", 9, "a", 10, 1), worked_traces.edge("T1", "d", 13, "c", 14, 5),
 ]  # fmt: skip
 # By the format of JSON, where there are two.
 OBJECTS = {
-    "opposite_order": compare.OPPOSITE_JSON,
-    "joined_before": compare.as_json(JOINED, [], "[0,1]"),
-    "first_of_two_cycles": compare.as_json(TWO_CYCLES, [[0, 2], [1, 3]]),
+    "opposite_order": worked_traces.OPPOSITE_JSON,
+    "joined_before": worked_traces.as_json(JOINED, [], "[0,1]"),
+    "first_of_two_cycles": worked_traces.as_json(TWO_CYCLES, [[0, 2], [1, 3]]),
     "join_loop": LOOP,
     "bad line": BAD_LINE,
 }
 COUNTS = {
-    "opposite_order": compare.counts(6, 0, 0, 2, 2, 2, 2, 1),
-    "joined_before": compare.counts(9, 0, 0, 3, 2, 6, 2, 0),
-    "first_of_two_cycles": compare.counts(14, 0, 0, 2, 4, 2, 4, 2),
+    "opposite_order": worked_traces.counts(6, 0, 0, 2, 2, 2, 2, 1),
+    "joined_before": worked_traces.counts(9, 0, 0, 3, 2, 6, 2, 0),
+    "first_of_two_cycles": worked_traces.counts(14, 0, 0, 2, 4, 2, 4, 2),
     "join_loop": LOOP,
     "bad line": BAD_LINE,
 }
@@ -113,7 +115,7 @@ def text_of(words, name):
     """What the command reads for the trace of this name."""
     if words != "check":
         return TRACES[name]
-    report = compare.in_format(OBJECTS[name])[0] or compare.in_format(compare.NONE_JSON)[0]
+    report = worked_traces.in_format(OBJECTS[name])[0] or worked_traces.in_format(worked_traces.NONE_JSON)[0]
     return report + TRACES[name]
 
 
@@ -274,7 +276,7 @@ class Tests:
         """Input that can't be read, output that can't be written."""
         output, errors, status = ample
 
-        def run(command="exec \"$@\"", **streams):
+        def run(command='exec "$@"', **streams):
             """A shell runs the program, to close its descriptors."""
             streams = {"stdin": subprocess.PIPE, "stdout": subprocess.PIPE, "stderr": subprocess.PIPE} | streams
             child = subprocess.Popen(["sh", "-c", command, "sh", self.runner.program, *words.split()], **streams)
@@ -316,11 +318,11 @@ def built_library(folder):
 def disturb(tests, words, name):
     """All disturbances of the command over the trace of this name; a command's others are of no name."""
     if name is None:
-        tests.ends(words, text_of(words, "opposite_order"), compare.in_format(ANSWERS[words]["opposite_order"]))
+        tests.ends(words, text_of(words, "opposite_order"), worked_traces.in_format(ANSWERS[words]["opposite_order"]))
         for usage, status in USAGE.get(words, {}).items():
             tests.usage(usage, status)
         return
-    text, ample = text_of(words, name), compare.in_format(ANSWERS[words][name])
+    text, ample = text_of(words, name), worked_traces.in_format(ANSWERS[words][name])
     tests.check(f"{words}, {name}", [ample], tests.runner.run(words, text))
     for session in swept(words, name):
         tests.check(f"{session}, {name}", [ample], tests.runner.run(session, text))

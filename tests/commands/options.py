@@ -4,7 +4,7 @@
     options.py PROGRAM
 
 A session in which `live` is nothing but `predict`, or one with other recorders, shards or rings than were asked for,
-writes the same bytes; so tests/count.c counts the threads that are started and the memory that is asked for. The last
+writes the same bytes; so tests/commands/count.c counts the threads that are started and the memory that is asked for. The last
 line is `N passed, N failed`.
 """
 

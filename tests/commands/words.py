@@ -1,5 +1,5 @@
 #!/usr/bin/env python3
-"""Compares what the program says of its command line with tests/words.txt: versions, helps and refusals, to the letter.
+"""Compares what the program says of its command line with tests/commands/words.txt: versions, helps and refusals, to the letter.
 
     words.py PROGRAM
 
@@ -28,7 +28,9 @@ def main():
             passed += 1
         else:
             failed += 1
-            print(f"goodlock{words}: expected status {status} and\n{wanted}got {done.returncode} and\n{done.stdout}{done.stderr}")
+            print(
+                f"goodlock{words}: expected status {status} and\n{wanted}got {done.returncode} and\n{done.stdout}{done.stderr}"
+            )
     print(f"{passed} passed, {failed} failed")
     return 1 if failed or passed == 0 else 0
 

@@ -16,8 +16,10 @@ import sys
 import tempfile
 import traceback
 
-TOP = pathlib.Path(__file__).resolve().parent.parent
-CRATES = "low:\nside:\nmiddle: low bstr  # with a library of the toolchain's\ntwin: low\ngoodlock: clap middle twin low\n"
+TOP = pathlib.Path(__file__).resolve().parent.parent.parent
+CRATES = (
+    "low:\nside:\nmiddle: low bstr  # with a library of the toolchain's\ntwin: low\ngoodlock: clap middle twin low\n"
+)
 LIBRARIES = ("low", "middle", "twin")
 WORDS = ("predict", "--len", "a b")
 
@@ -43,7 +45,7 @@ esac
 """
 
 # As the library that the toolchain's command is written over; a crate is proved where it isn't named in UNPROVED.
-LIBRARY = r'''
+LIBRARY = r"""
 import os
 
 RATTLE = KIT = KEPT = None
@@ -101,7 +103,7 @@ def fmt(*words):
 
 def stop_on_text(crate, verb):
     pass
-'''
+"""
 
 
 class Clone:

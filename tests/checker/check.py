@@ -296,7 +296,9 @@ def read_json(text):
         nesting += 1 if bracket[0] in "[{" else -1
         if nesting > NEST_LIMIT:
             raise Fault("Json")
-    if any("\ud800" <= sign <= "\udfff" for token in STRING.findall(text) if "\\u" in token for sign in json.loads(token)):
+    if any(
+        "\ud800" <= sign <= "\udfff" for token in STRING.findall(text) if "\\u" in token for sign in json.loads(token)
+    ):
         raise Fault("Json")
     return value
 

@@ -4,27 +4,32 @@
     lint.py [TOOL..]
 
 Every shell script and Python file has to be read by its language. shellcheck reads all shell scripts, clang-format lays out the
-C outside of the recorder (.clang-format), and black, isort, pylint and mypy check the viewer and the tests by pytest
-(pyproject.toml). A tool that isn't installed is skipped by name. The last line is `N passed, N failed`, with one for each
+C outside of the recorder (.clang-format), black and isort the viewer, the gate's tools, the benches and the tests outside of
+the recorder, and pylint and mypy check the viewer (pyproject.toml). A tool that isn't installed is skipped by name, and so is a
+black of another major version than pyproject.toml asks for, as it would lay out otherwise. The last line is `N passed, N failed`, with one for each
 Python file, each shell script and each tool; with `, N skipped` behind it where tools are missing.
 """
 
 import ast
 import os
 import pathlib
+import re
 import shutil
 import subprocess
 import sys
 
-TOP = pathlib.Path(__file__).resolve().parent.parent
+TOP = pathlib.Path(__file__).resolve().parent.parent.parent
 PACKAGE = "tools/view/goodlock_view"
 PYTHON = (
     "tools/view/",
     "tools/tests/view/",
     "tools/tests/install/",
-    "tests/by_pytest.py",
-    "tests/lint.py",
+    "tools/tests/layout/",
+    "tools/gate/",
     "tools/goodlock-view",
+    "tests/",
+    "test",
+    "bench/",
 )
 NOT_LAID_OUT = ("tools/record/", "tools/tests/record/")
 
@@ -58,12 +63,18 @@ def is_c(name):
     return name.endswith((".c", ".h", ".cc")) and not name.startswith(NOT_LAID_OUT)
 
 
-def python_that_has(module):
-    """A Python that has this module: this one, or the system's."""
+def black_version():
+    """The major version of black that pyproject.toml asks for."""
+    return re.search(r'^required-version = "(\d+)"', (TOP / "pyproject.toml").read_text(encoding="utf-8"), re.M)[1]
+
+
+def python_that_has(module, version=""):
+    """A Python that has this module, where a major version is asked for in that one: this Python, or the system's."""
+    asked = f"import {module}" + (f"; assert {module}.__version__.split('.')[0] == '{version}'" if version else "")
     for python in (sys.executable, "/usr/bin/python3"):
         if (
             os.access(python, os.X_OK)
-            and subprocess.run([python, "-c", f"import {module}"], stderr=subprocess.DEVNULL).returncode == 0
+            and subprocess.run([python, "-c", asked], stderr=subprocess.DEVNULL).returncode == 0
         ):
             return python
     return None
@@ -91,13 +102,13 @@ class Lint:
             except (SyntaxError, ValueError) as error:
                 self.tell(name, "python", error)
 
-    def run(self, tool, command, names):
-        """Runs a command on all of these names."""
+    def run(self, tool, command, names, version=""):
+        """Runs a command on all of these names; the version is told where the tool is missing."""
         if self.tools and tool not in self.tools:
             return
         if command[0] is None:
             self.skipped += 1
-            print(f"{tool} isn't installed, so its check of {len(names)} files is SKIPPED")
+            print(f"{tool}{version and ' ' + version} isn't installed, so its check of {len(names)} files is SKIPPED")
             return
         done = subprocess.run([*command, *names], cwd=TOP, stdout=subprocess.PIPE, stderr=subprocess.STDOUT, text=True)
         self.tell(f"{len(names)} files", tool, None if done.returncode == 0 else done.stdout[-8000:])
@@ -114,7 +125,8 @@ def main():
         lint.run("bash", ["bash", "-n"], [name])
     lint.run("shellcheck", [shutil.which("shellcheck")], shell)
     lint.run("clang-format", [shutil.which("clang-format"), "--dry-run", "--Werror"], c)
-    lint.run("black", [python_that_has("black"), "-m", "black", "--quiet", "--diff", "--check"], laid_out)
+    black = black_version()
+    lint.run("black", [python_that_has("black", black), "-m", "black", "--quiet", "--diff", "--check"], laid_out, black)
     lint.run("isort", [python_that_has("isort"), "-m", "isort", "--quiet", "--diff", "--check"], laid_out)
     lint.run("pylint", [python_that_has("pylint"), "-m", "pylint", "--score=n"], [PACKAGE])
     lint.run("mypy", [python_that_has("mypy"), "-B", "-m", "mypy", "--cache-dir=/dev/null"], [PACKAGE])

@@ -20,9 +20,12 @@ import subprocess
 import sys
 
 sys.dont_write_bytecode = True
-import compare  # noqa: E402
+sys.path.insert(0, str(pathlib.Path(__file__).resolve().parent.parent))
 
-TOP = pathlib.Path(__file__).resolve().parent.parent
+from fuzz import random_traces  # noqa: E402
+from oracle import reference  # noqa: E402
+
+TOP = pathlib.Path(__file__).resolve().parent.parent.parent
 SCHEMA = TOP / "docs" / "report.schema.json"
 
 # --- The validator: rules and documents ---------------------------------------------------------------
@@ -73,10 +76,10 @@ WORDS = ["$schema", "$id", "$defs", "title", "description"]
 PARTS = ["$ref", "properties", "required", "additionalProperties", "items", "if", "then", "else"]
 
 
-def target(schema, reference):
+def target(schema, path):
     """What `#/$defs/NAME` stands for."""
-    start, name = reference.rsplit("/", 1)
-    assert start == "#/$defs", reference
+    start, name = path.rsplit("/", 1)
+    assert start == "#/$defs", path
     return schema["$defs"][name]
 
 
@@ -270,7 +273,9 @@ def wrong_edges(report, edge, *way):
         return changed(report, *way, 1, *rest_and_value)
 
     for name in ("first", "second", "place"):
-        yield from wrong_numbers(f"{edge}/properties/{name}/$ref/$ref", lambda value, name=name: with_value(name, value))
+        yield from wrong_numbers(
+            f"{edge}/properties/{name}/$ref/$ref", lambda value, name=name: with_value(name, value)
+        )
 
     # A byte that isn't escaped or needn't be, upper-case digits, a digit too few, an unknown escape, a letter that
     # isn't one byte.
@@ -347,7 +352,7 @@ def traces(cases):
     acquires = [(b"T0", 0), (b"T0", 1), (every, 1), (every, 0)]
     yield "all bytes", b"".join(b"%s|acq(%s)||%s.\n" % (thread, names[lock], every) for thread, lock in acquires)
     for number in range(cases):
-        yield f"case {number}", compare.case("schema", number)
+        yield f"case {number}", random_traces.case("schema", number)
 
 
 def main():
@@ -378,11 +383,11 @@ def main():
         check(f"wrong document for {rule}", found != [rule] and f"breaks {found}: {json.dumps(document)[:400]}")
     for place in places:
         check(f"rule {place}", place not in tried and "no wrong document breaks it")
-    queries = [compare.reference.Query(mode, length) for mode, length in (("full", 4), ("guarded", 2), ("basic", 3))]
+    queries = [reference.Query(mode, length) for mode, length in (("full", 4), ("guarded", 2), ("basic", 3))]
     for number, (name, text) in enumerate(traces(min(options.cases, 100))):
         query = queries[number % 3]
         for form in (1, 2):
-            output, _, status = compare.reference.answer("predict", text, query, form)
+            output, _, status = reference.answer("predict", text, query, form)
             problem = status != 2 and wrong_in(schema, output, status, query.mode, query.length, query.most)
             check(f"the reference's report of {name}, format {form}", problem and f"{problem}: {output[:400]!r}")
 

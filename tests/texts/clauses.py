@@ -10,7 +10,7 @@ import pathlib
 import re
 import sys
 
-TOP = pathlib.Path(__file__).resolve().parent.parent
+TOP = pathlib.Path(__file__).resolve().parent.parent.parent
 COLUMNS = 100
 CLAUSE = re.compile(r"\s*(requires|ensures)\b")
 

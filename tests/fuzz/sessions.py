@@ -14,6 +14,7 @@ from outside. The last line is `N passed, N failed`, with one for each answer.
 import argparse
 import concurrent.futures
 import os
+import pathlib
 import random
 import subprocess
 import sys
@@ -22,7 +23,10 @@ import threading
 import time
 
 sys.dont_write_bytecode = True
-import compare  # noqa: E402
+sys.path.insert(0, str(pathlib.Path(__file__).resolve().parent.parent))
+
+from fuzz import random_traces  # noqa: E402
+from oracle import compare, worked_traces  # noqa: E402
 
 SHORT = 34  # lines; longer traces are too much for the reference
 MANY = 8  # threads; a long trace has fewer
@@ -45,13 +49,13 @@ def words_of(random_, is_short):
 def trace_of(seed, number, random_):
     """A short trace, or a long one of the same kinds of lines."""
     if random_.random() < 0.7:
-        return compare.case(seed, number, SHORT), True
-    maker = compare.Maker(random_)
+        return random_traces.case(seed, number, SHORT), True
+    maker = random_traces.Maker(random_)
     maker.size = random_.randint(SHORT, 5000)
     lines = maker.make()
     if random_.random() < 0.8:  # among many forks and joins there is nearly always a loop
         lines = [line for line in lines if "|fork(" not in line and "|join(" not in line]
-    return compare.joined(random_, lines), False
+    return random_traces.joined(random_, lines), False
 
 
 def pieces_of(random_, text):
@@ -128,13 +132,17 @@ def session(program, seed, number):
 
 # --- Streams whose input stays open ----------------------------------------------------------------------
 
-OPPOSITE = compare.lines(*compare.OPPOSITE)
+OPPOSITE = worked_traces.lines(*worked_traces.OPPOSITE)
 # The same again and again: more than a pipe and the program's buffer hold, by a thousand events.
-LONG = compare.lines(*compare.OPPOSITE[:4]) * 3000 + OPPOSITE
+LONG = worked_traces.lines(*worked_traces.OPPOSITE[:4]) * 3000 + OPPOSITE
 REFUSED = {
-    "a bad line": ([], compare.lines(*compare.OPPOSITE[:2]) + b"T0|rel(a|3\n", compare.refused(3, "bad operand")),
-    "one thread too few": (["--threads", "1"], OPPOSITE, compare.refused(5, "too many threads")),
-    "a bad line after many": (["--ring", "16"], LONG + b"T0\n", compare.refused(12_007, "no bar")),
+    "a bad line": (
+        [],
+        worked_traces.lines(*worked_traces.OPPOSITE[:2]) + b"T0|rel(a|3\n",
+        worked_traces.refused(3, "bad operand"),
+    ),
+    "one thread too few": (["--threads", "1"], OPPOSITE, worked_traces.refused(5, "too many threads")),
+    "a bad line after many": (["--ring", "16"], LONG + b"T0\n", worked_traces.refused(12_007, "no bar")),
 }
 
 
@@ -159,13 +167,13 @@ def open_inputs(program):
         child.give([OPPOSITE])
         waits_for(lambda: child.threads() == shards + 2)
         yield f"threads of {shards} shards before the input ends", shards + 2, child.threads()
-        yield f"{shards} shards", (compare.OPPOSITE_REPORT, b"", 1), child.answer()
+        yield f"{shards} shards", (worked_traces.OPPOSITE_REPORT, b"", 1), child.answer()
     # Without --stream the input is read to its end before a thread is started.
     child = Child(program, ["live", "--shards", "3"])
     child.give([OPPOSITE])
     yield "an early end without --stream", False, child.ends(0.3)
     yield "threads without --stream", 1, child.threads()
-    yield "without --stream", (compare.OPPOSITE_REPORT, b"", 1), child.answer()
+    yield "without --stream", (worked_traces.OPPOSITE_REPORT, b"", 1), child.answer()
     # Small rings: nothing more is read where nobody takes notes off before the input ends.
     child = Child(program, ["live", "--stream", "--ring", "16"])
     giving = threading.Thread(target=child.give, args=[[LONG]])
@@ -175,7 +183,7 @@ def open_inputs(program):
     if giving.is_alive():
         child.child.kill()
         giving.join()
-    yield "a long input", (compare.OPPOSITE_REPORT, b"", 1), child.answer()
+    yield "a long input", (worked_traces.OPPOSITE_REPORT, b"", 1), child.answer()
 
 
 def main():

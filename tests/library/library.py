@@ -3,11 +3,10 @@
 
     library.py [--cases N] [--seed S] [--only PART ..] PROGRAM
 
-The header is compiled alone as C and as C++. Each example of library/examples prints its known report. tests/library.c
-records random sessions in running threads; each report's text and JSON has to be what PROGRAM says of the trace of
-what was recorded, byte for byte. Some hundred of them run under AddressSanitizer, ThreadSanitizer and Valgrind. tests/
-library_misuse.c uses each call wrongly, refuses memory, forks and leaves in mid-course; tests/library_wrapper.cc is of
-goodlock.hpp. Every run has a limit of time. The last line is `N passed, N failed`, with `, N skipped` behind it where tools
+The header is compiled alone as C and as C++. Each example of library/examples prints its known report. sessions.c records
+random sessions in running threads; each report's text and JSON has to be what PROGRAM says of the trace of what was
+recorded, byte for byte. Some hundred of them run under AddressSanitizer, ThreadSanitizer and Valgrind. misuse.c uses each
+call wrongly, refuses memory, forks and leaves in mid-course; wrapper.cc is of goodlock.hpp. Every run has a limit of time. The last line is `N passed, N failed`, with `, N skipped` behind it where tools
 are missing: each is named. PART: headers, examples, wrapper, sessions, sanitized, misuse.
 
 LIBRARY   the archive that is tested   (prebuilt/libgoodlock.a)
@@ -24,7 +23,8 @@ import subprocess
 import sys
 import tempfile
 
-TOP = pathlib.Path(__file__).resolve().parent.parent
+HERE = pathlib.Path(__file__).resolve().parent
+TOP = HERE.parent.parent
 HEADERS = TOP / "library"
 EXAMPLES = HEADERS / "examples"
 ARCHIVE = pathlib.Path(os.environ.get("LIBRARY") or TOP / "prebuilt" / "libgoodlock.a").resolve()
@@ -211,7 +211,7 @@ class Tests:
         print(f"{name}: {cases} sessions, {reports} reports, {cyclic} with cycles, {inconsistent} inconsistent")
 
     def driver(self, output, *words):
-        source = TOP / "tests" / "library.c"
+        source = HERE / "sessions.c"
         c = ["gcc", "-std=gnu11", "-g", *STRICT, f"-I{HEADERS}", *words, source, ARCHIVE, "-lpthread"]
         return self.folder / output if self.build(output, *c) else None
 
@@ -242,7 +242,7 @@ class Tests:
     # --- The wrapper for C++
 
     def wrapper(self):
-        source = TOP / "tests" / "library_wrapper.cc"
+        source = HERE / "wrapper.cc"
         environment = {**os.environ, "TSAN_OPTIONS": "detect_deadlocks=0"}
         for name, words in SANITIZERS.items():
             c = ["g++", "-std=c++17", "-O1", "-g", *STRICT, f"-I{HEADERS}", *words, source, ARCHIVE, "-lpthread"]
@@ -253,7 +253,7 @@ class Tests:
     # --- Misuse
 
     def misuse(self):
-        source = TOP / "tests" / "library_misuse.c"
+        source = HERE / "misuse.c"
         for name, words in SANITIZERS.items():
             c = ["gcc", "-std=gnu11", "-O1", "-g", *STRICT, f"-I{HEADERS}", *words, source, ARCHIVE, *WRAPS]
             if self.build(f"misuse_{name}", *c, "-lpthread"):

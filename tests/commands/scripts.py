@@ -277,7 +277,9 @@ def sweep(tests, runner, name):
     missing = REFUSED[name].difference(*(answers.get(output, set()) for output in outputs))
     tests.check_that(f"{name}", not missing, f"never refused: {', '.join(sorted(missing))}")
     if name == "ring_of_one":
-        tests.check_that("pull_refused_once", pull_refused_once(outputs), "no run has the first pull refused and made again")
+        tests.check_that(
+            "pull_refused_once", pull_refused_once(outputs), "no run has the first pull refused and made again"
+        )
     for number, run in runner.sweep(name, b"", "memory", "onwards"):
         status = run.answer[2]
         tests.check_that(f"{name}, memory onwards call {number}", status in (0, 3), f"status {status}")
