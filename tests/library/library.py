@@ -184,7 +184,7 @@ class Tests:
     def batch(self, driver, first, last, prefix=(), **more):
         """Runs some sessions; their faults and the number of reports."""
         with tempfile.TemporaryDirectory(dir=self.folder) as place:
-            done = run(*prefix, driver, self.seed, first, last, place, seconds=600, **more)
+            done = run(*prefix, driver, self.seed, first, last, place, seconds=1500, **more)
             faults = []
             if done.status != 0 or done.errors:
                 faults.append(f"sessions {first} to {last}: status {done.status}\n{done.errors[-3000:]}")
@@ -262,7 +262,7 @@ class Tests:
 
     def counted(self, name, program, word, **more):
         """Runs a program that counts its own checks in its last line."""
-        done = run(self.folder / program, word, seconds=150, **more)
+        done = run(self.folder / program, word, seconds=450, **more)
         *lines, last = done.output.splitlines() or [""]
         counts = last.split()
         is_counted = len(counts) == 4 and counts[1] == "passed," and counts[3] == "failed"

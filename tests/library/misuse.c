@@ -578,7 +578,7 @@ static void start_and_leave(void)
 int main(int count, char **words)
 {
     const char *const word = count == 2 ? words[1] : "";
-    alarm(120);
+    alarm(400); /* only a run that hangs takes so long */
     if (strcmp(word, "misuse") == 0) {
         on_nothing();
         out_of_range();

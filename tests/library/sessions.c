@@ -546,7 +546,7 @@ int main(int count, char **words)
         session->folder = words[4];
         session->number = number;
         state = seed * 1000003 + number;
-        alarm(60);
+        alarm(300); /* only a run that hangs takes so long */
         plan(session);
         run(session);
         free(session);

@@ -21,7 +21,7 @@ TESTS = os.path.dirname(os.path.realpath(__file__))
 TOOLS = os.path.dirname(TESTS)
 SOURCES = os.path.join(TESTS, "record")
 RECORD = os.path.join(TOOLS, "goodlock-record")
-REFERENCE = os.path.join(os.path.dirname(TOOLS), "tests", "reference.py")
+REFERENCE = os.path.join(os.path.dirname(TOOLS), "tests", "oracle", "reference.py")
 NO_EVENTS, REFUSED = 124, 125
 C_FLAGS = ["-Wall", "-g", "-fno-optimize-sibling-calls", "-pthread"]
 
@@ -563,7 +563,7 @@ def killed_in_a_deadlock():
 def a_killed_deadlock_is_predicted():
     """The reference finds the cycle in the trace of the hang (which the test before left)."""
     if not os.path.exists(REFERENCE):
-        return "skipped: no tests/reference.py"
+        return "skipped: no tests/oracle/reference.py"
     running = start("deadlock")
     time.sleep(0.3)
     os.kill(child_of(running.pid), signal.SIGKILL)

@@ -1,6 +1,6 @@
 //! `gl_scripts NAME` makes the calls of the script of this name, and prints each answer on a line.
 //!
-//! It is run while one growth in turn is refused (tests/scripts.py). Where a call answers that there is no
+//! It is run while one growth in turn is refused (tests/commands/scripts.py). Where a call answers that there is no
 //! memory, that is printed, then what the call promises to leave as it was, and then the call is made
 //! again: what follows has to be as if nothing had happened. What a refusal spoils for good is printed
 //! too, and the script begins once more.
