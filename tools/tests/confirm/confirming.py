@@ -1,0 +1,62 @@
+"""What the tests of goodlock-confirm share: predicting a cycle, and trying to bring it about."""
+
+import json
+import os
+import re
+import subprocess
+import sys
+import tempfile
+
+from c_programs import RECORD, REFERENCE, TOOLS
+
+CONFIRM = os.path.join(TOOLS, "goodlock-confirm")
+VIEW = os.path.join(TOOLS, "goodlock-view")
+NOT_SEEN, DEADLOCKED, ERROR = 0, 1, 125
+
+
+def predict(name, folder):
+    """The path of the report on a run of this program, whose lists have a cycle however its threads come along."""
+    trace = folder / f"{name}.std"
+    done = subprocess.run([RECORD, "-o", trace, "./cycles", name], cwd=folder, stderr=subprocess.PIPE, timeout=30)
+    assert done.returncode == 0, done.stderr.decode()
+    with open(trace, "rb") as lines:
+        found = subprocess.run([sys.executable, REFERENCE, "--json"], stdin=lines, stdout=subprocess.PIPE).stdout
+    assert json.loads(found)["cycles"], f"{name}: no cycle is predicted"
+    report = folder / f"report-{name}.json"
+    report.write_bytes(found)
+    return str(report)
+
+
+def run(arguments):
+    done = subprocess.run([CONFIRM] + arguments, stdout=subprocess.PIPE, stderr=subprocess.PIPE, timeout=100)
+    return done.returncode, done.stdout.decode(), done.stderr.decode()
+
+
+def deadlocks(predict, name, threads):
+    status, out, said = run([predict(name), "--", "./cycles", name])
+    assert status == DEADLOCKED, "status %d: %s%s" % (status, out, said)
+    assert re.match(r"deadlocked in try [1-5]\n", out), out
+    steps = re.findall(r"^  (\S+) holds (\S+) since (\S+) and waits for (\S+) at (\S+)$", out, re.MULTILINE)
+    assert len(steps) == threads, out
+    for i, (_, held, _, _, _) in enumerate(steps):
+        assert steps[i - 1][3] == held, "no cycle: " + out
+    assert len({step[0] for step in steps}) == threads, "a thread stands there twice: " + out
+    return steps, out
+
+
+def false_alarm(predict, name):
+    status, out, said = run(["--tries", "2", predict(name), "--", "./cycles", name])
+    assert status == NOT_SEEN and out == "not seen in 2 tries\n", "status %d: %s%s" % (status, out, said)
+
+
+def check_that_nothing_is_left():
+    """No folder of a confirmation, and no process of the program."""
+    left = [name for name in os.listdir(tempfile.gettempdir()) if name.startswith("goodlock-confirm.")]
+    assert not left, str(left)
+    for name in os.listdir("/proc"):
+        if name.isdigit():
+            try:
+                with open("/proc/%s/cmdline" % name, "rb") as file:
+                    assert not file.read().startswith(b"./cycles\0"), "process %s still runs" % name
+            except OSError:
+                pass

@@ -1,0 +1,44 @@
+"""Predicted cycles that it brings about."""
+
+import os
+import re
+
+from c_programs import SOURCES
+from confirming import DEADLOCKED, deadlocks, run
+
+
+def test_opposite_orders(predict):
+    steps, out = deadlocks(predict, "opposite", 2)
+    marks = {}
+    with open(os.path.join(SOURCES, "cycles.c")) as file:
+        for number, line in enumerate(file, 1):
+            for mark in re.findall(r"@(\w+)", line):
+                marks[mark] = "cycles.c:%d" % number
+    assert sorted(steps) == [
+        ("main.1:one_way", "a", marks["one_a"], "b", marks["one_b"]),
+        ("main.2:other_way", "b", marks["other_b"], "a", marks["other_a"]),
+    ], out
+    assert "    since one_way (%s)" % marks["one_a"] in out and "    at    one_way (%s)" % marks["one_b"] in out, out
+
+
+def test_ring_of_three(predict):
+    deadlocks(predict, "philosophers", 3)
+
+
+def test_readers_and_a_writer(predict):
+    deadlocks(predict, "readers", 2)
+
+
+def test_condition(predict):
+    deadlocks(predict, "conditions", 2)
+
+
+def test_wait_for_a_condition(predict):
+    """The lock is asked for within the wait, when the signal has come."""
+    status, out, said = run(["--finding", "1", predict("wakes"), "--", "env", "ORDER=late", "./cycles", "wakes"])
+    assert status == DEADLOCKED, "status %d: %s%s" % (status, out, said)
+    assert re.search(r"main.1:sleeps holds a since \S+ and waits for b at cycles.c:\d+", out), out
+
+
+def test_pool_of_threads(predict):
+    deadlocks(predict, "pool", 2)

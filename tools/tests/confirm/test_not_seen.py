@@ -1,0 +1,40 @@
+"""False alarms, and runs that don't come to the cycle: it doesn't bring these about."""
+
+from confirming import NOT_SEEN, false_alarm, run
+
+
+def test_mutex_that_another_thread_unlocks(predict):
+    """Who locked it last holds it, whatever the others did."""
+    name = "false_handed_over"
+    status, out, said = run(["--tries", "1", predict(name), "--", "./cycles", name])
+    assert status == NOT_SEEN and out == "not seen in 1 try\n", "status %d: %s%s" % (status, out, said)
+
+
+def test_wait_without_a_signal(predict):
+    """The thread hangs in a wait that nobody ends: it doesn't wait for the lock."""
+    status, out, said = run(
+        ["--tries", "1", "--seconds", "2", predict("wakes"), "--", "env", "ORDER=never", "./cycles", "wakes"]
+    )
+    assert status == NOT_SEEN and out == "not seen in 1 try, 2 runs ended after 2 seconds\n", "%d: %s%s" % (
+        status,
+        out,
+        said,
+    )
+
+
+def test_order_by_a_semaphore(predict):
+    false_alarm(predict, "false_semaphore")
+
+
+def test_order_by_a_flag(predict):
+    false_alarm(predict, "false_flag")
+
+
+def test_other_locks_at_the_same_places(predict):
+    false_alarm(predict, "false_own_locks")
+
+
+def test_program_that_never_ends(predict):
+    status, out, said = run(["--tries", "1", "--seconds", "1", predict("opposite"), "--", "sleep", "60"])
+    assert status == NOT_SEEN and out == "not seen in 1 try, 2 runs ended after 1 seconds\n", out + said
+    assert "no run came to cycles.c:" in said, said

@@ -1,0 +1,51 @@
+"""What it writes for tools, what it refuses, and that it leaves nothing."""
+
+import json
+import subprocess
+
+from confirming import DEADLOCKED, ERROR, VIEW, check_that_nothing_is_left, deadlocks, false_alarm, run
+
+
+def test_output_for_tools(predict):
+    status, out, said = run(["-o", "confirmed.json", predict("opposite"), "--", "./cycles", "opposite"])
+    assert status == DEADLOCKED, said
+    with open("confirmed.json") as file:
+        value = json.load(file)
+    assert value["outcome"] == "deadlocked" and value["text"] == out.rstrip("\n").split("\n"), str(value)
+    shown = subprocess.run([VIEW, "--confirmed", "confirmed.json", predict("opposite")], stdout=subprocess.PIPE).stdout
+    assert shown.startswith(b"finding 1: confirmed 1 cycle in 1 report\n"), shown.decode()
+    with open(predict("opposite")) as file:
+        edges = json.load(file)["edges"]
+    assert sorted(map(tuple, value["pairs"])) == sorted((e["held_at"], e["wanted_at"]) for e in edges), str(value)
+    status, out, said = run(["-o", "confirmed.json", predict("opposite"), "--", "./cycles", "opposite"])
+    assert status == ERROR and "exists already" in said, said
+
+
+def test_errors(predict):
+    report = predict("opposite")
+    with open("no-report.json", "w") as file:
+        file.write('{"cycles": [[0, 1]]}')
+    for arguments, text in (
+        ([], "usage"),
+        ([report], "usage"),
+        (["--tries", "0", report, "--", "true"], "--tries"),
+        (["missing.json", "--", "true"], "missing.json"),
+        (["no-report.json", "--", "true"], "not a report"),
+        (["--finding", "2", report, "--", "true"], "1 findings"),
+        ([report, "--", "./no-such-program"], "no-such-program"),
+        ([report, "--", "./cycles-static", "opposite"], "statically linked"),
+    ):
+        status, out, said = run(arguments)
+        assert status == ERROR and text in said and out == "" and "Traceback" not in said, "%s: %d %s" % (
+            arguments,
+            status,
+            said,
+        )
+
+
+def test_nothing_is_left(predict):
+    """After a deadlock, after tries in vain, and after a run that was ended."""
+    deadlocks(predict, "opposite", 2)
+    false_alarm(predict, "false_flag")
+    run(["--tries", "1", "--seconds", "1", predict("opposite"), "--", "sleep", "60"])
+    check_that_nothing_is_left()

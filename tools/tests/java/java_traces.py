@@ -1,0 +1,52 @@
+"""What the tests of goodlock-java share: the program Locks, recorded, and its known traces."""
+
+import os
+import shutil
+
+from known_traces import TESTS, TOOLS, Run, compare, cycles_in, expand, marks_of
+
+JAVA_RECORD = os.path.join(TOOLS, "goodlock-java")
+SOURCES = os.path.join(TESTS, "java")
+MARKS = marks_of(SOURCES, "//")
+NEEDED = ("java", "javac")
+ASM = "/usr/share/java/asm-commons.jar"
+PAIR = """
+    main|acq(Object@@a#1)|@monitor_a
+    main|acq(Object@@b#1)|@monitor_b
+    main|rel(Object@@b#1)|@monitor_b_end
+    main|rel(Object@@a#1)|@monitor_a_end"""
+
+
+def program(name, *arguments):
+    return ["java", "-XX:TieredStopAtLevel=1", "-cp", "classes", "Locks", name, *arguments]
+
+
+def record(name, *options, arguments=(), command=None):
+    return Run(JAVA_RECORD, command or program(name, *arguments), options)
+
+
+def expect(name, text, status=0):
+    """The program of this name leaves exactly this trace."""
+    run = record(name)
+    assert run.status == status, "status %d: %s" % (run.status, run.said)
+    compare(run.lines(), expand(text, MARKS))
+    assert run.files() == ["t.std"], "further files: %s" % run.files()
+    return run
+
+
+def expect_cycles(name, number):
+    run = record(name)
+    assert run.status == 0, run.said
+    found = cycles_in(run.lines())
+    assert found == number, "%d cycles in\n%s" % (found, "\n".join(run.lines()))
+
+
+def line_of(mark):
+    return int(MARKS[mark].split(":")[1])
+
+
+def missing():
+    for name in NEEDED:
+        if shutil.which(name) is None:
+            return name
+    return None if os.path.exists(ASM) else ASM

@@ -1,0 +1,80 @@
+"""However a program ends there is a trace, and the program stays as it is."""
+
+import os
+import random
+import re
+import subprocess
+
+import pytest
+from java_traces import JAVA_RECORD, MARKS, PAIR, expect, program, record
+from known_traces import NO_EVENTS, compare, cycles_in, expand, is_front_of_a_run, killed
+
+pytestmark = pytest.mark.usefixtures("classes")
+
+
+DEADLOCK = """
+    main|fork(main.1:Locks.lambda)|@dead_start
+    main|acq(Object@@a#1)|@dead_a
+    main|acq(Object@@b#1)|@dead_ab
+    main.1:Locks.lambda|acq(Object@@b#1)|@dead_b
+    main.1:Locks.lambda|acq(Object@@a#1)|@dead_ba"""
+
+
+def test_killed_in_a_deadlock():
+    lines = killed(JAVA_RECORD, program("deadlock"), 0.5)
+    compare(lines, expand(DEADLOCK, MARKS))
+    assert cycles_in(lines) == 1, "no cycle"
+
+
+def test_killed_at_any_moment():
+    for _ in range(4):
+        lines = killed(JAVA_RECORD, program("busy"), random.random() / 3)
+        assert len(lines) > 10, "%d lines" % len(lines)
+        is_front_of_a_run(lines)
+
+
+def test_exit_without_an_end():
+    expect("halts", PAIR, status=5)
+
+
+def test_child_process():
+    run = record("child")
+    assert run.status == 0, run.said
+    child = run.out.strip()
+    assert "t.std." + child in run.files(), "%s %s" % (run.files(), run.said)
+    compare(run.lines("." + child), expand(PAIR, MARKS))
+
+
+def test_serial_versions_stay():
+    plain = subprocess.run(program("serial"), stdout=subprocess.PIPE).stdout.decode()
+    assert record("serial").out == plain != "", "another serial version"
+
+
+def test_classes_of_the_jdk_on_demand():
+    run = record("queue")
+    assert run.status == NO_EVENTS, "%d %s" % (run.status, run.said)
+    assert "in classes that aren't the JDK's" in run.said, run.said
+    lines = record("queue", "--jdk").lines()
+    assert any(re.match(r"main\|acq\(Vector@", line) for line in lines), "\n".join(lines)
+
+
+def test_virtual_threads_are_refused_by_name():
+    found = [
+        path for path in sorted(os.listdir("/usr/lib/jvm")) if has_virtual_threads("/usr/lib/jvm/%s/bin/java" % path)
+    ]
+    if not found:
+        pytest.skip("no Java 21 or later here")
+    command = ["/usr/lib/jvm/%s/bin/java" % found[-1], "-cp", "classes", "Locks", "virtualThreads"]
+    run = record(None, command=command)
+    assert run.status == 0, run.said
+    assert "virtual threads are refused" in run.said and "1 virtual threads took locks" in run.said, run.said
+    main = [line for line in run.lines() if re.match(r"main\|(acq|rel)", line)]
+    compare(main, expand(PAIR, MARKS))
+
+
+def has_virtual_threads(java):
+    if not os.access(java, os.X_OK):
+        return False
+    done = subprocess.run([java, "-version"], stdout=subprocess.PIPE, stderr=subprocess.STDOUT)
+    version = re.search(rb'version "(\d+)', done.stdout)
+    return version is not None and int(version.group(1)) >= 21

@@ -1,0 +1,104 @@
+"""Locks of java.util.concurrent.locks."""
+
+import pytest
+from java_traces import expect, expect_cycles
+
+pytestmark = pytest.mark.usefixtures("classes")
+
+
+def test_locks_and_their_tries():
+    expect(
+        "reentrantLocks",
+        """
+        main|acq(ReentrantLock@@lock_made#1)|@lock
+        main|rel(ReentrantLock@@lock_made#1)|@unlock
+        main|acq(ReentrantLock@@lock_made#1)|@lock_interruptibly
+        main|rel(ReentrantLock@@lock_made#1)|@unlock_2
+        main|tryacq(ReentrantLock@@lock_made#1)|@try
+        main|rel(ReentrantLock@@lock_made#1)|@unlock_3
+        main|tryacq(ReentrantLock@@lock_made#1)|@timed
+        main|rel(ReentrantLock@@lock_made#1)|@unlock_4""",
+    )
+
+
+def test_calls_that_fail_make_no_event():
+    run = expect(
+        "failing",
+        """
+        main|acq(ReentrantLock@@again#1)|@failing_lock
+        main|fork(main.1:Locks.lambda)|@failing_start
+        main|join(main.1:Locks.lambda)|@failing_join
+        main|rel(ReentrantLock@@again#1)|@failing_unlock
+        main.1:Locks.lambda|acq(Object@@b#1)|@failing_b
+        main.1:Locks.lambda|rel(Object@@b#1)|@failing_b_end""",
+    )
+    assert "4 other calls" in run.said, run.said
+
+
+def test_opposite_orders_of_locks():
+    expect_cycles("opposite_locks", 1)
+
+
+def test_tried_locks():
+    expect_cycles("tries", 0)
+
+
+def test_readers_and_writers():
+    expect(
+        "readersAndWriters",
+        """
+        main|racq(RW)|@read
+        main|racq(RW)|@read_2
+        main|rrel(RW)|@read_2_end
+        main|rrel(RW)|@read_end
+        main|acq(RW)|@write
+        main|racq(RW)|@downgrade
+        main|rel(RW)|@write_end
+        main|rel(RW)|@downgrade_end
+        main|tryracq(RW)|@try_read
+        main|rrel(RW)|@try_read_end
+        main|tryacq(RW)|@timed_write
+        main|rel(RW)|@timed_write_end""".replace(
+            "RW", "ReentrantReadWriteLock@@rw_made#1"
+        ),
+    )
+
+
+def test_readers_dont_wait_for_readers():
+    expect_cycles("readersDontWait", 0)
+    expect_cycles("writersWait", 1)
+
+
+def test_stamped_locks():
+    expect(
+        "stamped",
+        """
+        main|acq(S)|@stamped_write
+        main|rel(S)|@stamped_write_end
+        main|racq(S)|@stamped_read
+        main|rrel(S)|@convert
+        main|tryacq(S)|@convert
+        main|rel(S)|@convert_end
+        main|tryracq(S)|@stamped_timed
+        main|rrel(S)|@stamped_timed_end
+        main|racq(S)|@stamped_interruptibly
+        main|rrel(S)|@stamped_try_unlock
+        main|acq(S)|@view
+        main|rel(S)|@view_end""".replace(
+            "(S)", "(StampedLock@@stamped_made#1)"
+        ),
+    )
+
+
+def test_classes_of_locks():
+    """Where a class of the program's stands before a lock's method, what that calls is recorded, and not both."""
+    expect(
+        "classesOfLocks",
+        """
+        main|acq(Locks$Counted@@counted_made#1)|@counted_lock
+        main|rel(Locks$Counted@@counted_made#1)|@counted_unlock
+        main|acq(Locks$Counted@@counted_made#1)|@counted_lock
+        main|tryacq(Locks$Counted@@counted_made#1)|@counted_try
+        main|rel(Locks$Counted@@counted_made#1)|@counted_unlock_2
+        main|rel(Locks$Counted@@counted_made#1)|@counted_unlock_3""",
+    )

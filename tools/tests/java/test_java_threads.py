@@ -1,0 +1,94 @@
+"""Threads and their names; repeats, which are left out; and the places of events."""
+
+import os
+import re
+import subprocess
+
+import pytest
+from java_traces import MARKS, PAIR, SOURCES, expect, record
+from known_traces import compare, edges_of, expand
+
+pytestmark = pytest.mark.usefixtures("classes")
+
+
+def test_threads_made_and_joined():
+    expect(
+        "threads",
+        """
+        main|fork(main.1:Locks.lambda)|@threads_start
+        main|join(main.1:Locks.lambda)|@threads_join
+        main|fork(main.2:Locks$Task)|@threads_start
+        main|join(main.2:Locks$Task)|@threads_join
+        main|fork(main.3:named)|@threads_start
+        main|join(main.3:named)|@threads_join
+        main|fork(main.4:Locks.lambda)|@late_start
+        main|join(main.4:Locks.lambda)|@late_join
+        main.1:Locks.lambda|fork(main.1.1:Locks$Worker)|@child_start
+        main.1:Locks.lambda|join(main.1.1:Locks$Worker)|@child_join""",
+    )
+
+
+def test_thread_pools():
+    expect("pool", "main|fork(main.1:pool-1-thread-1)|@pool_submit" + PAIR.replace("main|", "main.1:pool-1-thread-1|"))
+
+
+def test_locks_of_racing_threads():
+    names = ["main.%d:Locks.lambda" % i for i in (1, 2, 3)]
+    text = ["main|fork(%s)|@racing_start" % name for name in names] + [
+        "main|join(%s)|@racing_join" % name for name in names
+    ]
+    for number, name in enumerate(names, 1):
+        for i in (1, 2, 3):
+            text.append("%s|acq(Object@@own#main.%d:%d)|@walk" % (name, number, i))
+            text.append("%s|rel(Object@@own#main.%d:%d)|@walk_end" % (name, number, i))
+    for _ in range(2):
+        expect("racing", "\n".join(text))
+
+
+def test_repeats_are_left_out():
+    worker = "main.1:Locks$Worker"
+    run = expect(
+        "repeats",
+        PAIR + "\nmain|fork(%s)|@repeats_start" % worker + PAIR + "\nmain|join(%s)|@repeats_join" % worker + PAIR,
+    )
+    assert "and %d of repeats" % (4 * (4 + 99_999)) in run.said, run.said
+
+
+def test_what_is_left_out_adds_no_edge():
+    for seed in ("1", "2"):
+        short = record("randomEvents", arguments=[seed]).lines()
+        whole = record("randomEvents", "--all", arguments=[seed]).lines()
+        assert len(edges_of(whole)) > 100, "only %d edges" % len(edges_of(whole))
+        assert edges_of(short) == edges_of(whole), "seed %s: the edges differ" % seed
+        assert len(short) < 0.95 * len(whole), "%d of %d lines are left" % (len(short), len(whole))
+
+
+def test_more_callers():
+    run = record("frames", "--frames", "3")
+    places = "<@frames_outer<@frames_call"
+    lines = [line.rsplit("|", 1)[1] for line in run.lines()]
+    compare(lines, expand("\n".join("@monitor_%s%s" % (mark, places) for mark in ("a", "b", "b_end", "a_end")), MARKS))
+
+
+def test_without_line_numbers():
+    """The place is a method and the number of an instruction in it."""
+    done = subprocess.run(["javac", "-g:none", "-d", "no-lines", os.path.join(SOURCES, "Locks.java")])
+    assert done.returncode == 0, "javac failed"
+    lines = record(None, command=["java", "-cp", "no-lines", "Locks", "monitors"]).lines()
+    words = [
+        re.fullmatch(r"main\|(\w+)\(Object@Locks\.<clinit>\+\d+#1\)\|Locks\.monitors\+\d+", line) for line in lines
+    ]
+    assert all(words) and [word.group(1) for word in words] == ["acq", "acq", "rel", "rel"], str(lines)
+
+
+def test_more_locks_than_goodlock_reads():
+    text = ["main|%s(ReentrantLock@@beyond_made#%d)|@beyond" % ("acq" if i < 65 else "beyond", i) for i in range(1, 67)]
+    text += ["main|rel(ReentrantLock@@beyond_made#%d)|@beyond_end" % i for i in range(64, 0, -1)]
+    run = expect("manyLocks", "\n".join(text))
+    assert "2 acquires by threads that held 64 locks" in run.said, run.said
+
+
+def test_many_locks_that_are_collected():
+    run = record("manyObjects")
+    assert run.status == 0, run.said
+    assert "400000 events" in run.said and "200000 locks" in run.said, run.said

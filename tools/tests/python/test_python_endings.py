@@ -1,0 +1,77 @@
+"""However a program ends there is a trace."""
+
+import random
+import re
+
+from known_traces import compare, cycles_in, expand, is_front_of_a_run, killed
+from python_traces import INTERPRETER, LOCKS, MARKS, PAIR, PYTHON_RECORD, expect, record
+
+DEADLOCK = """
+    main|fork(main.1:deadlock.other)|@dead_start
+    main|acq(Lock@@a#1)|@dead_a
+    main|acq(Lock@@b#1)|@dead_ab
+    main.1:deadlock.other|acq(Lock@@b#1)|@dead_b
+    main.1:deadlock.other|acq(Lock@@a#1)|@dead_ba"""
+
+
+def test_killed_in_a_deadlock():
+    lines = killed(PYTHON_RECORD, [INTERPRETER, LOCKS, "deadlock"], 0.3)
+    compare(lines, expand(DEADLOCK, MARKS))
+    assert cycles_in(lines) == 1, "no cycle"
+
+
+def test_killed_at_any_moment():
+    for _ in range(8):
+        lines = killed(PYTHON_RECORD, [INTERPRETER, LOCKS, "busy"], random.random() / 5)
+        assert len(lines) > 10, "%d lines" % len(lines)
+        is_front_of_a_run(lines)
+
+
+def test_acquire_that_an_exception_ends():
+    run = expect(
+        "interrupted",
+        """
+        main|acq(Lock@@a#1)|@interrupted_a
+        main|acq(Lock@@b#1)|@interrupted_b
+        main|acq(RLock@@again#1)|@interrupted_again
+        main|rel(RLock@@again#1)|@interrupted_again
+        main|rel(Lock@@b#1)|@interrupted_b""",
+    )
+    assert "1 other calls" in run.said, run.said
+
+
+def test_acquire_that_an_exception_ends_at_last():
+    run = record("interrupted_at_last")
+    assert run.status == 5, run.said
+    lines = [line for line in run.lines() if line.startswith("main|acq")]
+    compare(lines, expand("main|acq(Lock@@a#1)|@last_a", MARKS))
+
+
+def test_lock_that_its_thread_holds():
+    lines = killed(PYTHON_RECORD, [INTERPRETER, LOCKS, "waits_for_itself"], 0.2)
+    compare(
+        lines,
+        expand(
+            """
+        main|acq(Lock@@a#1)|@itself_1
+        main|again(Lock@@a#1)|@itself_2""",
+            MARKS,
+        ),
+    )
+
+
+def test_locks_at_any_moment():
+    """Handlers of signals and finalizers come between any two steps of the recorder, and all stays balanced."""
+    run = record("storm")
+    assert run.status == 0, run.said
+    is_front_of_a_run(run.lines())
+    depths = {}
+    for line in run.lines():
+        word, lock = re.fullmatch(r"main\|(\w+)\((.*)\)\|.*", line).groups()
+        depths[lock] = depths.get(lock, 0) + (1 if word == "acq" else -1)
+    assert len(depths) == 5 and set(depths.values()) == {0}, "held at the end: %s" % depths
+    assert len(run.lines()) < 3000, "%d lines" % len(run.lines())
+
+
+def test_exit_without_an_end():
+    expect("leaves_at_once", PAIR, status=5)

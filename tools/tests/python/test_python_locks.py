@@ -1,0 +1,166 @@
+"""Locks, conditions and semaphores: whole traces, and how many cycles they have."""
+
+from python_traces import expect, expect_cycles
+
+
+def test_mutexes():
+    run = expect(
+        "mutexes",
+        """
+        main|acq(Lock@@a#1)|@mutex_lock
+        main|acq(Lock@@b#1)|@mutex_with
+        main|rel(Lock@@b#1)|@mutex_with
+        main|rel(Lock@@a#1)|@mutex_unlock
+        main|tryacq(Lock@@b#1)|@mutex_try
+        main|rel(Lock@@b#1)|@mutex_unlock_2
+        main|tryacq(Lock@@b#1)|@mutex_timed
+        main|rel(Lock@@b#1)|@mutex_unlock_3
+        main|acq(Lock@@b#1)|@mutex_lock_2
+        main|rel(Lock@@b#1)|@mutex_unlock_4""",
+    )
+    assert "10 events" in run.said and "1 threads, 2 locks, 0 other calls" in run.said, run.said
+
+
+def test_calls_that_fail_make_no_event():
+    run = expect(
+        "failing",
+        """
+        main|acq(Lock@@a#1)|@failing_lock
+        main|rel(Lock@@a#1)|@failing_unlock""",
+    )
+    assert "2 other calls" in run.said, run.said
+
+
+def test_opposite_orders():
+    expect_cycles("opposite", 1)
+
+
+def test_gate_lock():
+    expect_cycles("gate", 0)
+
+
+def test_joined_in_between():
+    expect_cycles("joined_in_between", 0)
+
+
+def test_tried_locks():
+    expect_cycles("tries", 0)
+
+
+def test_three_in_a_ring():
+    expect_cycles("three_in_a_ring", 1)
+
+
+def test_reentrant_locks():
+    expect(
+        "reentrant",
+        """
+        main|acq(RLock@@again#1)|@again_1
+        main|acq(RLock@@again#1)|@again_2
+        main|acq(Lock@@a#1)|@again_a
+        main|rel(Lock@@a#1)|@again_a
+        main|rel(RLock@@again#1)|@again_2
+        main|rel(RLock@@again#1)|@again_1""",
+    )
+
+
+def test_own_lock_twice_is_no_cycle():
+    expect_cycles("own_lock_twice_is_no_cycle", 0)
+
+
+def test_waits_for_conditions():
+    expect(
+        "waits",
+        """
+        main|acq(Condition@@waits_made#1)|@waits
+        main|fork(main.1:waits.signals)|@waits_start
+        main|rel(Condition@@waits_made#1)|@wait
+        main|acq(Condition@@waits_made#1)|@wait
+        main|rel(Condition@@waits_made#1)|@wait_timed
+        main|acq(Condition@@waits_made#1)|@wait_timed
+        main|rel(Condition@@waits_made#1)|@waits
+        main.1:waits.signals|acq(Condition@@waits_made#1)|@signals
+        main.1:waits.signals|rel(Condition@@waits_made#1)|@signals""",
+    )
+
+
+def test_wait_of_a_lock_held_twice():
+    expect(
+        "wait_of_a_lock_held_twice",
+        """
+        main|acq(RLock@@again#1)|@twice_1
+        main|acq(RLock@@again#1)|@twice_2
+        main|rel(RLock@@again#1)|@twice_wait
+        main|rel(RLock@@again#1)|@twice_wait
+        main|acq(RLock@@again#1)|@twice_wait
+        main|acq(RLock@@again#1)|@twice_wait
+        main|rel(RLock@@again#1)|@twice_2
+        main|rel(RLock@@again#1)|@twice_1""",
+    )
+
+
+def test_wait_that_takes_its_lock_again():
+    expect_cycles("wait_that_takes_again", 1)
+
+
+def test_refused_wait_makes_no_event():
+    expect(
+        "refused_wait",
+        """
+        main|acq(Lock@@b#1)|@refused_b
+        main|rel(Lock@@b#1)|@refused_b""",
+    )
+
+
+def test_locks_of_objects():
+    expect(
+        "locks_of_objects",
+        """
+        main|acq(Lock@@account#2)|@account_2
+        main|acq(Lock@@account#1)|@account_0
+        main|rel(Lock@@account#1)|@account_0
+        main|rel(Lock@@account#2)|@account_2""".replace(
+            "#2", "#3"
+        ).replace(
+            "#3", "#2"
+        ),
+    )
+
+
+def test_locks_of_racing_threads():
+    text = []
+    names = ["main.%d:locks_of_racing_threads.walk" % (i + 1) for i in range(3)]
+    text += ["main|fork(%s)|@walk_start" % name for name in names]
+    text += ["main|join(%s)|@walk_join" % name for name in names]
+    for number, name in enumerate(names, 1):
+        for i in (1, 2, 3):
+            text += ["%s|%s(Lock@@account#main.%d:%d)|@walk" % (name, word, number, i) for word in ("acq", "rel")]
+    for _ in range(3):
+        expect("locks_of_racing_threads", "\n".join(text))
+
+
+def test_semaphore_of_value_one_is_a_lock():
+    expect(
+        "semaphore_as_lock",
+        """
+        main|acq(Semaphore@@semaphore#1)|@semaphore_with
+        main|acq(BoundedSemaphore@@bounded#1)|@bounded_acquire
+        main|rel(BoundedSemaphore@@bounded#1)|@bounded_release
+        main|rel(Semaphore@@semaphore#1)|@semaphore_with
+        main|tryacq(Semaphore@@semaphore#1)|@semaphore_try
+        main|rel(Semaphore@@semaphore#1)|@semaphore_release""",
+    )
+    expect_cycles("semaphore_cycle", 1)
+
+
+def test_other_semaphores_are_none():
+    run = expect(
+        "semaphore_as_signal",
+        """
+        main|fork(main.1:Semaphore.release)|@signal_start
+        main|join(main.1:Semaphore.release)|@signal_join
+        main|acq(Lock@@a#1)|@signal_a
+        main|rel(Lock@@a#1)|@signal_a""",
+    )
+    assert "1 semaphores were made with another value than 1" in run.said, run.said
+    assert "1 semaphores of value 1 were released by threads that didn't hold them" in run.said, run.said

@@ -1,0 +1,132 @@
+"""Processes that fork and start others, ways to start, and what is told."""
+
+import os
+import shutil
+import subprocess
+
+import pytest
+from known_traces import NO_EVENTS, RECORD, REFUSED, Run, compare, edges_of, expand
+from python_traces import INTERPRETER, LOCKS, MARKS, MUTEXES, PYTHON_RECORD, record
+
+
+def test_forked_process():
+    run = record("forks")
+    assert run.status == 0, run.said
+    child = run.out.strip()
+    assert run.files() == ["t.std", "t.std." + child], str(run.files())
+    compare(
+        run.lines(),
+        expand(
+            """
+        main|acq(Lock@@a#1)|@forks_a
+        main|rel(Lock@@a#1)|@forks_a""",
+            MARKS,
+        ),
+    )
+    compare(
+        run.lines("." + child),
+        expand(
+            """
+        main|tryacq(Lock@@a#1)|@forks_a
+        main|acq(Lock@@b#1)|@forks_b
+        main|rel(Lock@@b#1)|@forks_b
+        main|rel(Lock@@a#1)|@forks_release""",
+            MARKS,
+        ),
+    )
+
+
+def test_child_process():
+    run = record("children")
+    assert run.status == 0, run.said
+    assert run.files() == ["t.std", "t.std." + run.out.strip()], "%s %s" % (run.files(), run.said)
+    assert len(run.lines("." + run.out.strip())) == MUTEXES, str(run.lines("." + run.out.strip()))
+
+
+def test_program_that_becomes_another():
+    run = record("becomes_another")
+    assert run.status == 0, run.said
+    second = ".%s.1" % run.out.strip()
+    assert run.files() == ["t.std", "t.std" + second], "%s %s" % (run.files(), run.said)
+    assert (len(run.lines()), len(run.lines(second))) == (2, MUTEXES), "%s %s" % (run.lines(), run.lines(second))
+
+
+def test_ways_to_start():
+    """By -m and -c, and a program that runs Python code by itself."""
+    code = "import threading; threading.Lock().acquire()"
+    with open("code.py", "w") as file:
+        file.write("#!%s\n%s\n" % (INTERPRETER, code))
+    os.chmod("code.py", 0o755)
+    shutil.copy("code.py", "code")
+    for command, place in (
+        (["-c", code], "<string>:1"),
+        ([os.path.abspath("code")], "code:2"),
+        (["code.py"], "code.py:2"),
+    ):
+        run = Run(PYTHON_RECORD, command)
+        assert run.status == 0, run.said
+        compare(run.lines(), ["main|acq(Lock@%s#1)|%s" % (place, place)])
+    os.makedirs("package", exist_ok=True)
+    shutil.copy("code.py", "package/__main__.py")
+    compare(
+        Run(PYTHON_RECORD, ["-m", "package"]).lines(), ["main|acq(Lock@package/__main__.py:2#1)|package/__main__.py:2"]
+    )
+
+
+def test_other_versions():
+    """The edges are the same under each CPython that is here."""
+    with_edges = edges_of(record("exceptions").lines())
+    found = [path for path in map(shutil.which, ("python3.9", "python3.10", "python3.12", "python3.13")) if path]
+    tried = 0
+    for path in found:
+        if subprocess.run([path, "-c", "0"], stderr=subprocess.DEVNULL).returncode != 0:
+            continue
+        tried += 1
+        run = Run(PYTHON_RECORD, [LOCKS, "exceptions"], ["--python", path])
+        assert edges_of(run.lines()) == with_edges, "%s: %s" % (path, run.lines())
+    if not tried:
+        pytest.skip("no further CPython here")
+
+
+def test_what_is_not_seen_is_told():
+    run = record("unseen")
+    assert "asyncio was imported: its locks" in run.said and "multiprocessing's locks" in run.said, run.said
+    assert "asyncio" not in record("mutexes").said, "told without reason"
+
+
+def test_no_events_is_an_error():
+    run = record("nothing")
+    assert run.status == NO_EVENTS and run.files() == [], "%d %s" % (run.status, run.files())
+    assert "took no lock of the threading module" in run.said, run.said
+    run = Run(PYTHON_RECORD, ["-I", LOCKS, "mutexes"], ["--python", INTERPRETER])
+    assert run.status == NO_EVENTS and "no Python process was recorded" in run.said, run.said
+
+
+def test_wrong_words():
+    with open("kept.std", "w") as file:
+        file.write("old\n")
+    for words in (
+        [],
+        ["-o"],
+        ["--frames", "0", "x.py"],
+        ["--python"],
+        ["--wrong", "x.py"],
+        ["-o", "kept.std", LOCKS, "mutexes"],
+        ["-o", "no/such/t.std", LOCKS, "mutexes"],
+    ):
+        done = subprocess.run([PYTHON_RECORD, *words], stdout=subprocess.PIPE, stderr=subprocess.PIPE)
+        assert done.returncode == REFUSED, "%s: %d" % (words, done.returncode)
+        assert done.stderr.startswith(b"goodlock-python: "), done.stderr.decode()
+    assert open("kept.std").read() == "old\n", "the file was changed"
+    assert Run(PYTHON_RECORD, ["./no-such-program"]).status == 127, "a missing program"
+
+
+def test_recorded_by_both_recorders():
+    """Each recorder has a trace of its own: one of the locks of Python code, one of the interpreter's."""
+    shutil.rmtree("c.std", ignore_errors=True)
+    run = Run(RECORD, [PYTHON_RECORD, "-o", "p.std", "--", INTERPRETER, LOCKS, "mutexes"])
+    assert run.status == 0, run.said
+    with open("p.std") as file:
+        assert len(file.readlines()) == MUTEXES, "the Python code's trace"
+    assert "has CPython: the locks of Python code" in run.said and "tools/goodlock-python" in run.said, run.said
+    assert any(name.startswith("t.std") for name in run.files()), "%s: %s" % (run.files(), run.said)

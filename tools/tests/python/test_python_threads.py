@@ -1,0 +1,132 @@
+"""Threads and their names; repeats, which are left out; and the places of events."""
+
+import re
+
+from known_traces import compare, edges_of, expand
+from python_traces import MARKS, PAIR, expect, record
+
+
+def test_threads_made_and_joined():
+    children = ["main.1:threads.parent", "main.2:Worker", "main.3:threads.lambda", "main.4:max", "main.5"]
+    text = []
+    for child in children:
+        text += ["main|fork(%s)|@threads_start" % child, "main|join(%s)|@threads_join" % child]
+    text += [
+        "main|acq(Lock@@a#1)|@late_a",
+        "main|fork(main.6)|@late_start",
+        "main|rel(Lock@@a#1)|@late_a_end",
+        "main|join(main.6)|@late_join",
+        "main.1:threads.parent|fork(main.1.1:Server.serve)|@parent_start",
+        "main.1:threads.parent|join(main.1.1:Server.serve)|@parent_join",
+        "main.6|acq(Lock@@a#1)|?",
+    ]
+    run = record("threads")
+    assert run.status == 0, run.said
+    # The last thread runs a method of the recorder's own lock.
+    lines = [line.replace("main.6:lock.acquire", "main.6") for line in run.lines()]
+    lines[-1] = re.sub(r"\|threading\.py:\d+$", "|?", lines[-1])
+    compare(lines, expand("\n".join(text), MARKS))
+
+
+def test_thread_pools():
+    run = record("pool")
+    assert run.status == 0, run.said
+    text = "\n".join(run.lines())
+    worker = "main.1:_worker"
+    places = {name: MARKS[name] for name in ("pool_end", "pool_submit", "pair_a", "pair_b", "a", "b")}
+    for line in (
+        "main|fork(%s)|%s" % (worker, places["pool_submit"]),
+        "main|join(%s)|%s" % (worker, places["pool_end"]),
+    ):
+        assert line in text, "no line %s in\n%s" % (line, text)
+    pair = [line for line in run.lines() if line.startswith(worker) and "Lock@locks.py" in line]
+    compare(
+        pair,
+        expand(
+            """
+        main.1:_worker|acq(Lock@@a#1)|@pair_a
+        main.1:_worker|acq(Lock@@b#1)|@pair_b
+        main.1:_worker|rel(Lock@@b#1)|@pair_b
+        main.1:_worker|rel(Lock@@a#1)|@pair_a""",
+            MARKS,
+        ),
+    )
+
+
+def test_exceptions_that_leave_a_block():
+    expect(
+        "exceptions",
+        """
+        main|acq(Lock@@a#1)|@raises_a
+        main|acq(Lock@@b#1)|@raises_b
+        main|rel(Lock@@b#1)|@raises_b
+        main|rel(Lock@@a#1)|@raises_a
+        main|acq(Lock@@b#1)|@after_b
+        main|rel(Lock@@b#1)|@after_b""",
+    )
+
+
+def test_queues():
+    expect(
+        "queues",
+        """
+        main|acq(Lock@@a#1)|@queue_a
+        main|acq(Queue@@queue_made#1)|@queue_put
+        main|rel(Queue@@queue_made#1)|@queue_put
+        main|rel(Lock@@a#1)|@queue_a
+        main|acq(Queue@@queue_made#1)|@queue_get
+        main|rel(Queue@@queue_made#1)|@queue_get""",
+    )
+
+
+def test_lock_released_by_another_thread():
+    run = record("stray")
+    assert run.status == 0, run.said
+    words = [line.split("|")[1].split("(")[0] for line in run.lines()]
+    assert words == ["fork", "join", "rel", "acq"], str(run.lines())
+
+
+def test_repeats_are_left_out():
+    run = expect(
+        "repeats", PAIR + "\nmain|fork(main.1)|@repeats_start" + PAIR + "\nmain|join(main.1)|@repeats_join" + PAIR
+    )
+    assert "and %d of repeats" % (4 * (4 + 2)) in run.said, run.said
+    assert len(record("repeats", "--all").lines()) == 4 * (5 + 1 + 3) + 2, "--all leaves something out"
+
+
+def test_what_is_left_out_adds_no_edge():
+    whole_length = short_length = 0
+    for seed in ("1", "2", "3"):
+        short = record("random_events", arguments=[seed]).lines()
+        whole = record("random_events", "--all", arguments=[seed]).lines()
+        assert len(edges_of(whole)) > 100, "only %d edges" % len(edges_of(whole))
+        assert edges_of(short) == edges_of(whole), "seed %s: the edges differ" % seed
+        whole_length, short_length = whole_length + len(whole), short_length + len(short)
+    assert short_length < 0.95 * whole_length, "%d of %d lines are left" % (short_length, whole_length)
+
+
+def test_more_callers():
+    run = record("frames", "--frames", "3")
+    compare(
+        run.lines(),
+        expand(
+            """
+        main|acq(Lock@@a#1)|@pair_a<@frames_outer<@frames_call
+        main|acq(Lock@@b#1)|@pair_b<@frames_outer<@frames_call
+        main|rel(Lock@@b#1)|@pair_b<@frames_outer<@frames_call
+        main|rel(Lock@@a#1)|@pair_a<@frames_outer<@frames_call""",
+            MARKS,
+        ),
+    )
+
+
+def test_more_locks_than_goodlock_reads():
+    text = ["main|%s(Lock@@many#%d)|@many_acquire" % ("acq" if i < 65 else "beyond", i) for i in range(1, 67)]
+    text += ["main|rel(Lock@@many#%d)|@many_release" % i for i in range(66, 0, -1)]
+    run = expect("many_locks", "\n".join(text))
+    assert "2 acquires by threads that held 64 locks" in run.said, run.said
+
+
+def test_same_bytes_twice():
+    for name in ("locks_of_racing_threads", "opposite", "pool"):
+        assert record(name).lines() == record(name).lines(), "two runs of %s differ" % name

@@ -1,0 +1,59 @@
+"""Each test runs in a folder of its own with programs of C that have what a runtime is known by."""
+
+import subprocess
+
+import pytest
+from c_programs import put
+
+PROGRAM = r"""
+#include <pthread.h>
+MARK
+static pthread_mutex_t lock = PTHREAD_MUTEX_INITIALIZER;
+int NAME(void)
+{
+    pthread_mutex_lock(&lock);
+    pthread_mutex_unlock(&lock);
+    return 0;
+}
+"""
+GO = r'const char mark[] __attribute__((used)) = "\xff Go buildinf:";'
+RUST = 'const char mark[] __attribute__((used)) = "/rustc/%s/library/std/src/sync/mutex.rs";' % ("0a" * 20)
+PYTHON = '__attribute__((visibility("default"))) int Py_BytesMain(void) { return 0; }'
+
+
+def compile_program(folder, output, mark, *options, name="main"):
+    source = output + ".c"
+    with open(folder / source, "w") as file:
+        file.write(PROGRAM.replace("MARK", mark).replace("NAME", name))
+    done = subprocess.run(
+        ["gcc", "-pthread", "-o", output, source, *options],
+        cwd=folder,
+        stdout=subprocess.PIPE,
+        stderr=subprocess.STDOUT,
+    )
+    assert done.returncode == 0, done.stdout.decode()
+
+
+@pytest.fixture(scope="session")
+def built(tmp_path_factory):
+    """The folder of all programs, which are built in it."""
+    folder = tmp_path_factory.mktemp("programs")
+    compile_program(folder, "plain", "")
+    compile_program(folder, "go-static", GO, "-static")
+    compile_program(folder, "go-dynamic", GO)
+    compile_program(folder, "rust", RUST)
+    compile_program(folder, "embeds-python", PYTHON, "-rdynamic")
+    for library in ("libjvm", "libpython3.11"):
+        compile_program(folder, library + ".so", "", "-shared", "-fPIC", name="runtime")
+        with open(folder / "uses.c", "w") as file:
+            file.write("int runtime(void); int main(void) { return runtime(); }\n")
+        done = subprocess.run(
+            ["gcc", "-o", "uses-" + library, "uses.c", "./%s.so" % library, "-Wl,-rpath,$ORIGIN"], cwd=folder
+        )
+        assert done.returncode == 0, "building with " + library
+    return folder
+
+
+@pytest.fixture(autouse=True)
+def in_a_folder_with_the_programs(built, folder):
+    put(built, folder)

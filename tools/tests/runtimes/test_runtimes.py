@@ -1,0 +1,38 @@
+"""What goodlock-record says of language runtimes, whose locks it doesn't see."""
+
+from known_traces import NO_EVENTS, RECORD, Run
+
+
+def said_of(program, status=0):
+    run = Run(RECORD, ["./" + program])
+    assert run.status == status, "status %d: %s" % (run.status, run.said)
+    return run.said
+
+
+def test_plain_program():
+    said = said_of("plain")
+    assert said.count("\n") == 1, said
+
+
+def test_java():
+    said = said_of("uses-libjvm")
+    assert "has a Java virtual machine: the monitors (synchronized)" in said and "tools/goodlock-java" in said, said
+
+
+def test_python():
+    for program in ("uses-libpython3.11", "embeds-python"):
+        said = said_of(program)
+        assert "has CPython: the locks of Python code" in said and "tools/goodlock-python" in said, said
+
+
+def test_go():
+    """A Go program is linked statically as a rule: then its file tells."""
+    said = said_of("go-dynamic")
+    assert "has a Go program: sync.Mutex and sync.RWMutex don't pass the C library" in said, said
+    said = said_of("go-static", NO_EVENTS)
+    assert "this is a Go program: sync.Mutex" in said and "no events, no trace" in said, said
+
+
+def test_rust():
+    said = said_of("rust")
+    assert "has Rust code: std::sync::Mutex and RwLock don't pass the C library" in said, said
