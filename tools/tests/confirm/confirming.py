@@ -5,13 +5,13 @@ import os
 import re
 import subprocess
 import sys
-import tempfile
 
 from c_programs import RECORD, REFERENCE, TOOLS
 
 CONFIRM = os.path.join(TOOLS, "goodlock-confirm")
 VIEW = os.path.join(TOOLS, "goodlock-view")
 NOT_SEEN, DEADLOCKED, ERROR = 0, 1, 125
+TEMPORARY = "temporary"  # the folder for temporary files, in that of the test
 
 
 def predict(name, folder):
@@ -49,14 +49,17 @@ def false_alarm(predict, name):
     assert status == NOT_SEEN and out == "not seen in 2 tries\n", "status %d: %s%s" % (status, out, said)
 
 
-def check_that_nothing_is_left():
-    """No folder of a confirmation, and no process of the program."""
-    left = [name for name in os.listdir(tempfile.gettempdir()) if name.startswith("goodlock-confirm.")]
+def check_that_nothing_is_left(folder):
+    """No folder of a confirmation, and no process of the program that runs in this folder."""
+    left = [name for name in os.listdir(folder / TEMPORARY) if name.startswith("goodlock-confirm.")]
     assert not left, str(left)
     for name in os.listdir("/proc"):
         if name.isdigit():
             try:
                 with open("/proc/%s/cmdline" % name, "rb") as file:
-                    assert not file.read().startswith(b"./cycles\0"), "process %s still runs" % name
+                    is_left = file.read().startswith(b"./cycles\0") and os.readlink("/proc/%s/cwd" % name) == str(
+                        folder
+                    )
             except OSError:
-                pass
+                continue
+            assert not is_left, "process %s still runs" % name

@@ -29,8 +29,10 @@ def predict(programs, tmp_path_factory):
 
 
 @pytest.fixture(autouse=True)
-def in_a_folder_with_the_programs(programs, folder):
+def in_a_folder_with_the_programs(programs, folder, monkeypatch):
     """And no test leaves anything."""
     put(programs, folder)
+    (folder / confirming.TEMPORARY).mkdir()
+    monkeypatch.setenv("TMPDIR", str(folder / confirming.TEMPORARY))
     yield
-    confirming.check_that_nothing_is_left()
+    confirming.check_that_nothing_is_left(folder)

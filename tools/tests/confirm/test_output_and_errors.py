@@ -43,9 +43,9 @@ def test_errors(predict):
         )
 
 
-def test_nothing_is_left(predict):
+def test_nothing_is_left(predict, folder):
     """After a deadlock, after tries in vain, and after a run that was ended."""
     deadlocks(predict, "opposite", 2)
     false_alarm(predict, "false_flag")
     run(["--tries", "1", "--seconds", "1", predict("opposite"), "--", "sleep", "60"])
-    check_that_nothing_is_left()
+    check_that_nothing_is_left(folder)
