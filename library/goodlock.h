@@ -108,7 +108,7 @@ enum {
     GOODLOCK_MISSING = 8,       /* a thread's lane was not handed in, or not all of it was pulled */
     GOODLOCK_BROKEN = 9,        /* a note that was pulled may not come next: not where handles were used as promised */
     GOODLOCK_INCONSISTENT = 10, /* forks and joins order a part of a thread before itself */
-    GOODLOCK_NAMES = 11,        /* there are as many names as there may be: 4,000,000,000 */
+    GOODLOCK_NAMES = 11,        /* there are as many names as there may be: 4,294,967,295 */
     /* Refusals of an event, in the order in which they are tried: nothing was recorded. */
     GOODLOCK_EVENTS_FULL = 20,    /* the thread has as many events as there may be: 4,000,000,000 */
     GOODLOCK_NO_SUCH_THREAD = 21, /* a fork or join of a thread that the session doesn't have */
