@@ -547,7 +547,7 @@ def read_trace(trace="t.std"):
 @test
 def killed_in_a_deadlock():
     running = start("deadlock")
-    time.sleep(0.3)
+    time.sleep(1.0)
     os.kill(child_of(running.pid), signal.SIGKILL)
     _, said = running.communicate(timeout=20)
     check(running.returncode == 128 + signal.SIGKILL, said.decode())
@@ -565,7 +565,7 @@ def a_killed_deadlock_is_predicted():
     if not os.path.exists(REFERENCE):
         return "skipped: no tests/oracle/reference.py"
     running = start("deadlock")
-    time.sleep(0.3)
+    time.sleep(1.0)
     os.kill(child_of(running.pid), signal.SIGKILL)
     running.communicate(timeout=20)
     with open("t.std", "rb") as trace:

@@ -15,7 +15,7 @@ DEADLOCK = """
 
 
 def test_killed_in_a_deadlock():
-    lines = killed(PYTHON_RECORD, [INTERPRETER, LOCKS, "deadlock"], 0.3)
+    lines = killed(PYTHON_RECORD, [INTERPRETER, LOCKS, "deadlock"], 1.5)
     compare(lines, expand(DEADLOCK, MARKS))
     assert cycles_in(lines) == 1, "no cycle"
 
