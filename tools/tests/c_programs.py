@@ -57,7 +57,7 @@ class Run:
             stdout=subprocess.PIPE,
             stderr=subprocess.PIPE,
             env=environment,
-            timeout=60,
+            timeout=180,
         )
         self.status, self.out, self.said = done.returncode, done.stdout.decode(), done.stderr.decode()
 

@@ -102,7 +102,7 @@ def killed(recorder, command, after=0.0):
     running, process = start(recorder, command)
     time.sleep(after)
     os.kill(process, signal.SIGKILL)
-    _, said = running.communicate(timeout=60)
+    _, said = running.communicate(timeout=180)
     assert running.returncode == 128 + signal.SIGKILL, "status %d: %s" % (running.returncode, said.decode())
     return read_lines("t.std")
 

@@ -479,7 +479,7 @@ def lost_events_are_not_settled():
     with record.SmallDisk("1500k") as mounted:
         if not mounted:
             return record.NO_DISK
-        done = subprocess.run([RECORD, "--live", "-o", "small/r.txt", "./locks", "volume"], stderr=subprocess.PIPE, timeout=60)
+        done = subprocess.run([RECORD, "--live", "-o", "small/r.txt", "./locks", "volume"], stderr=subprocess.PIPE, timeout=180)
         check(done.returncode == REFUSED and b"No space left" in done.stderr, done.stderr.decode())
         (name,) = [name for name in os.listdir("small") if ".raw." in name]
         os.rename("small/" + name, "small/kept")

@@ -93,7 +93,7 @@ class Run:
                 os.unlink(name)
         self.trace = trace
         done = subprocess.run([RECORD, "-o", trace] + list(options) + ["--"] + command, stdout=subprocess.PIPE,
-                              stderr=subprocess.PIPE, env=environment, timeout=60)
+                              stderr=subprocess.PIPE, env=environment, timeout=180)
         self.status, self.out, self.said = done.returncode, done.stdout.decode(), done.stderr.decode()
 
     def lines(self, suffix=""):
@@ -549,7 +549,7 @@ def killed_in_a_deadlock():
     running = start("deadlock")
     time.sleep(1.0)
     os.kill(child_of(running.pid), signal.SIGKILL)
-    _, said = running.communicate(timeout=20)
+    _, said = running.communicate(timeout=60)
     check(running.returncode == 128 + signal.SIGKILL, said.decode())
     compare(read_trace(), expand("""
         main|fork(main.1:other_way)|@dead_create
@@ -567,7 +567,7 @@ def a_killed_deadlock_is_predicted():
     running = start("deadlock")
     time.sleep(1.0)
     os.kill(child_of(running.pid), signal.SIGKILL)
-    running.communicate(timeout=20)
+    running.communicate(timeout=60)
     with open("t.std", "rb") as trace:
         report = subprocess.run([sys.executable, REFERENCE], stdin=trace, stdout=subprocess.PIPE).stdout.decode()
     check(report.rstrip().endswith("cycles: 1"), report)
@@ -579,7 +579,7 @@ def signals_are_handed_on():
     for number in (signal.SIGINT, signal.SIGTERM):
         running = start("waits_for_signal")
         running.send_signal(number)
-        _, said = running.communicate(timeout=20)
+        _, said = running.communicate(timeout=60)
         check(running.returncode == 128 + number, "%d: %s" % (running.returncode, said.decode()))
         compare(read_trace(), expand(PAIR, "locks.c"))
 
@@ -928,7 +928,7 @@ def convert(directory, trace):
     if os.path.exists(trace):
         os.unlink(trace)
     return subprocess.run([RECORD, "-o", trace, "--convert", directory], stdout=subprocess.PIPE, stderr=subprocess.PIPE,
-                          timeout=20)
+                          timeout=60)
 
 
 def raw_directory(trace="t.std"):
@@ -1024,7 +1024,7 @@ def convert_while_the_recorder_runs():
     check(done.returncode == 0 and b"of the recorder" in done.stderr, done.stderr.decode())
     compare(read_trace("so-far.std"), expand(PAIR, "locks.c"))
     running.terminate()
-    running.communicate(timeout=20)
+    running.communicate(timeout=60)
     compare(read_trace(), expand(PAIR, "locks.c"))
 
 
@@ -1066,7 +1066,7 @@ def the_directory_is_nobody_elses():
     running = start("waits_for_signal")
     mode = os.stat(raw_directory()).st_mode & 0o777
     running.terminate()
-    running.communicate(timeout=20)
+    running.communicate(timeout=60)
     check(mode == 0o700, "mode %o" % mode)
 
 
@@ -1085,7 +1085,7 @@ def foreign_files_are_left_alone():
     try:
         check(b"waiting for process %d" % background in running.stderr.readline(), "it doesn't wait")
         running.terminate()
-        _, said = running.communicate(timeout=20)
+        _, said = running.communicate(timeout=60)
         check(stranger.poll() is None, "another process was ended")
         check(running.returncode == 0, said.decode())
         compare(read_trace("t2.std"), expand(PAIR, "locks.c"))
@@ -1113,7 +1113,7 @@ def second_signal_leaves_what_runs():
         _, said = running.communicate(timeout=10)
     except subprocess.TimeoutExpired:  # on a busy machine both may have come at once, and count as one
         running.send_signal(signal.SIGHUP)
-        _, said = running.communicate(timeout=20)
+        _, said = running.communicate(timeout=60)
     directory = raw_directory("t2.std")
     check(b"still running: process %d" % background in said, said.decode())
     end(background)
@@ -1178,7 +1178,7 @@ def full_disk():
     with SmallDisk("1500k") as mounted:
         if not mounted:
             return NO_DISK
-        done = subprocess.run([RECORD, "-o", "small/t.std", "./locks", "volume"], stderr=subprocess.PIPE, timeout=60)
+        done = subprocess.run([RECORD, "-o", "small/t.std", "./locks", "volume"], stderr=subprocess.PIPE, timeout=180)
         check(done.returncode == REFUSED, "%d: %s" % (done.returncode, done.stderr.decode()))
         check(b"No space left" in done.stderr, done.stderr.decode())
         names = os.listdir("small")
@@ -1204,7 +1204,7 @@ def disk_that_is_full_at_once():
                         file.write(bytes(4096))
                 except OSError:
                     file.truncate(max(0, os.fstat(file.fileno()).st_size - 1024 * room))
-            done = subprocess.run([RECORD, "-o", "small/t.std", "./locks", "volume"], stderr=subprocess.PIPE, timeout=60)
+            done = subprocess.run([RECORD, "-o", "small/t.std", "./locks", "volume"], stderr=subprocess.PIPE, timeout=180)
             check(done.returncode in (REFUSED, NO_EVENTS), "%d: %s" % (done.returncode, done.stderr.decode()))
             check(b"room" in done.stderr or b"No space left" in done.stderr, done.stderr.decode())
             check(not os.path.exists("small/t.std"), "there is a trace")
@@ -1219,7 +1219,7 @@ def locks_without_records_keep_their_own_names():
     with SmallDisk("1200k") as mounted:
         if not mounted:
             return NO_DISK
-        subprocess.run([RECORD, "-o", "small/t.std", "./locks", "many_locks"], stderr=subprocess.PIPE, timeout=60)
+        subprocess.run([RECORD, "-o", "small/t.std", "./locks", "many_locks"], stderr=subprocess.PIPE, timeout=180)
         names = [name for name in os.listdir("small") if ".raw." in name]
         if names:
             done = convert("small/" + names[0], "t.std")
@@ -1322,7 +1322,7 @@ def closed_standard_files():
         if name.startswith("t.std"):
             os.unlink(name)
     script = '"$0" -o t.std sh -c "test ! -e /proc/self/fd/0 -a ! -e /proc/self/fd/1 && exec ./locks table" <&- >&- 2>&-'
-    done = subprocess.run(["sh", "-c", script, RECORD], timeout=20)
+    done = subprocess.run(["sh", "-c", script, RECORD], timeout=60)
     check(done.returncode == 0, "status %d" % done.returncode)
     traces = [name for name in os.listdir(".") if name.startswith("t.std")]
     check(len(traces) == 1 and len(read_trace(traces[0])) == 2, str(traces))

@@ -17,7 +17,7 @@ TEMPORARY = "temporary"  # the folder for temporary files, in that of the test
 def predict(name, folder):
     """The path of the report on a run of this program, whose lists have a cycle however its threads come along."""
     trace = folder / f"{name}.std"
-    done = subprocess.run([RECORD, "-o", trace, "./cycles", name], cwd=folder, stderr=subprocess.PIPE, timeout=30)
+    done = subprocess.run([RECORD, "-o", trace, "./cycles", name], cwd=folder, stderr=subprocess.PIPE, timeout=100)
     assert done.returncode == 0, done.stderr.decode()
     with open(trace, "rb") as lines:
         found = subprocess.run([sys.executable, REFERENCE, "--json"], stdin=lines, stdout=subprocess.PIPE).stdout
