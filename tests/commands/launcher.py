@@ -30,25 +30,48 @@ echo "said by {0}" >&2
 exit 1
 """
 
-# As the toolchain: `run` leaves the program and runs it.
-STAND_IN = r"""#!/bin/sh
-cat
-case "$1 $2 $3" in
-    "version  ") echo "a toolchain" ;;
-    "run -- predict")
-        echo "run" >>"$CALLS"
-        [ "$BUILT" = 0 ] && cp "$MADE" out/goodlock
-        echo "no program ran" >&2
-        exit "$BUILT" ;;
-    *) exit 2 ;;
-esac
+# As the toolchain's command: `run` leaves the program and runs it; what works in several crates takes its code.
+STAND_IN = r"""#!/usr/bin/env python3
+import os
+import shutil
+import sys
+
+if __name__ != "__main__":
+    sys.path.insert(0, os.path.dirname(__file__))
+    import rtlib
+
+
+def call(name):
+    with open(os.environ["CALLS"], "a") as calls:
+        calls.write(f"{name}\n")
+
+
+def share_work(is_alone):
+    call("share")
+
+
+if __name__ == "__main__":
+    print(sys.stdin.read(), end="")
+    if sys.argv[1:] != ["run", "--", "predict"]:
+        sys.exit(2)
+    call("run")
+    if os.environ["BUILT"] == "0":
+        shutil.copy(os.environ["MADE"], "out/goodlock")
+    print("no program ran", file=sys.stderr)
+    sys.exit(int(os.environ["BUILT"]))
+"""
+
+# As the toolchain's command where it is written otherwise.
+OTHER = r"""#!/bin/sh
+echo "run" >>"$CALLS"
+cp "$MADE" out/goodlock
 """
 
 # As the library that the toolchain's command is written over; a crate is proved where it isn't named in UNPROVED.
 LIBRARY = r"""
 import os
 
-RATTLE = KIT = KEPT = None
+RATTLE = KIT = None
 TOP = os.environ["CLONE"]
 
 
@@ -188,8 +211,8 @@ def carried_program(clone):
 
 def built_where_asked(clone):
     out, err, status, calls = clone.run(*WORDS, text="text", GOODLOCK_BUILD="1", JOBS="3")
-    equal((out, status, calls[-1]), (OUT, 1, "run"))
-    equal(sorted(names(calls[:-1])), sorted(LIBRARIES))
+    equal((out, status, calls[0], calls[-1]), (OUT, 1, "share", "run"))
+    equal(sorted(names(calls[1:-1])), sorted(LIBRARIES))
     has(err, "goodlock: proving 3 crates", "goodlock: building the program")
     has(err, f"goodlock: built {clone.top}/crates/goodlock/out/goodlock", "said by the built one")
     equal(clone.run(*WORDS, text="text", GOODLOCK_BUILD="1"), BUILT)
@@ -200,8 +223,8 @@ def built_where_asked(clone):
 def jobs_that_are_free(clone):
     """The crate that leads the longest chain has all processes; those beside it share what half of them leave."""
     calls = clone.run(*WORDS, GOODLOCK_BUILD="1", JOBS="2")[3]
-    equal(calls[0], "low --jobs 2")
-    equal(sorted(calls[1:]), ["middle --jobs 1", "run", "twin --jobs 2"])
+    equal(calls[:2], ["share", "low --jobs 2"])
+    equal(sorted(calls[2:]), ["middle --jobs 1", "run", "twin --jobs 2"])
 
 
 def progress_is_told(clone):
@@ -257,8 +280,11 @@ def without_toolchain(clone):
 
 
 def without_its_library(clone):
-    """An rt that isn't written over the library that is known here builds all by itself."""
+    """An rt that isn't written as the one that is known here builds all by itself."""
     (clone.tools / "rtlib.py").unlink()
+    equal(clone.run(*WORDS, text="text", GOODLOCK_BUILD="1")[2:], (1, ["run"]))
+    (clone.top / "crates/goodlock/out/goodlock").unlink()
+    (clone.tools / "rt").write_text(OTHER)
     out, err, status, calls = clone.run(*WORDS, text="text", GOODLOCK_BUILD="1")
     equal((out, status, calls), (OUT, 1, ["run"]))
 

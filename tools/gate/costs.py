@@ -55,7 +55,7 @@ class Clock(threading.Thread):
 
 def function_of(module, crate):
     """The function, or the file of specs or lemmas, that a module belongs to; nothing where it is a library's below."""
-    name = re.fullmatch(rf"Rattle-{crate}(?:-proofs|-specs)?\.(.*)", module)
+    name = re.fullmatch(rf"Rattle-{crate}(?:-proofs|-specs)?\.(?:(?:proofs|specs|contracts)\.)*(.*)", module)
     if name is None or name[1].startswith("below."):
         return None
     path = name[1].split(".")
@@ -99,13 +99,16 @@ def children_seconds():
 
 
 def try_edits(command, crate, kept):
-    """The seconds of each must-fail edit over what a check kept, and whether it was refused."""
+    """The seconds of each must-fail edit over a copy of what a check kept, with what was said where it isn't refused."""
     tried = []
     for edit in command.edits_of(crate)[0]:
-        before = children_seconds()
-        refused, said = command.must_fail(crate, edit, ["--jobs", "1"], kept)
-        name = os.path.basename(edit)
-        tried.append((children_seconds() - before, name if refused else f"{name}: {said}"))
+        with tempfile.TemporaryDirectory(prefix="goodlock-costs-") as folder:
+            over = os.path.join(folder, "kept")
+            command.linked(kept, over)
+            before = children_seconds()
+            kind, said = command.must_fail(crate, edit, ["--jobs", "1"], over)
+            seconds = children_seconds() - before
+        tried.append((seconds, os.path.basename(edit) if kind in (command.REFUSED, command.AT_LIMIT) else said))
     return tried
 
 
@@ -137,7 +140,7 @@ def main(words):
     parser.add_argument("--most", type=int, default=20)
     parser.add_argument("names", nargs="*")
     asked = parser.parse_args(words)
-    command = toolchain.load_command()
+    command = toolchain.load_command("edits_of", "linked", "must_fail", "REFUSED", "AT_LIMIT")
     crates = toolchain.crates(command.rtlib, asked.names or None)
     wanted = [crate for crate in crates if crate.name in (asked.names or [crate.name])]
     total = 0.0

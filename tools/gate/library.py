@@ -2,8 +2,8 @@
 """Proves the C library's exports and builds their archive, crates/gl_c/out/libgl_c.a.
 
     library.py            over what earlier checks kept; libraries below that aren't proved are proved first
-    library.py --proved   over the libraries that `rt ci` has just proved, which it leaves to no other command; as without
-                          it, where rt ci put back what earlier checks had kept
+    library.py --proved   over the libraries as `rt ci` has just left them, proved in this run or an earlier one, which no
+                          other command takes; as without it, where rt ci put back those of earlier checks
 
 Beside the archive stands libgl_c.sources, the sum of the sources that it was built from. The last line is `N passed, N
 failed`. Status: 0 built, 1 not built, 2 the words were wrong, 3 the toolchain at hand can't be used so.
@@ -14,7 +14,6 @@ import pathlib
 import subprocess
 import sys
 
-import prove
 import toolchain
 
 NAME = "gl_c"
@@ -27,30 +26,25 @@ def sources():
     return subprocess.run(words, stdout=subprocess.PIPE, text=True, check=True).stdout.strip()
 
 
-def build_proved(command):
-    """As `rt ci` builds a program: from nothing, over the statements of the libraries that it proved."""
-    library = command.rtlib
-    library.Crate = command.Crate
-    command.Crate.cuts_libraries = True
-    command.Crate.allowed = command.handles_of(toolchain.TOP)
+def build_proved():
+    """Builds the archive over the libraries that rt ci left; its status."""
+    library = toolchain.load()
     crate = toolchain.crates(library, [NAME])[-1]
     if any(os.path.isfile(f"{below.folder}/out/rlib/stamp") for below in crate.below()):
-        return build_kept(library)
+        return build_kept()
     missing = [below.name for below in crate.below() if not os.path.isdir(below.rlib)]
     if missing:
         raise SystemExit(f"rt ci left no library {', '.join(missing)}")
     words = crate.words(["--jobs", str(toolchain.processors())], keeps=False)
     os.makedirs(os.path.join(crate.folder, "out"), exist_ok=True)
-    return crate.prove(["build", *words, "--toolchain", f"{library.KIT}/toolchain", "-o", f"out/{ARCHIVE}"])
+    made = ["--toolchain", f"{library.KIT}/toolchain", "-o", f"out/{ARCHIVE}"]
+    return crate.call(library.RATTLE, "build", *words, *made)
 
 
-def build_kept(library):
-    """As `rt lib` builds it."""
-    if not prove.prove(library, [NAME], toolchain.processors(), prove.tell):
-        return 1
-    crate = toolchain.crates(library, [NAME])[-1]
-    os.makedirs(os.path.join(crate.folder, "out"), exist_ok=True)
-    return crate.build_static(["--jobs", str(toolchain.processors())])
+def build_kept():
+    """Builds it with `rt lib`, once the libraries below are proved, several at once; the status."""
+    status = subprocess.run([os.path.join(toolchain.TOP, "tools/gate/prove.py"), NAME]).returncode
+    return status or subprocess.run(["rt", "lib"], cwd=os.path.join(toolchain.TOP, "crates", NAME)).returncode
 
 
 def main(words):
@@ -59,7 +53,7 @@ def main(words):
         return 2
     try:
         of = sources()
-        status = build_proved(toolchain.load_command()) if words else build_kept(toolchain.load())
+        status = build_proved() if words else build_kept()
     except toolchain.NoToolchain as error:
         print(f"{error}", file=sys.stderr)
         return 3

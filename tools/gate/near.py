@@ -8,14 +8,15 @@ their tests; the must-fail edits of the changed ones. What isn't committed count
 the last say what was left out; the last line is `N passed, N failed`.
 """
 
-import os
-import shutil
+import pathlib
 import subprocess
 import sys
 import tempfile
 
 import prove
 import toolchain
+
+REFUSED = ": refused, as it must be"  # how rt must-fail tells of an edit
 
 
 def git(*words):
@@ -57,23 +58,27 @@ def prove_whole(library, crate, jobs):
         return well, said + crate.out.read()
 
 
-def try_edits(command, crate):
-    """Tries the edits of a proved crate over a copy of what its check kept; how many are refused, and how many not."""
-    refused = []
-    with tempfile.TemporaryDirectory(prefix="goodlock-near-") as folder:
-        kept = os.path.join(folder, "kept")
-        shutil.copytree(os.path.join(crate.folder, command.rtlib.KEPT[1]), kept)
-        for edit in command.edits_of(crate)[0]:
-            well, said = command.must_fail(crate, edit, ["--jobs", "1"], kept)
-            print(said.partition("\n")[0], flush=True)
-            refused.append(well)
-    return refused.count(True), refused.count(False)
+def edits_of(crates):
+    """The files of the crates' edits."""
+    return [edit for crate in crates for edit in pathlib.Path(crate.folder, "must-fail").glob("*.edit")]
+
+
+def try_edits(crates):
+    """Tries the edits of proved crates over what their checks kept; how many are refused, and how many not."""
+    refused, wanted = 0, len(edits_of(crates))
+    if not crates:
+        return 0, 0
+    words = ["rt", "must-fail", *(crate.name for crate in crates)]
+    with subprocess.Popen(words, cwd=toolchain.TOP, stdout=subprocess.PIPE, text=True, errors="replace") as process:
+        for line in process.stdout:
+            print(line, end="", flush=True)
+            refused += line.startswith("rt: must-fail ") and REFUSED in line
+    return refused, max(wanted - refused, process.returncode != 0)
 
 
 def main(words):
     revision = words[0] if words else default_revision()
-    command = toolchain.load_command()
-    library = command.rtlib
+    library = toolchain.load()
     crates = toolchain.crates(library)
     changed = changed_crates(crates, changed_files(revision))
     above = [crate for crate in crates if crate not in changed and any(below in changed for below in crate.below())]
@@ -94,14 +99,13 @@ def main(words):
     prove.in_order([*below, *wanted], toolchain.processors(), work, told)
     passed += len(proved)
     failed += len(below) + len(wanted) - len(proved)
-    for crate in changed:
-        refused, accepted = try_edits(command, crate) if crate in proved else (0, 0)
-        passed, failed = passed + refused, failed + accepted
-    others = sum(len(command.edits_of(crate)[0]) for crate in crates if crate not in changed)
+    refused, accepted = try_edits([crate for crate in changed if crate in proved])
+    passed, failed = passed + refused, failed + accepted
+    others, edits = len(crates) - len(wanted) - len(below), len(edits_of(crates)) - len(edits_of(changed))
     print(
-        f"left out: the proof of {len(crates) - len(wanted) - len(below)} crates that stand on nothing changed, {others} edits of"
+        f"left out: the proof of {others} crates that stand on nothing changed, {edits} edits of other crates, a proof"
     )
-    print("other crates, a proof from nothing, each program as two compilers build it, the tests in crates as they run")
+    print("from nothing, each program as two compilers build it, the tests in crates as they run")
     print(f"{passed} passed, {failed} failed")
     return 1 if failed else 0
 

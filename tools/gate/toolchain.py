@@ -1,7 +1,7 @@
 """The repository's crates, as the toolchain's own command `rt` sees them.
 
 `rt` works in one crate at a time, with the crates below it locked. What proves several at once, or looks at a crate's
-check more closely than `rt check` shows, needs the library that `rt` itself is written over.
+check more closely than `rt check` shows, needs `rt`'s own code and the library that it is written over.
 """
 
 import importlib.machinery
@@ -14,30 +14,40 @@ import sys
 TOP = os.path.dirname(os.path.dirname(os.path.dirname(os.path.realpath(__file__))))
 MEMORY_OF_A_CHECK = 4_500_000_000  # no check of this repository was seen to take more than 4.3 GB
 MEMORY_OF_A_JOB = 1_500_000_000  # what each further process of one check takes
+NAMES = ("Crate", "RATTLE", "KIT", "crates_below", "guarded", "lock", "fmt", "stop_on_text")
+
+sys.dont_write_bytecode = True
 
 
 class NoToolchain(Exception):
     """There is no `rt` on PATH, or it isn't written over the library that is known here."""
 
 
+def load_command(*names):
+    """The code of `rt`, with these names; its `rtlib` is the library. Checks begin with what those in other copies of the
+    repository on this machine kept, as those of `rt` do."""
+    path = shutil.which("rt")
+    if path is None:
+        raise NoToolchain("the toolchain's rt isn't on PATH")
+    loader = importlib.machinery.SourceFileLoader("rt", os.path.realpath(path))
+    command = importlib.util.module_from_spec(importlib.util.spec_from_loader("rt", loader))
+    try:
+        loader.exec_module(command)
+    except (ImportError, OSError, SyntaxError) as error:  # it has no such library, or is no Python
+        raise NoToolchain(f"{path} isn't written as the one that is known here: {error}") from None
+    library = getattr(command, "rtlib", None)
+    lacking = [name for name in ("share_work", *names) if not hasattr(command, name)]
+    lacking += [name for name in NAMES if not hasattr(library, name)]
+    if lacking:
+        raise NoToolchain(f"{path} has no {', '.join(lacking)}")
+    library.guarded()  # its first call sets a signal's handler, which only the main thread may
+    command.share_work(True)
+    return command
+
+
 def load():
     """The library that `rt` is written over."""
-    command = shutil.which("rt")
-    if command is None:
-        raise NoToolchain("the toolchain's rt isn't on PATH")
-    path = os.path.join(os.path.dirname(os.path.realpath(command)), "rtlib.py")
-    if not os.path.isfile(path):
-        raise NoToolchain(f"{path} isn't there")
-    sys.dont_write_bytecode = True
-    loader = importlib.machinery.SourceFileLoader("rtlib", path)
-    library = importlib.util.module_from_spec(importlib.util.spec_from_loader("rtlib", loader))
-    sys.modules["rtlib"] = library
-    loader.exec_module(library)
-    for name in ("Crate", "RATTLE", "KIT", "KEPT", "crates_below", "guarded", "lock", "fmt", "stop_on_text"):
-        if not hasattr(library, name):
-            raise NoToolchain(f"{path} has no {name}")
-    library.guarded()  # its first call sets a signal's handler, which only the main thread may
-    return library
+    return load_command().rtlib
 
 
 def crates(library, names=None):
@@ -66,22 +76,3 @@ def free_memory():
 
 def processors():
     return len(os.sched_getaffinity(0))
-
-
-def checks_that_fit():
-    """How many checks may run at once: one on each processor, as long as there is memory for each."""
-    return max(1, min(processors(), free_memory() // MEMORY_OF_A_CHECK))
-
-
-def load_command():
-    """The toolchain's command `rt` itself, which has what `rt ci` and `rt must-fail` do; its `rtlib` is the library."""
-    library = load()
-    path = os.path.realpath(shutil.which("rt"))
-    loader = importlib.machinery.SourceFileLoader("rt", path)
-    command = importlib.util.module_from_spec(importlib.util.spec_from_loader("rt", loader))
-    loader.exec_module(command)
-    command.rtlib = library
-    for name in ("edits_of", "must_fail", "read_edit"):
-        if not hasattr(command, name):
-            raise NoToolchain(f"{path} has no {name}")
-    return command
