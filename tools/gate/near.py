@@ -102,10 +102,8 @@ def main(words):
     refused, accepted = try_edits([crate for crate in changed if crate in proved])
     passed, failed = passed + refused, failed + accepted
     others, edits = len(crates) - len(wanted) - len(below), len(edits_of(crates)) - len(edits_of(changed))
-    print(
-        f"left out: the proof of {others} crates that stand on nothing changed, {edits} edits of other crates, a proof"
-    )
-    print("from nothing, each program as two compilers build it, the tests in crates as they run")
+    print(f"left out: the proof of {others} crates that stand on nothing changed, {edits} edits of other crates,")
+    print("a proof from nothing, each program as two compilers build it, the tests in crates as they run")
     print(f"{passed} passed, {failed} failed")
     return 1 if failed else 0
 
