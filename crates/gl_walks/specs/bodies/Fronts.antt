@@ -130,5 +130,5 @@ pub record IsIndexed (ground : Ground) (by_class by_lock : Chain) : Type 0 where
   -- there is a class and a flag for each edge
   pub classes : length ground.classes.now ≡ length ground.table.now
   pub flags : length ground.flags.now ≡ length ground.table.now
-  pub by_class : IsChainOf ByClass ground by_class
-  pub by_lock : IsChainOf ByLock ground by_lock
+  pub through_classes : IsChainOf ByClass ground by_class
+  pub through_locks : IsChainOf ByLock ground by_lock

@@ -1,0 +1,5 @@
+pub mod Lesser
+pub mod Listed
+pub mod Passing
+pub mod Places
+pub mod Steps
