@@ -1,3 +1,4 @@
+pub mod Keying
 pub mod Lesser
 pub mod Listed
 pub mod Passing

@@ -37,7 +37,7 @@ module _ (key : ℕ → Option Key) (size : ℕ) where
   none_past k = record {
     from = omega arith;
     within = omega arith;
-    has = tt;
+    has = λ i is. absurd (cc);
     skipped = λ i from below. absurd (omega arith);
   }
 
@@ -55,7 +55,9 @@ module _ (key : ℕ → Option Key) (size : ℕ) where
     next_here k within at = record {
       from = omega arith;
       within = omega arith;
-      has = (within, at);
+      has = λ i is.
+          let same : n ≡ i = same_Some n i is in
+          (subst (λ m. m < size) same within, subst (λ m. key m ≡ Some k) same at);
       skipped = λ i from below. absurd (omega arith);
     }
 

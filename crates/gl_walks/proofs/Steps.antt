@@ -200,6 +200,7 @@ module _ (s : Sought) where
               ap (passes s.purpose s.before s.mode) (picked-push s.edges front i f at) ∙ passes_push s.before s.mode s.purpose (picked s.edges front) f ∙ and_from _ _ is.passing follows;
         }
 
+  module _ (front : List ℕ) where
     only_itself : (rest : List ℕ) → length front ≡ length s.pattern → IsSought s (front ++ rest) → rest ≡ []
     only_itself [] whole walks = refl
     only_itself (i ∷ rest) whole walks = absurd (let long = as_long (front ++ i ∷ rest) walks in omega (arith, length-append front (i ∷ rest)))

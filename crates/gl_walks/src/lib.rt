@@ -8,6 +8,7 @@
 mod chains;
 mod keys;
 mod purpose;
+mod search;
 mod walker;
 
 pub use purpose::Purpose;

@@ -1,13 +1,12 @@
 //! The search for a walk through edges of given classes.
-ghost use Rattle.std.specs.Prelude.{◌≡◌, ◌<◌, ◌≤◌, length, All, IfOk, MatchOption};
+ghost use Rattle.std.specs.Prelude.{◌≡◌, ◌<◌, ◌≤◌, length, IfOk, MatchOption};
 ghost use Rattle.gl_segments.specs.Clocks.{is_before};
 ghost use Rattle.gl_filters.specs.Picked.{edges_of_table};
 ghost use Rattle.gl_walks.specs.declared.walker.TheConstants.{LONGEST};
 ghost use Rattle.gl_walks.specs.Walks.{NoWalk, IsFirstWalk};
 
-use crate::chains::Chain;
-use crate::keys::Keyed;
 use crate::purpose::Purpose;
+use crate::search::Search;
 use gl_edges::{Edge, Sample};
 use gl_event::Memory;
 use gl_filters::Mode;
@@ -32,26 +31,19 @@ pub struct Ground<'a> {
     pub flags: &'a [bool],
 }
 
-/// Finds walks for a purpose through flagged edges of given classes.
+/// Finds walks for a purpose through flagged edges of given classes. Contracts see the ground and the
+/// purpose.
 #[derive(Drop)]
 pub struct Walker<'a> {
-    ground: Ground<'a>,
-    purpose: Purpose,
-    // the flagged edges by their classes
-    by_class: Chain,
-    // and by the locks that they hold too
-    by_lock: Chain,
+    search: Search<'a>,
 }
 
 impl<'a> Model for Walker<'a> {
     ghost use Rattle.gl_walks.specs.Walkers.{Walking};
-    ghost use Rattle.gl_walks.specs.bodies.Fronts.{IsIndexed};
 
     ghost Value = { Walking };
 
-    ghost view = { λ w. record { ground = w.ground; purpose = w.purpose } };
-
-    ghost invariant = { λ w. IsIndexed w.ground w.by_class w.by_lock };
+    ghost view = { λ w. record { ground = w.search.ground; purpose = w.search.purpose } };
 }
 
 impl<'a> Walker<'a> {
@@ -64,13 +56,30 @@ impl<'a> Walker<'a> {
         ensures ground { IfOk result (λ walker. walker.ground ≡ ground.entry) }
         ensures purpose { IfOk result (λ walker. walker.purpose ≡ purpose) }
     {
-        let by_class = ground.chain(alloc, Keyed::ByClass)?;
-        let by_lock = ground.chain(alloc, Keyed::ByLock)?;
-        Ok(Walker {
-            ground,
-            purpose,
-            by_class,
-            by_lock,
-        })
+        let search = Search::of(alloc, ground, purpose)?;
+        Ok(Walker { search })
+    }
+
+    /// The positions of the first walk for a pattern: an edge of each of these classes, in turn. None
+    /// where there is no such walk.
+    ///
+    /// A path grows by each edge that may come next, the first one first: a look-up for each, and a
+    /// test against each edge of the path. So there may be as many paths as flagged edges of a class
+    /// that hold one lock, to the power of the pattern's length, before the first walk is found.
+    ///
+    /// Err where memory was refused. It is asked only for the walk that was found.
+    pub fn first(&self, alloc: Global, pattern: &[usize]) -> Result<Option<Vec<usize>>, Memory>
+        requires some { 0 < length pattern.now }
+        requires fits { length pattern.now ≤ LONGEST }
+        ensures { IfOk result
+            (λ found. MatchOption found
+            (NoWalk self.now.purpose (is_before self.now.ground.order.now) self.now.ground.mode
+            (edges_of_table self.now.ground.table.now) self.now.ground.classes.now
+            self.now.ground.flags.now pattern.now)
+            (λ walk. IsFirstWalk self.now.purpose (is_before self.now.ground.order.now)
+            self.now.ground.mode (edges_of_table self.now.ground.table.now)
+            self.now.ground.classes.now self.now.ground.flags.now pattern.now walk.items)) }
+    {
+        self.search.first(alloc, pattern)
     }
 }

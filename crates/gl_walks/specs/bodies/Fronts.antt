@@ -1,5 +1,5 @@
 -- Fronts of walks: what a search knows of the positions that it has so far.
-use Rattle.std.specs.Prelude.{◌≡◌, ℕ, ◌<◌, ◌≤◌, Bool, true, ◌&&◌, List, [], ◌∷◌, ◌++◌, length, map, take, slice_get, Option, Some, None, All, IfSome, IsTrue, nat_le, unwrap_or, MatchOption}
+use Rattle.std.specs.Prelude.{◌≡◌, ℕ, ◌<◌, ◌≤◌, Bool, true, ◌&&◌, List, [], ◌∷◌, ◌++◌, length, map, take, slice_get, Option, Some, None, All, IsTrue, nat_le, unwrap_or, MatchOption}
 use Rattle.std.specs.List.{list_all}
 use Rattle.std.specs.Cmp.Lexicographic.{slice_cmp}
 use Rattle.std.specs.Ordering.{nat_cmp, is_le}
@@ -15,7 +15,6 @@ use Rattle.gl_walks.specs.declared.keys.Keyed.TheVariants.{ByClass, ByLock}
 use Rattle.gl_walks.specs.declared.purpose.Purpose.{Purpose}
 use Rattle.gl_walks.specs.declared.purpose.Purpose.TheVariants.{Cycle, Front}
 use Rattle.gl_walks.specs.declared.walker.Ground.{Ground}
-use Rattle.gl_walks.specs.Walkers.{Walking}
 use Rattle.gl_walks.specs.Walks.{is_front, IsWalk}
 use Rattle.gl_walks.specs.bodies.Listing.{Key, key_at, IsChain}
 
@@ -55,15 +54,15 @@ pub record Sought : Type 0 where
   pub flags : List Bool
   pub pattern : List ℕ
 
--- what a walker looks for with a pattern
-abbrev pub sought_by : Walking → List ℕ → Sought
-sought_by walker pattern = record {
-  purpose = walker.purpose;
-  before = is_before walker.ground.order.now;
-  mode = walker.ground.mode;
-  edges = edges_of_table walker.ground.table.now;
-  classes = walker.ground.classes.now;
-  flags = walker.ground.flags.now;
+-- what is looked for with a pattern
+abbrev pub sought_by : Ground → Purpose → List ℕ → Sought
+sought_by ground purpose pattern = record {
+  purpose = purpose;
+  before = is_before ground.order.now;
+  mode = ground.mode;
+  edges = edges_of_table ground.table.now;
+  classes = ground.classes.now;
+  flags = ground.flags.now;
   pattern = pattern;
 }
 
@@ -118,7 +117,7 @@ key_behind s front = key_at (keyed_after front) s.edges s.classes s.flags
 -- no walk goes on with a position before the next one
 pub record HasPassed (s : Sought) (front : List ℕ) (next : Option ℕ) : Type 0 where
   pub within : unwrap_or next (length s.edges) ≤ length s.edges
-  pub has : IfSome next (λ i. (i < length s.edges) × (key_behind s front i ≡ Some (key_after s front)))
+  pub has : (i : ℕ) → next ≡ Some i → (i < length s.edges) × (key_behind s front i ≡ Some (key_after s front))
   pub none : (i : ℕ) → i < unwrap_or next (length s.edges) → NoneFrom s (front ++ i ∷ [])
 
 -- the edges of the ground are in the chain by their keys

@@ -1,5 +1,5 @@
 -- Where the positions with a key stand.
-use Rattle.std.specs.Prelude.{◌≡◌, ◌≢◌, ℕ, ◌+◌, ◌<◌, ◌≤◌, Bool, true, ◌&&◌, List, length, Option, Some, None, IfSome, nat_eq, slice_get, unwrap_or}
+use Rattle.std.specs.Prelude.{◌≡◌, ◌≢◌, ℕ, ◌+◌, ◌<◌, ◌≤◌, Bool, true, ◌&&◌, List, length, Option, Some, None, nat_eq, slice_get, unwrap_or}
 use Rattle.std.specs.HashMap.{get}
 use Rattle.std.specs.Option.{option_eq}
 use Rattle.gl_edges.specs.declared.edge.Edge.{Edge}
@@ -12,7 +12,7 @@ pub record IsNext {K : Type 0} (key : ℕ → Option K) (size : ℕ) (k : K) (n 
   pub from : n ≤ unwrap_or next size
   pub within : unwrap_or next size ≤ size
   -- it has the key
-  pub has : IfSome next (λ i. (i < size) × (key i ≡ Some k))
+  pub has : (i : ℕ) → next ≡ Some i → (i < size) × (key i ≡ Some k)
   -- those before it don't
   pub skipped : (i : ℕ) → n ≤ i → i < unwrap_or next size → key i ≢ Some k
 
