@@ -1,3 +1,4 @@
+pub mod Ends
 pub mod Keying
 pub mod Lesser
 pub mod Listed

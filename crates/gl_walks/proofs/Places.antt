@@ -1,9 +1,9 @@
 -- The edges of a path by its positions.
-use Rattle.std.proofs.Common.{◌≡◌, ℕ, zero, suc, ◌+◌, ◌-◌, ◌<◌, Bool, true, false, List, [], ◌∷◌, ◌++◌, length, take, drop, get_or, Some, None, refl, sym, ap, ◌∙◌, arith}
+use Rattle.std.proofs.Common.{◌≡◌, ℕ, zero, suc, ◌+◌, ◌-◌, ◌<◌, Bool, true, false, eqb, inl, inr, List, [], ◌∷◌, ◌++◌, length, take, drop, get_or, Some, None, refl, sym, ap, ◌∙◌, arith}
 use Rattle.std.specs.Prelude.{slice_get, All}
 use Rattle.std.specs.List.{list_all, cons_option}
 use Rattle.std.proofs.lemmas.Option.{slice_get-get_or, same_Some}
-use Rattle.std.proofs.lemmas.Bool.{and_from, and_left, and_right}
+use Rattle.std.proofs.lemmas.Bool.{and_from, and_left, and_right, cases_eq, eq-eqb, eqb-true, false≢true}
 use Rattle.std.proofs.lemmas.List.Folds.{list_all-append}
 use Rattle.std.proofs.lemmas.List.{length-map, take_more, get_or-map, take-append-drop}
 use Rattle.gl_edges.specs.declared.edge.Edge.{Edge}
@@ -103,3 +103,14 @@ module _ (table : List (Edge × Sample)) (path : List ℕ) (within : AreWithin (
   all_not p k d lt fails =
       ap (λ l. list_all p (picked (edges_of_table table) l)) (sym (take-append-drop (k + 1) path)) ∙ ap (list_all p) (picked-append (edges_of_table table) (take (k + 1) path) (drop (k + 1) path))
       ∙ list_all-append p _ _ ∙ and_left _ _ (ap (list_all p) (more_by_table k d lt) ∙ list_all_push p _ _ ∙ and_right _ _ fails)
+
+-- what a test of emptiness tells
+pub none_from_test : {X : Type 0} (xs : List X) → true ≡ eqb (length xs) 0 → length xs ≡ 0
+none_from_test xs is = eqb-true (length xs) 0 (sym is)
+
+pub some_from_test : {X : Type 0} (xs : List X) → false ≡ eqb (length xs) 0 → 0 < length xs
+some_from_test xs is =
+    elim (cases_eq (length xs) 0) [
+      | inl none ↦ absurd (false≢true (is ∙ eq-eqb (length xs) 0 none))
+      | inr some ↦ omega arith
+    ]

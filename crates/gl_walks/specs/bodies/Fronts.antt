@@ -122,7 +122,7 @@ pub record HasPassed (s : Sought) (front : List ℕ) (next : Option ℕ) : Type 
 
 -- the edges of the ground are in the chain by their keys
 abbrev pub IsChainOf : Keyed → Ground → Chain → Type 0
-IsChainOf keyed ground chain = IsChain (key_at keyed (edges_of_table ground.table.now) ground.classes.now ground.flags.now) (length ground.table.now) 0 chain
+IsChainOf keyed ground chain = IsChain (key_at keyed (edges_of_table ground.table.now) ground.classes.now ground.flags.now) (length (edges_of_table ground.table.now)) 0 chain
 
 -- the index leads through the flagged edges by their classes, and by the locks that they hold
 pub record IsIndexed (ground : Ground) (by_class by_lock : Chain) : Type 0 where

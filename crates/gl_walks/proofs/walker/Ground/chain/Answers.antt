@@ -1,4 +1,5 @@
 use Rattle.std.proofs.Common.{◌≡◌, ◌+◌, ◌-◌, length, sym, subst, arith}
+use Rattle.std.proofs.lemmas.List.{length-map}
 use Rattle.gl_filters.specs.Picked.{edges_of_table}
 use Rattle.gl_walks.specs.bodies.Listing.{IsChain, key_at}
 use Rattle.gl_walks.proofs.walker.Ground.chain.Goals as goal
@@ -20,4 +21,5 @@ pub returns : goal.returns
 returns c =
     let g = c.args.self.now in
     let at_end : c.loop-i.i ≡ 0 = omega arith in
-    subst (λ k. IsChain (key_at c.args.keyed (edges_of_table g.table.now) g.classes.now g.flags.now) (length g.table.now) k c.loop-i.chain) at_end c.loop-i.invariant
+    let keys = key_at c.args.keyed (edges_of_table g.table.now) g.classes.now g.flags.now in
+    subst (λ size. IsChain keys size 0 c.loop-i.chain) (sym (length-map g.table.now (λ pair. pair.0))) (subst (λ k. IsChain keys (length g.table.now) k c.loop-i.chain) at_end c.loop-i.invariant)
