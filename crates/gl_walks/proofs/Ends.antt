@@ -67,8 +67,8 @@ module _ (s : Sought) where
   goes_on_by_lock (j ∷ path) k i next some at later = later at
 
 -- there is a class and a flag for each edge
-pub even_by : (ground : Ground) (purpose : Purpose) (pattern : List ℕ) (by_class by_lock : Chain) → IsIndexed ground by_class by_lock → IsEven (sought_by ground purpose pattern)
-even_by ground purpose pattern by_class by_lock indexed = record {
-  classes = indexed.classes ∙ sym (length-map ground.table.now (λ pair. pair.0));
-  flags = indexed.flags ∙ sym (length-map ground.table.now (λ pair. pair.0));
+pub even_by : (area : Ground) (purpose : Purpose) (pattern : List ℕ) (by_class by_lock : Chain) → IsIndexed area by_class by_lock → IsEven (sought_by area purpose pattern)
+even_by area purpose pattern by_class by_lock indexed = record {
+  classes = indexed.classes ∙ sym (length-map area.table.now (λ pair. pair.0));
+  flags = indexed.flags ∙ sym (length-map area.table.now (λ pair. pair.0));
 }

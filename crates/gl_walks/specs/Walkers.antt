@@ -6,3 +6,7 @@ use Rattle.gl_walks.specs.declared.walker.Ground.{Ground}
 pub record Walking : Type 0 where
   pub ground : Ground
   pub purpose : Purpose
+
+-- a walker of this ground
+abbrev pub walking : Ground → Purpose → Walking
+walking area purpose = record { ground = area; purpose = purpose }

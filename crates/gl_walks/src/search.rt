@@ -22,31 +22,31 @@ use std::alloc::Global;
 /// What is looked at.
 #[derive(Drop)]
 pub(crate) struct Search<'a> {
-    pub(crate) ground: Ground<'a>,
+    pub(crate) area: Ground<'a>,
     pub(crate) purpose: Purpose,
     // the flagged edges by their classes
     by_class: Chain,
     // and by the locks that they hold too
     by_lock: Chain,
-    ghost indexed: { IsIndexed ground by_class by_lock },
+    ghost indexed: { IsIndexed area by_class by_lock },
 }
 
 impl<'a> Search<'a> {
     /// The search through this ground for a purpose.
     pub(crate) fn of(
         alloc: Global,
-        ground: Ground<'a>,
+        area: Ground<'a>,
         purpose: Purpose,
     ) -> Result<Search<'a>, Memory>
-        requires classes { length ground.classes.now ≡ length ground.table.now }
-        requires flags { length ground.flags.now ≡ length ground.table.now }
-        ensures ground { IfOk result (λ search. search.ground ≡ ground.entry) }
+        requires classes { length area.classes.now ≡ length area.table.now }
+        requires flags { length area.flags.now ≡ length area.table.now }
+        ensures area { IfOk result (λ search. search.area ≡ area.entry) }
         ensures purpose { IfOk result (λ search. search.purpose ≡ purpose) }
     {
-        let by_class = ground.chain(alloc, Keyed::ByClass)?;
-        let by_lock = ground.chain(alloc, Keyed::ByLock)?;
+        let by_class = area.chain(alloc, Keyed::ByClass)?;
+        let by_lock = area.chain(alloc, Keyed::ByLock)?;
         Ok(Search {
-            ground,
+            area,
             purpose,
             by_class,
             by_lock,
@@ -57,25 +57,25 @@ impl<'a> Search<'a> {
 impl Search<'_> {
     // Whether two edges may stand in one walk.
     fn go_together(&self, e: &Edge, f: &Edge) -> bool
-        ensures { result ≡ goes_by self.now.purpose (is_before self.now.ground.order.now)
-            self.now.ground.mode e.now f.now }
+        ensures { result ≡ goes_by self.now.purpose (is_before self.now.area.order.now)
+            self.now.area.mode e.now f.now }
     {
         match self.purpose {
-            Purpose::Cycle => goes_with(self.ground.mode, self.ground.order, e, f),
-            Purpose::Front => kinds_go_together(self.ground.mode, e, f),
+            Purpose::Cycle => goes_with(self.area.mode, self.area.order, e, f),
+            Purpose::Front => kinds_go_together(self.area.mode, e, f),
         }
     }
 
     // Whether each edge of the path may stand in one walk with this one.
     fn goes_with_all(&self, path: &[usize], edge: &Edge) -> bool
-        requires within { All (λ i. i < length (edges_of_table self.now.ground.table.now)) path.now }
+        requires within { All (λ i. i < length (edges_of_table self.now.area.table.now)) path.now }
         ensures { result ≡ list_all
-            (λ e. goes_by self.now.purpose (is_before self.now.ground.order.now)
-            self.now.ground.mode e edge.now)
-            (picked (edges_of_table self.now.ground.table.now) path.now) }
+            (λ e. goes_by self.now.purpose (is_before self.now.area.order.now)
+            self.now.area.mode e edge.now)
+            (picked (edges_of_table self.now.area.table.now) path.now) }
     {
         for &i in path {
-            if !self.go_together(&self.ground.table[i].0, edge) {
+            if !self.go_together(&self.area.table[i].0, edge) {
                 return false;
             }
         }
@@ -95,23 +95,23 @@ impl Search<'_> {
 
     // Whether the edge at a position may come next in the path.
     fn may_follow(&self, path: &[usize], next: usize) -> bool
-        requires within { All (λ i. i < length (edges_of_table self.now.ground.table.now)) path.now }
-        requires there { next < length self.now.ground.table.now }
+        requires within { All (λ i. i < length (edges_of_table self.now.area.table.now)) path.now }
+        requires there { next < length self.now.area.table.now }
         ensures { (f : Edge)
-            → slice_get (edges_of_table self.now.ground.table.now) next ≡ Some f
-            → result ≡ may_follow self.now.purpose (is_before self.now.ground.order.now)
-            self.now.ground.mode (picked (edges_of_table self.now.ground.table.now) path.now) f }
+            → slice_get (edges_of_table self.now.area.table.now) next ≡ Some f
+            → result ≡ may_follow self.now.purpose (is_before self.now.area.order.now)
+            self.now.area.mode (picked (edges_of_table self.now.area.table.now) path.now) f }
     {
         if path.is_empty() {
             return true;
         }
         let first = path[0];
         let last = path[path.len() - 1];
-        let edge = &self.ground.table[next].0;
-        if !leads_on(&self.ground.table[last].0, edge) {
+        let edge = &self.area.table[next].0;
+        if !leads_on(&self.area.table[last].0, edge) {
             return false;
         }
-        if !self.stays_above(&self.ground.table[first].0, edge) {
+        if !self.stays_above(&self.area.table[first].0, edge) {
             return false;
         }
         self.goes_with_all(path, edge)
@@ -119,23 +119,23 @@ impl Search<'_> {
 
     // Whether the path's last edge leads back to its first.
     fn is_closed(&self, path: &[usize]) -> bool
-        requires within { All (λ i. i < length (edges_of_table self.now.ground.table.now)) path.now }
+        requires within { All (λ i. i < length (edges_of_table self.now.area.table.now)) path.now }
         ensures { result
-            ≡ leads_back (picked (edges_of_table self.now.ground.table.now) path.now) }
+            ≡ leads_back (picked (edges_of_table self.now.area.table.now) path.now) }
     {
         if path.is_empty() {
             return false;
         }
         let first = path[0];
         let last = path[path.len() - 1];
-        leads_on(&self.ground.table[last].0, &self.ground.table[first].0)
+        leads_on(&self.area.table[last].0, &self.area.table[first].0)
     }
 
     // Whether the path may be a whole walk: a cycle has two edges or more, and goes round.
     fn may_end(&self, path: &[usize]) -> bool
-        requires within { All (λ i. i < length (edges_of_table self.now.ground.table.now)) path.now }
+        requires within { All (λ i. i < length (edges_of_table self.now.area.table.now)) path.now }
         ensures { result ≡ may_end self.now.purpose
-            (picked (edges_of_table self.now.ground.table.now) path.now) }
+            (picked (edges_of_table self.now.area.table.now) path.now) }
     {
         match self.purpose {
             Purpose::Cycle => {
@@ -151,11 +151,11 @@ impl Search<'_> {
     // The first position that may come next in the path, by its class and the lock that it holds.
     fn begin(&self, pattern: &[usize], path: &[usize]) -> Option<usize>
         requires short { length path.now < length pattern.now }
-        requires within { All (λ i. i < length (edges_of_table self.now.ground.table.now)) path.now }
+        requires within { All (λ i. i < length (edges_of_table self.now.area.table.now)) path.now }
         ensures { IsNext
-            (key_behind (sought_by self.now.ground self.now.purpose pattern.now) path.now)
-            (length (edges_of_table self.now.ground.table.now))
-            (key_after (sought_by self.now.ground self.now.purpose pattern.now) path.now) 0 result }
+            (key_behind (sought_by self.now.area self.now.purpose pattern.now) path.now)
+            (length (edges_of_table self.now.area.table.now))
+            (key_after (sought_by self.now.area self.now.purpose pattern.now) path.now) 0 result }
     {
         let class = pattern[path.len()];
         if path.is_empty() {
@@ -163,16 +163,16 @@ impl Search<'_> {
         }
         let last = path[path.len() - 1];
         self.by_lock
-            .begin(class, Some(self.ground.table[last].0.wanted))
+            .begin(class, Some(self.area.table[last].0.wanted))
     }
 
     // The position after `i` of the next one with the key by which `i` was found.
     fn after(&self, path: &[usize], i: usize) -> Option<usize>
-        requires { i < length self.now.ground.table.now }
+        requires { i < length self.now.area.table.now }
         ensures { (pattern : List ℕ) (k : Key)
-            → key_behind (sought_by self.now.ground self.now.purpose pattern) path.now i ≡ Some k
-            → IsNext (key_behind (sought_by self.now.ground self.now.purpose pattern) path.now)
-            (length (edges_of_table self.now.ground.table.now)) k (i + 1) result }
+            → key_behind (sought_by self.now.area self.now.purpose pattern) path.now i ≡ Some k
+            → IsNext (key_behind (sought_by self.now.area self.now.purpose pattern) path.now)
+            (length (edges_of_table self.now.area.table.now)) k (i + 1) result }
     {
         if path.is_empty() {
             return self.by_class.after(i);
@@ -189,8 +189,8 @@ impl Search<'_> {
         requires { length pattern.now ≤ LONGEST }
         ensures { IfOk result
             (λ found. MatchOption found
-            (NoneFrom (sought_by self.now.ground self.now.purpose pattern.now) [])
-            (λ walk. IsLeastFrom (sought_by self.now.ground self.now.purpose pattern.now) []
+            (NoneFrom (sought_by self.now.area self.now.purpose pattern.now) [])
+            (λ walk. IsLeastFrom (sought_by self.now.area self.now.purpose pattern.now) []
             walk.items)) }
     {
         self.grow(alloc, pattern, &[])
@@ -205,11 +205,11 @@ impl Search<'_> {
         path: &[usize],
     ) -> Result<Option<Vec<usize>>, Memory>
         requires fits { length pattern.now ≤ LONGEST }
-        requires front { IsFront (sought_by self.now.ground self.now.purpose pattern.now) path.now }
+        requires front { IsFront (sought_by self.now.area self.now.purpose pattern.now) path.now }
         ensures { IfOk result
             (λ found. MatchOption found
-            (NoneFrom (sought_by self.now.ground self.now.purpose pattern.now) path.now)
-            (λ walk. IsLeastFrom (sought_by self.now.ground self.now.purpose pattern.now) path.now
+            (NoneFrom (sought_by self.now.area self.now.purpose pattern.now) path.now)
+            (λ walk. IsLeastFrom (sought_by self.now.area self.now.purpose pattern.now) path.now
             walk.items)) }
     {
         if path.len() == pattern.len() {
@@ -243,16 +243,16 @@ impl Search<'_> {
     ) -> Result<Option<Vec<usize>>, Memory>
         requires fits { length pattern.now ≤ LONGEST }
         requires short { length path.now < length pattern.now }
-        requires front { IsFront (sought_by self.now.ground self.now.purpose pattern.now) path.now }
-        requires there { next < length self.now.ground.table.now }
+        requires front { IsFront (sought_by self.now.area self.now.purpose pattern.now) path.now }
+        requires there { next < length self.now.area.table.now }
         requires has {
-            key_behind (sought_by self.now.ground self.now.purpose pattern.now) path.now next
-            ≡ Some (key_after (sought_by self.now.ground self.now.purpose pattern.now) path.now) }
+            key_behind (sought_by self.now.area self.now.purpose pattern.now) path.now next
+            ≡ Some (key_after (sought_by self.now.area self.now.purpose pattern.now) path.now) }
         ensures { IfOk result
             (λ found. MatchOption found
-            (NoneFrom (sought_by self.now.ground self.now.purpose pattern.now)
+            (NoneFrom (sought_by self.now.area self.now.purpose pattern.now)
             (path.now ++ next ∷ []))
-            (λ walk. IsLeastFrom (sought_by self.now.ground self.now.purpose pattern.now)
+            (λ walk. IsLeastFrom (sought_by self.now.area self.now.purpose pattern.now)
             (path.now ++ next ∷ []) walk.items)) }
     {
         if !self.may_follow(path, next) {

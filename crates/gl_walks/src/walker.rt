@@ -39,24 +39,24 @@ pub struct Walker<'a> {
 }
 
 impl<'a> Model for Walker<'a> {
-    ghost use Rattle.gl_walks.specs.Walkers.{Walking};
+    ghost use Rattle.gl_walks.specs.Walkers.{Walking, walking};
 
     ghost Value = { Walking };
 
-    ghost view = { λ w. record { ground = w.search.ground; purpose = w.search.purpose } };
+    ghost view = { λ w. walking w.search.area w.search.purpose };
 }
 
 impl<'a> Walker<'a> {
     /// The walker through this ground for a purpose. Four look-ups for each flagged edge.
     ///
     /// Err where memory was refused.
-    pub fn of(alloc: Global, ground: Ground<'a>, purpose: Purpose) -> Result<Walker<'a>, Memory>
-        requires classes { length ground.classes.now ≡ length ground.table.now }
-        requires flags { length ground.flags.now ≡ length ground.table.now }
-        ensures ground { IfOk result (λ walker. walker.ground ≡ ground.entry) }
+    pub fn of(alloc: Global, area: Ground<'a>, purpose: Purpose) -> Result<Walker<'a>, Memory>
+        requires classes { length area.classes.now ≡ length area.table.now }
+        requires flags { length area.flags.now ≡ length area.table.now }
+        ensures ground { IfOk result (λ walker. walker.ground ≡ area.entry) }
         ensures purpose { IfOk result (λ walker. walker.purpose ≡ purpose) }
     {
-        let search = Search::of(alloc, ground, purpose)?;
+        let search = Search::of(alloc, area, purpose)?;
         Ok(Walker { search })
     }
 

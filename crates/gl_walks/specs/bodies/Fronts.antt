@@ -56,13 +56,13 @@ pub record Sought : Type 0 where
 
 -- what is looked for with a pattern
 abbrev pub sought_by : Ground → Purpose → List ℕ → Sought
-sought_by ground purpose pattern = record {
+sought_by area purpose pattern = record {
   purpose = purpose;
-  before = is_before ground.order.now;
-  mode = ground.mode;
-  edges = edges_of_table ground.table.now;
-  classes = ground.classes.now;
-  flags = ground.flags.now;
+  before = is_before area.order.now;
+  mode = area.mode;
+  edges = edges_of_table area.table.now;
+  classes = area.classes.now;
+  flags = area.flags.now;
   pattern = pattern;
 }
 
@@ -122,12 +122,12 @@ pub record HasPassed (s : Sought) (front : List ℕ) (next : Option ℕ) : Type 
 
 -- the edges of the ground are in the chain by their keys
 abbrev pub IsChainOf : Keyed → Ground → Chain → Type 0
-IsChainOf keyed ground chain = IsChain (key_at keyed (edges_of_table ground.table.now) ground.classes.now ground.flags.now) (length (edges_of_table ground.table.now)) 0 chain
+IsChainOf keyed area chain = IsChain (key_at keyed (edges_of_table area.table.now) area.classes.now area.flags.now) (length (edges_of_table area.table.now)) 0 chain
 
 -- the index leads through the flagged edges by their classes, and by the locks that they hold
-pub record IsIndexed (ground : Ground) (by_class by_lock : Chain) : Type 0 where
+pub record IsIndexed (area : Ground) (by_class by_lock : Chain) : Type 0 where
   -- there is a class and a flag for each edge
-  pub classes : length ground.classes.now ≡ length ground.table.now
-  pub flags : length ground.flags.now ≡ length ground.table.now
-  pub through_classes : IsChainOf ByClass ground by_class
-  pub through_locks : IsChainOf ByLock ground by_lock
+  pub classes : length area.classes.now ≡ length area.table.now
+  pub flags : length area.flags.now ≡ length area.table.now
+  pub through_classes : IsChainOf ByClass area by_class
+  pub through_locks : IsChainOf ByLock area by_lock

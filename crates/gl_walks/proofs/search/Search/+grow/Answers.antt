@@ -1,9 +1,9 @@
 use Rattle.std.proofs.Common.{◌≡◌, ℕ, ◌+◌, ◌-◌, ◌<◌, ◌≤◌, List, [], ◌∷◌, ◌++◌, length, Option, Some, None, sym, ap, subst, ◌∙◌, arith, rules}
 use Rattle.std.specs.Prelude.{unwrap_or, MatchOption}
 use Rattle.std.proofs.lemmas.List.{length-map, length_push}
-use Rattle.gl_filters.specs.Picked.{edges_of_table}
+use Rattle.gl_filters.specs.Picked.{edges_of_table, picked}
 use Rattle.gl_walks.specs.declared.search.Search.{Search}
-use Rattle.gl_walks.specs.bodies.Fronts.{Sought, sought_by, IsEven, NoneFrom, IsLeastFrom, HasPassed, IsFront, key_after}
+use Rattle.gl_walks.specs.bodies.Fronts.{Sought, sought_by, IsEven, NoneFrom, IsLeastFrom, HasPassed, IsFront, key_after, may_follow}
 use Rattle.gl_walks.proofs.Ends.{even_by}
 use Rattle.gl_walks.proofs.Places.{element_at}
 use Rattle.gl_walks.proofs.Steps.{none_stray, none_closed, passed_first, passed_more, passed_all, least_here, longer_front, whole_walk, whole_none}
@@ -11,10 +11,10 @@ use Rattle.gl_walks.proofs.search.Search.+grow.Goals as goal
 
 -- what is looked for
 abbrev sought : Search → List ℕ → Sought
-sought search pattern = sought_by search.ground search.purpose pattern
+sought search pattern = sought_by search.area search.purpose pattern
 
 even : (search : Search) (pattern : List ℕ) → IsEven (sought search pattern)
-even search pattern = even_by search.ground search.purpose pattern search.by_class search.by_lock search.indexed
+even search pattern = even_by search.area search.purpose pattern search.by_class search.by_lock search.indexed
 
 -- the path is as long as the pattern, but no walk
 pub grow-returns-then-not-may_end : goal.grow-returns-then-not-may_end
@@ -40,7 +40,7 @@ pub grow-grow_by-requires : goal.grow-grow_by-requires
 grow-grow_by-requires t c =
     let has = c.loop-next.invariant.has c.in-Some.i c.in-Some.is in (
       search rules,
-      (c.requires.fits, (omega (arith, c.requires.front.short), (c.requires.front, (omega (arith, has.0, length-map c.args.self.now.ground.table.now (λ pair. pair.0)), has.1)))),
+      (c.requires.fits, (omega (arith, c.requires.front.short), (c.requires.front, (omega (arith, has.0, length-map c.args.self.now.area.table.now (λ pair. pair.0)), has.1)))),
     )
 
 -- a walk was found
@@ -56,7 +56,7 @@ grow-returns-in-Some-2 t c =
 pub grow-after-next-requires : goal.grow-after-next-requires
 grow-after-next-requires t c =
     let has = c.loop-next.invariant.has c.in-Some.i c.in-Some.is in
-    omega (arith, has.0, length-map c.args.self.now.ground.table.now (λ pair. pair.0))
+    omega (arith, has.0, length-map c.args.self.now.area.table.now (λ pair. pair.0))
 
 -- fewer positions are left behind a later one
 closer : (n m i : ℕ) (now next : Option ℕ) → m ≡ n → now ≡ Some i → i < unwrap_or next m → unwrap_or next m ≤ m → n - unwrap_or next n < n - unwrap_or now n
@@ -67,7 +67,7 @@ closer n m i now next same is before within =
 
 pub grow-loop-next-smaller : goal.grow-loop-next-smaller
 grow-loop-next-smaller t c =
-    let table = c.args.self.now.ground.table.now in
+    let table = c.args.self.now.area.table.now in
     let has = c.loop-next.invariant.has c.in-Some.i c.in-Some.is in
     let later = c.after-next.ensures c.args.pattern.now (key_after (sought c.args.self.now c.args.pattern.now) c.args.path.now) has.1 in
     let from = later.from in
@@ -93,23 +93,24 @@ grow-returns t c =
 -- the edge may not follow
 pub grow_by-returns-then-not-may_follow : goal.grow_by-returns-then-not-may_follow
 grow_by-returns-then-not-may_follow t c =
-    let table = c.args.self.now.ground.table.now in
-    let here = element_at (edges_of_table table) c.args.next (omega (arith, c.requires.there, length-map table (λ pair. pair.0))) in
-    none_stray (sought c.args.self.now c.args.pattern.now) (even c.args.self.now c.args.pattern.now) c.args.path.now c.args.next here.0 here.1 (sym (c.if-not-may_follow.ensures here.0 here.1))
+    let s = sought c.args.self.now c.args.pattern.now in
+    let here = element_at s.edges c.args.next (omega (arith, c.requires.there, length-map c.args.self.now.area.table.now (λ pair. pair.0))) in
+    let stray = sym {b = may_follow s.purpose s.before s.mode (picked s.edges c.args.path.now) here.0} (c.if-not-may_follow.ensures here.0 here.1) in
+    none_stray s (even c.args.self.now c.args.pattern.now) c.args.path.now c.args.next here.0 here.1 stray
 
 -- the call for the longer path
 pub grow_by-grow-requires : goal.grow_by-grow-requires
 grow_by-grow-requires t c =
     let s = sought c.args.self.now c.args.pattern.now in
-    let table = c.args.self.now.ground.table.now in
     let longer = c.as_slice.ensures.value ∙ c.longer_path-longer.ensures in
     let long : length c.as_slice.result.now ≡ length c.args.path.now + 1 = ap length longer ∙ length_push c.args.path.now c.args.next in
-    let within : c.args.next < length (edges_of_table table) = omega (arith, c.requires.there, length-map table (λ pair. pair.0)) in
-    let here = element_at (edges_of_table table) c.args.next within in (
+    let within : c.args.next < length s.edges = omega (arith, c.requires.there, length-map c.args.self.now.area.table.now (λ pair. pair.0)) in
+    let here = element_at s.edges c.args.next within in
+    let follows = sym {b = may_follow s.purpose s.before s.mode (picked s.edges c.args.path.now) here.0} (c.if-not-may_follow.ensures here.0 here.1) in (
       omega (arith, long, c.requires.short),
       (
         c.requires.fits,
         subst (IsFront s) (sym longer)
-        (longer_front s (even c.args.self.now c.args.pattern.now) c.args.path.now c.args.next here.0 c.requires.short c.requires.front within c.requires.has here.1 (sym (c.if-not-may_follow.ensures here.0 here.1))),
+        (longer_front s (even c.args.self.now c.args.pattern.now) c.args.path.now c.args.next here.0 c.requires.short c.requires.front within c.requires.has here.1 follows),
       ),
     )

@@ -12,8 +12,8 @@ decreases-grow_by l = 2 * (length l.pattern.now - length l.path.now)
 
 -- no walk goes on with a position before the next one
 abbrev pub invariant-grow-loop-next : goal.invariant-grow-loop-next
-invariant-grow-loop-next l = HasPassed (sought_by l.self.ground l.self.purpose l.pattern) l.path l.next
+invariant-grow-loop-next l = HasPassed (sought_by l.self.area l.self.purpose l.pattern) l.path l.next
 
 -- how many positions are left
 abbrev pub decreases-grow-loop-next : goal.decreases-grow-loop-next
-decreases-grow-loop-next l = length l.self.ground.table.now - unwrap_or l.next (length l.self.ground.table.now)
+decreases-grow-loop-next l = length l.self.area.table.now - unwrap_or l.next (length l.self.area.table.now)

@@ -6,5 +6,5 @@ use Rattle.gl_walks.proofs.search.Search.is_closed.Goals as goal
 
 pub returns : goal.returns
 returns c =
-    let table = c.args.self.now.ground.table.now in
+    let table = c.args.self.now.area.table.now in
     c.leads_on.ensures ∙ sym (closed_by (edges_of_table table) c.args.path.now _ _ (ends_by_table table c.args.path.now c.requires.within _ _ (some_from_test c.args.path.now c.if-is_empty.ensures)))
