@@ -1,9 +1,9 @@
 -- The key of an edge, by what stands at its position.
-use Rattle.std.proofs.Common.{◌≡◌, ℕ, Bool, true, false, List, Option, Some, None}
+use Rattle.std.proofs.Common.{◌≡◌, ℕ, Bool, true, false, List, Some, None}
 use Rattle.std.specs.Prelude.{slice_get}
 use Rattle.gl_edges.specs.declared.edge.Edge.{Edge}
 use Rattle.gl_walks.specs.declared.keys.Keyed.{Keyed}
-use Rattle.gl_walks.specs.bodies.Listing.{Key, key_at, key_of, lock_in_key}
+use Rattle.gl_walks.specs.bodies.Listing.{key_at, key_of, lock_in_key}
 
 module _ (keyed : Keyed) (edges : List Edge) (classes : List ℕ) (flags : List Bool) (i : ℕ) where
   pub key_flagged : (e : Edge) (class : ℕ) → slice_get edges i ≡ Some e → slice_get classes i ≡ Some class → slice_get flags i ≡ Some true → key_at keyed edges classes flags i ≡ Some (class, lock_in_key keyed e)

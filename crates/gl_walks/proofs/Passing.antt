@@ -13,7 +13,7 @@ use Rattle.gl_filters.proofs.Paths.{list_all_push, is_path_push}
 use Rattle.gl_walks.specs.declared.purpose.Purpose.{Purpose}
 use Rattle.gl_walks.specs.declared.purpose.Purpose.TheVariants.{Cycle, Front}
 use Rattle.gl_walks.specs.Walks.{kinds_together, is_front, fits}
-use Rattle.gl_walks.specs.bodies.Fronts.{goes_by, stays_above, may_follow, passes, may_end}
+use Rattle.gl_walks.specs.bodies.Fronts.{goes_by, may_follow, passes, may_end}
 
 and_four : (a b c d : Bool) → ((a && b) && (c && d)) ≡ ((a && c) && (b && d))
 and_four true b true d = refl

@@ -1,18 +1,17 @@
 -- The search for the least walk, step by step.
-use Rattle.std.proofs.Common.{◌≡◌, ◌≢◌, ℕ, suc, ◌+◌, ◌<◌, ◌≤◌, Bool, true, false, List, [], ◌∷◌, ◌++◌, length, map, take, get_or, Option, Some, None, refl, sym, ap, subst, ◌∙◌, arith, inl, inr}
+use Rattle.std.proofs.Common.{◌≡◌, ◌≢◌, ℕ, ◌+◌, ◌<◌, Bool, true, false, List, [], ◌∷◌, ◌++◌, length, map, take, get_or, Option, Some, None, refl, sym, ap, subst, ◌∙◌, arith, inl, inr}
 use Rattle.std.specs.Prelude.{slice_get, unwrap_or, All, IsTrue}
 use Rattle.std.specs.Option.{option_map}
 use Rattle.std.specs.Ordering.{nat_cmp, is_le}
 use Rattle.std.specs.Cmp.Lexicographic.{slice_cmp}
 use Rattle.std.proofs.lemmas.Bool.{cases_order, and_parts, and_from, false≢true}
-use Rattle.std.proofs.lemmas.List.{append_assoc, append-nil, map-append, length-map, length-append, length_push, take_more, take_all}
+use Rattle.std.proofs.lemmas.List.{append-nil, map-append, length-map, length-append, length_push, take_more, take_all}
 use Rattle.std.proofs.lemmas.List.Elements.{All-push}
-use Rattle.std.proofs.lemmas.Option.{slice_get-map, slice_get-get_or, slice_get_within, same_Some, get_or_from_slice_get}
+use Rattle.std.proofs.lemmas.Option.{slice_get-map, slice_get_within, same_Some, get_or_from_slice_get}
 use Rattle.gl_edges.specs.declared.edge.Edge.{Edge}
 use Rattle.gl_filters.specs.Picked.{picked}
-use Rattle.gl_filters.specs.Test.{leads_back, last_of}
+use Rattle.gl_filters.specs.Test.{leads_back}
 use Rattle.gl_walks.specs.declared.keys.Keyed.{Keyed}
-use Rattle.gl_walks.specs.Walks.{fits}
 use Rattle.gl_walks.specs.bodies.Listing.{Key, IsNext, key_at, key_of, lock_in_key}
 use Rattle.gl_walks.specs.bodies.Fronts.{Sought, IsSought, IsEven, IsFront, NoneFrom, IsLeastFrom, HasPassed, keyed_after, lock_after, key_after, key_behind, may_follow, passes, may_end}
 use Rattle.gl_walks.proofs.Lesser.{le_behind, lesser_behind}

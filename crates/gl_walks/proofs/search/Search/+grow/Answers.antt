@@ -1,4 +1,4 @@
-use Rattle.std.proofs.Common.{◌≡◌, ℕ, ◌+◌, ◌-◌, ◌<◌, ◌≤◌, List, [], ◌∷◌, ◌++◌, length, Option, Some, None, sym, ap, subst, ◌∙◌, arith, rules}
+use Rattle.std.proofs.Common.{◌≡◌, ℕ, ◌+◌, ◌-◌, ◌<◌, ◌≤◌, List, [], ◌∷◌, ◌++◌, length, Option, Some, sym, ap, subst, ◌∙◌, arith, rules}
 use Rattle.std.specs.Prelude.{unwrap_or, MatchOption}
 use Rattle.std.proofs.lemmas.List.{length-map, length_push}
 use Rattle.gl_filters.specs.Picked.{edges_of_table, picked}
@@ -111,6 +111,6 @@ grow_by-grow-requires t c =
       (
         c.requires.fits,
         subst (IsFront s) (sym longer)
-        (longer_front s (even c.args.self.now c.args.pattern.now) c.args.path.now c.args.next here.0 c.requires.short c.requires.front within c.requires.has here.1 follows),
+            (longer_front s (even c.args.self.now c.args.pattern.now) c.args.path.now c.args.next here.0 c.requires.short c.requires.front within c.requires.has here.1 follows),
       ),
     )

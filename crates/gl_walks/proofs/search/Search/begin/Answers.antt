@@ -1,4 +1,4 @@
-use Rattle.std.proofs.Common.{length, None, Some}
+use Rattle.std.proofs.Common.{length}
 use Rattle.std.proofs.lemmas.Option.{unwrap_or-slice_get}
 use Rattle.gl_filters.specs.Picked.{edges_of_table}
 use Rattle.gl_walks.specs.declared.keys.Keyed.TheVariants.{ByClass, ByLock}

@@ -5,11 +5,11 @@ use Rattle.std.proofs.lemmas.Option.{same_Some}
 use Rattle.gl_edges.specs.declared.edge.Edge.{Edge}
 use Rattle.gl_edges.specs.declared.edge.Sample.{Sample}
 use Rattle.gl_segments.specs.Clocks.{is_before}
-use Rattle.gl_filters.specs.Picked.{edges_of_table, picked}
+use Rattle.gl_filters.specs.Picked.{edges_of_table}
 use Rattle.gl_filters.specs.Test.{leads_to}
-use Rattle.gl_walks.specs.bodies.Fronts.{stays_above, may_follow}
+use Rattle.gl_walks.specs.bodies.Fronts.{stays_above}
 use Rattle.gl_walks.proofs.Ends.{follows_by}
-use Rattle.gl_walks.proofs.Places.{edge_at, ends_by_table, none_from_test, some_from_test}
+use Rattle.gl_walks.proofs.Places.{edge_at, ends_by_table, some_from_test}
 use Rattle.gl_walks.proofs.search.Search.may_follow.Goals as goal
 
 -- the edge at a position
