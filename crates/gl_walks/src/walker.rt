@@ -24,6 +24,7 @@ pub struct Ground<'a> {
     pub table: &'a [(Edge, Sample)],
     /// Which segment is before which.
     pub order: &'a Order,
+    /// What is asked of two edges of a walk.
     pub mode: Mode,
     /// The class of each edge.
     pub classes: &'a [usize],

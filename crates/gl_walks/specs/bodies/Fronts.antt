@@ -117,6 +117,7 @@ key_behind s front = key_at (keyed_after front) s.edges s.classes s.flags
 -- no walk goes on with a position before the next one
 pub record HasPassed (s : Sought) (front : List ℕ) (next : Option ℕ) : Type 0 where
   pub within : unwrap_or next (length s.edges) ≤ length s.edges
+  -- the next one has the key that is looked up
   pub has : (i : ℕ) → next ≡ Some i → (i < length s.edges) × (key_behind s front i ≡ Some (key_after s front))
   pub none : (i : ℕ) → i < unwrap_or next (length s.edges) → NoneFrom s (front ++ i ∷ [])
 

@@ -18,13 +18,13 @@ even search pattern = even_by search.area search.purpose pattern search.by_class
 
 -- the path is as long as the pattern, but no walk
 pub grow-returns-then-not-may_end : goal.grow-returns-then-not-may_end
-grow-returns-then-not-may_end t c = whole_none (sought c.args.self.now c.args.pattern.now) c.args.path.now c.if-path-pattern.true (sym c.if-not-may_end.ensures)
+grow-returns-then-not-may_end t c = whole_none (sought c.args.self.now c.args.pattern.now) c.args.path.now (omega (arith, c.requires.front.short)) (sym c.if-not-may_end.ensures)
 
 -- it is the walk
 pub grow-returns-then-path-pattern : goal.grow-returns-then-path-pattern
 grow-returns-then-path-pattern t c =
     let s = sought c.args.self.now c.args.pattern.now in
-    subst (IsLeastFrom s c.args.path.now) (sym c.in_ok-walk.ensures.items) (whole_walk s c.args.path.now c.if-path-pattern.true c.requires.front (sym c.if-not-may_end.ensures))
+    subst (IsLeastFrom s c.args.path.now) (sym c.in_ok-walk.ensures.items) (whole_walk s c.args.path.now (omega (arith, c.requires.front.short)) c.requires.front (sym c.if-not-may_end.ensures))
 
 -- the path is closed too early
 pub grow-returns-then-is_closed : goal.grow-returns-then-is_closed
