@@ -1,0 +1,3 @@
+pub mod Walkers
+pub mod Walks
+pub mod bodies

@@ -1,0 +1,276 @@
+//! The search: paths of edges that may stand in a walk, grown in order of their positions.
+ghost use Rattle.std.specs.Prelude.{◌≡◌, ◌+◌, ◌<◌, ◌≤◌, [], ◌∷◌, ◌++◌, ℕ, Some, List, length, slice_get, IfOk, MatchOption, All};
+ghost use Rattle.std.specs.List.{list_all};
+ghost use Rattle.gl_segments.specs.Clocks.{is_before};
+ghost use Rattle.gl_edges.specs.declared.edge.Edge.{Edge};
+ghost use Rattle.gl_filters.specs.Picked.{edges_of_table, picked};
+ghost use Rattle.gl_filters.specs.Test.{leads_back};
+ghost use Rattle.gl_walks.specs.declared.walker.TheConstants.{LONGEST};
+ghost use Rattle.gl_walks.specs.bodies.Listing.{Key, IsNext};
+ghost use Rattle.gl_walks.specs.bodies.Fronts.{goes_by, stays_above, may_follow, may_end, sought_by, IsFront, NoneFrom, IsLeastFrom, key_after, key_behind, IsIndexed};
+
+use crate::chains::Chain;
+use crate::keys::Keyed;
+use crate::purpose::Purpose;
+use crate::walker::{Ground, LONGEST};
+use arrayvec::ArrayVec;
+use gl_edges::Edge;
+use gl_event::Memory;
+use gl_filters::{goes_with, kinds_go_together, leads_on};
+use std::alloc::Global;
+
+/// What is looked at.
+#[derive(Drop)]
+pub(crate) struct Search<'a> {
+    pub(crate) area: Ground<'a>,
+    pub(crate) purpose: Purpose,
+    // the flagged edges by their classes
+    by_class: Chain,
+    // and by the locks that they hold too
+    by_lock: Chain,
+    ghost indexed: { IsIndexed area by_class by_lock },
+}
+
+impl<'a> Search<'a> {
+    /// The search through this ground for a purpose.
+    pub(crate) fn of(
+        alloc: Global,
+        area: Ground<'a>,
+        purpose: Purpose,
+    ) -> Result<Search<'a>, Memory>
+        requires classes { length area.classes.now ≡ length area.table.now }
+        requires flags { length area.flags.now ≡ length area.table.now }
+        ensures area { IfOk result (λ search. search.area ≡ area.entry) }
+        ensures purpose { IfOk result (λ search. search.purpose ≡ purpose) }
+    {
+        let by_class = area.chain(alloc, Keyed::ByClass)?;
+        let by_lock = area.chain(alloc, Keyed::ByLock)?;
+        Ok(Search {
+            area,
+            purpose,
+            by_class,
+            by_lock,
+        })
+    }
+}
+
+impl Search<'_> {
+    // Whether two edges may stand in one walk.
+    fn go_together(&self, e: &Edge, f: &Edge) -> bool
+        ensures { result ≡ goes_by self.now.purpose (is_before self.now.area.order.now)
+            self.now.area.mode e.now f.now }
+    {
+        match self.purpose {
+            Purpose::Cycle => goes_with(self.area.mode, self.area.order, e, f),
+            Purpose::Front => kinds_go_together(self.area.mode, e, f),
+        }
+    }
+
+    // Whether each edge of the path may stand in one walk with this one.
+    fn goes_with_all(&self, path: &[usize], edge: &Edge) -> bool
+        requires within { All (λ i. i < length (edges_of_table self.now.area.table.now)) path.now }
+        ensures { result ≡ list_all
+            (λ e. goes_by self.now.purpose (is_before self.now.area.order.now)
+            self.now.area.mode e edge.now)
+            (picked (edges_of_table self.now.area.table.now) path.now) }
+    {
+        for &i in path {
+            if !self.go_together(&self.area.table[i].0, edge) {
+                return false;
+            }
+        }
+        true
+    }
+
+    // Whether an edge may stand in a walk that begins with this one: a cycle begins with its least
+    // thread.
+    fn stays_above(&self, first: &Edge, edge: &Edge) -> bool
+        ensures { result ≡ stays_above self.now.purpose first.now edge.now }
+    {
+        match self.purpose {
+            Purpose::Cycle => first.thread.number() <= edge.thread.number(),
+            Purpose::Front => true,
+        }
+    }
+
+    // Whether the edge at a position may come next in the path.
+    fn may_follow(&self, path: &[usize], next: usize) -> bool
+        requires within { All (λ i. i < length (edges_of_table self.now.area.table.now)) path.now }
+        requires there { next < length self.now.area.table.now }
+        ensures { (f : Edge)
+            → slice_get (edges_of_table self.now.area.table.now) next ≡ Some f
+            → result ≡ may_follow self.now.purpose (is_before self.now.area.order.now)
+            self.now.area.mode (picked (edges_of_table self.now.area.table.now) path.now) f }
+    {
+        if path.is_empty() {
+            return true;
+        }
+        let first = path[0];
+        let last = path[path.len() - 1];
+        let edge = &self.area.table[next].0;
+        if !leads_on(&self.area.table[last].0, edge) {
+            return false;
+        }
+        if !self.stays_above(&self.area.table[first].0, edge) {
+            return false;
+        }
+        self.goes_with_all(path, edge)
+    }
+
+    // Whether the path's last edge leads back to its first.
+    fn is_closed(&self, path: &[usize]) -> bool
+        requires within { All (λ i. i < length (edges_of_table self.now.area.table.now)) path.now }
+        ensures { result
+            ≡ leads_back (picked (edges_of_table self.now.area.table.now) path.now) }
+    {
+        if path.is_empty() {
+            return false;
+        }
+        let first = path[0];
+        let last = path[path.len() - 1];
+        leads_on(&self.area.table[last].0, &self.area.table[first].0)
+    }
+
+    // Whether the path may be a whole walk: a cycle has two edges or more, and goes round.
+    fn may_end(&self, path: &[usize]) -> bool
+        requires within { All (λ i. i < length (edges_of_table self.now.area.table.now)) path.now }
+        ensures { result ≡ may_end self.now.purpose
+            (picked (edges_of_table self.now.area.table.now) path.now) }
+    {
+        match self.purpose {
+            Purpose::Cycle => {
+                if path.len() < 2 {
+                    return false;
+                }
+                self.is_closed(path)
+            }
+            Purpose::Front => true,
+        }
+    }
+
+    // The first position that may come next in the path, by its class and the lock that it holds.
+    fn begin(&self, pattern: &[usize], path: &[usize]) -> Option<usize>
+        requires short { length path.now < length pattern.now }
+        requires within { All (λ i. i < length (edges_of_table self.now.area.table.now)) path.now }
+        ensures { IsNext
+            (key_behind (sought_by self.now.area self.now.purpose pattern.now) path.now)
+            (length (edges_of_table self.now.area.table.now))
+            (key_after (sought_by self.now.area self.now.purpose pattern.now) path.now) 0 result }
+    {
+        let class = pattern[path.len()];
+        if path.is_empty() {
+            return self.by_class.begin(class, None);
+        }
+        let last = path[path.len() - 1];
+        self.by_lock
+            .begin(class, Some(self.area.table[last].0.wanted))
+    }
+
+    // The position after `i` of the next one with the key by which `i` was found.
+    fn after(&self, path: &[usize], i: usize) -> Option<usize>
+        requires { i < length self.now.area.table.now }
+        ensures { (pattern : List ℕ) (k : Key)
+            → key_behind (sought_by self.now.area self.now.purpose pattern) path.now i ≡ Some k
+            → IsNext (key_behind (sought_by self.now.area self.now.purpose pattern) path.now)
+            (length (edges_of_table self.now.area.table.now)) k (i + 1) result }
+    {
+        if path.is_empty() {
+            return self.by_class.after(i);
+        }
+        self.by_lock.after(i)
+    }
+
+    /// The first walk for a pattern.
+    pub(crate) fn first(
+        &self,
+        alloc: Global,
+        pattern: &[usize],
+    ) -> Result<Option<Vec<usize>>, Memory>
+        requires { length pattern.now ≤ LONGEST }
+        ensures { IfOk result
+            (λ found. MatchOption found
+            (NoneFrom (sought_by self.now.area self.now.purpose pattern.now) [])
+            (λ walk. IsLeastFrom (sought_by self.now.area self.now.purpose pattern.now) []
+            walk.items)) }
+    {
+        self.grow(alloc, pattern, &[])
+    }
+
+    // The first walk that begins with the path.
+    #[cycle(grow)]
+    fn grow(
+        &self,
+        alloc: Global,
+        pattern: &[usize],
+        path: &[usize],
+    ) -> Result<Option<Vec<usize>>, Memory>
+        requires fits { length pattern.now ≤ LONGEST }
+        requires front { IsFront (sought_by self.now.area self.now.purpose pattern.now) path.now }
+        ensures { IfOk result
+            (λ found. MatchOption found
+            (NoneFrom (sought_by self.now.area self.now.purpose pattern.now) path.now)
+            (λ walk. IsLeastFrom (sought_by self.now.area self.now.purpose pattern.now) path.now
+            walk.items)) }
+    {
+        if path.len() == pattern.len() {
+            if !self.may_end(path) {
+                return Ok(None);
+            }
+            let walk = Vec::from_slice(alloc, path)?;
+            return Ok(Some(walk));
+        }
+        if self.is_closed(path) {
+            return Ok(None);
+        }
+        let mut next = self.begin(pattern, path);
+        while let Some(i) = next {
+            if let Some(walk) = self.grow_by(alloc, pattern, path, i)? {
+                return Ok(Some(walk));
+            }
+            next = self.after(path, i);
+        }
+        Ok(None)
+    }
+
+    // The first walk that begins with the path and the edge at a position.
+    #[cycle(grow)]
+    fn grow_by(
+        &self,
+        alloc: Global,
+        pattern: &[usize],
+        path: &[usize],
+        next: usize,
+    ) -> Result<Option<Vec<usize>>, Memory>
+        requires fits { length pattern.now ≤ LONGEST }
+        requires short { length path.now < length pattern.now }
+        requires front { IsFront (sought_by self.now.area self.now.purpose pattern.now) path.now }
+        requires there { next < length self.now.area.table.now }
+        requires has { key_behind (sought_by self.now.area self.now.purpose pattern.now) path.now next
+            ≡ Some (key_after (sought_by self.now.area self.now.purpose pattern.now) path.now) }
+        ensures { IfOk result
+            (λ found. MatchOption found
+            (NoneFrom (sought_by self.now.area self.now.purpose pattern.now)
+            (path.now ++ next ∷ []))
+            (λ walk. IsLeastFrom (sought_by self.now.area self.now.purpose pattern.now)
+            (path.now ++ next ∷ []) walk.items)) }
+    {
+        if !self.may_follow(path, next) {
+            return Ok(None);
+        }
+        let longer = longer_path(path, next);
+        self.grow(alloc, pattern, longer.as_slice())
+    }
+}
+
+// The path with one more edge.
+fn longer_path(path: &[usize], next: usize) -> ArrayVec<usize, LONGEST>
+    requires { length path.now < LONGEST }
+    ensures { result.items ≡ path.now ++ next ∷ [] }
+{
+    let mut longer = ArrayVec::new();
+    for &i in path {
+        longer.push(i);
+    }
+    longer.push(next);
+    longer
+}

@@ -1,0 +1,86 @@
+//! The search for a walk through edges of given classes.
+ghost use Rattle.std.specs.Prelude.{◌≡◌, ◌<◌, ◌≤◌, length, IfOk, MatchOption};
+ghost use Rattle.gl_segments.specs.Clocks.{is_before};
+ghost use Rattle.gl_filters.specs.Picked.{edges_of_table};
+ghost use Rattle.gl_walks.specs.declared.walker.TheConstants.{LONGEST};
+ghost use Rattle.gl_walks.specs.Walks.{NoWalk, IsFirstWalk};
+
+use crate::purpose::Purpose;
+use crate::search::Search;
+use gl_edges::{Edge, Sample};
+use gl_event::Memory;
+use gl_filters::Mode;
+use gl_segments::Order;
+use std::alloc::Global;
+use std::marker::Model;
+
+/// How many classes a pattern has at most.
+pub const LONGEST: usize = 16;
+
+/// What is walked through.
+#[derive(Clone, Copy, Drop)]
+pub struct Ground<'a> {
+    /// The edges.
+    pub table: &'a [(Edge, Sample)],
+    /// Which segment is before which.
+    pub order: &'a Order,
+    /// What is asked of two edges of a walk.
+    pub mode: Mode,
+    /// The class of each edge.
+    pub classes: &'a [usize],
+    /// Which edges may be walked along.
+    pub flags: &'a [bool],
+}
+
+/// Finds walks for a purpose through flagged edges of given classes. Contracts see the ground and the
+/// purpose.
+#[derive(Drop)]
+pub struct Walker<'a> {
+    search: Search<'a>,
+}
+
+impl<'a> Model for Walker<'a> {
+    ghost use Rattle.gl_walks.specs.Walkers.{Walking, walking};
+
+    ghost Value = { Walking };
+
+    ghost view = { λ w. walking w.search.area w.search.purpose };
+}
+
+impl<'a> Walker<'a> {
+    /// The walker through this ground for a purpose. Four look-ups for each flagged edge.
+    ///
+    /// Err where memory was refused.
+    pub fn of(alloc: Global, area: Ground<'a>, purpose: Purpose) -> Result<Walker<'a>, Memory>
+        requires classes { length area.classes.now ≡ length area.table.now }
+        requires flags { length area.flags.now ≡ length area.table.now }
+        ensures ground { IfOk result (λ walker. walker.ground ≡ area.entry) }
+        ensures purpose { IfOk result (λ walker. walker.purpose ≡ purpose) }
+    {
+        let search = Search::of(alloc, area, purpose)?;
+        Ok(Walker { search })
+    }
+
+    /// The positions of the first walk for a pattern: an edge of each of these classes, in turn. None
+    /// where there is no such walk.
+    ///
+    /// A path grows by each edge that may come next, the first one first: a look-up for each, and a
+    /// test against each edge of the path. So there may be as many paths as flagged edges of a class
+    /// that hold one lock, to the power of the pattern's length, before the first walk is found.
+    ///
+    /// Err where memory was refused. It is asked only for the walk that was found.
+    pub fn first(&self, alloc: Global, pattern: &[usize]) -> Result<Option<Vec<usize>>, Memory>
+        requires some { 0 < length pattern.now }
+        requires fits { length pattern.now ≤ LONGEST }
+        ensures { IfOk result
+            (λ found. MatchOption found
+            (NoWalk self.now.purpose (is_before self.now.ground.order.now) self.now.ground.mode
+            (edges_of_table self.now.ground.table.now) self.now.ground.classes.now
+            self.now.ground.flags.now pattern.now)
+            (λ walk. IsFirstWalk self.now.purpose (is_before self.now.ground.order.now)
+            self.now.ground.mode (edges_of_table self.now.ground.table.now)
+            self.now.ground.classes.now self.now.ground.flags.now pattern.now walk.items)) }
+    {
+        self.search.first(alloc, pattern)
+    }
+}
