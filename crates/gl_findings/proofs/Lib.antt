@@ -1,3 +1,4 @@
 pub mod Cutting
 pub mod Modelled
 pub mod Turning
+pub mod Turns
