@@ -7,8 +7,10 @@
 #![tactic(auto)]
 
 mod classes;
+mod laws;
 mod models;
 mod search;
 mod shown;
 
+pub use laws::{findings_are_cycles, findings_differ, no_finding_is_missed};
 pub use search::{findings, findings_parallel};
