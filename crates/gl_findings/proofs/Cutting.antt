@@ -1,0 +1,142 @@
+-- A front that no walk has begins no finding.
+use Rattle.std.proofs.Common.{◌≡◌, ℕ, zero, suc, ◌+◌, ◌-◌, ◌<◌, ◌≤◌, Bool, true, false, cond, List, [], ◌∷◌, ◌++◌, length, map, filter, take, drop, get_or, Option, Some, None, refl, sym, ap, subst, ◌∙◌, arith, inl, inr}
+use Rattle.std.specs.Prelude.{slice_get, All, Contains, nat_eq}
+use Rattle.std.specs.List.{cons_option, filter_map, list_any, range_with_len}
+use Rattle.std.specs.Cmp.Lexicographic.{pointwise, same_text}
+use Rattle.std.proofs.lemmas.Bool.{cases_Bool, false_from_ne_true}
+use Rattle.std.proofs.lemmas.Option.{slice_get-get_or, slice_get_within}
+use Rattle.std.proofs.lemmas.List.{append-nil, length-map, length-append, length-take, length-drop, map-append, take-append-drop, take-map}
+use Rattle.std.proofs.lemmas.List.Elements.{All-append, All-cons, All-head, All-tail}
+use Rattle.std.proofs.lemmas.List.Folds.{Any-from_list_any}
+use Rattle.gl_event.specs.declared.events.Segment.{Segment}
+use Rattle.gl_edges.specs.declared.edge.Edge.{Edge}
+use Rattle.gl_edges.specs.declared.edge.Sample.{Sample}
+use Rattle.gl_edges.proofs.Membership.{contains_here, contains_later, contains_range_from}
+use Rattle.gl_filters.specs.declared.query.Mode.{Mode}
+use Rattle.gl_filters.specs.Cycle.{IsCycle}
+use Rattle.gl_filters.specs.Picked.{edges_of_table, picked}
+use Rattle.gl_cycles.specs.AllCycles.{all_cycles}
+use Rattle.gl_cycles.specs.Laws.{IsCycleAt}
+use Rattle.gl_cycles.specs.OffCycles.{KeepsCycles}
+use Rattle.gl_cycles.proofs.Blocking.{picked-append}
+use Rattle.gl_cycles.proofs.Fronts.{element_at}
+use Rattle.gl_cycles.proofs.Level.{picked_among}
+use Rattle.gl_cycles.proofs.Members.{there_is_cycle}
+use Rattle.gl_walks.specs.declared.purpose.Purpose.TheVariants.{Front}
+use Rattle.gl_walks.specs.Walks.{is_front, NoWalk}
+use Rattle.gl_findings.specs.Findings.{class_of, classes_of, signature_of, turned, is_turn, first_with}
+use Rattle.gl_findings.specs.bodies.Grounds.{AreModels}
+use Rattle.gl_findings.proofs.Modelled.{alike_front, models_of}
+use Rattle.gl_findings.proofs.Turning.{turned_front, front_of_front}
+
+-- nothing is left where nothing passes
+pub filter-nothing : {X : Type 0} (p : X → Bool) (xs : List X) → ((x : X) → Contains xs x → p x ≡ false) → filter p xs ≡ []
+filter-nothing p [] none = refl
+filter-nothing p (x ∷ xs) none = rw (none x (contains_here x xs)) (filter-nothing p xs (λ y at. none y (contains_later x y xs at)))
+
+-- what holds of each of a list holds of each of its parts
+pub All-left : {X : Type 0} (P : X → Type 0) (xs ys : List X) → All P (xs ++ ys) → All P xs
+All-left P [] ys all = λ k d below. absurd (omega arith)
+All-left P (x ∷ xs) ys all = All-cons P x xs (All-head P x (xs ++ ys) all) (All-left P xs ys (All-tail P x (xs ++ ys) all))
+
+pub All-right : {X : Type 0} (P : X → Type 0) (xs ys : List X) → All P (xs ++ ys) → All P ys
+All-right P [] ys all = all
+All-right P (x ∷ xs) ys all = All-right P xs ys (All-tail P x (xs ++ ys) all)
+
+-- positions within a list have what stands there
+pub classes_told : (classes positions : List ℕ) → All (λ i. i < length classes) positions → map (slice_get classes) positions ≡ map Some (filter_map (slice_get classes) positions)
+classes_told classes [] within = refl
+classes_told classes (i ∷ is) within =
+    let here = element_at classes i (All-head (λ i. i < length classes) i is within) in
+    let rest = classes_told classes is (All-tail (λ i. i < length classes) i is within) in
+    (λ j. here.1 j ∷ rest j) ∙ sym (ap (λ o. map Some (cons_option o (filter_map (slice_get classes) is))) here.1)
+
+-- two lists that map to the parts of a list
+record IsSplit {X Y : Type 0} (f : X → Y) (xs : List X) (us vs : List Y) : Type 0 where
+  front : List X
+  back : List X
+  whole : front ++ back ≡ xs
+  of_front : map f front ≡ us
+  of_back : map f back ≡ vs
+
+split : {X Y : Type 0} (f : X → Y) (xs : List X) (us vs : List Y) → map f xs ≡ us ++ vs → IsSplit f xs us vs
+split f xs [] vs is = record { front = []; back = xs; whole = refl; of_front = refl; of_back = is }
+split f [] (u ∷ us) vs is = absurd (cc)
+split f (x ∷ xs) (u ∷ us) vs is =
+    let head : f x ≡ u = ap (λ l. get_or l 0 u) is in
+    let rest = split f xs us vs (ap (drop 1) is) in
+    record {
+      front = x ∷ rest.front;
+      back = rest.back;
+      whole = ap (λ l. x ∷ l) rest.whole;
+      of_front = λ j. head j ∷ rest.of_front j;
+      of_back = rest.of_back;
+    }
+
+-- an edge at one of the positions is among those that are picked
+picked_has : (edges : List Edge) (positions : List ℕ) (k d : ℕ) (e : Edge) → k < length positions → slice_get edges (get_or positions k d) ≡ Some e → Contains (picked edges positions) e
+picked_has edges [] k d e below at = absurd (omega arith)
+picked_has edges (i ∷ is) zero d e below at = subst (λ o. Contains (cons_option o (picked edges is)) e) (sym at) (contains_here e (picked edges is))
+picked_has edges (i ∷ is) (suc k) d e below at = behind (slice_get edges i) (picked_has edges is k d e (omega arith) at)
+  where
+    behind : (o : Option Edge) → Contains (picked edges is) e → Contains (cons_option o (picked edges is)) e
+    behind (Some f) there = contains_later f e (picked edges is) there
+    behind None there = there
+
+-- positions whose classes begin with a front, and that are a front of a round, have a walk among the models with the front's classes
+walk_begins : (before : Segment → Segment → Bool) (mode : Mode) (edges : List Edge) (classes : List ℕ) (kept models : List Bool) → AreModels edges classes kept models
+    → (positions front rest : List ℕ) → map (slice_get classes) positions ≡ map Some front ++ map Some rest → All (λ i. slice_get kept i ≡ Some true) positions
+    → is_front mode (picked edges positions) ≡ true → NoWalk Front before mode edges classes models front → ⊥
+walk_begins before mode edges classes kept models have positions front rest told all round none =
+    let parts = split (slice_get classes) positions (map Some front) (map Some rest) told in
+    let begun = front_of_front mode (picked edges parts.front) (picked edges parts.back) (ap (is_front mode) (sym (picked-append edges parts.front parts.back) ∙ ap (picked edges) parts.whole) ∙ round) in
+    let kept_front = All-left (λ i. slice_get kept i ≡ Some true) parts.front parts.back (subst (All (λ i. slice_get kept i ≡ Some true)) (sym parts.whole) all) in
+    let found = models_of edges classes kept models have parts.front kept_front in
+    none found.places (record {
+      flagged = found.flagged;
+      of_classes = found.same_classes ∙ parts.of_front;
+      fitting = alike_front mode (picked edges found.places) (picked edges parts.front) found.alike ∙ begun;
+    })
+
+-- where positions have the classes of a turned signature, they have those of the signature itself when turned back
+turned_back : (f : ℕ → Option ℕ) (front back signature : List ℕ) (k : ℕ) → map f front ≡ map Some (drop k signature) → map f back ≡ map Some (take k signature) → map f (back ++ front) ≡ map Some signature
+turned_back f front back signature k of_front of_back =
+    map-append f back front ∙ (λ i. of_back i ++ of_front i) ∙ sym (map-append Some (take k signature) (drop k signature)) ∙ ap (map Some) (take-append-drop k signature)
+
+module _ (before : Segment → Segment → Bool) (mode : Mode) (len : ℕ) (table : List (Edge × Sample)) (kept models : List Bool) where
+  -- each edge of a cycle is kept
+  pub cycle_is_kept : KeepsCycles before mode len (edges_of_table table) kept → (positions : List ℕ) → IsCycleAt before mode len (edges_of_table table) positions → All (λ i. slice_get kept i ≡ Some true) positions
+  cycle_is_kept keeps positions is k d below =
+      let edge = element_at (edges_of_table table) (get_or positions k d) (is.within k d below) in
+      let flag = element_at kept (get_or positions k d) (omega (arith, is.within k d below, keeps.long)) in
+      by flag.0 flag.1 edge.0 edge.1
+    where
+      by : (b : Bool) → slice_get kept (get_or positions k d) ≡ Some b → (e : Edge) → slice_get (edges_of_table table) (get_or positions k d) ≡ Some e → slice_get kept (get_or positions k d) ≡ Some true
+      by true at e stands = at
+      by false at e stands =
+          absurd (keeps.left_out (get_or positions k d) e stands at (picked (edges_of_table table) positions) (picked_among (edges_of_table table) positions) is.cycle (picked_has (edges_of_table table) positions k d e below stands))
+
+  -- where no walk among the models has the classes of a front, no signature that begins with it has a cycle
+  pub none_with : KeepsCycles before mode len (edges_of_table table) kept → AreModels (edges_of_table table) (classes_of table) kept models
+      → (front rest : List ℕ) → NoWalk Front before mode (edges_of_table table) (classes_of table) models front → first_with before mode len table (front ++ rest) ≡ []
+  none_with keeps have front rest none =
+      ap (take 1) (filter-nothing _ (all_cycles before mode len (edges_of_table table))
+      (λ positions at. false_from_ne_true _ (no_turn positions (there_is_cycle before mode len (edges_of_table table) positions at))))
+    where
+      no_turn : (positions : List ℕ) → IsCycleAt before mode len (edges_of_table table) positions → is_turn (front ++ rest) (signature_of table positions) ≡ true → ⊥
+      no_turn positions is turn =
+          let edges = edges_of_table table in
+          let told_by = slice_get (classes_of table) in
+          let (j, k, j_in, k_is, passes) = Any-from_list_any (λ k. pointwise nat_eq (turned k (front ++ rest)) (signature_of table positions)) (range_with_len 0 (length (front ++ rest))) turn in
+          let within : All (λ i. i < length (classes_of table)) positions = λ m d below. omega (arith, is.within m d below, length-map table (λ pair. pair.0), length-map table (class_of table)) in
+          let told : map told_by positions ≡ map Some (drop k (front ++ rest)) ++ map Some (take k (front ++ rest)) =
+          classes_told (classes_of table) positions within ∙ ap (map Some) (sym (same_text (turned k (front ++ rest)) (signature_of table positions) (sym passes))) ∙ map-append Some (drop k (front ++ rest)) (take k (front ++ rest)) in
+          let halves = split told_by positions (map Some (drop k (front ++ rest))) (map Some (take k (front ++ rest))) told in
+          let cycle : IsCycle before mode len (picked edges halves.front ++ picked edges halves.back) = subst (IsCycle before mode len) (ap (picked edges) (sym halves.whole) ∙ picked-append edges halves.front halves.back) is.cycle in
+          let P = λ (i : ℕ). slice_get kept i ≡ Some true in
+          let all : All P (halves.front ++ halves.back) = subst (All P) (sym halves.whole) (cycle_is_kept keeps positions is) in
+          walk_begins before mode edges (classes_of table) kept models have (halves.back ++ halves.front) front rest
+          (turned_back told_by halves.front halves.back (front ++ rest) k halves.of_front halves.of_back ∙ map-append Some front rest)
+          (All-append P halves.back halves.front (All-right P halves.front halves.back all) (All-left P halves.front halves.back all))
+          (ap (is_front mode) (picked-append edges halves.back halves.front) ∙ turned_front before mode len (picked edges halves.front) (picked edges halves.back) cycle)
+          none

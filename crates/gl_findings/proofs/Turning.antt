@@ -1,0 +1,129 @@
+-- A cycle that is told from another of its edges on: its edges still lead on to each other, and go together.
+use Rattle.std.proofs.Common.{◌≡◌, ◌≢◌, ℕ, zero, suc, ◌+◌, ◌-◌, ◌<◌, ◌≤◌, ◌⊎◌, Bool, true, false, ◌&&◌, eqb, cond, List, [], ◌∷◌, ◌++◌, length, Some, None, refl, sym, ap, ◌∙◌, arith, inl, inr}
+use Rattle.std.specs.Prelude.{slice_get}
+use Rattle.std.specs.List.{list_all}
+use Rattle.std.proofs.lemmas.Bool.{and_parts, and_from, eqb-true, eq-eqb, cases_lt, false≢true}
+use Rattle.std.proofs.lemmas.Option.{slice_get_within}
+use Rattle.std.proofs.lemmas.List.{length-append}
+use Rattle.std.proofs.lemmas.List.Folds.{list_all-append}
+use Rattle.gl_event.proofs.Depths.{slice_get_before}
+use Rattle.gl_event.specs.declared.events.Segment.{Segment}
+use Rattle.gl_edges.specs.declared.edge.Edge.{Edge}
+use Rattle.gl_filters.specs.declared.query.Mode.{Mode}
+use Rattle.gl_filters.specs.Cycle.{IsCycle}
+use Rattle.gl_filters.specs.Test.{leads_to, lead_on, kinds_go_together}
+use Rattle.gl_filters.specs.Verdicts.{following}
+use Rattle.gl_filters.proofs.Cycling.{leads_from}
+use Rattle.gl_filters.proofs.Round.{pair_goes_by_kind, leads_round}
+use Rattle.gl_walks.specs.Walks.{kinds_together, is_front}
+
+-- what stands in the second of two lists stands that many places later in both
+pub get_behind : {X : Type 0} (xs ys : List X) (k : ℕ) → slice_get (xs ++ ys) (length xs + k) ≡ slice_get ys k
+get_behind [] ys k = let e : 0 + k ≡ k = omega arith in ap (slice_get ys) e
+get_behind (x ∷ xs) ys k = let e : length (x ∷ xs) + k ≡ suc (length xs + k) = omega arith in ap (slice_get (x ∷ xs ++ ys)) e ∙ get_behind xs ys k
+
+-- a test passes for all where it does for each
+pub all_from_each : {X : Type 0} (p : X → Bool) (xs : List X) → ((k : ℕ) (x : X) → slice_get xs k ≡ Some x → p x ≡ true) → list_all p xs ≡ true
+all_from_each p [] each = refl
+all_from_each p (x ∷ xs) each = and_from (p x) _ (each 0 x refl) (all_from_each p xs (λ k y at. each (suc k) y at))
+
+together_from : (mode : Mode) (es : List Edge) → ((i j : ℕ) (e f : Edge) → i < j → slice_get es i ≡ Some e → slice_get es j ≡ Some f → kinds_go_together mode e f ≡ true) → kinds_together mode es ≡ true
+together_from mode [] pairs = refl
+together_from mode (e ∷ es) pairs =
+    and_from (list_all (kinds_go_together mode e) es) _
+    (all_from_each (kinds_go_together mode e) es (λ k f at. pairs 0 (suc k) e f (omega arith) refl at))
+    (together_from mode es (λ i j c f lower at_c at_f. pairs (suc i) (suc j) c f (omega arith) at_c at_f))
+
+led_from : (es : List Edge) → ((i : ℕ) (e f : Edge) → slice_get es i ≡ Some e → slice_get es (suc i) ≡ Some f → leads_to e f ≡ true) → lead_on es ≡ true
+led_from [] next = refl
+led_from (c ∷ []) next = refl
+led_from (c ∷ d ∷ es) next = and_from (leads_to c d) _ (next 0 c d refl refl) (led_from (d ∷ es) (λ i e f here there. next (suc i) e f here there))
+
+-- where an element of the turned list stands in the list
+record IsHome {X : Type 0} (xs ys : List X) (i : ℕ) (e : X) : Type 0 where
+  place : ℕ
+  stands : slice_get (xs ++ ys) place ≡ Some e
+  counts : ((i < length ys) × (place ≡ length xs + i)) ⊎ ((length ys + place ≡ i) × (place < length xs))
+
+home : {X : Type 0} (xs ys : List X) (i : ℕ) (e : X) → slice_get (ys ++ xs) i ≡ Some e → IsHome xs ys i e
+home xs ys i e at =
+    elim (cases_lt i (length ys)) [
+      | inl front ↦ record {
+          place = length xs + i;
+          stands = get_behind xs ys i ∙ sym (slice_get_before ys xs i front) ∙ at;
+          counts = inl (front, refl);
+        }
+      | inr back ↦ behind back
+    ]
+  where
+    behind : length ys ≤ i → IsHome xs ys i e
+    behind back =
+        let k = i - length ys in
+        let is : length ys + k ≡ i = omega arith in
+        let there : slice_get xs k ≡ Some e = sym (get_behind ys xs k) ∙ ap (slice_get (ys ++ xs)) is ∙ at in
+        record {
+          place = k;
+          stands = slice_get_before xs ys k (slice_get_within xs k e there) ∙ there;
+          counts = inr (is, slice_get_within xs k e there);
+        }
+
+homes_differ : {X : Type 0} (xs ys : List X) (i j : ℕ) (e f : X) → i < j → (a : IsHome xs ys i e) → (b : IsHome xs ys j f) → a.place ≢ b.place
+homes_differ xs ys i j e f lower a b same =
+    elim a.counts [
+      | inl p ↦ elim b.counts [ inl q ↦ absurd (omega (arith, p.1, q.1, lower, same)) | inr q ↦ absurd (omega (arith, p.1, q.1, same)) ]
+      | inr p ↦ elim b.counts [ inl q ↦ absurd (omega (arith, p.0, q.0, lower)) | inr q ↦ absurd (omega (arith, p.0, q.0, lower, same)) ]
+    ]
+
+-- the place behind k, round, by the halves in which both stand
+next_place : (m n i k l : ℕ) → ((i < n) × (k ≡ m + i)) ⊎ ((n + k ≡ i) × (k < m)) → ((suc i < n) × (l ≡ m + suc i)) ⊎ ((n + l ≡ suc i) × (l < m)) → l ≡ cond (eqb (k + 1) (m + n)) 0 (k + 1)
+next_place m n i k l p q =
+    elim p [
+      | inl a ↦ elim q [
+          | inl b ↦ pick _ (λ last. absurd (omega (arith, eqb-true (k + 1) (m + n) last, a.1, b.0))) (λ more. omega (arith, a.1, b.1))
+          | inr b ↦ pick _ (λ last. omega (arith, a.0, b.0)) (λ more. absurd (false≢true (sym more ∙ eq-eqb (k + 1) (m + n) (omega (arith, a.0, a.1, b.0)))))
+        ]
+      | inr a ↦ elim q [
+          | inl b ↦ absurd (omega (arith, a.0, b.0))
+          | inr b ↦ pick _ (λ last. absurd (omega (arith, eqb-true (k + 1) (m + n) last, a.0, b.0, b.1))) (λ more. omega (arith, a.0, b.0))
+        ]
+    ]
+  where
+    pick : (t : Bool) → (t ≡ true → l ≡ 0) → (t ≡ false → l ≡ k + 1) → l ≡ cond t 0 (k + 1)
+    pick true last more = last refl
+    pick false last more = more refl
+
+next_home : {X : Type 0} (xs ys : List X) (i : ℕ) (e f : X) → (a : IsHome xs ys i e) → (b : IsHome xs ys (suc i) f) → b.place ≡ following (length (xs ++ ys)) a.place
+next_home xs ys i e f a b = next_place (length xs) (length ys) i a.place b.place a.counts b.counts ∙ ap (λ n. cond (eqb (a.place + 1) n) 0 (a.place + 1)) (sym (length-append xs ys))
+
+-- a cycle told from another edge on is a front of a round, by its kinds
+pub turned_front : (before : Segment → Segment → Bool) (mode : Mode) (len : ℕ) (xs ys : List Edge) → IsCycle before mode len (xs ++ ys) → is_front mode (ys ++ xs) ≡ true
+unfolding is_front
+turned_front before mode len xs ys cycle =
+    and_from (lead_on (ys ++ xs)) _
+    (led_from (ys ++ xs) (λ i e f here there.
+    let a = home xs ys i e here in
+    let b = home xs ys (suc i) f there in
+    leads_from e f (leads_round before mode len (xs ++ ys) cycle a.place e f a.stands (ap (slice_get (xs ++ ys)) (sym (next_home xs ys i e f a b)) ∙ b.stands))))
+    (together_from mode (ys ++ xs) (λ i j e f lower at_e at_f.
+    let a = home xs ys i e at_e in
+    let b = home xs ys j f at_f in
+    pair_goes_by_kind before mode len (xs ++ ys) cycle a.place b.place e f (homes_differ xs ys i j e f lower a b) a.stands b.stands))
+
+led_front : (es fs : List Edge) → lead_on (es ++ fs) ≡ true → lead_on es ≡ true
+led_front [] fs led = refl
+led_front (c ∷ []) fs led = refl
+led_front (c ∷ d ∷ es) fs led = let parts = and_parts (leads_to c d) _ led in and_from (leads_to c d) _ parts.0 (led_front (d ∷ es) fs parts.1)
+
+together_front : (mode : Mode) (es fs : List Edge) → kinds_together mode (es ++ fs) ≡ true → kinds_together mode es ≡ true
+together_front mode [] fs goes = refl
+together_front mode (e ∷ es) fs goes =
+    let parts = and_parts (list_all (kinds_go_together mode e) (es ++ fs)) _ goes in
+    let both = and_parts (list_all (kinds_go_together mode e) es) _ (sym (list_all-append (kinds_go_together mode e) es fs) ∙ parts.0) in
+    and_from (list_all (kinds_go_together mode e) es) _ both.0 (together_front mode es fs parts.1)
+
+-- what a front begins with is a front
+pub front_of_front : (mode : Mode) (es fs : List Edge) → is_front mode (es ++ fs) ≡ true → is_front mode es ≡ true
+unfolding is_front
+front_of_front mode es fs front =
+    let parts = and_parts (lead_on (es ++ fs)) _ front in
+    and_from (lead_on es) _ (led_front es fs parts.0) (together_front mode es fs parts.1)

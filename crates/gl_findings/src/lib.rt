@@ -1,0 +1,16 @@
+//! Findings: what of all cycles a reader has to look at.
+//!
+//! A server runs the same code in many threads, on many locks. Where two pieces of its code acquire locks in
+//! opposite order, there are as many cycles as there are pairs of threads, and all of them are one fault.
+//! A finding is such a fault: all cycles of one signature, which is the pairs of places in the source where
+//! their edges were made. [`findings`] lists them, each once and shown by one of its cycles.
+#![tactic(auto)]
+
+mod classes;
+mod laws;
+mod models;
+mod search;
+mod shown;
+
+pub use laws::{findings_are_cycles, findings_differ, no_finding_is_missed};
+pub use search::{findings, findings_parallel};

