@@ -1,3 +1,6 @@
 pub mod Cutting
+pub mod FirstPlaces
+pub mod ModelSteps
 pub mod Modelled
+pub mod NextFlagged
 pub mod Turning
