@@ -1,5 +1,8 @@
 pub mod Cutting
+pub mod FirstPlaces
+pub mod ModelSteps
 pub mod Modelled
+pub mod NextFlagged
 pub mod Told
 pub mod Turning
 pub mod Turns

@@ -1,0 +1,19 @@
+use Rattle.std.proofs.Common.{◌≡◌, [], ◌∷◌, ◌++◌, get_or, refl, sym, ap, ◌∙◌}
+use Rattle.std.proofs.lemmas.Option.{slice_get-get_or}
+use Rattle.gl_findings.specs.Findings.{class_of}
+use Rattle.gl_findings.proofs.FirstPlaces.{classes_more}
+use Rattle.gl_findings.proofs.classes.classes_of.Goals as goal
+
+pub loop-i-preserved : goal.loop-i-preserved
+loop-i-preserved c =
+    let table = c.args.table.now in
+    let d = c.index-table-i.result in
+    let pair = get_or table c.loop-i.i d in
+    let at = slice_get-get_or table c.loop-i.i d c.loop-i-test.true in
+    let is : c.in_ok-class.class ≡ class_of table pair = c.in_ok-class.ensures.class table pair c.loop-i.invariant.firsts at refl in
+    record {
+      classes =
+          c.in_ok-push.ensures.items ∙ ap (λ k. c.loop-i.classes.items ++ k ∷ []) is ∙ ap (λ cs. cs ++ class_of table pair ∷ []) c.loop-i.invariant.classes
+          ∙ sym (classes_more table c.loop-i.i d c.loop-i-test.true);
+      firsts = c.in_ok-class.ensures.firsts table pair c.loop-i.invariant.firsts at refl;
+    }
