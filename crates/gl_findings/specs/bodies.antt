@@ -1,3 +1,6 @@
 -- The words of loops and private functions. No public contract cites them.
+pub mod Finding
 pub mod Growing
 pub mod Grounds
+pub mod Lesser
+pub mod Told

@@ -7,8 +7,11 @@
 #![tactic(auto)]
 
 mod classes;
+mod finder;
+mod grounds;
 mod models;
 mod search;
 mod shown;
+mod turns;
 
 pub use search::{findings, findings_parallel};
