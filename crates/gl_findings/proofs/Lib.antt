@@ -2,6 +2,7 @@ pub mod Below
 pub mod Choosing
 pub mod Compared
 pub mod Cutting
+pub mod Dealt
 pub mod Modelled
 pub mod Passed
 pub mod Prepared

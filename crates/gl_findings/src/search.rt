@@ -5,7 +5,8 @@ ghost use Rattle.gl_findings.specs.Findings.{findings};
 
 use crate::finder::Finder;
 use crate::grounds::Grounds;
-use gl_cycles::{Cycles, Found, edges_sought};
+use crate::parallel::first_findings;
+use gl_cycles::{Cycles, Found, edges_sought, edges_sought_parallel};
 use gl_edges::EdgeList;
 use gl_event::Memory;
 use gl_filters::Query;
@@ -76,6 +77,9 @@ pub fn findings_parallel(
         (query.now.max < length
         (findings (is_before order.now) query.now.mode query.now.len edges.now))) }
 {
-    let _rt = rt;
-    findings(alloc, edges, order, query)
+    let kept = edges_sought_parallel(rt, alloc, edges, order, query)?;
+    let grounds = Grounds::of(alloc, edges, kept)?;
+    let finder = Finder::of(alloc, edges, order, query, &grounds)?;
+    let found = first_findings(rt, alloc, &finder)?;
+    Ok(listed(found, query.max() as usize))
 }

@@ -1,5 +1,5 @@
 -- What a search of signatures is told, and what it finds.
-use Rattle.std.specs.Prelude.{◌≡◌, ℕ, ◌<◌, ◌≤◌, ◌-◌, List, [], ◌∷◌, ◌++◌, length, take}
+use Rattle.std.specs.Prelude.{◌≡◌, ℕ, ◌<◌, ◌≤◌, ◌-◌, List, [], ◌∷◌, ◌++◌, length, take, get_or}
 use Rattle.gl_segments.specs.Clocks.{is_before}
 use Rattle.gl_filters.specs.Picked.{edges_of_table}
 use Rattle.gl_cycles.specs.OffCycles.{KeepsCycles}
@@ -48,3 +48,7 @@ below_of s n front k = blocks_below (is_before s.order.now) s.mode s.len s.table
 -- the findings whose signature begins with a class, up to the cap
 abbrev pub first_from : Finder → ℕ → List (List ℕ)
 first_from s class = take s.cap (block_of s (s.len - 1) (class ∷ []))
+
+-- those of one of these classes
+abbrev pub first_of_root : Finder → List ℕ → ℕ → List (List ℕ)
+first_of_root s roots i = first_from s (get_or roots i 0)
