@@ -108,6 +108,43 @@ classes_from classes (i ∷ positions) (c ∷ pattern) same =
       picks = ap (λ o. cons_option o (filter_map (slice_get classes) positions)) (ap head same) ∙ ap (λ l. c ∷ l) rest.picks;
     }
 
+-- there are as many classes as edges
+same_long : (table : List (Edge × Sample)) → length (classes_of table) ≡ length (edges_of_table table)
+same_long table = length-map table _ ∙ sym (length-map table (λ pair. pair.0))
+
+turned_long : (signature : List ℕ) (k : ℕ) → k ≤ length signature → length (turned k signature) ≡ length signature
+turned_long signature k within = omega (arith, length-append (drop k signature) (take k signature), length-drop k signature, length-take k signature)
+
+module _ (before : Segment → Segment → Bool) (mode : Mode) (len : ℕ) (table : List (Edge × Sample)) (signature positions : List ℕ) where
+  -- a cycle of the signature: from where it is told, and its classes
+  record IsOfSignature : Type 0 where
+    is : IsCycleAt before mode len (edges_of_table table) positions
+    place : ℕ
+    below : place < length signature
+    classes : map (slice_get (classes_of table)) positions ≡ map Some (turned place signature)
+
+  of_signature : Contains (all_cycles before mode len (edges_of_table table)) positions → is_turn signature (signature_of table positions) ≡ true → IsOfSignature
+  of_signature at turn =
+      let cycle = there_is_cycle before mode len (edges_of_table table) positions at in
+      let (j, k, within, got, same) = Any-from_list_any (λ k. pointwise nat_eq (turned k signature) (signature_of table positions)) (range_with_len 0 (length signature)) turn in
+      let ranged = contains_range_from 0 (length signature) k (j, within, got) in
+      let inside : All (λ i. i < length (classes_of table)) positions = λ m d under. omega (arith, cycle.within m d under, same_long table) in
+      record {
+        is = cycle;
+        place = k;
+        below = omega (arith, ranged.1);
+        classes = classes_at (classes_of table) positions inside ∙ ap (map Some) (sym (same_text (turned k signature) (signature_of table positions) (sym same)));
+      }
+
+-- a signature of one class has no cycle
+pub none_of_one : (before : Segment → Segment → Bool) (mode : Mode) (len : ℕ) (table : List (Edge × Sample)) (signature : List ℕ) → length signature < 2 → first_with before mode len table signature ≡ []
+none_of_one before mode len table signature short =
+    none_of (slice_cmp nat_cmp) nat_list_cmp_total (λ positions. is_turn signature (signature_of table positions)) (all_cycles before mode len (edges_of_table table))
+    (λ y there turn.
+    let of = of_signature before mode len table signature y there turn in
+    let long : length y ≡ length signature = sym (length-map y (slice_get (classes_of table))) ∙ ap length of.classes ∙ length-map (turned of.place signature) Some ∙ turned_long signature of.place (omega (arith, of.below)) in
+    absurd (omega (arith, of.is.cycle.two_or_more, length-picked (edges_of_table table) y of.is.within, long, short)))
+
 module _ (before : Segment → Segment → Bool) (mode : Mode) (table : List (Edge × Sample)) (flags : List Bool) (signature : List ℕ) where
   module _ (purpose : Purpose) (classes : List ℕ) where
     -- a walk for the signature told from its place k on
@@ -195,9 +232,6 @@ module _ (before : Segment → Segment → Bool) (mode : Mode) (table : List (Ed
     abbrev edges : List Edge
     edges = edges_of_table table
 
-    same_long : length (classes_of table) ≡ length (edges_of_table table)
-    same_long = length-map table _ ∙ sym (length-map table (λ pair. pair.0))
-
     -- each edge of a cycle is kept
     all_flagged : (positions : List ℕ) → IsCycleAt before mode len edges positions → All (λ i. slice_get flags i ≡ Some true) positions
     all_flagged positions is = λ k d below.
@@ -214,18 +248,8 @@ module _ (before : Segment → Segment → Bool) (mode : Mode) (table : List (Ed
     -- a cycle of the signature is a walk for one of its turns
     walk_from : (positions : List ℕ) → Contains (all_cycles before mode len edges) positions → passes positions ≡ true → (k : ℕ) × (k < length signature) × IsCycleWalk k positions
     walk_from positions at turn =
-        let is = there_is_cycle before mode len edges positions at in
-        let (j, k, within, got, same) = Any-from_list_any (λ k. pointwise nat_eq (turned k signature) (signature_of table positions)) (range_with_len 0 (length signature)) turn in
-        let ranged = contains_range_from 0 (length signature) k (j, within, got) in
-        let inside : All (λ i. i < length (classes_of table)) positions = λ m d below. omega (arith, is.within m d below, same_long) in
-        (k, omega (arith, ranged.1), record {
-          flagged = all_flagged positions is;
-          of_classes = classes_at (classes_of table) positions inside ∙ ap (map Some) (sym (same_text (turned k signature) (signature_of table positions) (sym same)));
-          fitting = test_from_cycle before mode len (picked edges positions) is.cycle;
-        })
-
-    turned_long : (k : ℕ) → k ≤ length signature → length (turned k signature) ≡ length signature
-    turned_long k within = omega (arith, length-append (drop k signature) (take k signature), length-drop k signature, length-take k signature)
+        let of = of_signature before mode len table signature positions at turn in
+        (of.place, of.below, record { flagged = all_flagged positions of.is; of_classes = of.classes; fitting = test_from_cycle before mode len (picked edges positions) of.is.cycle })
 
     -- and each such walk is one
     record IsFound (positions : List ℕ) : Type 0 where
@@ -235,8 +259,8 @@ module _ (before : Segment → Segment → Bool) (mode : Mode) (table : List (Ed
     found_from : (k : ℕ) (positions : List ℕ) → k < length signature → IsCycleWalk k positions → IsFound positions
     found_from k positions below walk =
         let are = classes_from (classes_of table) positions (turned k signature) walk.of_classes in
-        let inside : All (λ i. i < length edges) positions = λ m d under. omega (arith, are.within m d under, same_long) in
-        let long : length positions ≡ length signature = sym (length-map positions (slice_get (classes_of table))) ∙ ap length walk.of_classes ∙ length-map (turned k signature) Some ∙ turned_long k (omega arith) in
+        let inside : All (λ i. i < length edges) positions = λ m d under. omega (arith, are.within m d under, same_long table) in
+        let long : length positions ≡ length signature = sym (length-map positions (slice_get (classes_of table))) ∙ ap length walk.of_classes ∙ length-map (turned k signature) Some ∙ turned_long signature k (omega arith) in
         let (j, within, is) = contains_range 0 (length signature) k (omega arith) (omega arith) in
         record {
           among = cycle_is_there before mode len edges positions (record { within = inside; cycle = cycle_from_test before mode len (picked edges positions) (omega (arith, length-picked edges positions inside, long)) walk.fitting });

@@ -1,16 +1,18 @@
 -- What a search that can begin knows of the classes that it passes over.
-use Rattle.std.proofs.Common.{◌≡◌, ℕ, suc, ◌+◌, ◌-◌, ◌<◌, ◌≤◌, Bool, true, false, List, [], ◌∷◌, ◌++◌, length, map, take, get_or, Option, Some, None, refl, sym, ap, subst, ◌∙◌, arith, inl, inr}
+use Rattle.std.proofs.Common.{◌≡◌, ℕ, suc, ◌+◌, ◌-◌, ◌<◌, ◌≤◌, Bool, true, false, cond, List, [], ◌∷◌, ◌++◌, length, map, take, get_or, Option, Some, None, refl, sym, ap, subst, ◌∙◌, arith, inl, inr}
 use Rattle.std.specs.Prelude.{slice_get, is_some, MatchOption}
 use Rattle.std.proofs.lemmas.Bool.{cases_lt, false≢true}
+use Rattle.std.proofs.lemmas.List.{append-nil}
 use Rattle.std.proofs.lemmas.Option.{slice_get-get_or}
 use Rattle.gl_segments.specs.Clocks.{is_before}
 use Rattle.gl_filters.specs.Picked.{edges_of_table}
 use Rattle.gl_walks.specs.Walks.{NoWalk}
 use Rattle.gl_walks.specs.declared.purpose.Purpose.TheVariants.{Front}
-use Rattle.gl_findings.specs.Findings.{classes_of}
+use Rattle.gl_findings.specs.Findings.{begins_least, first_with}
 use Rattle.gl_findings.specs.bodies.Finding.{IsReady, block_of, below_of, finding_of}
 use Rattle.gl_findings.specs.declared.finder.Finder.{Finder}
 use Rattle.gl_findings.proofs.Below.{HasGrown, grow_begin, grow_step, grow_end, grow_alone, grow_whole, block-lower}
+use Rattle.gl_findings.proofs.Choosing.{none_of_one}
 use Rattle.gl_findings.proofs.Passed.{none_begins, none_through}
 
 -- what holds where there is nothing
@@ -72,3 +74,11 @@ module _ (s : Finder) (ready : IsReady s) where
 
   pub next_at : (i : ℕ) → i ≤ length s.table.now → slice_get s.next.now i ≡ Some (get_or s.next.now i 0)
   next_at i below = let long = ready.next.long in slice_get-get_or s.next.now i 0 (omega arith)
+
+-- a signature of one class adds nothing
+pub too_short : (s : Finder) (signature : List ℕ) (old : List (List ℕ)) → length signature < 2 → old ≡ old ++ finding_of s signature
+too_short s signature old short = sym (ap (λ l. old ++ l) (by (begins_least signature) (none_of_one (is_before s.order.now) s.mode s.len s.table.now signature short)) ∙ append-nil old)
+  where
+    by : (b : Bool) → first_with (is_before s.order.now) s.mode s.len s.table.now signature ≡ [] → cond b (first_with (is_before s.order.now) s.mode s.len s.table.now signature) [] ≡ []
+    by true none = none
+    by false none = refl

@@ -234,7 +234,7 @@ impl Finder<'_> {
         Ok(walk.is_some())
     }
 
-    // Adds the finding of a signature, where it has one.
+    // Adds the finding of a signature, where it has one. No cycle has fewer than two edges.
     fn add_shown(
         &self,
         alloc: Global,
@@ -248,6 +248,9 @@ impl Finder<'_> {
             (map (λ cycle. cycle.items) found.new.items
             ≡ map (λ cycle. cycle.items) found.old.items ++ finding_of self.now signature.now) }
     {
+        if signature.len() < 2 {
+            return Ok(());
+        }
         if !begins_least(signature) {
             return Ok(());
         }

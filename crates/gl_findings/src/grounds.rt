@@ -27,11 +27,7 @@ pub(crate) struct Grounds {
 
 impl Grounds {
     /// What there is to tell where these edges are kept.
-    pub(crate) fn of(
-        alloc: Global,
-        edges: &EdgeList,
-        kept: Vec<bool>,
-    ) -> Result<Grounds, Memory>
+    pub(crate) fn of(alloc: Global, edges: &EdgeList, kept: Vec<bool>) -> Result<Grounds, Memory>
         requires { length kept.items ≡ length edges.now }
         ensures { IfOk result
             (λ grounds. (before : Segment → Segment → Bool) (mode : Mode) (len : ℕ)

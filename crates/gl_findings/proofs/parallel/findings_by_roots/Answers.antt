@@ -14,4 +14,4 @@ returns g c =
     let s = c.args.finder.now in
     let within = c.loop-done.invariant.1 in
     let whole : c.loop-done.done ≡ length c.args.roots.now = omega (arith, within) in
-    c.loop-done.invariant.0 ∙ ap (λ n. take s.cap (flat_map (first_of_root s c.args.roots.now) (range_with_len 0 n))) whole
+    ◌∙◌ {b = take s.cap (flat_map (first_of_root s c.args.roots.now) (range_with_len 0 c.loop-done.done))} c.loop-done.invariant.0 (ap (λ n. take s.cap (flat_map (first_of_root s c.args.roots.now) (range_with_len 0 n))) whole)

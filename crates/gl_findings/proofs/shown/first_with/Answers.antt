@@ -1,8 +1,7 @@
-use Rattle.std.proofs.Common.{◌≡◌, ◌+◌, length, subst, sym, ap, ◌∙◌, arith}
+use Rattle.std.proofs.Common.{◌≡◌, ◌+◌, length, subst, sym, ◌∙◌, arith}
 use Rattle.std.specs.Option.{option_map}
 use Rattle.gl_segments.specs.Clocks.{is_before}
-use Rattle.gl_findings.specs.Findings.{turned}
-use Rattle.gl_findings.proofs.Choosing.{IsBest, IsAnswer, answer, best_begin, best_more, best_is_first}
+use Rattle.gl_findings.proofs.Choosing.{IsBest, IsAnswer, answer, best_more, best_is_first}
 use Rattle.gl_findings.proofs.shown.first_with.Goals as goal
 
 -- one turn more

@@ -1,4 +1,4 @@
-use Rattle.std.proofs.Common.{◌≡◌, true, false, length, sym, ap, ◌∙◌, arith}
+use Rattle.std.proofs.Common.{length, sym, ap, ◌∙◌, arith}
 use Rattle.std.specs.Cmp.Lexicographic.{slice_cmp}
 use Rattle.std.specs.Ordering.{nat_cmp, is_le, is_gt}
 use Rattle.gl_findings.specs.Findings.{turned}

@@ -1,4 +1,4 @@
-use Rattle.std.proofs.Common.{◌≡◌, true, take, length}
+use Rattle.std.proofs.Common.{◌≡◌, true}
 use Rattle.std.specs.List.{list_all, range_with_len}
 use Rattle.std.specs.Cmp.Lexicographic.{slice_cmp}
 use Rattle.std.specs.Ordering.{nat_cmp, is_le}
