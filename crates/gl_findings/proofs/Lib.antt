@@ -1,8 +1,14 @@
+pub mod Below
+pub mod Choosing
+pub mod Compared
 pub mod Cutting
+pub mod Dealt
 pub mod FirstPlaces
 pub mod ModelSteps
 pub mod Modelled
 pub mod NextFlagged
+pub mod Passed
+pub mod Prepared
 pub mod Told
 pub mod Turning
 pub mod Turns

@@ -1,4 +1,7 @@
 -- The words of loops and private functions. No public contract cites them.
 pub mod Classing
+pub mod Finding
 pub mod Growing
 pub mod Grounds
+pub mod Lesser
+pub mod Told

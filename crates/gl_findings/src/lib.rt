@@ -7,10 +7,16 @@
 #![tactic(auto)]
 
 mod classes;
+mod finder;
+mod grounds;
 mod laws;
 mod models;
+mod parallel;
+mod pieces;
+mod roots;
 mod search;
 mod shown;
+mod turns;
 
 pub use laws::{findings_are_cycles, findings_differ, no_finding_is_missed};
 pub use search::{findings, findings_parallel};

@@ -1,15 +1,36 @@
 //! The search for findings.
-ghost use Rattle.std.specs.Prelude.{◌≡◌, ◌↔◌, ◌<◌, length, take, IfOk, IsTrue};
+ghost use Rattle.std.specs.Prelude.{◌≡◌, ◌↔◌, ◌<◌, ◌+◌, ℕ, List, length, map, take, IfOk, IsTrue};
 ghost use Rattle.gl_segments.specs.Clocks.{is_before};
 ghost use Rattle.gl_findings.specs.Findings.{findings};
 
-use gl_cycles::Found;
+use crate::finder::Finder;
+use crate::grounds::Grounds;
+use crate::parallel::first_findings;
+use gl_cycles::{Cycles, Found, edges_sought, edges_sought_parallel};
 use gl_edges::EdgeList;
 use gl_event::Memory;
 use gl_filters::Query;
 use gl_segments::Order;
-use std::alloc::{AllocError, Global};
+use std::alloc::Global;
 use std::thread::Threads;
+
+// The first of these findings, and whether there are more.
+fn listed(findings: Vec<Vec<usize>>, max: usize) -> Found
+    ensures cycles { (all : List (List ℕ))
+        → map (λ cycle. cycle.items) findings.items ≡ take (max + 1) all
+        → result.cycles ≡ take max all }
+    ensures more { (all : List (List ℕ))
+        → map (λ cycle. cycle.items) findings.items ≡ take (max + 1) all
+        → IsTrue result.more ↔ (max < length all) }
+{
+    let mut findings = findings;
+    let more = findings.len() > max;
+    findings.truncate(max);
+    Found {
+        cycles: Cycles::from_vec(findings),
+        more,
+    }
+}
 
 /// The first findings of a query over these edges, in the order of their signatures, each shown by the
 /// first of its cycles, and whether there are more.
@@ -30,8 +51,11 @@ pub fn findings(
         (query.now.max < length
         (findings (is_before order.now) query.now.mode query.now.len edges.now))) }
 {
-    let _ = (alloc, edges, order, query);
-    Err(AllocError)
+    let kept = edges_sought(alloc, edges, order, query)?;
+    let grounds = Grounds::of(alloc, edges, kept)?;
+    let finder = Finder::of(alloc, edges, order, query, &grounds)?;
+    let found = finder.first_findings(alloc)?;
+    Ok(listed(found, query.max() as usize))
 }
 
 /// The same as [`findings`], on several threads.
@@ -53,6 +77,9 @@ pub fn findings_parallel(
         (query.now.max < length
         (findings (is_before order.now) query.now.mode query.now.len edges.now))) }
 {
-    let _ = (rt, alloc, edges, order, query);
-    Err(AllocError)
+    let kept = edges_sought_parallel(rt, alloc, edges, order, query)?;
+    let grounds = Grounds::of(alloc, edges, kept)?;
+    let finder = Finder::of(alloc, edges, order, query, &grounds)?;
+    let found = first_findings(rt, alloc, &finder)?;
+    Ok(listed(found, query.max() as usize))
 }

@@ -1,15 +1,36 @@
 //! The cycle by which a finding is shown.
 ghost use Rattle.std.specs.Prelude.{◌≡◌, ◌<◌, ◌≤◌, [], ◌∷◌, length, IfOk, MatchOption};
+ghost use Rattle.std.specs.Option.{option_map};
 ghost use Rattle.gl_segments.specs.Clocks.{is_before};
 ghost use Rattle.gl_filters.specs.Picked.{edges_of_table};
 ghost use Rattle.gl_cycles.specs.OffCycles.{KeepsCycles};
 ghost use Rattle.gl_walks.specs.declared.purpose.Purpose.TheVariants.{Cycle};
 ghost use Rattle.gl_walks.specs.declared.walker.TheConstants.{LONGEST};
 ghost use Rattle.gl_findings.specs.Findings.{classes_of, first_with};
+ghost use Rattle.gl_findings.specs.bodies.Lesser.{lesser};
 
+use crate::turns::turned;
 use gl_event::Memory;
 use gl_walks::Walker;
-use std::alloc::{AllocError, Global};
+use std::alloc::Global;
+
+// Of two cycles the first one, where there are any.
+fn lesser(one: Option<Vec<usize>>, other: Option<Vec<usize>>) -> Option<Vec<usize>>
+    ensures { option_map (λ cycle. cycle.items) result
+        ≡ lesser (option_map (λ cycle. cycle.items) one) (option_map (λ cycle. cycle.items) other) }
+{
+    match (one, other) {
+        (None, other) => other,
+        (Some(a), None) => Some(a),
+        (Some(a), Some(b)) => {
+            if a.as_slice().cmp(b.as_slice()).is_le() {
+                Some(a)
+            } else {
+                Some(b)
+            }
+        }
+    }
+}
 
 /// The first cycle of a signature, of at most so many edges.
 pub(crate) fn first_with(
@@ -32,6 +53,10 @@ pub(crate) fn first_with(
         (λ cycle. first_with (is_before walker.now.ground.order.now) walker.now.ground.mode len
         walker.now.ground.table.now signature.now ≡ cycle.items ∷ [])) }
 {
-    let _ = (alloc, walker, len, signature);
-    Err(AllocError)
+    let mut first = None;
+    for k in 0..signature.len() {
+        let walk = walker.first(alloc, turned(signature, k).as_slice())?;
+        first = lesser(first, walk);
+    }
+    Ok(first)
 }

@@ -1,0 +1,84 @@
+-- What a search that can begin knows of the classes that it passes over.
+use Rattle.std.proofs.Common.{◌≡◌, ℕ, suc, ◌+◌, ◌-◌, ◌<◌, ◌≤◌, Bool, true, false, cond, List, [], ◌∷◌, ◌++◌, length, map, take, get_or, Option, Some, None, refl, sym, ap, subst, ◌∙◌, arith, inl, inr}
+use Rattle.std.specs.Prelude.{slice_get, is_some, MatchOption}
+use Rattle.std.proofs.lemmas.Bool.{cases_lt, false≢true}
+use Rattle.std.proofs.lemmas.List.{append-nil}
+use Rattle.std.proofs.lemmas.Option.{slice_get-get_or}
+use Rattle.gl_segments.specs.Clocks.{is_before}
+use Rattle.gl_filters.specs.Picked.{edges_of_table}
+use Rattle.gl_walks.specs.Walks.{NoWalk}
+use Rattle.gl_walks.specs.declared.purpose.Purpose.TheVariants.{Front}
+use Rattle.gl_findings.specs.Findings.{begins_least, first_with}
+use Rattle.gl_findings.specs.bodies.Finding.{IsReady, block_of, below_of, finding_of}
+use Rattle.gl_findings.specs.declared.finder.Finder.{Finder}
+use Rattle.gl_findings.proofs.Below.{HasGrown, grow_begin, grow_step, grow_end, grow_alone, grow_whole, block-lower}
+use Rattle.gl_findings.proofs.Choosing.{none_of_one}
+use Rattle.gl_findings.proofs.Passed.{none_begins, none_through}
+
+-- what holds where there is nothing
+pub where_none : {V : Type 0} (o : Option V) (N : Type 0) (P : V → Type 0) → MatchOption o N P → is_some o ≡ false → N
+where_none None N P is none = is
+where_none (Some v) N P is none = absurd (false≢true (sym none))
+
+module _ (s : Finder) (ready : IsReady s) where
+  -- a front that models show no walk for begins no finding
+  pub none_below : (n : ℕ) (front : List ℕ) → NoWalk s.fronts.purpose (is_before s.fronts.ground.order.now) s.fronts.ground.mode (edges_of_table s.fronts.ground.table.now) s.fronts.ground.classes.now s.fronts.ground.flags.now front → block_of s n front ≡ []
+  none_below n front none =
+      let f = ready.fronts in
+      none_begins (is_before s.order.now) s.mode s.len s.table.now s.cycles.ground.flags.now s.fronts.ground.flags.now ready.kept ready.models n front
+      (rw (f.same_purpose, f.same_order, f.same_mode, f.same_table, f.same_classes) at none)
+
+  -- classes that are passed over
+  pub skipped : (n : ℕ) (front : List ℕ) (m next i : ℕ) → slice_get s.next.now m ≡ Some next → m ≤ i → i < next → block_of s n (front ++ i ∷ []) ≡ []
+  skipped n front m next i at from below =
+      none_through (is_before s.order.now) s.mode s.len s.table.now s.cycles.ground.flags.now s.fronts.ground.flags.now ready.kept ready.models n front i (ready.next.skipped m next i at from below)
+
+  -- what has grown before the next class
+  abbrev pub Grown : ℕ → List ℕ → List (List ℕ) → List (List ℕ) → ℕ → Type 0
+  Grown n front old now next = HasGrown (is_before s.order.now) s.mode s.len s.table.now n front s.cap old now next
+
+  pub begin : (n : ℕ) (front : List ℕ) (from next : ℕ) (old : List (List ℕ)) → length old ≤ s.cap → ((i : ℕ) → i < from → block_of s n (front ++ i ∷ []) ≡ []) → slice_get s.next.now from ≡ Some next
+      → Grown n front old old next
+  begin n front from next old room none at =
+      grow_begin (is_before s.order.now) s.mode s.len s.table.now n front s.cap old next room (ready.next.from from next at).1
+      (λ i low below. elim (cases_lt i from) [ inl before ↦ none i before | inr not_before ↦ skipped n front from next i at not_before below ])
+
+  pub step : (n : ℕ) (front : List ℕ) (old now more : List (List ℕ)) (i next : ℕ) → Grown n front old now i → more ≡ take s.cap (now ++ block_of s n (front ++ i ∷ [])) → slice_get s.next.now (i + 1) ≡ Some next
+      → Grown n front old more next
+  step n front old now more i next had grown at =
+      let along = ready.next.from (i + 1) next at in
+      grow_step (is_before s.order.now) s.mode s.len s.table.now n front s.cap old now more i next had grown along.0 along.1 (λ j low below. skipped n front (i + 1) next j at low below)
+
+  -- a signature that goes on with a class below its first one is told from there
+  pub lower : (n : ℕ) (signature : List ℕ) (i : ℕ) → 0 < length signature → i < get_or signature 0 0 → block_of s n (signature ++ i ∷ []) ≡ []
+  lower n [] i some below = absurd (omega (arith, some))
+  lower n (first ∷ front) i some below = block-lower (is_before s.order.now) s.mode s.len s.table.now n first i front below
+
+  pub alone : (signature : List ℕ) (old now : List (List ℕ)) → length old < s.cap → length signature ≡ s.len → now ≡ old ++ finding_of s signature → now ≡ take s.cap (old ++ block_of s (s.len - length signature) signature)
+  alone signature old now room long is =
+      let none : 0 ≡ s.len - length signature = omega arith in
+      subst (λ n. now ≡ take s.cap (old ++ block_of s n signature)) none (grow_alone (is_before s.order.now) s.mode s.len s.table.now signature s.cap old now room is)
+
+  pub whole : (signature : List ℕ) (old own now : List (List ℕ)) → length signature < s.len → own ≡ old ++ finding_of s signature → now ≡ take s.cap (own ++ below_of s (s.len - length signature - 1) signature (length s.table.now))
+      → now ≡ take s.cap (old ++ block_of s (s.len - length signature) signature)
+  whole signature old own now short is grown =
+      let left : suc (s.len - length signature - 1) ≡ s.len - length signature = omega arith in
+      subst (λ n. now ≡ take s.cap (old ++ block_of s n signature)) left (grow_whole (is_before s.order.now) s.mode s.len s.table.now (s.len - length signature - 1) signature s.cap old own now is grown)
+
+  -- the next class stands behind
+  pub later : (i : ℕ) → i < length s.table.now → (get_or s.next.now (i + 1) 0 ≤ length s.table.now) × (i < get_or s.next.now (i + 1) 0)
+  later i below =
+      let long = ready.next.long in
+      let along = ready.next.from (i + 1) (get_or s.next.now (i + 1) 0) (slice_get-get_or s.next.now (i + 1) 0 (omega arith)) in
+      (along.1, omega (arith, along.0))
+
+  pub next_at : (i : ℕ) → i ≤ length s.table.now → slice_get s.next.now i ≡ Some (get_or s.next.now i 0)
+  next_at i below = let long = ready.next.long in slice_get-get_or s.next.now i 0 (omega arith)
+
+-- a signature of one class adds nothing
+pub too_short : (s : Finder) (signature : List ℕ) (old : List (List ℕ)) → length signature < 2 → old ≡ old ++ finding_of s signature
+too_short s signature old short = sym (ap (λ l. old ++ l) (by (begins_least signature) (none_of_one (is_before s.order.now) s.mode s.len s.table.now signature short)) ∙ append-nil old)
+  where
+    by : (b : Bool) → first_with (is_before s.order.now) s.mode s.len s.table.now signature ≡ [] → cond b (first_with (is_before s.order.now) s.mode s.len s.table.now signature) [] ≡ []
+    by true none = none
+    by false none = refl

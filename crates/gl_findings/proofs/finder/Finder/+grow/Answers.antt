@@ -1,0 +1,73 @@
+use Rattle.std.proofs.Common.{◌≡◌, ℕ, ◌+◌, ◌-◌, ◌<◌, ◌≤◌, List, ◌++◌, length, map, take, get_or, sym, ap, ◌∙◌, arith, rules}
+use Rattle.std.proofs.lemmas.List.{length-map}
+use Rattle.std.proofs.lemmas.Result.{on_ok_weaker}
+use Rattle.gl_segments.specs.Clocks.{is_before}
+use Rattle.gl_findings.specs.bodies.Finding.{IsReady, finding_of, block_of, below_of}
+use Rattle.gl_findings.proofs.Below.{grow_end, grown_room, grow_none, finding_room}
+use Rattle.gl_findings.proofs.Prepared.{begin, step, lower, alone, whole, later, next_at}
+use Rattle.gl_findings.proofs.finder.Finder.+grow.Goals as goal
+
+-- the signature may not be longer
+pub grow-returns-then-signature-self : goal.grow-returns-then-signature-self
+grow-returns-then-signature-self t c =
+    let s = c.args.self.now in
+    alone s c.requires.ready c.args.signature.now _ _
+    (omega (arith, c.args.found.now.ok.0, c.len.ensures, length-map c.args.found.now.items (λ cycle. cycle.items))) (omega arith) c.in_ok-add_shown.ensures
+
+pub grow-grow_on-requires : goal.grow-grow_on-requires
+grow-grow_on-requires t c =
+    let s = c.args.self.now in
+    let signature = c.args.signature.now in
+    let short = c.requires.short in
+    let first = c.requires.within 0 0 (omega (arith, c.requires.some)) in
+    let room = finding_room (is_before s.order.now) s.mode s.len s.table.now signature s.cap (map (λ cycle. cycle.items) c.args.found.now.items)
+    (omega (arith, c.args.found.now.ok.0, c.len.ensures, length-map c.args.found.now.items (λ cycle. cycle.items))) in (
+      search rules,
+      (
+        omega arith,
+        (
+          c.requires.within,
+          (
+            omega (arith, first),
+            (
+              (λ i below. lower s c.requires.ready (s.len - length signature - 1) signature i c.requires.some below),
+              (c.requires.ready, omega (arith, room, ap length c.in_ok-add_shown.ensures, length-map c.add_shown.new.found.items (λ cycle. cycle.items))),
+            ),
+          ),
+        ),
+      ),
+    )
+
+pub grow-returns : goal.grow-returns
+grow-returns t c =
+    let s = c.args.self.now in
+    let short = c.requires.short in
+    on_ok_weaker c.grow_on.result (λ grown. whole s c.requires.ready c.args.signature.now _ _ _ (omega arith) c.in_ok-add_shown.ensures grown) c.grow_on.ensures
+
+-- before the first class
+pub grow_on-loop-next-init : goal.grow_on-loop-next-init
+grow_on-loop-next-init t c =
+    let s = c.args.self.now in
+    begin s c.requires.ready (s.len - length c.args.signature.now - 1) c.args.signature.now c.args.from _ _
+    (omega (arith, c.requires.room, length-map c.args.found.now.items (λ cycle. cycle.items))) c.requires.none (next_at s c.requires.ready c.args.from c.requires.reached)
+
+pub grow_on-grow_by-requires : goal.grow_on-grow_by-requires
+grow_on-grow_by-requires t c =
+    let s = c.args.self.now in
+    let short = c.requires.short in
+    let room = grown_room (is_before s.order.now) s.mode s.len s.table.now (s.len - length c.args.signature.now - 1) c.args.signature.now s.cap _ _ _ c.loop-next.invariant in (
+      search rules,
+      (short, (c.requires.within, (omega arith, (c.requires.ready, omega (arith, room, length-map c.loop-next.found.items (λ cycle. cycle.items)))))),
+    )
+
+pub grow_on-loop-next-smaller : goal.grow_on-loop-next-smaller
+grow_on-loop-next-smaller t c =
+    let s = c.args.self.now in
+    let along = later s c.requires.ready c.loop-next.next (omega arith) in
+    omega (arith, along.0, along.1)
+
+-- one class more
+pub grow_on-loop-next-preserved : goal.grow_on-loop-next-preserved
+grow_on-loop-next-preserved t c =
+    let s = c.args.self.now in
+    step s c.requires.ready (s.len - length c.args.signature.now - 1) c.args.signature.now _ _ _ c.loop-next.next _ c.loop-next.invariant c.in_ok-grow_by.ensures (next_at s c.requires.ready (c.loop-next.next + 1) (omega arith))

@@ -1,0 +1,18 @@
+use Rattle.std.proofs.Common.{◌≡◌, ℕ, ◌-◌, List, length, map, take, ap, ◌∙◌}
+use Rattle.std.specs.List.{flat_map, range_with_len}
+use Rattle.std.proofs.lemmas.Result.{IfOk-weaker}
+use Rattle.gl_segments.specs.Clocks.{is_before}
+use Rattle.gl_findings.specs.Findings.{findings}
+use Rattle.gl_findings.specs.bodies.Finding.{first_of_root}
+use Rattle.gl_findings.proofs.Dealt.{of_roots}
+use Rattle.gl_findings.proofs.parallel.first_findings.Goals as goal
+
+-- all findings begin with one of the classes
+pub returns : goal.returns
+returns g c =
+    let s = c.args.finder.now in
+    let first = λ (roots : List ℕ). take s.cap (flat_map (first_of_root s roots) (range_with_len 0 (length roots))) in
+    IfOk-weaker c.findings_by_roots.result
+    (λ found. map (λ cycle. cycle.items) found.items ≡ first c.deref.result.now)
+    (λ found. map (λ cycle. cycle.items) found.items ≡ take s.cap (findings (is_before s.order.now) s.mode s.len s.table.now))
+    (λ found is. is ∙ ap first c.deref.ensures.value ∙ of_roots s c.requires c.in_ok-roots.roots.items (c.in_ok-roots.ensures.all (s.len - 1))) c.findings_by_roots.ensures

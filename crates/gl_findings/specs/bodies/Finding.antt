@@ -1,0 +1,54 @@
+-- What a search of signatures is told, and what it finds.
+use Rattle.std.specs.Prelude.{◌≡◌, ℕ, ◌<◌, ◌≤◌, ◌-◌, List, [], ◌∷◌, ◌++◌, length, take, get_or}
+use Rattle.gl_segments.specs.Clocks.{is_before}
+use Rattle.gl_filters.specs.Picked.{edges_of_table}
+use Rattle.gl_cycles.specs.OffCycles.{KeepsCycles}
+use Rattle.gl_walks.specs.declared.purpose.Purpose.{Purpose}
+use Rattle.gl_walks.specs.declared.purpose.Purpose.TheVariants.{Cycle, Front}
+use Rattle.gl_walks.specs.declared.walker.TheConstants.{LONGEST}
+use Rattle.gl_walks.specs.declared.walker.Walker.{Walker}
+use Rattle.gl_findings.specs.Findings.{classes_of}
+use Rattle.gl_findings.specs.bodies.Grounds.{AreModels, IsNextClass}
+use Rattle.gl_findings.specs.bodies.Growing.{finding, block, blocks_below}
+use Rattle.gl_findings.specs.declared.finder.Finder.{Finder}
+
+-- the walker looks over the search's edges, for this purpose
+pub record WalksFor (s : Finder) (walker : Walker) (aim : Purpose) : Type 0 where
+  pub same_purpose : walker.purpose ≡ aim
+  pub same_table : walker.ground.table.now ≡ s.table.now
+  pub same_order : walker.ground.order.now ≡ s.order.now
+  pub same_mode : walker.ground.mode ≡ s.mode
+  pub same_classes : walker.ground.classes.now ≡ classes_of s.table.now
+
+-- the search can begin
+pub record IsReady (s : Finder) : Type 0 where
+  -- a signature has room for the classes of a cycle
+  pub some : 0 < s.len
+  pub fits : s.len ≤ LONGEST
+  -- the one walker looks for cycles among edges that are kept, and the other one for fronts among their models
+  pub cycles : WalksFor s s.cycles Cycle
+  pub fronts : WalksFor s s.fronts Front
+  pub kept : KeepsCycles (is_before s.order.now) s.mode s.len (edges_of_table s.table.now) s.cycles.ground.flags.now
+  pub models : AreModels (edges_of_table s.table.now) (classes_of s.table.now) s.cycles.ground.flags.now s.fronts.ground.flags.now
+  -- and the classes that have a model follow one another
+  pub next : IsNextClass (length s.table.now) (classes_of s.table.now) s.fronts.ground.flags.now s.next.now
+
+-- the finding of a signature, where it has one
+abbrev pub finding_of : Finder → List ℕ → List (List ℕ)
+finding_of s signature = finding (is_before s.order.now) s.mode s.len s.table.now signature
+
+-- the findings that begin with a front and have at most n more classes
+abbrev pub block_of : Finder → ℕ → List ℕ → List (List ℕ)
+block_of s n front = block (is_before s.order.now) s.mode s.len s.table.now n front
+
+-- those that go on with a class below k, and at most n more
+abbrev pub below_of : Finder → ℕ → List ℕ → ℕ → List (List ℕ)
+below_of s n front k = blocks_below (is_before s.order.now) s.mode s.len s.table.now n front k
+
+-- the findings whose signature begins with a class, up to the cap
+abbrev pub first_from : Finder → ℕ → List (List ℕ)
+first_from s class = take s.cap (block_of s (s.len - 1) (class ∷ []))
+
+-- those of one of these classes
+abbrev pub first_of_root : Finder → List ℕ → ℕ → List (List ℕ)
+first_of_root s roots i = first_from s (get_or roots i 0)

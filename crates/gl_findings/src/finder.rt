@@ -1,0 +1,262 @@
+//! The search of signatures: they grow class by class.
+ghost use Rattle.std.specs.Prelude.{◌≡◌, ◌+◌, ◌-◌, ◌<◌, ◌≤◌, [], ◌∷◌, ◌++◌, ℕ, length, map, take, false, IfOk, OnOk, All};
+ghost use Rattle.gl_segments.specs.Clocks.{is_before};
+ghost use Rattle.gl_findings.specs.Findings.{findings};
+ghost use Rattle.gl_findings.specs.bodies.Finding.{IsReady, finding_of, block_of, below_of, first_from};
+ghost use Rattle.gl_findings.specs.bodies.Told.{AreGrounds};
+
+use crate::grounds::Grounds;
+use crate::shown::first_with;
+use crate::turns::{begins_least, longer};
+use gl_edges::{Edge, EdgeList, Sample};
+use gl_event::Memory;
+use gl_filters::{Mode, Query};
+use gl_segments::Order;
+use gl_walks::{Ground, Purpose, Walker};
+use std::alloc::Global;
+
+/// What a search looks at, and when it has enough.
+#[derive(Drop)]
+pub(crate) struct Finder<'a> {
+    pub(crate) table: &'a [(Edge, Sample)],
+    pub(crate) order: &'a Order,
+    pub(crate) mode: Mode,
+    // shows the cycles of a signature, among edges that are kept
+    pub(crate) cycles: Walker<'a>,
+    // shows whether a signature may begin so, among models
+    pub(crate) fronts: Walker<'a>,
+    // for each class the next one that has a model
+    pub(crate) next: &'a [usize],
+    // how many edges a cycle may have
+    pub(crate) len: usize,
+    // how many findings are looked for: one more than are listed
+    pub(crate) cap: usize,
+}
+
+impl<'a> Finder<'a> {
+    /// The search for the findings of a query, up to one more than are listed.
+    pub(crate) fn of(
+        alloc: Global,
+        edges: &'a EdgeList,
+        order: &'a Order,
+        query: &Query,
+        grounds: &'a Grounds,
+    ) -> Result<Finder<'a>, Memory>
+        requires { AreGrounds (is_before order.now) query.now.mode query.now.len edges.now
+            grounds.now }
+        ensures ready { IfOk result IsReady }
+        ensures table { IfOk result (λ finder. finder.table.now ≡ edges.now) }
+        ensures order { IfOk result (λ finder. finder.order.now ≡ order.now) }
+        ensures mode { IfOk result (λ finder. finder.mode ≡ query.now.mode) }
+        ensures len { IfOk result (λ finder. finder.len ≡ query.now.len) }
+        ensures cap { IfOk result (λ finder. finder.cap ≡ query.now.max + 1) }
+    {
+        let table = edges.entries();
+        let mode = query.mode();
+        let classes = grounds.classes.as_slice();
+        let among_kept = Ground {
+            table,
+            order,
+            mode,
+            classes,
+            flags: grounds.kept.as_slice(),
+        };
+        let among_models = Ground {
+            table,
+            order,
+            mode,
+            classes,
+            flags: grounds.models.as_slice(),
+        };
+        let cycles = Walker::of(alloc, &among_kept, Purpose::Cycle)?;
+        let fronts = Walker::of(alloc, &among_models, Purpose::Front)?;
+        Ok(Finder {
+            table,
+            order,
+            mode,
+            cycles,
+            fronts,
+            next: grounds.next.as_slice(),
+            len: query.len() as usize,
+            cap: query.max() as usize + 1,
+        })
+    }
+}
+
+impl Finder<'_> {
+    // The first findings, up to the cap.
+    pub(crate) fn first_findings(&self, alloc: Global) -> Result<Vec<Vec<usize>>, Memory>
+        requires ready { IsReady self.now }
+        ensures { IfOk result
+            (λ found. map (λ cycle. cycle.items) found.items
+            ≡ take self.now.cap
+            (findings (is_before self.now.order.now) self.now.mode self.now.len
+            self.now.table.now)) }
+    {
+        let mut found = Vec::new(alloc);
+        self.grow_on(alloc, &[], 0, &mut found)?;
+        Ok(found)
+    }
+
+    // The findings whose signature begins with a class, up to the cap.
+    pub(crate) fn findings_from(
+        &self,
+        alloc: Global,
+        class: usize,
+    ) -> Result<Vec<Vec<usize>>, Memory>
+        requires there { class < length self.now.table.now }
+        requires ready { IsReady self.now }
+        ensures { IfOk result
+            (λ found. map (λ cycle. cycle.items) found.items ≡ first_from self.now class) }
+    {
+        let mut found = Vec::new(alloc);
+        self.add_from(alloc, class, &mut found)?;
+        Ok(found)
+    }
+
+    // Adds the findings whose signature begins with a class, up to the cap.
+    pub(crate) fn add_from(
+        &self,
+        alloc: Global,
+        class: usize,
+        found: &mut Vec<Vec<usize>>,
+    ) -> Result<(), Memory>
+        requires there { class < length self.now.table.now }
+        requires ready { IsReady self.now }
+        requires room { length found.old.items ≤ self.now.cap }
+        ensures { OnOk result
+            (map (λ cycle. cycle.items) found.new.items
+            ≡ take self.now.cap
+            (map (λ cycle. cycle.items) found.old.items ++ block_of self.now (self.now.len - 1)
+            (class ∷ []))) }
+    {
+        self.grow_by(alloc, &[], class, found)
+    }
+
+    // Adds the findings whose signature begins with this one, up to the cap.
+    #[cycle(grow)]
+    fn grow(
+        &self,
+        alloc: Global,
+        signature: &[usize],
+        found: &mut Vec<Vec<usize>>,
+    ) -> Result<(), Memory>
+        requires some { 0 < length signature.now }
+        requires short { length signature.now ≤ self.now.len }
+        requires within { All (λ class. class < length self.now.table.now) signature.now }
+        requires ready { IsReady self.now }
+        requires room { length found.old.items ≤ self.now.cap }
+        ensures { OnOk result
+            (map (λ cycle. cycle.items) found.new.items
+            ≡ take self.now.cap
+            (map (λ cycle. cycle.items) found.old.items ++ block_of self.now
+            (self.now.len - length signature.now) signature.now)) }
+    {
+        if found.len() >= self.cap {
+            return Ok(());
+        }
+        self.add_shown(alloc, signature, found)?;
+        if signature.len() == self.len {
+            return Ok(());
+        }
+        self.grow_on(alloc, signature, signature[0], found)
+    }
+
+    // Adds the findings whose signature goes on from this one, up to the cap. No signature that goes on
+    // with a class before the given one begins where it is to be told from.
+    #[cycle(grow)]
+    fn grow_on(
+        &self,
+        alloc: Global,
+        signature: &[usize],
+        from: usize,
+        found: &mut Vec<Vec<usize>>,
+    ) -> Result<(), Memory>
+        requires short { length signature.now < self.now.len }
+        requires within { All (λ class. class < length self.now.table.now) signature.now }
+        requires reached { from ≤ length self.now.table.now }
+        requires none { (i : ℕ) → i < from
+            → block_of self.now (self.now.len - length signature.now - 1) (signature.now ++ i ∷ [])
+            ≡ [] }
+        requires ready { IsReady self.now }
+        requires room { length found.old.items ≤ self.now.cap }
+        ensures { OnOk result
+            (map (λ cycle. cycle.items) found.new.items
+            ≡ take self.now.cap
+            (map (λ cycle. cycle.items) found.old.items ++ below_of self.now
+            (self.now.len - length signature.now - 1) signature.now (length self.now.table.now))) }
+    {
+        let mut next = self.next[from];
+        while next < self.table.len() {
+            self.grow_by(alloc, signature, next, found)?;
+            next = self.next[next + 1];
+        }
+        Ok(())
+    }
+
+    // Adds the findings whose signature goes on from this one with a class, up to the cap.
+    #[cycle(grow)]
+    fn grow_by(
+        &self,
+        alloc: Global,
+        signature: &[usize],
+        class: usize,
+        found: &mut Vec<Vec<usize>>,
+    ) -> Result<(), Memory>
+        requires short { length signature.now < self.now.len }
+        requires within { All (λ class. class < length self.now.table.now) signature.now }
+        requires there { class < length self.now.table.now }
+        requires ready { IsReady self.now }
+        requires room { length found.old.items ≤ self.now.cap }
+        ensures { OnOk result
+            (map (λ cycle. cycle.items) found.new.items
+            ≡ take self.now.cap
+            (map (λ cycle. cycle.items) found.old.items ++ block_of self.now
+            (self.now.len - length signature.now - 1) (signature.now ++ class ∷ []))) }
+    {
+        let longer = longer(signature, class);
+        if !self.may_begin(alloc, longer.as_slice())? {
+            return Ok(());
+        }
+        self.grow(alloc, longer.as_slice(), found)
+    }
+
+    // Whether a signature of a cycle may begin so: whether models show a walk.
+    fn may_begin(&self, alloc: Global, front: &[usize]) -> Result<bool, Memory>
+        requires some { 0 < length front.now }
+        requires short { length front.now ≤ self.now.len }
+        requires ready { IsReady self.now }
+        ensures { IfOk result
+            (λ may. may ≡ false
+            → (n : ℕ) → block_of self.now n front.now ≡ []) }
+    {
+        let walk = self.fronts.first(alloc, front)?;
+        Ok(walk.is_some())
+    }
+
+    // Adds the finding of a signature, where it has one. No cycle has fewer than two edges.
+    fn add_shown(
+        &self,
+        alloc: Global,
+        signature: &[usize],
+        found: &mut Vec<Vec<usize>>,
+    ) -> Result<(), Memory>
+        requires some { 0 < length signature.now }
+        requires short { length signature.now ≤ self.now.len }
+        requires ready { IsReady self.now }
+        ensures { OnOk result
+            (map (λ cycle. cycle.items) found.new.items
+            ≡ map (λ cycle. cycle.items) found.old.items ++ finding_of self.now signature.now) }
+    {
+        if signature.len() < 2 {
+            return Ok(());
+        }
+        if !begins_least(signature) {
+            return Ok(());
+        }
+        if let Some(cycle) = first_with(alloc, &self.cycles, self.len, signature)? {
+            found.push(cycle)?;
+        }
+        Ok(())
+    }
+}

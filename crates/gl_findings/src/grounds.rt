@@ -1,0 +1,47 @@
+//! What a search of signatures is told of the edges.
+ghost use Rattle.std.specs.Prelude.{◌≡◌, ℕ, Bool, length, IfOk};
+ghost use Rattle.gl_event.specs.declared.events.Segment.{Segment};
+ghost use Rattle.gl_filters.specs.Picked.{edges_of_table};
+ghost use Rattle.gl_filters.specs.declared.query.Mode.{Mode};
+ghost use Rattle.gl_cycles.specs.OffCycles.{KeepsCycles};
+ghost use Rattle.gl_findings.specs.bodies.Told.{AreGrounds};
+
+use crate::classes::{classes_of, next_classes};
+use crate::models::models_of;
+use gl_edges::EdgeList;
+use gl_event::Memory;
+use std::alloc::Global;
+
+/// What a search is told of the edges.
+#[derive(Drop)]
+pub(crate) struct Grounds {
+    // the class of each
+    pub(crate) classes: Vec<usize>,
+    // those that may be in a cycle
+    pub(crate) kept: Vec<bool>,
+    // and of those that are alike one
+    pub(crate) models: Vec<bool>,
+    // for each class the next one that has a model
+    pub(crate) next: Vec<usize>,
+}
+
+impl Grounds {
+    /// What there is to tell where these edges are kept.
+    pub(crate) fn of(alloc: Global, edges: &EdgeList, kept: Vec<bool>) -> Result<Grounds, Memory>
+        requires { length kept.items ≡ length edges.now }
+        ensures { IfOk result
+            (λ grounds. (before : Segment → Segment → Bool) (mode : Mode) (len : ℕ)
+            → KeepsCycles before mode len (edges_of_table edges.now) kept.items
+            → AreGrounds before mode len edges.now grounds) }
+    {
+        let classes = classes_of(alloc, edges.entries())?;
+        let models = models_of(alloc, edges, &classes, &kept)?;
+        let next = next_classes(alloc, &classes, &models)?;
+        Ok(Grounds {
+            classes,
+            kept,
+            models,
+            next,
+        })
+    }
+}
