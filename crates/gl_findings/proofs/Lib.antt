@@ -4,6 +4,7 @@ pub mod Compared
 pub mod Cutting
 pub mod Dealt
 pub mod FirstPlaces
+pub mod LeastTurns
 pub mod ModelSteps
 pub mod Modelled
 pub mod NextFlagged
@@ -11,4 +12,3 @@ pub mod Passed
 pub mod Prepared
 pub mod Told
 pub mod Turning
-pub mod Turns

@@ -21,7 +21,7 @@ use Rattle.gl_cycles.proofs.Members.{filter_has, filter_from, there_is_cycle}
 use Rattle.gl_findings.specs.Findings.{same_places, class_of, classes_of, signature_of, turned, is_turn, begins_least, first_with, findings}
 use Rattle.gl_findings.specs.Laws.{IsToldBy, AreOneFinding, NoneIsMissed, EachIsCycle, NoneIsTwice}
 use Rattle.gl_findings.proofs.Cutting.{classes_told, All-left, All-right}
-use Rattle.gl_findings.proofs.Turns.{IsTurnOf, turn_tells, turn_from, turn_and_back, told, told_once, length-turned}
+use Rattle.gl_findings.proofs.LeastTurns.{IsTurnOf, turn_tells, turn_from, turn_and_back, told, told_once, length-turned}
 
 -- the first of some
 first_of : {X : Type 0} (xs : List X) (x : X) → Contains xs x → (y : X) × Contains (take 1 xs) y × Contains xs y

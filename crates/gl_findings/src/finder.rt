@@ -68,8 +68,8 @@ impl<'a> Finder<'a> {
             classes,
             flags: grounds.models.as_slice(),
         };
-        let cycles = Walker::of(alloc, &among_kept, Purpose::Cycle)?;
-        let fronts = Walker::of(alloc, &among_models, Purpose::Front)?;
+        let cycles = Walker::of(alloc, among_kept, Purpose::Cycle)?;
+        let fronts = Walker::of(alloc, among_models, Purpose::Front)?;
         Ok(Finder {
             table,
             order,
