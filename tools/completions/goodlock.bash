@@ -21,7 +21,7 @@ _goodlock() {
         return
     fi
     case ${COMP_WORDS[1]} in
-        predict) _goodlock_words "$query --json" ;;
+        predict) _goodlock_words "$query --json --findings" ;;
         live) _goodlock_words "$query --json --recorders --shards --ring --stream --threads" ;;
         stats) _goodlock_words "$query" ;;
         replay | check) _goodlock_words "--help" ;;

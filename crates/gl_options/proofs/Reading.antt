@@ -16,7 +16,7 @@ use Rattle.gl_options.specs.Options.{Asks, AsksForSession, AsksIn, IsCommand, Is
 use Rattle.gl_options.specs.Sessions.{CanRun}
 use Rattle.gl_options.specs.declared.live_options.LiveOptions.{LiveOptions}
 use Rattle.gl_options.specs.declared.options.Command.{Command}
-use Rattle.gl_options.specs.declared.options.Command.TheVariants.{Predict, Live, Stats, Replay, Check}
+use Rattle.gl_options.specs.declared.options.Command.TheVariants.{Predict, Findings, Live, Stats, Replay, Check}
 use Rattle.gl_options.specs.declared.options.Usage.{Usage}
 use Rattle.gl_options.specs.declared.options.Usage.TheVariants.{Shown, Refused, Memory}
 
@@ -89,6 +89,7 @@ entered_name m c name of is = name_of_rows m ∙ ap (option_map (λ p. p.0)) of.
 pub unentered : (m : ArgMatches) → (subcommand_name_of m ≡ Some (codes "predict") → ⊥) → (subcommand_name_of m ≡ Some (codes "live") → ⊥)
     → (subcommand_name_of m ≡ Some (codes "stats") → ⊥) → (subcommand_name_of m ≡ Some (codes "replay") → ⊥) → (subcommand_name_of m ≡ Some (codes "check") → ⊥) → (c : Command) → IsEntered (subcommand_rows_of m) c → ⊥
 unentered m no_predict no_live no_stats no_replay no_check (Predict q form) of = no_predict (entered_name m (Predict q form) (codes "predict") of of.is_command.0)
+unentered m no_predict no_live no_stats no_replay no_check (Findings q form) of = no_predict (entered_name m (Findings q form) (codes "predict") of of.is_command.0)
 unentered m no_predict no_live no_stats no_replay no_check (Live o) of = no_live (entered_name m (Live o) (codes "live") of of.is_command.0)
 unentered m no_predict no_live no_stats no_replay no_check (Stats q) of = no_stats (entered_name m (Stats q) (codes "stats") of of.is_command.0)
 unentered m no_predict no_live no_stats no_replay no_check Replay of = no_replay (entered_name m Replay (codes "replay") of of.is_command)
@@ -96,7 +97,8 @@ unentered m no_predict no_live no_stats no_replay no_check Check of = no_check (
 
 -- options that give no query
 pub no_prediction : (rows : List Row) → ((q : Asked) → AsksIn rows q → ⊥) → (c : Command) → IsCommand (codes "predict") rows c → ⊥
-no_prediction rows none (Predict q form) is = none q is.1
+no_prediction rows none (Predict q form) is = none q is.2
+no_prediction rows none (Findings q form) is = none q is.2
 no_prediction rows none (Live o) is =
     let bad : true ≡ false = ap (λ (name : Text). length name == 7) is.0 in
     cc
@@ -118,6 +120,9 @@ pub no_stats : (rows : List Row) → ((q : Asked) → AsksIn rows q → ⊥) →
 no_stats rows none (Predict q form) is =
     let bad : true ≡ false = ap (λ (name : Text). length name == 5) is.0 in
     cc
+no_stats rows none (Findings q form) is =
+    let bad : true ≡ false = ap (λ (name : Text). length name == 5) is.0 in
+    cc
 no_stats rows none (Live o) is =
     let bad : true ≡ false = ap (λ (name : Text). length name == 5) is.0 in
     cc
@@ -131,6 +136,9 @@ no_stats rows none Check is =
 
 pub no_session : (rows : List Row) → ((o : LiveOptions) → AsksIn rows o.query → AsksForSession rows o → ⊥) → (c : Command) → IsCommand (codes "live") rows c → ⊥
 no_session rows none (Predict q form) is =
+    let bad : true ≡ false = ap (λ (name : Text). length name == 4) is.0 in
+    cc
+no_session rows none (Findings q form) is =
     let bad : true ≡ false = ap (λ (name : Text). length name == 4) is.0 in
     cc
 no_session rows none (Live o) is = none o is.1 is.3
@@ -153,6 +161,7 @@ same_number rows id m n of_m of_n =
 -- what words ask for can be run
 pub can_run : (words : List Text) (c : Command) → Asks words c → CanRun c
 can_run words (Predict q form) asks = tt
+can_run words (Findings q form) asks = tt
 can_run words (Live o) asks =
     let numbers = asks.enters.is_command.3 in
     record {

@@ -13,7 +13,7 @@ use Rattle.clap.specs.declared.builder.action.ArgAction.TheVariants.{SetTrue}
 use Rattle.gl_options.specs.declared.form.Form.{Form}
 use Rattle.gl_options.specs.declared.form.Form.TheVariants.{Text as Plain, Json}
 use Rattle.gl_options.specs.declared.options.Command.{Command}
-use Rattle.gl_options.specs.declared.options.Command.TheVariants.{Predict, Live, Stats, Replay, Check}
+use Rattle.gl_options.specs.declared.options.Command.TheVariants.{Predict, Findings, Live, Stats, Replay, Check}
 use Rattle.gl_options.specs.declared.live_options.LiveOptions.{LiveOptions}
 use Rattle.gl_options.specs.declared.options.Usage.{Usage}
 use Rattle.gl_options.specs.declared.options.Usage.TheVariants.{Shown, Refused, Memory}
@@ -61,6 +61,9 @@ flag_rule name = record (new_rule name) { long = Some name; action = Some SetTru
 abbrev pub json_rule : Rule
 json_rule = flag_rule (codes "json")
 
+abbrev pub findings_rule : Rule
+findings_rule = flag_rule (codes "findings")
+
 abbrev pub stream_rule : Rule
 stream_rule = flag_rule (codes "stream")
 
@@ -68,9 +71,9 @@ stream_rule = flag_rule (codes "stream")
 abbrev pub query_app : Text → App
 query_app name = with_rule (with_rule (with_rule (new_app name) mode_rule) len_rule) max_rule
 
--- the command that predicts, with the form of its report
+-- the command that predicts, with the form of its report, and with whether it lists findings
 abbrev pub predict : App
-predict = with_rule (query_app (codes "predict")) json_rule
+predict = with_rule (with_rule (query_app (codes "predict")) json_rule) findings_rule
 
 -- the command of a session that reads first, with the numbers of its recorder threads, of its shards, and of the notes in a ring
 abbrev pub session_app : App
@@ -155,7 +158,8 @@ pub record IsFormIn (rows : List Row) (form : Form) : Type 0 where
 
 -- a command of this name, whose options have these values, is this
 abbrev pub IsCommand : Text → List Row → Command → Type 0
-IsCommand name rows (Predict query form) = (name ≡ codes "predict") × AsksIn rows query × IsFormIn rows form
+IsCommand name rows (Predict query form) = (name ≡ codes "predict") × IsFlagIn rows (codes "findings") false × AsksIn rows query × IsFormIn rows form
+IsCommand name rows (Findings query form) = (name ≡ codes "predict") × IsFlagIn rows (codes "findings") true × AsksIn rows query × IsFormIn rows form
 IsCommand name rows (Live options) = (name ≡ codes "live") × AsksIn rows options.query × IsFormIn rows options.form × AsksForSession rows options
 IsCommand name rows (Stats query) = (name ≡ codes "stats") × AsksIn rows query
 IsCommand name rows Replay = name ≡ codes "replay"

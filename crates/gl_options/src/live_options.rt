@@ -2,10 +2,10 @@
 ghost use Rattle.std.specs.Prelude.{◌≡◌, ◌<◌, ◌≤◌, ◌^◌, ℕ, false, None, codes, IfOk, IfSome};
 ghost use Rattle.clap.specs.Words.{app_of, found_of, rows_of, rule_of, with_rule};
 ghost use Rattle.clap.specs.declared.builder.command.Command.TheViews.{out-Command as fields_of};
-ghost use Rattle.gl_options.specs.Options.{live, query_app, session_app, json_rule, recorders_rule, shards_rule, ring_rule, stream_rule, threads_rule, IsCommand, IsFlagIn, IsNumberIn};
+ghost use Rattle.gl_options.specs.Options.{live, query_app, session_app, json_rule, recorders_rule, shards_rule, ring_rule, stream_rule, threads_rule, IsCommand, IsNumberIn};
 
 use crate::form::Form;
-use crate::options::{Command, form_in, json_option, number_at, query_command, query_in};
+use crate::options::{Command, flag_in, form_in, json_option, number_at, query_command, query_in};
 use clap::{Arg, ArgAction, ArgMatches, value_parser};
 use gl_filters::Query;
 use std::alloc::{AllocError, Global};
@@ -148,13 +148,6 @@ fn number_in(matches: &ArgMatches<'_>, id: &str, greatest: u32) -> Option<u32>
         return None;
     }
     Some(number)
-}
-
-// Whether the flag was given.
-fn flag_in(matches: &ArgMatches<'_>, id: &str) -> bool
-    ensures { IsFlagIn (rows_of (found_of matches.now)) id.now result }
-{
-    matches.get_flag(id)
 }
 
 /// The command that these values of its options ask for.

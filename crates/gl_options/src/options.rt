@@ -4,8 +4,8 @@ ghost use Rattle.clap.specs.declared.error.kind.ErrorKind.TheVariants.{InvalidVa
 ghost use Rattle.clap.specs.Words.{app_of, first_of, found_of, kind_of, rows_of, rule_of, subcommand_rows_of, with_subcommand};
 ghost use Rattle.clap.specs.declared.builder.command.Command.TheViews.{out-Command as fields_of};
 ghost use Rattle.gl_filters.specs.Asked.{Asked};
-ghost use Rattle.gl_options.specs.Options.{goodlock, program, predict, live, stats, replay, check, query_app, mode_rule, len_rule, max_rule, json_rule};
-ghost use Rattle.gl_options.specs.Options.{Asks, AsksIn, IsCommand, IsEntered, IsFormIn, IsNumberAt, IsUsageFor, IsUsageOf, mode_named};
+ghost use Rattle.gl_options.specs.Options.{goodlock, program, predict, live, stats, replay, check, query_app, mode_rule, len_rule, max_rule, json_rule, findings_rule};
+ghost use Rattle.gl_options.specs.Options.{Asks, AsksIn, IsCommand, IsEntered, IsFlagIn, IsFormIn, IsNumberAt, IsUsageFor, IsUsageOf, mode_named};
 
 use crate::form::Form;
 use crate::live_options::{LiveOptions, live_command, live_in};
@@ -24,6 +24,8 @@ const REFUSED: &str =
 pub enum Command {
     /// Read a trace and print the cycles that this query asks for, in this form.
     Predict { query: Query, form: Form },
+    /// Read a trace and print the findings that this query asks for, in this form.
+    Findings { query: Query, form: Form },
     /// Read a trace, run a session over it and print the cycles that its options ask for.
     Live(LiveOptions),
     /// Read a trace and print counts of it and of the cycles that this query asks for.
@@ -65,7 +67,7 @@ fn mode_option<'a>(alloc: Global) -> Arg<'a>
         .value_name("MODE")
         .default_value("full")
         .help(
-            "Which cycles count: basic, guarded (no guard lock in common), or full (and not ordered by forks and joins)",
+            "Which cycles count: basic, guarded (no gate lock in common), or full (and not ordered by forks and joins)",
         )
 }
 
@@ -106,6 +108,17 @@ pub(crate) fn json_option<'a>(alloc: Global) -> Arg<'a>
         .help("Prints the report as JSON, one object on a line")
 }
 
+// Whether findings are listed, in place of cycles.
+fn findings_option<'a>(alloc: Global) -> Arg<'a>
+    ensures rule { rule_of result ≡ findings_rule }
+    ensures local { result.global ≡ false }
+{
+    Arg::new(alloc, "findings")
+        .long("findings")
+        .action(ArgAction::SetTrue)
+        .help("Lists each finding once: cycles made at the same places are one")
+}
+
 /// A command of this name with the options of a query.
 pub(crate) fn query_command<'a>(
     alloc: Global,
@@ -130,7 +143,8 @@ fn predict_command<'a>(alloc: Global) -> Result<clap::Command<'a>, AllocError>
         .after_help(
             "Examples:\n  goodlock predict < trace.std\n  goodlock predict --mode guarded --len 3 --json < trace.std",
         )
-        .arg(json_option(alloc))
+        .arg(json_option(alloc))?
+        .arg(findings_option(alloc))
 }
 
 // The command that counts.
@@ -287,6 +301,13 @@ pub(crate) fn form_in(matches: &ArgMatches<'_>) -> Form
     Form::Text
 }
 
+/// Whether the flag was given.
+pub(crate) fn flag_in(matches: &ArgMatches<'_>, id: &str) -> bool
+    ensures { IsFlagIn (rows_of (found_of matches.now)) id.now result }
+{
+    matches.get_flag(id)
+}
+
 // What becomes of a parse that fails.
 fn usage_of(alloc: Global, error: &Error) -> Usage
     ensures { IsUsageFor (kind_of error.now) result }
@@ -321,10 +342,11 @@ fn predict_in(options: &ArgMatches<'_>) -> Option<Command>
         → IsCommand (codes "predict") (rows_of (found_of options.now)) c → ⊥ }
 {
     let query = query_in(options)?;
-    Some(Command::Predict {
-        query,
-        form: form_in(options),
-    })
+    let form = form_in(options);
+    if flag_in(options, "findings") {
+        return Some(Command::Findings { query, form });
+    }
+    Some(Command::Predict { query, form })
 }
 
 // The command that these values of its options ask for.
@@ -365,10 +387,12 @@ fn command_in(matches: &ArgMatches<'_>) -> Option<Command>
 ///
 /// The words are `goodlock predict`, `goodlock live` or `goodlock stats`, then any of `--mode` with
 /// `basic`, `guarded` or `full` (the default), `--len` with a number from 2 to 16 (4), and `--max` with
-/// one from 1 to 100,000 (1,000), of `predict` and `live` also `--json`, and of `live` `--recorders` and
-/// `--shards` with numbers from 1 to 16 (4 each), `--ring` with one from 1 to 65,536 (256), `--stream`,
-/// and `--threads` with a number from 1 to 1,024 (64), each once at the most; or `goodlock replay` or `goodlock check`. `--help`, of the program or of a command, and `--version` ask for a
-/// text.
+/// one from 1 to 100,000 (1,000), of `predict` and `live` also `--json`, of `predict` `--findings`, and of
+/// `live` `--recorders` and `--shards` with numbers from 1 to 16 (4 each), `--ring` with one from 1 to
+/// 65,536 (256), `--stream`, and `--threads` with a number from 1 to 1,024 (64), each once at the most; or
+/// `goodlock replay` or `goodlock check`. `--help`, of the program or of a command, and `--version` ask for
+/// a text. With `--findings`, `predict` asks for findings in place of cycles: cycles that were made at the
+/// same pairs of source places are one finding.
 pub fn parse<'a, S: AsStr>(alloc: Global, words: &'a [S]) -> Result<Command, Usage>
     ensures asks { IfOk result (Asks (map S.text words.entry.now)) }
     ensures usage { IfErr result (IsUsageOf (map S.text words.entry.now)) }

@@ -51,6 +51,31 @@ fn options_and_defaults(rt: HostRuntime) -> Result<(), Fail> {
 }
 
 #[test]
+fn findings_words(rt: HostRuntime) -> Result<(), Fail> {
+    let query = full()?;
+    let form = Form::Text;
+    let words = ["goodlock", "predict", "--findings"];
+    expect_command(&rt, &words, &Command::Findings { query, form });
+    let form = Form::Json;
+    let words = ["goodlock", "predict", "--findings", "--json"];
+    expect_command(&rt, &words, &Command::Findings { query, form });
+    let words = ["goodlock", "predict", "--json"];
+    expect_command(&rt, &words, &Command::Predict { query, form });
+    Ok(())
+}
+
+#[test]
+fn findings_usage_faults(rt: HostRuntime) {
+    let words = ["goodlock", "predict", "--findings", "--findings"];
+    expect_usage(&rt, &words, false);
+    let words = ["goodlock", "predict", "--json", "--json"];
+    expect_usage(&rt, &words, false);
+    expect_usage(&rt, &["goodlock", "predict", "--findings=yes"], false);
+    expect_usage(&rt, &["goodlock", "live", "--findings"], false);
+    expect_usage(&rt, &["goodlock", "stats", "--findings"], false);
+}
+
+#[test]
 fn counting_replaying_and_checking(rt: HostRuntime) -> Result<(), Fail> {
     let defaults = full()?;
     expect_command(
