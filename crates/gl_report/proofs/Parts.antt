@@ -7,6 +7,7 @@ use Rattle.gl_std.specs.Names.{NameLists}
 use Rattle.gl_edges.specs.declared.edge.Edge.{Edge}
 use Rattle.gl_edges.specs.declared.edge.Sample.{Sample}
 use Rattle.gl_report.specs.Text.{cycle_text, cycles_text}
+use Rattle.gl_report.specs.declared.listing.Listing.{Listing}
 
 -- what is put for the items that are there, one item more
 pub some_more : {X Y : Type 0} (f : Y → List ℕ) (g : X → Option Y) (xs : List X) (x : X) → flat_map f (filter_map g (xs ++ x ∷ [])) ≡ flat_map f (filter_map g xs) ++ option_map_or f (g x) []
@@ -24,23 +25,23 @@ edges_more f g start now more xs i d within before put =
     ∙ ap (λ l. start ++ l) (sym (some_more f g (take i xs) (get_or xs i d)) ∙ ap (λ l. flat_map f (filter_map g l)) (sym (take_more xs i d within)))
 
 -- one cycle more
-pub cycles_push : (names : NameLists) (table : List (Edge × Sample)) (number : ℕ) (cycles : List (List ℕ)) (cycle : List ℕ)
-    → cycles_text names table number (cycles ++ cycle ∷ []) ≡ cycles_text names table number cycles ++ cycle_text names table (number + length cycles) cycle
-cycles_push names table number [] cycle = let e : number ≡ number + 0 = omega arith in append-nil _ ∙ ap (λ n. cycle_text names table n cycle) e
-cycles_push names table number (c ∷ cycles) cycle =
+pub cycles_push : (listing : Listing) (names : NameLists) (table : List (Edge × Sample)) (number : ℕ) (cycles : List (List ℕ)) (cycle : List ℕ)
+    → cycles_text listing names table number (cycles ++ cycle ∷ []) ≡ cycles_text listing names table number cycles ++ cycle_text listing names table (number + length cycles) cycle
+cycles_push listing names table number [] cycle = let e : number ≡ number + 0 = omega arith in append-nil _ ∙ ap (λ n. cycle_text listing names table n cycle) e
+cycles_push listing names table number (c ∷ cycles) cycle =
     let e : number + 1 + length cycles ≡ number + length (c ∷ cycles) = omega arith in
-    ap (λ l. cycle_text names table number c ++ l) (cycles_push names table (number + 1) cycles cycle ∙ ap (λ n. cycles_text names table (number + 1) cycles ++ cycle_text names table n cycle) e)
-    ∙ sym (append_assoc (cycle_text names table number c) (cycles_text names table (number + 1) cycles) (cycle_text names table (number + length (c ∷ cycles)) cycle))
+    ap (λ l. cycle_text listing names table number c ++ l) (cycles_push listing names table (number + 1) cycles cycle ∙ ap (λ n. cycles_text listing names table (number + 1) cycles ++ cycle_text listing names table n cycle) e)
+    ∙ sym (append_assoc (cycle_text listing names table number c) (cycles_text listing names table (number + 1) cycles) (cycle_text listing names table (number + length (c ∷ cycles)) cycle))
 
 -- the text of the first cycles, and of one more
-pub cycles_more : {X : Type 0} (names : NameLists) (table : List (Edge × Sample)) (items : X → List ℕ) (cycles : List X) (i : ℕ) (d : X) (now more : List ℕ) → i < length cycles
-    → now ≡ cycles_text names table 1 (map items (take i cycles)) → more ≡ now ++ cycle_text names table (i + 1) (items (get_or cycles i d)) → more ≡ cycles_text names table 1 (map items (take (i + 1) cycles))
-cycles_more names table items cycles i d now more within before put =
+pub cycles_more : {X : Type 0} (listing : Listing) (names : NameLists) (table : List (Edge × Sample)) (items : X → List ℕ) (cycles : List X) (i : ℕ) (d : X) (now more : List ℕ) → i < length cycles
+    → now ≡ cycles_text listing names table 1 (map items (take i cycles)) → more ≡ now ++ cycle_text listing names table (i + 1) (items (get_or cycles i d)) → more ≡ cycles_text listing names table 1 (map items (take (i + 1) cycles))
+cycles_more listing names table items cycles i d now more within before put =
     let first = map items (take i cycles) in
     let count : 1 + length first ≡ i + 1 = omega (arith, length-map (take i cycles) items, length-take-le i cycles (omega arith)) in
-    put ∙ ap (λ l. l ++ cycle_text names table (i + 1) (items (get_or cycles i d))) before
-    ∙ ap (λ n. cycles_text names table 1 first ++ cycle_text names table n (items (get_or cycles i d))) (sym count)
-    ∙ sym (cycles_push names table 1 first (items (get_or cycles i d))) ∙ ap (cycles_text names table 1) (sym (map_more items cycles i d within))
+    put ∙ ap (λ l. l ++ cycle_text listing names table (i + 1) (items (get_or cycles i d))) before
+    ∙ ap (λ n. cycles_text listing names table 1 first ++ cycle_text listing names table n (items (get_or cycles i d))) (sym count)
+    ∙ sym (cycles_push listing names table 1 first (items (get_or cycles i d))) ∙ ap (cycles_text listing names table 1) (sym (map_more items cycles i d within))
 
 -- two parts put one after the other
 pub two_parts : (start mid end first second both : List ℕ) → mid ≡ start ++ first → end ≡ mid ++ second → first ++ second ≡ both → end ≡ start ++ both

@@ -1,15 +1,21 @@
 -- Lists of JSON values that grow, and values that have no float.
-use Rattle.std.proofs.Common.{◌≡◌, ℕ, ◌+◌, ◌<◌, false, ◌||◌, List, [], ◌∷◌, ◌++◌, length, take, get_or, map, Option, Some, None, refl, sym, ap, ◌∙◌}
+use Rattle.std.proofs.Common.{◌≡◌, ℕ, ◌+◌, ◌<◌, false, ◌||◌, List, [], ◌∷◌, ◌++◌, length, take, get_or, map, Option, Some, None, Result, Ok, Err, IfOk, refl, sym, ap, ◌∙◌}
 use Rattle.std.specs.List.{filter_map, cons_option}
+use Rattle.std.specs.Prelude.{codes}
+use Rattle.std.specs.declared.alloc.Global.{Global}
+use Rattle.std.specs.declared.vec.Vec.{Vec}
 use Rattle.std.specs.Option.{option_map_or}
 use Rattle.std.proofs.lemmas.List.{take_more, map_more, map-append}
 use Rattle.serde_json.specs.Data.{Data, number, unsigned}
 use Rattle.serde_json.specs.View.{items_of}
-use Rattle.serde_json.specs.Written.{has_float, items_have_float}
+use Rattle.serde_json.specs.Written.{compact_text, has_float, items_have_float}
 use Rattle.gl_std.specs.Names.{NameLists}
 use Rattle.gl_edges.specs.declared.edge.Edge.{Edge}
 use Rattle.gl_edges.specs.declared.edge.Sample.{Sample}
+use Rattle.gl_filters.specs.Asked.{Asked}
+use Rattle.gl_cycles.specs.declared.found.Found.{Found}
 use Rattle.gl_cycles.specs.declared.found.Report.{Report}
+use Rattle.gl_report.specs.Findings.{findings_tree}
 use Rattle.gl_report.specs.Tree.{name_tree, lock_mode_tree, edge_tree, positions_tree, trim_tree, report_tree}
 use Rattle.gl_report.specs.TreeV1.{edge_tree_v1, cycle_tree_v1, report_tree_v1}
 
@@ -91,3 +97,16 @@ cycle_v1_without_float names table cycle = items_without_float (edge_tree_v1 nam
 pub report_v1_without_float : (names : NameLists) (report : Report) → has_float (report_tree_v1 names report) ≡ false
 unfolding report_tree_v1
 report_v1_without_float names report = ap (λ b. b || false) (items_without_float (cycle_tree_v1 names report.edges) report.found.cycles (cycle_v1_without_float names report.edges))
+
+-- nor have findings
+pub findings_without_float : (names : NameLists) (asked : Asked) (table : List (Edge × Sample)) (found : Found) → has_float (findings_tree names asked table found) ≡ false
+unfolding findings_tree
+findings_without_float names asked table found =
+    ap (λ b. b || (items_have_float (items_of (map positions_tree found.cycles)) || false)) (items_without_float (edge_tree names) table (edge_without_float names))
+    ∙ ap (λ b. b || false) (items_without_float positions_tree found.cycles positions_without_float)
+
+-- what is said of a line that holds a value is said of the value's tree
+pub line_of_tree : {E : Type 0} (line : Result (Vec ℕ Global) E) (shown tree : Data) → shown ≡ tree → has_float tree ≡ false
+    → IfOk line (λ t. has_float shown ≡ false → t.items ≡ compact_text shown ++ codes "\n") → IfOk line (λ t. t.items ≡ compact_text tree ++ codes "\n")
+line_of_tree (Ok t) shown tree is plain said = said (ap has_float is ∙ plain) ∙ ap (λ d. compact_text d ++ codes "\n") is
+line_of_tree (Err e) shown tree is plain said = tt

@@ -4,6 +4,8 @@ use Rattle.std.specs.List.{filter_map, flat_map}
 use Rattle.gl_std.specs.Names.{NameLists}
 use Rattle.gl_edges.specs.declared.edge.Edge.{Edge}
 use Rattle.gl_edges.specs.declared.edge.Sample.{Sample}
+use Rattle.gl_report.specs.declared.listing.Listing.{Listing}
+use Rattle.gl_report.specs.declared.listing.Listing.TheVariants.{Cycles, Findings}
 
 -- the name with this number, as its bytes
 abbrev pub name_of : List (List ℕ) → ℕ → List ℕ
@@ -26,23 +28,40 @@ wanted_text names pair =
 abbrev pub edge_line : NameLists → Edge × Sample → List ℕ
 edge_line names pair = held_text names pair ++ wanted_text names pair
 
+-- the word before the number of one that is listed, and before how many are
+abbrev pub one_word : Listing → List ℕ
+one_word Cycles = codes "cycle "
+one_word Findings = codes "finding "
+
+abbrev pub all_word : Listing → List ℕ
+all_word Cycles = codes "cycles: "
+all_word Findings = codes "findings: "
+
 -- the line that begins a cycle
-abbrev pub cycle_line : ℕ → ℕ → List ℕ
-cycle_line number size = codes "cycle " ++ decimal number ++ codes ": " ++ decimal size ++ codes " edges\n"
+abbrev pub cycle_line : Listing → ℕ → ℕ → List ℕ
+cycle_line listing number size = one_word listing ++ decimal number ++ codes ": " ++ decimal size ++ codes " edges\n"
 
 -- a cycle with its edges
-abbrev pub cycle_text : NameLists → List (Edge × Sample) → ℕ → List ℕ → List ℕ
-cycle_text names table number cycle = cycle_line number (length cycle) ++ flat_map (edge_line names) (filter_map (slice_get table) cycle)
+abbrev pub cycle_text : Listing → NameLists → List (Edge × Sample) → ℕ → List ℕ → List ℕ
+cycle_text listing names table number cycle = cycle_line listing number (length cycle) ++ flat_map (edge_line names) (filter_map (slice_get table) cycle)
 
 -- cycles, of which the first has this number
-abbrev pub cycles_text : NameLists → List (Edge × Sample) → ℕ → List (List ℕ) → List ℕ
-cycles_text names table number [] = []
-cycles_text names table number (cycle ∷ cycles) = cycle_text names table number cycle ++ cycles_text names table (number + 1) cycles
+abbrev pub cycles_text : Listing → NameLists → List (Edge × Sample) → ℕ → List (List ℕ) → List ℕ
+cycles_text listing names table number [] = []
+cycles_text listing names table number (cycle ∷ cycles) = cycle_text listing names table number cycle ++ cycles_text listing names table (number + 1) cycles
 
--- the last line: how many cycles are listed, and whether there are more
-abbrev pub last_line : ℕ → Bool → List ℕ
-last_line count more = codes "cycles: " ++ decimal count ++ (if more then codes " (more)" else []) ++ codes "\n"
+-- the last line: how many are listed, and whether there are more
+abbrev pub last_line : Listing → ℕ → Bool → List ℕ
+last_line listing count more = all_word listing ++ decimal count ++ (if more then codes " (more)" else []) ++ codes "\n"
 
--- the whole report
+-- the whole list
+abbrev pub listing_text : Listing → NameLists → List (Edge × Sample) → List (List ℕ) → Bool → List ℕ
+listing_text listing names table cycles more = cycles_text listing names table 1 cycles ++ last_line listing (length cycles) more
+
+-- the report: its cycles
 abbrev pub report_text : NameLists → List (Edge × Sample) → List (List ℕ) → Bool → List ℕ
-report_text names table cycles more = cycles_text names table 1 cycles ++ last_line (length cycles) more
+report_text names table cycles more = listing_text Cycles names table cycles more
+
+-- the findings, each with the cycle that shows it
+abbrev pub findings_text : NameLists → List (Edge × Sample) → List (List ℕ) → Bool → List ℕ
+findings_text names table shown more = listing_text Findings names table shown more

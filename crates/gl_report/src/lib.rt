@@ -3,6 +3,8 @@
 
 mod escapes;
 mod exclusive;
+mod findings;
+mod listing;
 mod members;
 mod printing;
 mod stats;
@@ -12,7 +14,8 @@ mod values;
 
 pub use escapes::escaped_name;
 pub use exclusive::{is_exclusive, lists_exclusive};
-pub use printing::text;
+pub use findings::{findings_json, findings_json_text};
+pub use printing::{findings_text, text};
 pub use stats::{Stats, stats_text};
 pub use tree::{edge_json, json, json_text};
 pub use tree_v1::{edge_json_v1, json_text_v1, json_v1};

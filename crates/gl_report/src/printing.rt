@@ -2,10 +2,11 @@
 ghost use Rattle.std.specs.Prelude.{◌≡◌, ◌+◌, ◌≤◌, ◌^◌, ◌<◌, List, ℕ, [], ◌++◌, codes, decimal, length, slice_get, map, IfOk, OnOk};
 ghost use Rattle.std.specs.List.{filter_map, flat_map};
 ghost use Rattle.std.specs.Option.{option_map_or};
-ghost use Rattle.gl_report.specs.Text.{name_of, held_text, wanted_text, edge_line, cycle_line, cycle_text, cycles_text, last_line, report_text};
+ghost use Rattle.gl_report.specs.Text.{name_of, held_text, wanted_text, edge_line, cycle_line, cycle_text, cycles_text, last_line, listing_text, report_text, findings_text};
 
-use gl_cycles::Report;
-use gl_edges::{Edge, Sample};
+use crate::listing::Listing;
+use gl_cycles::{Found, Report};
+use gl_edges::{Edge, EdgeList, Sample};
 use gl_event::{LocId, LockId, Memory, ThreadId};
 use gl_std::Names;
 use itoa::Buffer;
@@ -98,10 +99,15 @@ pub(crate) fn put_number(out: &mut Vec<u8>, number: u64) -> Result<(), Memory>
 }
 
 // Adds the line that begins a cycle.
-fn put_cycle_line(out: &mut Vec<u8>, number: usize, size: usize) -> Result<(), Memory>
-    ensures { OnOk result (out.new.items ≡ out.old.items ++ cycle_line number size) }
+fn put_cycle_line(
+    out: &mut Vec<u8>,
+    listing: Listing,
+    number: usize,
+    size: usize,
+) -> Result<(), Memory>
+    ensures { OnOk result (out.new.items ≡ out.old.items ++ cycle_line listing number size) }
 {
-    out.extend_from_slice(b"cycle ")?;
+    out.extend_from_slice(listing.one_word())?;
     put_number(out, number as u64)?;
     out.extend_from_slice(b": ")?;
     put_number(out, size as u64)?;
@@ -112,15 +118,17 @@ fn put_cycle_line(out: &mut Vec<u8>, number: usize, size: usize) -> Result<(), M
 // Adds a cycle with its edges.
 fn put_cycle(
     out: &mut Vec<u8>,
+    listing: Listing,
     names: &Names,
     table: &[(Edge, Sample)],
     number: usize,
     cycle: &[usize],
 ) -> Result<(), Memory>
     ensures { OnOk result
-        (out.new.items ≡ out.old.items ++ cycle_text names.now table.now number cycle.now) }
+        (out.new.items
+        ≡ out.old.items ++ cycle_text listing names.now table.now number cycle.now) }
 {
-    put_cycle_line(out, number, cycle.len())?;
+    put_cycle_line(out, listing, number, cycle.len())?;
     for &position in cycle {
         put_edge(out, names, table, position)?;
     }
@@ -128,10 +136,15 @@ fn put_cycle(
 }
 
 // Adds the last line.
-fn put_last_line(out: &mut Vec<u8>, count: usize, more: bool) -> Result<(), Memory>
-    ensures { OnOk result (out.new.items ≡ out.old.items ++ last_line count more) }
+fn put_last_line(
+    out: &mut Vec<u8>,
+    listing: Listing,
+    count: usize,
+    more: bool,
+) -> Result<(), Memory>
+    ensures { OnOk result (out.new.items ≡ out.old.items ++ last_line listing count more) }
 {
-    out.extend_from_slice(b"cycles: ")?;
+    out.extend_from_slice(listing.all_word())?;
     put_number(out, count as u64)?;
     if more {
         out.extend_from_slice(b" (more)\n")?;
@@ -139,6 +152,29 @@ fn put_last_line(out: &mut Vec<u8>, count: usize, more: bool) -> Result<(), Memo
     }
     out.extend_from_slice(b"\n")?;
     Ok(())
+}
+
+// The text of what is listed: for each a line that numbers it, and a line for each of its edges; then
+// how many are listed, and whether there are more.
+fn listing_text(
+    alloc: Global,
+    listing: Listing,
+    names: &Names,
+    edges: &EdgeList,
+    found: &Found,
+) -> Result<Vec<u8>, Memory>
+    ensures { IfOk result
+        (λ t. t.items
+        ≡ listing_text listing names.now edges.now found.now.cycles found.now.more) }
+{
+    let mut out = Vec::new(alloc);
+    let table = edges.entries();
+    let cycles = found.cycles.as_slice();
+    for (i, cycle) in cycles.iter().enumerate() {
+        put_cycle(&mut out, listing, names, table, i + 1, cycle.as_slice())?;
+    }
+    put_last_line(&mut out, listing, cycles.len(), found.more)?;
+    Ok(out)
 }
 
 /// The text of a report, with the names of threads, locks and locations as their bytes.
@@ -150,12 +186,21 @@ pub fn text(alloc: Global, names: &Names, report: &Report) -> Result<Vec<u8>, Me
         (λ t. t.items
         ≡ report_text names.now report.now.edges report.now.found.cycles report.now.found.more) }
 {
-    let mut out = Vec::new(alloc);
-    let table = report.edges.entries();
-    let cycles = report.found.cycles.as_slice();
-    for (i, cycle) in cycles.iter().enumerate() {
-        put_cycle(&mut out, names, table, i + 1, cycle.as_slice())?;
-    }
-    put_last_line(&mut out, cycles.len(), report.found.more)?;
-    Ok(out)
+    listing_text(alloc, Listing::Cycles, names, &report.edges, &report.found)
+}
+
+/// The text of findings over these edges, with the names of threads, locks and locations as their bytes.
+///
+/// For each listed finding a line that numbers it, and a line for each edge of the cycle that shows it; then
+/// how many findings are listed, and whether there are more. Err where memory was refused.
+pub fn findings_text(
+    alloc: Global,
+    names: &Names,
+    edges: &EdgeList,
+    found: &Found,
+) -> Result<Vec<u8>, Memory>
+    ensures { IfOk result
+        (λ t. t.items ≡ findings_text names.now edges.now found.now.cycles found.now.more) }
+{
+    listing_text(alloc, Listing::Findings, names, edges, found)
 }

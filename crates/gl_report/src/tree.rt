@@ -1,7 +1,7 @@
 //! The report as JSON of format 2.
-ghost use Rattle.std.specs.Prelude.{◌≡◌, [], ◌∷◌, ◌++◌, codes, map, IfOk, OnOk};
+ghost use Rattle.std.specs.Prelude.{◌≡◌, [], ◌∷◌, ◌++◌, codes, map, false, IfOk, OnOk};
 ghost use Rattle.serde_json.specs.View.{view};
-ghost use Rattle.serde_json.specs.Written.{compact_text};
+ghost use Rattle.serde_json.specs.Written.{compact_text, has_float};
 ghost use Rattle.gl_report.specs.Tree.{edge_tree, positions_tree, report_tree, trim_tree};
 
 use crate::members::{put_locations, put_modes, put_names, put_segments};
@@ -49,7 +49,7 @@ fn push_edge(
 }
 
 // The edges.
-fn edge_values(alloc: Global, names: &Names, table: &[(Edge, Sample)]) -> Result<Vec<Value>, Memory>
+pub(crate) fn edge_values(alloc: Global, names: &Names, table: &[(Edge, Sample)]) -> Result<Vec<Value>, Memory>
     ensures { IfOk result (λ vs. map view vs.items ≡ map (edge_tree names.now) table.now) }
 {
     let mut values = Vec::new(alloc);
@@ -70,7 +70,7 @@ fn push_cycle(alloc: Global, values: &mut Vec<Value>, cycle: &[usize]) -> Result
 }
 
 // The cycles.
-fn cycle_values(alloc: Global, cycles: &[Vec<usize>]) -> Result<Vec<Value>, Memory>
+pub(crate) fn cycle_values(alloc: Global, cycles: &[Vec<usize>]) -> Result<Vec<Value>, Memory>
     ensures { IfOk result
         (λ vs. map view vs.items ≡ map positions_tree (map (λ cycle. cycle.items) cycles.now)) }
 {
@@ -116,6 +116,17 @@ pub fn json(alloc: Global, names: &Names, report: &Report) -> Result<Value, Memo
     })
 }
 
+// A value without floats as one line of compact text, ended by LF.
+pub(crate) fn line_of(alloc: Global, value: &Value) -> Result<Vec<u8>, Memory>
+    ensures { IfOk result
+        (λ t. has_float (view value.now) ≡ false
+        → t.items ≡ compact_text (view value.now) ++ codes "\n") }
+{
+    let mut text = value.to_string(alloc)?.into_bytes();
+    text.push(b'\n')?;
+    Ok(text)
+}
+
 /// The report as one line of compact JSON text, of format 2, ended by LF. Err where memory was
 /// refused.
 pub fn json_text(alloc: Global, names: &Names, report: &Report) -> Result<Vec<u8>, Memory>
@@ -123,7 +134,5 @@ pub fn json_text(alloc: Global, names: &Names, report: &Report) -> Result<Vec<u8
         (λ t. t.items ≡ compact_text (report_tree names.now report.now) ++ codes "\n") }
 {
     let value = json(alloc, names, report)?;
-    let mut text = value.to_string(alloc)?.into_bytes();
-    text.push(b'\n')?;
-    Ok(text)
+    line_of(alloc, &value)
 }

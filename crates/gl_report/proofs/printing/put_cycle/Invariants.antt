@@ -7,4 +7,4 @@ use Rattle.gl_report.proofs.printing.put_cycle.Given as goal
 -- the edges so far
 abbrev pub invariant-loop-position : goal.invariant-loop-position
 invariant-loop-position l =
-    l.out.items ≡ (l.fn.out.items ++ cycle_line l.number (length l.cycle)) ++ flat_map (edge_line l.names) (filter_map (slice_get l.table) (take l.position-index l.cycle))
+    l.out.items ≡ (l.fn.out.items ++ cycle_line l.fn.listing l.number (length l.cycle)) ++ flat_map (edge_line l.names) (filter_map (slice_get l.table) (take l.position-index l.cycle))

@@ -1,10 +1,10 @@
-use Rattle.std.proofs.Common.{[], ◌∷◌, ◌++◌, ◌∙◌, ap}
-use Rattle.serde_json.specs.Written.{has_float, compact_text}
-use Rattle.gl_report.proofs.Trees.{report_without_float}
+use Rattle.serde_json.specs.View.{view}
+use Rattle.gl_report.specs.Tree.{report_tree}
+use Rattle.gl_report.proofs.Trees.{line_of_tree, report_without_float}
 use Rattle.gl_report.proofs.tree.json_text.Goals as goal
 
 pub returns : goal.returns
 returns c =
-    let plain = ap has_float c.in_ok-value.ensures ∙ report_without_float c.args.names.now c.args.report.now in
-    c.in_ok-push.ensures.items
-    ∙ ap (λ l. l ++ 10 ∷ []) (ap (λ v. v.items) c.into_bytes-text.ensures.value ∙ c.in_ok-to_string.ensures.text plain ∙ ap compact_text c.in_ok-value.ensures)
+    let names = c.args.names.now in
+    let report = c.args.report.now in
+    line_of_tree c.line_of.result (view c.in_ok-value.value) (report_tree names report) c.in_ok-value.ensures (report_without_float names report) c.line_of.ensures
