@@ -1,5 +1,5 @@
 -- What is answered to a text: what a command prints of its trace, or why it prints nothing.
-use Rattle.std.specs.Prelude.{◌≡◌, ◌++◌, ℕ, Bool, List, Ok, Err, length, nat_lt, if◌then◌else◌, codes}
+use Rattle.std.specs.Prelude.{◌≡◌, ◌++◌, ℕ, Bool, List, Ok, Err, length, take, nat_lt, if◌then◌else◌, codes}
 use Rattle.serde_json.specs.Written.{compact_text}
 use Rattle.gl_event.specs.Bounds.{Bounds, greatest}
 use Rattle.gl_event.specs.declared.events.Event.{Event}
@@ -11,13 +11,18 @@ use Rattle.gl_std.specs.declared.faults.StdKind.{StdKind}
 use Rattle.gl_std.specs.declared.faults.ReadFault.TheVariants.{Line}
 use Rattle.gl_std.specs.declared.trace.Trace.{Trace}
 use Rattle.gl_edges.specs.Edges.{edges}
+use Rattle.gl_edges.specs.declared.edge.Edge.{Edge}
+use Rattle.gl_edges.specs.declared.edge.Sample.{Sample}
 use Rattle.gl_segments.specs.Laws.{DecidesBefore}
 use Rattle.gl_segments.specs.Segments.{Before, IsBelow, IsConsistent}
 use Rattle.gl_filters.specs.Asked.{Asked}
 use Rattle.gl_cycles.specs.Reports.{report_by}
+use Rattle.gl_cycles.specs.declared.found.Found.{Found}
 use Rattle.gl_cycles.specs.declared.found.Report.{Report}
+use Rattle.gl_findings.specs.Findings.{findings}
 use Rattle.gl_report.specs.Counts.{stats_of, stats_text}
-use Rattle.gl_report.specs.Text.{report_text}
+use Rattle.gl_report.specs.Findings.{findings_tree}
+use Rattle.gl_report.specs.Text.{findings_text, report_text}
 use Rattle.gl_report.specs.Tree.{report_tree}
 use Rattle.gl_commands.specs.RefusalLines.{fault_line, inconsistent_line}
 use Rattle.gl_options.specs.declared.form.Form.{Form}
@@ -46,15 +51,36 @@ abbrev pub printed_report : Form → NameLists → Report → List ℕ
 printed_report Text names report = report_text names report.edges report.found.cycles report.found.more
 printed_report Json names report = compact_text (report_tree names report) ++ codes "\n"
 
+-- whether a cycle is listed
+abbrev pub outcome_of_found : Found → Outcome
+outcome_of_found found = if nat_lt 0 (length found.cycles) then Cycles else Clean
+
 -- whether a report lists a cycle
 abbrev pub outcome_of : Report → Outcome
-outcome_of report = if nat_lt 0 (length report.found.cycles) then Cycles else Clean
+outcome_of report = outcome_of_found report.found
+
+-- the first findings of a trace that are asked for, each with the cycle that shows it, and whether there are more
+abbrev pub findings_of : Asked → (Segment → Segment → Bool) → Trace → Found
+findings_of asked before trace =
+    let all = findings before asked.mode asked.len (edges trace.lists) in
+    record { cycles = take asked.max all; more = nat_lt asked.max (length all) }
+
+-- findings in the form that is asked for
+abbrev pub printed_findings : Form → NameLists → Asked → List (Edge × Sample) → Found → List ℕ
+printed_findings Text names asked table found = findings_text names table found.cycles found.more
+printed_findings Json names asked table found = compact_text (findings_tree names asked table found) ++ codes "\n"
 
 -- `predict` prints the report
 abbrev pub prediction : Asked → Form → (Segment → Segment → Bool) → Trace → Answer
 prediction asked form before trace =
     let report = report_of asked before trace in
     Prints (printed_report form trace.names report) (outcome_of report)
+
+-- `predict --findings` prints the findings
+abbrev pub finding : Asked → Form → (Segment → Segment → Bool) → Trace → Answer
+finding asked form before trace =
+    let found = findings_of asked before trace in
+    Prints (printed_findings form trace.names asked (edges trace.lists) found) (outcome_of_found found)
 
 -- `stats` prints the counts of the trace and of the report
 abbrev pub counts : Asked → (Segment → Segment → Bool) → Trace → Answer

@@ -8,13 +8,13 @@ ghost use Rattle.gl_std.specs.Trace.{trace_of, IsTraceOver};
 ghost use Rattle.gl_segments.specs.Clocks.{is_before, OrdersBy};
 ghost use Rattle.gl_segments.specs.Segments.{IsConsistent};
 ghost use Rattle.gl_report.specs.Counts.{stats_of, stats_text};
-ghost use Rattle.gl_commands.specs.Answer.{IsAnswer, IsPlainAnswer, counts, outcome_of, prediction, printed_report, replay, report_of};
+ghost use Rattle.gl_commands.specs.Answer.{IsAnswer, IsPlainAnswer, counts, outcome_of, outcome_of_found, prediction, printed_report, replay, report_of};
 ghost use Rattle.gl_commands.specs.Answer.Answer.{Prints, Refusal};
 ghost use Rattle.gl_commands.specs.bodies.Stops.{IfRefused, IsFaultIn, IsLoopOf, IsReportOf, SaysWhyNoReport};
 
 use crate::ended::{Ended, Outcome};
 use crate::refusal_lines::{fault_line, inconsistent_line};
-use gl_cycles::{Report, report_by_parallel};
+use gl_cycles::{Found, Report, report_by_parallel};
 use gl_edges::edges_of;
 use gl_event::{Limits, MAX_EVENTS, MAX_NAMES, MAX_RING, MAX_THREADS, Memory};
 use gl_filters::Query;
@@ -67,7 +67,7 @@ pub(crate) fn trace_or_line(alloc: Global, read: Result<Trace, ReadFault>) -> Re
 }
 
 // The order of a trace's segments, or the line that says which one is before itself.
-fn order_or_line(alloc: Global, trace: &Trace) -> Result<Order, Ended>
+pub(crate) fn order_or_line(alloc: Global, trace: &Trace) -> Result<Order, Ended>
     requires { IsTraceOver greatest trace.now }
     ensures order { IfOk result (λ order. OrdersBy trace.now.lists order) }
     ensures consistent { OnOk result (IsConsistent trace.now.lists) }
@@ -151,14 +151,21 @@ fn trace_and_report(
     }
 }
 
+/// Whether a cycle is listed.
+pub(crate) fn outcome_of_found(found: &Found) -> Outcome
+    ensures { result ≡ outcome_of_found found.now }
+{
+    if found.cycles.as_slice().is_empty() {
+        return Outcome::Clean;
+    }
+    Outcome::Cycles
+}
+
 /// Whether a report lists a cycle.
 pub(crate) fn outcome_of(report: &Report) -> Outcome
     ensures { result ≡ outcome_of report.now }
 {
-    if report.found.cycles.as_slice().is_empty() {
-        return Outcome::Clean;
-    }
-    Outcome::Cycles
+    outcome_of_found(&report.found)
 }
 
 /// What is printed of a report in this form, where these are the names.

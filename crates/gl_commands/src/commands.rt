@@ -7,7 +7,7 @@ ghost use Rattle.gl_event.specs.Bounds.{greatest};
 ghost use Rattle.gl_std.specs.Lines.{ended_lines};
 ghost use Rattle.gl_std.specs.Trace.{trace_of, IsTraceOver};
 ghost use Rattle.gl_options.specs.Sessions.{AreOfSession, CanRun};
-ghost use Rattle.gl_commands.specs.Answer.{IsAnswer, IsPlainAnswer, counts, prediction, replay};
+ghost use Rattle.gl_commands.specs.Answer.{IsAnswer, IsPlainAnswer, counts, finding, prediction, replay};
 ghost use Rattle.gl_commands.specs.Checking.{HasChecked};
 ghost use Rattle.gl_io.specs.Uses.{used};
 ghost use Rattle.gl_commands.specs.Ending.{EndsEarlyAs, HasEnded, HasEndedEarly};
@@ -19,6 +19,7 @@ use crate::answer::{Printed, counted, greatest_limits, predicted, replayed, trac
 use crate::checking::{checked, end_cut};
 use crate::ended::{Ended, Outcome};
 use crate::recorded::recorded;
+use crate::searched::searched;
 use crate::streamed::streamed;
 use gl_filters::Query;
 use gl_io::{Sink, Source, WriteFault, read_whole, write_out};
@@ -136,6 +137,33 @@ pub fn predict<R: AllocGlobal + Threads + Sync, I: Source, O: Sink>(
     let alloc = rt.alloc();
     match hear(alloc, input, turns, seed) {
         Ok(read) => end(output, predicted(rt, alloc, read, query, form)),
+        Err(ended) => ended,
+    }
+}
+
+/// Reads a trace, predicts its deadlocks and writes the findings in the form asked for: each signature of the
+/// cycles once, shown by the first of its cycles.
+///
+/// Reads, refuses and fails as [`predict`] does. Findings are sought in several threads.
+pub fn predict_findings<R: AllocGlobal + Threads + Sync, I: Source, O: Sink>(
+    rt: &R,
+    input: &mut I,
+    output: &mut O,
+    turns: u64,
+    seed: Seed,
+    query: &Query,
+    form: Form,
+) -> Ended
+    requires readable { I.failed input.old ≡ false }
+    requires writable { O.failed output.old ≡ false }
+    requires few_turns { turns ≤ 2 ^ 40 }
+    ensures { HasEnded (IsAnswer (finding query.now form)) turns
+        (used (I.remaining input.old) (I.remaining input.new) (I.failed input.new))
+        (used (O.contents output.old) (O.contents output.new) (O.failed output.new)) result }
+{
+    let alloc = rt.alloc();
+    match hear(alloc, input, turns, seed) {
+        Ok(read) => end(output, searched(rt, alloc, read, query, form)),
         Err(ended) => ended,
     }
 }
@@ -299,6 +327,9 @@ pub fn perform<R: AllocGlobal + Threads + Wait + Sync, I: Source, O: Sink>(
 {
     match command {
         Command::Predict { query, form } => predict(rt, input, output, TURNS, seed, query, *form),
+        Command::Findings { query, form } => {
+            predict_findings(rt, input, output, TURNS, seed, query, *form)
+        }
         Command::Live(options) => live(rt, input, output, TURNS, seed, options),
         Command::Stats { query } => stats(rt, input, output, TURNS, seed, query),
         Command::Replay => replay(rt, input, output, TURNS, seed),

@@ -20,9 +20,12 @@ mod laws;
 mod limits;
 mod recorded;
 mod refusal_lines;
+mod searched;
 mod streamed;
 
-pub use commands::{check_input, live, live_gated, perform, predict, replay, stats};
+pub use commands::{
+    check_input, live, live_gated, perform, predict, predict_findings, replay, stats,
+};
 pub use ended::{Ended, Outcome, said};
 pub use laws::{answers_are_unique, plain_answers_are_unique};
 pub use limits::limits_in_numbers;

@@ -6,6 +6,10 @@ use Rattle.gl_event.specs.declared.events.Segment.{Segment}
 use Rattle.gl_segments.specs.Laws.{DecidesBefore}
 use Rattle.gl_segments.specs.Segments.{IsConsistent}
 use Rattle.gl_filters.specs.Asked.{Asked}
+use Rattle.gl_edges.specs.Edges.{edges}
+use Rattle.gl_edges.specs.declared.edge.Edge.{Edge}
+use Rattle.gl_edges.specs.declared.edge.Sample.{Sample}
+use Rattle.gl_cycles.specs.declared.found.Found.{Found}
 use Rattle.gl_cycles.specs.declared.found.Report.{Report}
 use Rattle.gl_std.specs.declared.faults.StdKind.{StdKind}
 use Rattle.gl_io.specs.Reads.{HasRead}
@@ -14,7 +18,7 @@ use Rattle.gl_std.specs.declared.faults.LinesFault.TheVariants.{Line as BadLine,
 use Rattle.gl_std.specs.declared.faults.ReadFault.{ReadFault}
 use Rattle.gl_std.specs.declared.faults.ReadFault.TheVariants.{Line}
 use Rattle.gl_std.specs.declared.trace.Trace.{Trace}
-use Rattle.gl_commands.specs.Answer.{Answer, IsLeastBeforeItself, report_of}
+use Rattle.gl_commands.specs.Answer.{Answer, IsLeastBeforeItself, findings_of, report_of}
 use Rattle.gl_io.specs.Uses.{Use}
 use Rattle.gl_commands.specs.Ending.{HasEndedStreamed}
 use Rattle.gl_commands.specs.RefusalLines.{fault_line, inconsistent_line}
@@ -56,6 +60,15 @@ pub record IsReportOf (asked : Asked) (read : Result Trace ReadFault) (trace : T
   pub consistent : IsConsistent trace.lists
   pub decides : DecidesBefore trace.lists before
   pub is_report : report ≡ report_of asked before trace
+
+-- the trace is the one that was read, these are its edges, and these its first findings
+pub record IsFoundOf (asked : Asked) (read : Result Trace ReadFault) (trace : Trace) (table : List (Edge × Sample)) (found : Found) : Type 0 where
+  pub is_read : read ≡ Ok trace
+  pub before : Segment → Segment → Bool
+  pub consistent : IsConsistent trace.lists
+  pub decides : DecidesBefore trace.lists before
+  pub are_edges : table ≡ edges trace.lists
+  pub are_found : found ≡ findings_of asked before trace
 
 -- ---- a session that records a text as it comes
 
