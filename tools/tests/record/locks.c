@@ -1,5 +1,5 @@
 /* Programs for the recorder's tests: the first argument names one. A mark as in `@name` in a comment stands for its
- * line in the expected traces of run_record.py. */
+ * line in the expected traces. */
 #define _GNU_SOURCE
 #include <errno.h>
 #include <pthread.h>
@@ -15,6 +15,8 @@
 #include <threads.h>
 #include <time.h>
 #include <unistd.h>
+
+#include "turns.h"
 
 /* A failed expectation is a status that no test waits for. */
 #define MUST(condition)                                                        \
@@ -288,7 +290,7 @@ static void cancel(void)
     void *value;
     pthread_create(&thread, NULL, cancelled, NULL);                            /* @cancel_create */
     sem_wait(&step);
-    usleep(20000);
+    wait_for_others();
     pthread_cancel(thread);
     pthread_join(thread, &value);                                              /* @cancel_join */
     MUST(value == PTHREAD_CANCELED);
@@ -327,7 +329,7 @@ static void *detached(void *unused)
 
 static void threads(void)
 {
-    struct timespec later = after(CLOCK_REALTIME, 5000), monotonic = after(CLOCK_MONOTONIC, 5000), past = {0, 0};
+    struct timespec later = after(CLOCK_REALTIME, 300000), monotonic = after(CLOCK_MONOTONIC, 300000), past = {0, 0};
     pthread_t first, second, third, fourth, fifth;
     pthread_attr_t attributes;
     pthread_attr_init(&attributes);
@@ -421,8 +423,7 @@ static void deadlock(void)
     pthread_mutex_lock(&a);                                                    /* @dead_a */
     sem_wait(&step);
     sem_post(&other_step);
-    puts("ready");
-    fflush(stdout);
+    say_ready();
     pthread_mutex_lock(&b);                                                    /* @dead_ab */
 }
 
@@ -448,15 +449,15 @@ static void upgrade(void)
 {
     pthread_mutex_lock(&a);                                                    /* @upgrade_a */
     pthread_rwlock_rdlock(&rw);                                                /* @upgrade_read */
-    alarm(1);
+    say_ready();
     pthread_rwlock_wrlock(&rw);                                                /* @upgrade_write */
 }
 
-/* A plain mutex, locked by the thread that holds it. */
+/* A plain mutex, locked by the thread that holds it. It hangs, as `upgrade` does: the test ends it. */
 static void again_plain(void)
 {
     pthread_mutex_lock(&a);                                                    /* @again_a */
-    alarm(1);
+    say_ready();
     pthread_mutex_lock(&a);                                                    /* @again_twice */
 }
 
@@ -598,8 +599,7 @@ static void volume_and_wait(void)
 {
     volume();
     one_pair();
-    puts("ready");
-    fflush(stdout);
+    say_ready();
     pause();
 }
 
@@ -671,12 +671,15 @@ static void clears_environment(void)
     one_pair();
 }
 
+/* Outlives its parent, until standard input ends. */
 static void goes_to_background(void)
 {
+    char unused;
     one_pair();
     if (fork() == 0) {
         setsid();
-        usleep(300000);
+        while (read(0, &unused, 1) > 0)
+            continue;
         both();
         _exit(0);
     }
@@ -719,8 +722,7 @@ static void waits_in_background(void)
 static void waits_for_signal(void)
 {
     one_pair();
-    puts("ready");
-    fflush(stdout);
+    say_ready();
     pause();
 }
 
@@ -794,7 +796,7 @@ int main(int count, char **arguments)
     program = arguments[0];
     for (size_t i = 0; count > 1 && i < sizeof programs / sizeof programs[0]; i++)
         if (strcmp(programs[i].name, arguments[1]) == 0) {
-            programs[i].run();
+            programs[i].run();                                                 /* @frames_main */
             return 0;
         }
     return 98;
