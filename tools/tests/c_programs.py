@@ -1,19 +1,21 @@
-"""What the tests that record C and C++ programs share: building them, their marks, and the recordings that they leave."""
+"""What the tests that record C and C++ programs share: building and recording them, their marks, and what a recording leaves."""
 
 import os
 import signal
 import subprocess
 import time
 
-from known_traces import LIMIT, TESTS, marks_in
+import known_traces
+from known_traces import LIMIT, RECORD, REFERENCE, TESTS, TOOLS, marks_in  # noqa: F401
 
 SOURCES = os.path.join(TESTS, "record")
 C_FLAGS = ["-Wall", "-g", "-fno-optimize-sibling-calls", "-pthread"]
-# `locks.c:12` for each mark `@name` of each program, by the name of the program and that of the mark.
+# `locks.c:12` for each mark `@name` of each source, by name of the source's file and name of the mark.
 MARKS = {
-    os.path.splitext(name)[0]: marks_in(os.path.join(SOURCES, name), r"(?:/\*|//)")
+    (name, mark): place
     for name in os.listdir(SOURCES)
     if name.endswith((".c", ".cc"))
+    for mark, place in marks_in(os.path.join(SOURCES, name), r"(?:/\*|//)").items()
 }
 
 
@@ -26,6 +28,18 @@ def put(programs, folder):
     """What was built in one folder is in another one, too: by hard links, as what symbolic ones lead to has another path."""
     for path in programs.iterdir():
         os.link(path, folder / path.name)
+
+
+def expand(text, source):
+    """Lines of a known trace, with the marks of this source for places."""
+    return known_traces.expand(text, {mark: place for (name, mark), place in MARKS.items() if name == source})
+
+
+class Run(known_traces.Run):
+    """One recording by goodlock-record, ended."""
+
+    def __init__(self, command, options=(), trace="t.std", environment=None):
+        super().__init__(RECORD, command, options, trace, environment)
 
 
 def raw_directories():

@@ -153,17 +153,23 @@ def wait_until_all_wait(process):
     wait_for(hangs, "process %d to hang" % process)
 
 
-def killed(recorder, command, after=None, by=signal.SIGKILL):
-    """The lines of a program that was killed, and what the recorder said: some time after it was ready, or when it hangs."""
+def ended(recorder, command, number=signal.SIGKILL, after=None):
+    """The lines of a program that a signal ended, and what the recorder said: when it hangs, or some time after it was ready."""
     running, process = start(recorder, command)
     if after is None:
         wait_until_all_wait(process)
     else:
         time.sleep(after)
-    os.kill(process, by)
+    os.kill(process, number)
     _, said = running.communicate(timeout=LIMIT)
-    assert running.returncode == 128 + by, "status %d: %s" % (running.returncode, said.decode())
+    assert running.returncode == 128 + number, "status %d: %s" % (running.returncode, said.decode())
     return read_lines("t.std"), said.decode()
+
+
+def killed(recorder, command, after=None):
+    """The lines of a program that was killed, when it hangs or some time after it was ready."""
+    lines, _ = ended(recorder, command, after=after)
+    return lines
 
 
 def cycles_in(lines):

@@ -6,7 +6,8 @@ import re
 import subprocess
 import sys
 
-from known_traces import RECORD, REFERENCE, TOOLS, processes_in
+from c_programs import RECORD, REFERENCE, TOOLS
+from known_traces import processes_in
 
 CONFIRM = os.path.join(TOOLS, "goodlock-confirm")
 VIEW = os.path.join(TOOLS, "goodlock-view")

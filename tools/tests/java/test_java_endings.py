@@ -21,14 +21,14 @@ DEADLOCK = """
 
 
 def test_killed_in_a_deadlock():
-    lines, _ = killed(JAVA_RECORD, program("deadlock"), 1.5)
+    lines = killed(JAVA_RECORD, program("deadlock"), 0.5)
     compare(lines, expand(DEADLOCK, MARKS))
     assert cycles_in(lines) == 1, "no cycle"
 
 
 def test_killed_at_any_moment():
     for _ in range(4):
-        lines, _ = killed(JAVA_RECORD, program("busy"), random.random() / 3)
+        lines = killed(JAVA_RECORD, program("busy"), random.random() / 3)
         assert len(lines) > 10, "%d lines" % len(lines)
         is_front_of_a_run(lines)
 

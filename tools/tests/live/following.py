@@ -4,7 +4,8 @@ import json
 import os
 import subprocess
 
-from known_traces import LIMIT, RECORD, TOOLS, Run, clear, compare, wait_for
+from c_programs import Run
+from known_traces import LIMIT, RECORD, TOOLS, clear, compare, wait_for
 
 GOODLOCK = os.path.join(os.path.dirname(TOOLS), "goodlock")
 # The cycle of two threads with two orders.
@@ -34,12 +35,12 @@ def read_report(path="r.json"):
 
 def reported(*command, options=(), path="r.json"):
     """A program that was followed to its end."""
-    return Run(RECORD, list(command), ["--live", *options], path)
+    return Run(list(command), ["--live", *options], path)
 
 
 def recorded(*command, options=()):
     """A run whose trace there is."""
-    return Run(RECORD, list(command), options)
+    return Run(list(command), options)
 
 
 def report_later(directory, path="r.json"):

@@ -28,7 +28,7 @@ def test_as_text():
     """Two threads, two orders: the report is known to the byte."""
     done = reported("./live", "churn", path="r.txt")
     assert done.status == 0, done.said
-    first, second = MARKS["live"]["first"], MARKS["live"]["second"]
+    first, second = MARKS["live.c", "first"], MARKS["live.c", "second"]
     compare(
         done.lines(),
         [

@@ -15,14 +15,14 @@ DEADLOCK = """
 
 
 def test_killed_in_a_deadlock():
-    lines, _ = killed(PYTHON_RECORD, [INTERPRETER, LOCKS, "deadlock"])
+    lines = killed(PYTHON_RECORD, [INTERPRETER, LOCKS, "deadlock"])
     compare(lines, expand(DEADLOCK, MARKS))
     assert cycles_in(lines) == 1, "no cycle"
 
 
 def test_killed_at_any_moment():
     for _ in range(8):
-        lines, _ = killed(PYTHON_RECORD, [INTERPRETER, LOCKS, "busy"], random.random() / 5)
+        lines = killed(PYTHON_RECORD, [INTERPRETER, LOCKS, "busy"], random.random() / 5)
         assert len(lines) > 10, "%d lines" % len(lines)
         is_front_of_a_run(lines)
 
@@ -48,7 +48,7 @@ def test_acquire_that_an_exception_ends_at_last():
 
 
 def test_lock_that_its_thread_holds():
-    lines, _ = killed(PYTHON_RECORD, [INTERPRETER, LOCKS, "waits_for_itself"])
+    lines = killed(PYTHON_RECORD, [INTERPRETER, LOCKS, "waits_for_itself"])
     compare(
         lines,
         expand(

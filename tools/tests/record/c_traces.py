@@ -1,29 +1,30 @@
 """What the tests of goodlock-record share: the programs beside them, recorded, and their known traces."""
 
+import os
 import subprocess
 
-from c_programs import MARKS
-from known_traces import LIMIT, RECORD, Run, compare, expand
+from c_programs import Run, expand
+from known_traces import LIMIT, RECORD, compare
 
 PAIR = """
     main|acq(a)|@pair_lock
     main|rel(a)|@pair_unlock"""
 
 
-def known(text, program="locks"):
-    """The lines of a known trace, with the program's marks for places."""
-    return expand(text, MARKS[program])
+def known(text, source="locks.c"):
+    """The lines of a known trace, with this source's marks for places."""
+    return expand(text, source)
 
 
 def record(*command, options=(), trace="t.std", environment=None):
-    return Run(RECORD, list(command), options, trace, environment)
+    return Run(list(command), options, trace, environment)
 
 
-def expect(name, text, program="locks", status=0, options=()):
-    """What the program does under this name leaves exactly this trace."""
-    run = record("./" + program, name, options=options)
+def expect(name, text, source="locks.c", status=0, options=()):
+    """What this source's program does under this name leaves exactly this trace."""
+    run = record("./" + os.path.splitext(source)[0], name, options=options)
     assert run.status == status, "status %d: %s" % (run.status, run.said)
-    compare(run.lines(), known(text, program))
+    compare(run.lines(), known(text, source))
     assert run.files() == ["t.std"], "further files: %s" % run.files()
     return run
 

@@ -51,7 +51,7 @@ WRAPPERS = """
 def test_wrappers(program):
     run = record("./" + program)
     assert run.status == 0, run.said
-    compare(run.lines(), known(WRAPPERS, "wrappers"))
+    compare(run.lines(), known(WRAPPERS, "wrappers.cc"))
 
 
 USE_A = """
@@ -71,7 +71,7 @@ def test_routine_that_runs_once():
         main|acq(control)|@once_second
         main|rel(control)|@once_second
         main|rel(a)|@once_unlock""",
-        "once",
+        "once.cc",
     )
 
 
@@ -87,7 +87,7 @@ def test_routine_that_fails_and_runs_again():
         + USE_A
         + """
         main|rel(flag)|@call_second""",
-        "once",
+        "once.cc",
     )
 
 
@@ -97,23 +97,16 @@ GUARD = "guard variable for has_static::variable"
 def test_static_variables_that_are_initialised():
     """The first one fails, the second one succeeds, the third needs none."""
     one = "\nmain|acq(%s)|@static" % GUARD + USE_A + "\nmain|rel(%s)|@static" % GUARD
-    expect("initialises", one + one, "once", options=["--all"])
+    expect("initialises", one + one, "once.cc", options=["--all"])
 
 
 def test_lock_and_static_variable_that_wait_for_each_other():
-    lines, _ = killed(RECORD, ["./once", "hangs"])
-    compare(
-        lines,
-        known(
-            """
+    lines = killed(RECORD, ["./once", "hangs"])
+    text = """
         main|fork(main.1:other_way)|@hang_fork
         main|acq(GUARD)|@static
         main|acq(a)|@use_a
         main.1:other_way|acq(a)|@hang_lock
-        main.1:other_way|acq(GUARD)|@static""".replace(
-                "GUARD", GUARD
-            ),
-            "once",
-        ),
-    )
+        main.1:other_way|acq(GUARD)|@static"""
+    compare(lines, known(text.replace("GUARD", GUARD), "once.cc"))
     assert cycles_in(lines) == 1, "the cycle isn't predicted"

@@ -8,7 +8,7 @@ from known_traces import LIMIT, NO_EVENTS, RECORD, compare, cycles_in, killed, r
 
 
 def test_killed_in_a_deadlock():
-    lines, _ = killed(RECORD, ["./locks", "deadlock"])
+    lines = killed(RECORD, ["./locks", "deadlock"])
     compare(
         lines,
         known(
@@ -23,7 +23,7 @@ def test_killed_in_a_deadlock():
 
 
 def test_a_killed_deadlock_is_predicted():
-    lines, _ = killed(RECORD, ["./locks", "deadlock"])
+    lines = killed(RECORD, ["./locks", "deadlock"])
     assert cycles_in(lines) == 1, str(lines)
 
 

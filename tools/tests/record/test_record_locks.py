@@ -4,7 +4,7 @@ import os
 import signal
 
 from c_traces import PAIR, expect, known
-from known_traces import RECORD, compare, killed
+from known_traces import RECORD, compare, ended
 
 
 def test_mutexes():
@@ -192,7 +192,7 @@ def test_lock_in_a_table():
 
 def hangs(name, text):
     """Who is asked for a lock that its own thread holds waits for itself; what the recorder said."""
-    lines, said = killed(RECORD, ["./locks", name], by=signal.SIGALRM)
+    lines, said = ended(RECORD, ["./locks", name], signal.SIGALRM)
     compare(lines, known(text))
     files = [name for name in os.listdir(".") if name.startswith("t.std")]
     assert files == ["t.std"], "further files: %s" % files

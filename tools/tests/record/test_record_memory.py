@@ -15,7 +15,7 @@ def test_lock_in_freed_memory_is_at_its_end():
         main|acq(mutex@@freed_second#1)|@freed_second
         main|rel(mutex@@freed_second#1)|@freed_second_end
         main|rel(b)|@freed_second_b_end""",
-        "memory",
+        "memory.c",
     )
 
 
@@ -25,11 +25,11 @@ def uses(*numbers):
 
 
 def test_lock_in_memory_that_moves():
-    expect("moved", uses(1, 2, 3, 4), "memory")
+    expect("moved", uses(1, 2, 3, 4), "memory.c")
 
 
 def test_lock_in_memory_that_is_unmapped():
-    expect("unmapped", uses(1, 2, 3), "memory")
+    expect("unmapped", uses(1, 2, 3), "memory.c")
 
 
 def test_lock_on_the_stack_of_a_thread_that_ended():
@@ -39,7 +39,7 @@ def test_lock_on_the_stack_of_a_thread_that_ended():
     for i in (1, 2):
         text.append("main.%d:uses_stack|acq(mutex@@stack#main.%d:1)|@stack" % (i, i))
         text.append("main.%d:uses_stack|rel(mutex@@stack#main.%d:1)|@stack_end" % (i, i))
-    expect("stacks", "\n".join(text), "memory")
+    expect("stacks", "\n".join(text), "memory.c")
 
 
 def test_library_in_the_place_of_another():
@@ -50,5 +50,5 @@ def test_library_in_the_place_of_another():
         main|rel(lock_of_one)|plugin.c:100
         main|acq(lock_of_two)|plugin.c:200
         main|rel(lock_of_two)|plugin.c:200""",
-        "memory",
+        "memory.c",
     )

@@ -106,7 +106,7 @@ def test_library_constructors_and_destructors():
         main|rel(library_lock)|@library_unlock
         main|acq(library_lock)|@library_lock_2
         main|rel(library_lock)|@library_unlock_2""",
-            "library",
+            "library.c",
         ),
     )
 
