@@ -2,6 +2,7 @@
 
 import os
 import re
+import select
 import shutil
 import signal
 import subprocess
@@ -116,6 +117,13 @@ def wait_for(condition, what):
     raise AssertionError("waited in vain for " + what)
 
 
+def read_line(pipe):
+    """A program's next line, where it is known that none was read ahead; nothing at its end. What says nothing hangs."""
+    ready, _, _ = select.select([pipe], [], [], LIMIT)
+    assert ready, "it says nothing"
+    return pipe.readline()
+
+
 def start(recorder, command, trace="t.std"):
     """A recording that goes on, of a program that has said that it is ready, and its process."""
     clear(trace)
@@ -125,7 +133,7 @@ def start(recorder, command, trace="t.std"):
         stdout=subprocess.PIPE,
         stderr=subprocess.PIPE,
     )
-    words = running.stdout.readline().split()
+    words = read_line(running.stdout).split()
     assert words[:1] == [b"ready"], "the program didn't get ready: %s" % words
     return running, int(words[1])
 

@@ -7,7 +7,8 @@ import shutil
 import subprocess
 
 TOP = pathlib.Path(__file__).resolve().parents[3]
-COMMANDS = ("goodlock", "goodlock-record", "goodlock-predict-all", "goodlock-view")
+RECORDERS = ("goodlock-record", "goodlock-python", "goodlock-confirm")  # their help has the usage with a list of its own
+COMMANDS = ("goodlock", *RECORDERS, "goodlock-predict-all", "goodlock-view")
 SUBCOMMANDS = ("predict", "live", "stats", "replay", "check")
 
 

@@ -22,7 +22,6 @@ def test_each_command_is_installed_and_has_help_and_this_version(path):
         status, output, errors = run(path / command, "--help")
         assert (status, errors) == (0, "")
         assert command in output
-    for command in ("goodlock-view", "goodlock-predict-all"):
         assert run(path / command, "--version")[1] == f"{command} {version}\n"
     assert f"goodlock ({version}) " in (TOP / "debian" / "changelog").read_text().splitlines()[0]
 
@@ -38,6 +37,15 @@ def test_the_installed_commands_need_no_checkout(prefix, path, copy):
         assert (status, errors) == (1, "")
         assert "finding 1: 1 cycle in 1 report" in output
         assert run("goodlock-record", "-o", "t.std", "true")[0] == 124  # no lock and no thread: no trace
+        with open("locks.py", "w") as file:
+            file.write("import threading\nlock = threading.Lock()\nwith lock:\n    pass\n")
+        assert run("goodlock-python", "-o", "p.std", "locks.py")[0] == 0
+        with open("p.std") as file:
+            assert file.read().startswith("main|acq(Lock@locks.py:2#1)|locks.py:3\n")
+        assert run("goodlock-confirm", "--tries", "1", "reports/run.std.json", "--", "sh", "-c", "exit 0")[:2] == (
+            0,
+            "not seen in 1 try\n",
+        )
     finally:
         hidden.rename(copy)
 

@@ -5,7 +5,7 @@ import os
 import subprocess
 
 from c_programs import Run
-from known_traces import LIMIT, RECORD, TOOLS, clear, compare, wait_for
+from known_traces import LIMIT, RECORD, TOOLS, clear, compare, read_line, wait_for
 
 GOODLOCK = os.path.join(os.path.dirname(TOOLS), "goodlock")
 # The cycle of two threads with two orders.
@@ -74,7 +74,7 @@ class Live:
 
     def is_ready(self):
         """Waits for the program, or the one of its children that says so."""
-        words = self.process.stdout.readline().split()
+        words = read_line(self.process.stdout).split()
         assert words[:1] == [b"ready"], "the program says %s" % words
         self.program = int(words[1])
         return self

@@ -6,7 +6,7 @@ import subprocess
 import time
 
 from following import ORDERS, Live, cycles_in, lines_of, read_report, reported
-from known_traces import TOOLS, wait_for, wait_until_all_wait
+from known_traces import TOOLS, read_line, wait_for, wait_until_all_wait
 
 
 def test_cycle_is_told_while_it_runs():
@@ -86,7 +86,7 @@ def test_line_at_a_signal():
 
 def test_program_that_takes_the_signal_itself():
     live = Live("./live", "own_signal")
-    assert live.process.stdout.readline() == b"taken 3\n", "its own signals"
+    assert read_line(live.process.stdout) == b"taken 3\n", "its own signals"
     live.wait_for_words("1 cycle so far")
     live.process.send_signal(signal.SIGUSR1)
     wait_for(lambda: len(lines_of()) == 2, "a line")

@@ -9,7 +9,7 @@ import tempfile
 import pytest
 from c_programs import end, has_ended, raw_directories, raw_directory
 from c_traces import PAIR, convert, known, record
-from known_traces import LIMIT, RECORD, compare, read_lines, start, wait_for
+from known_traces import LIMIT, RECORD, compare, read_line, read_lines, start, wait_for
 
 
 def test_forked_process():
@@ -100,7 +100,7 @@ def test_process_in_the_background():
     """It ends when its standard input does: after the recorder has said that it waits."""
     command = [RECORD, "-o", "t.std", "./locks", "goes_to_background"]
     running = subprocess.Popen(command, stdin=subprocess.PIPE, stderr=subprocess.PIPE)
-    said = running.stderr.readline()
+    said = read_line(running.stderr)
     assert b"waiting for process" in said, said.decode()
     _, said = running.communicate(timeout=LIMIT)
     assert running.returncode == 0, said.decode()
@@ -121,7 +121,7 @@ def test_the_directory_is_nobody_elses():
 def in_background(command):
     """A recording that waits for a process that goes on, and that process."""
     running = subprocess.Popen([RECORD, "-o", "t.std", *command], stdout=subprocess.PIPE, stderr=subprocess.PIPE)
-    return running, int(running.stdout.readline())
+    return running, int(read_line(running.stdout))
 
 
 def test_foreign_files_are_left_alone():
@@ -133,7 +133,7 @@ def test_foreign_files_are_left_alone():
     with open(directory + "/%d.0.0" % stranger.pid, "wb") as file:
         file.write(bytes(4096))
     try:
-        assert b"waiting for process %d" % background in running.stderr.readline(), "it doesn't wait"
+        assert b"waiting for process %d" % background in read_line(running.stderr), "it doesn't wait"
         running.terminate()
         _, said = running.communicate(timeout=LIMIT)
         assert stranger.poll() is None, "another process was ended"
@@ -147,7 +147,7 @@ def test_foreign_files_are_left_alone():
 
 def test_second_signal_leaves_what_runs():
     running, background = in_background(["sh", "-c", "trap '' HUP; ./locks waits_in_background"])
-    assert b"waiting for process" in running.stderr.readline(), "it doesn't wait"
+    assert b"waiting for process" in read_line(running.stderr), "it doesn't wait"
 
     def leaves():
         running.send_signal(signal.SIGHUP)
