@@ -7,7 +7,8 @@ import shutil
 import subprocess
 
 TOP = pathlib.Path(__file__).resolve().parents[3]
-RECORDERS = ("goodlock-record", "goodlock-python", "goodlock-confirm")  # their help has the usage with a list of its own
+# Their help has options in its usage, too.
+RECORDERS = ("goodlock-record", "goodlock-python", "goodlock-confirm")
 COMMANDS = ("goodlock", *RECORDERS, "goodlock-predict-all", "goodlock-view")
 SUBCOMMANDS = ("predict", "live", "stats", "replay", "check")
 

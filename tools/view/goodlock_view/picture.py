@@ -109,8 +109,10 @@ class Picture:
         return "".join(parts)
 
     def _thread(self, at: int, middle: Point, color: str) -> str:
-        """The thread's name on its arrow; below it where the arrow is flat and short. Of two threads' it is above the one and
-        below the other, where there is room for more."""
+        """The thread's name on its arrow; below it where the arrow is flat and short.
+
+        Where there are two it stands above the one and below the other, with room for more.
+        """
         most = _THREAD_BESIDE if self._count == 2 else _THREAD
         name = f"{at + 1}. {fitted(readable(self._cycle[at].thread), most)}"
         x, y = middle
