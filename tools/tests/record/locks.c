@@ -595,6 +595,15 @@ static void volume(void)
         }
 }
 
+/* The last thread comes when there may be no room left. */
+static void volume_and_thread(void)
+{
+    pthread_t thread;
+    volume();
+    pthread_create(&thread, NULL, leaves, NULL);
+    pthread_join(thread, NULL);
+}
+
 static void volume_and_wait(void)
 {
     volume();
@@ -785,7 +794,8 @@ static const struct {
     {"racing", racing}, {"deadlock", deadlock}, {"aborts", aborts}, {"leaves_at_once", leaves_at_once},
     {"upgrade", upgrade}, {"again_plain", again_plain}, {"handed_over", handed_over}, {"beyond", beyond}, {"gives_up_root", gives_up_root},
     {"many_locks", many_locks}, {"waits_in_background", waits_in_background}, {"stray", stray}, {"keys", keys}, {"signals", signals}, {"signal_storm", signal_storm},
-    {"repeats", repeats}, {"volume", volume}, {"volume_and_wait", volume_and_wait}, {"many_threads", many_threads}, {"forks", forks},
+    {"repeats", repeats}, {"volume", volume}, {"volume_and_wait", volume_and_wait}, {"volume_and_thread", volume_and_thread},
+    {"many_threads", many_threads}, {"forks", forks},
     {"raw_fork", raw_fork}, {"executes", executes}, {"clears_environment", clears_environment},
     {"goes_to_background", goes_to_background}, {"waits_for_signal", waits_for_signal}, {"frames", frames}, {"frames_vary", frames_vary},
     {"table", table}, {"nothing", nothing},

@@ -24,20 +24,31 @@ def record_on_it(name):
     return subprocess.run(command, stdin=subprocess.DEVNULL, stderr=subprocess.PIPE, timeout=LIMIT)
 
 
-@pytest.mark.parametrize("small_disk", ["1500k"], indirect=True)
-def test_full_disk(small_disk):
-    """The program goes on."""
-    done = record_on_it("volume")
+def kept_and_lost(name):
+    """How many events of a program that fills the disk are in the trace, and how many are said to be lost."""
+    done = record_on_it(name)
     assert done.returncode == REFUSED, "%d: %s" % (done.returncode, done.stderr.decode())
     assert b"No space left" in done.stderr, done.stderr.decode()
     names = os.listdir("small")
     assert len(names) == 1 and ".raw." in names[0], str(names)
     done = convert("small/" + names[0])
     assert done.returncode == 0, done.stderr.decode()
-    lines = len(read_lines("t.std"))
-    lost = int(re.search(r"(\d+) events were lost", done.stderr.decode()).group(1))
+    return len(read_lines("t.std")), int(re.search(r"(\d+) events were lost", done.stderr.decode()).group(1))
+
+
+@pytest.mark.parametrize("small_disk", ["1500k"], indirect=True)
+def test_full_disk(small_disk):
+    """The program goes on."""
+    lines, lost = kept_and_lost("volume")
     assert lines > 10000 and lines + lost == 2 * 4 * 224 * 224, "%d lines, %d lost" % (lines, lost)
     assert os.listdir("small") == [], str(os.listdir("small"))
+
+
+@pytest.mark.parametrize("small_disk", ["1500k"], indirect=True)
+def test_thread_that_begins_on_a_full_disk(small_disk):
+    """Its birth, acquire, release and join are among what is lost; its beginning and its end may be counted, too."""
+    lines, lost = kept_and_lost("volume_and_thread")
+    assert lines > 10000 and 4 <= lines + lost - 2 * 4 * 224 * 224 <= 6, "%d lines, %d lost" % (lines, lost)
 
 
 @pytest.mark.parametrize("small_disk", ["64k"], indirect=True)
