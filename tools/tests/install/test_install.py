@@ -178,6 +178,10 @@ def test_the_debian_package_has_all_and_its_recorder_builds_nothing(copy, tmp_pa
     library = root / "usr/lib/goodlock/out/goodlock_record.so"
     sources = [path for path in (root / "usr/lib/goodlock/record").rglob("*") if path.suffix in (".c", ".h")]
     assert library.stat().st_mtime >= max(path.stat().st_mtime for path in sources)
+    if has("lintian"):
+        (changes,) = tmp_path.glob("goodlock_*_amd64.changes")
+        status, output, errors = run("lintian", "--fail-on", "error,warning", changes)
+        assert status == 0, output + errors
 
 
 def test_a_carried_program_of_another_sum_is_not_packed(copy, tmp_path):
