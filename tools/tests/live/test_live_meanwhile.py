@@ -26,6 +26,17 @@ def test_cycle_is_told_while_it_runs():
     assert "so far, as signal 15 ended the process" in live.said and cycles_in(read_report()) == found, live.said
 
 
+def test_cycle_is_told_once_though_the_program_goes_on():
+    live = Live("./live", "goes_on").is_ready()
+    live.wait_for_words("1 cycle so far")
+    live.process.stdin.write(b"\n")
+    live.process.stdin.flush()
+    time.sleep(3)
+    assert live.says().count("so far") == 1 and len(lines_of()) == 1, live.says()
+    live.end(signal.SIGTERM)
+    assert len(read_report()["edges"]) == 3 and cycles_in(read_report()) == ORDERS, str(read_report())
+
+
 def test_deadlock_is_told_while_it_hangs():
     live = Live("./locks", "deadlock").is_ready()
     live.wait_for_words(" hangs: ")

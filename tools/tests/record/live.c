@@ -52,6 +52,17 @@ static void waits(void)
     pause();
 }
 
+/* A cycle, and when a line is read an edge that is in none. */
+static void goes_on(void)
+{
+    char line[16];
+    in_turn(one_way, other_way);
+    say_ready();
+    if (fgets(line, sizeof line, stdin))
+        both(&gate, &b);
+    pause();
+}
+
 /* The second order comes when a line is read. */
 static void comes_later(void)
 {
@@ -219,8 +230,8 @@ int main(int count, char **arguments)
         const char *name;
         void (*run)(void);
     } programs[] = {
-        {"waits", waits}, {"comes_later", comes_later}, {"gates", gates}, {"churn", churn}, {"own_signal", own_signal},
-        {"forks", forks}, {"repeats", repeats}, {"killed", killed}, {"races", races},
+        {"waits", waits}, {"goes_on", goes_on}, {"comes_later", comes_later}, {"gates", gates}, {"churn", churn},
+        {"own_signal", own_signal}, {"forks", forks}, {"repeats", repeats}, {"killed", killed}, {"races", races},
     };
     number = count > 2 ? atoi(arguments[2]) : 0;
     for (size_t i = 0; count > 1 && i < sizeof programs / sizeof programs[0]; i++)
