@@ -1,10 +1,11 @@
 """`make install`: what is installed runs without the checkout, and all of it can be taken away."""
 
 import os
+import re
 import shutil
 
 import pytest
-from installing import COMMANDS, SUBCOMMANDS, TOP, archive, has, run
+from installing import COMMANDS, RECORDERS, SUBCOMMANDS, TOP, archive, has, run
 
 TRACE = """\
 T0|acq(a)|Main.java:10
@@ -110,6 +111,18 @@ def test_each_command_has_a_page_with_all_its_options(prefix, path):
         shown = page.replace("\\", "")
         for option in long_options(run(path / command[0], *command[1:], "--help")[1]):
             assert option in shown
+
+
+@needs_help2man
+@pytest.mark.parametrize("name", RECORDERS)
+def test_a_recorders_page_has_a_line_for_each_usage_and_each_option(prefix, path, name):
+    page = (prefix / "share/man/man1" / f"{name}.1").read_text()
+    text = run(path / name, "--help")[1]
+    usages, options = (re.findall(begins, text, re.M) for begins in (rf"^    {name} ", r"^(-.*?)  "))
+    synopsis = page.split(".SH SYNOPSIS\n")[1].split(".SH ")[0]
+    assert synopsis.count(f".B {name}\n") == len(usages) >= 1
+    heads = re.findall(r"^\.TP\n(.*)$", page, re.M)
+    assert [re.sub(r"\\f.|\\", "", head) for head in heads] == options
 
 
 @needs_help2man
