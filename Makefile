@@ -22,7 +22,8 @@ MAN := $(SHARE)/man/man1
 BASH_COMPLETIONS ?= $(SHARE)/bash-completion/completions
 ZSH_COMPLETIONS ?= $(SHARE)/zsh/site-functions
 FISH_COMPLETIONS ?= $(SHARE)/fish/vendor_completions.d
-COMMANDS := goodlock goodlock-record goodlock-predict-all goodlock-view
+RECORDERS := goodlock-record goodlock-confirm goodlock-python
+COMMANDS := goodlock $(RECORDERS) goodlock-predict-all goodlock-view
 INSTALL ?= install
 
 all: $(OUT)/goodlock man library
@@ -65,12 +66,12 @@ install: all $(if $(wildcard $(LIBRARY)),install-library)
 	$(INSTALL) -d "$(DESTDIR)$(BIN)" "$(DESTDIR)$(LIB)" "$(DESTDIR)$(DOC)" "$(DESTDIR)$(MAN)"
 	$(INSTALL) -d "$(DESTDIR)$(BASH_COMPLETIONS)" "$(DESTDIR)$(ZSH_COMPLETIONS)" "$(DESTDIR)$(FISH_COMPLETIONS)"
 	$(INSTALL) -m 755 $(OUT)/goodlock tools/goodlock-predict-all tools/view/out/goodlock-view "$(DESTDIR)$(BIN)"
-	rm -rf "$(DESTDIR)$(LIB)/record" "$(DESTDIR)$(LIB)/out"
-	cp -pR tools/record tools/goodlock-record tools/Makefile "$(DESTDIR)$(LIB)"
-	find "$(DESTDIR)$(LIB)/record" -name __pycache__ -prune -exec rm -rf {} +
+	rm -rf "$(DESTDIR)$(LIB)/record" "$(DESTDIR)$(LIB)/python" "$(DESTDIR)$(LIB)/out"
+	cp -pR tools/record tools/python $(RECORDERS:%=tools/%) tools/Makefile "$(DESTDIR)$(LIB)"
+	find "$(DESTDIR)$(LIB)" -name __pycache__ -prune -exec rm -rf {} +
 	$(INSTALL) -d "$(DESTDIR)$(LIB)/out"
 	find tools/out -maxdepth 1 -type f -exec cp -p {} "$(DESTDIR)$(LIB)/out" \;
-	ln -sf ../lib/goodlock/goodlock-record "$(DESTDIR)$(BIN)/goodlock-record"
+	for name in $(RECORDERS); do ln -sf ../lib/goodlock/$$name "$(DESTDIR)$(BIN)/$$name" || exit 1; done
 	find $(OUT)/man -name '*.1' -exec $(INSTALL) -m 644 {} "$(DESTDIR)$(MAN)" \;
 	for name in $(COMMANDS); do $(INSTALL) -m 644 tools/completions/goodlock.bash \
 	    "$(DESTDIR)$(BASH_COMPLETIONS)/$$name" || exit 1; done

@@ -26,6 +26,8 @@ PYTHON = (
     "tools/tests/install/",
     "tools/tests/layout/",
     "tools/tests/confirm/",
+    "tools/tests/live/",
+    "tools/tests/record/",
     "tools/tests/runtimes/",
     "tools/tests/java/",
     "tools/tests/python/conftest.py",

@@ -28,20 +28,21 @@ _goodlock() {
     esac
 }
 
-_goodlock_record() {
+# The options are given; then comes the program that is recorded, and then its own words.
+_goodlock_recorder() {
     local at word
     COMPREPLY=()
     case ${COMP_WORDS[COMP_CWORD - 1]} in
         -o) _goodlock_files -f && return ;;
         --convert) _goodlock_files -d && return ;;
         --frames) _goodlock_words "1 2 4 8 16" && return ;;
+        --python) _goodlock_files -c -A file && return ;;
         --every) return ;;
     esac
-    # The program that is recorded, and then its own words.
     for ((at = 1; at < COMP_CWORD; at++)); do
         word=${COMP_WORDS[at]}
         case $word in
-            -o | --convert | --frames | --every) at=$((at + 1)) ;;
+            -o | --convert | --frames | --every | --python) at=$((at + 1)) ;;
             --) at=$((at + 1)) && break ;;
             -*) ;;
             *) break ;;
@@ -50,9 +51,35 @@ _goodlock_record() {
     if [ "$at" -lt "$COMP_CWORD" ]; then
         _goodlock_files -f
     elif [[ ${COMP_WORDS[COMP_CWORD]} == -* ]]; then
-        _goodlock_words "-o --frames --all --live --every --convert --help"
+        _goodlock_words "-o --frames --all $1 --convert --help --version"
     else
         _goodlock_files -c -A file
+    fi
+}
+
+_goodlock_record() {
+    _goodlock_recorder "--live --every"
+}
+
+_goodlock_python() {
+    _goodlock_recorder "--python"
+}
+
+# The report, and behind -- the program and its own words.
+_goodlock_confirm() {
+    local word
+    COMPREPLY=()
+    for word in "${COMP_WORDS[@]:1:COMP_CWORD-1}"; do
+        [ "$word" = -- ] && _goodlock_files -c -A file && return
+    done
+    case ${COMP_WORDS[COMP_CWORD - 1]} in
+        -o) _goodlock_files -f && return ;;
+        --finding | --tries | --seconds) return ;;
+    esac
+    if [[ ${COMP_WORDS[COMP_CWORD]} == -* ]]; then
+        _goodlock_words "-o --finding --tries --seconds --help --version"
+    else
+        _goodlock_files -f
     fi
 }
 
@@ -86,5 +113,7 @@ _goodlock_view() {
 
 complete -F _goodlock goodlock
 complete -F _goodlock_record goodlock-record
+complete -F _goodlock_python goodlock-python
+complete -F _goodlock_confirm goodlock-confirm
 complete -F _goodlock_predict_all goodlock-predict-all
 complete -F _goodlock_view goodlock-view

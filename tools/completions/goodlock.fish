@@ -26,7 +26,23 @@ complete -c goodlock-record -l live -d 'A report of the running program, and no 
 complete -c goodlock-record -x -l every -d 'A report so far every so many seconds'
 complete -c goodlock-record -r -l convert -d 'Write the traces or reports of what was left behind'
 complete -c goodlock-record -l help -d 'Print help'
+complete -c goodlock-record -l version -d 'Print version'
 complete -c goodlock-record -a '(__fish_complete_subcommand)'
+
+complete -c goodlock-python -r -s o -d 'The trace'
+complete -c goodlock-python -x -l frames -d 'Callers that a place has'
+complete -c goodlock-python -l all -d 'Record every event'
+complete -c goodlock-python -r -l python -d 'The interpreter'
+complete -c goodlock-python -r -l convert -d 'Write the trace of what was left behind'
+complete -c goodlock-python -l help -d 'Print help'
+complete -c goodlock-python -l version -d 'Print version'
+
+complete -c goodlock-confirm -x -l finding -d 'The finding that is tried'
+complete -c goodlock-confirm -x -l tries -d 'How often the program is run'
+complete -c goodlock-confirm -x -l seconds -d 'How long each run takes at most'
+complete -c goodlock-confirm -r -s o -d 'The outcome'
+complete -c goodlock-confirm -l help -d 'Print help'
+complete -c goodlock-confirm -l version -d 'Print version'
 
 complete -c goodlock-predict-all -r -s o -l output -d 'The folder of the reports'
 complete -c goodlock-predict-all -x -s j -l jobs -d 'Traces at a time'

@@ -5,6 +5,13 @@
 
 SCRIPT.py may also be a program that runs Python code, or options of the interpreter as -m MODULE or -c CODE.
 docs/RECORDING-PYTHON.md explains it.
+
+-o TRACE              the file, else goodlock.std
+--frames N            show N callers in a location (1 to 16)
+--all                 leave no repeats out
+--python INTERPRETER  the interpreter, else the first python3 of PATH
+--convert DIRECTORY   no run: write the trace of what a recording left behind
+--help, --version     print this, print the version
 """
 
 import os

@@ -2,6 +2,12 @@
 
     goodlock-confirm [--finding N] [--tries N] [--seconds S] [-o FILE] REPORT.json -- PROGRAM [ARGUMENT..]
 
+--finding N        the finding that is tried, by its number in goodlock-view (1)
+--tries N          how often the program is run (5)
+--seconds S        how long each run takes at most (30)
+-o FILE            write the outcome as JSON, for goodlock-view --confirmed
+--help, --version  print this, print the version
+
 docs/CONFIRMING.md explains it.
 """
 
@@ -25,7 +31,7 @@ from build import BuildError  # noqa: E402
 from convert import ConvertError, Sources, clean, name_process, read_processes, without_parameters  # noqa: E402
 from family import Family, adopt_orphans, descendants  # noqa: E402
 from findings import ReportError, read_findings  # noqa: E402
-from launch import Failed, Preload, child_environment, fill_closed_descriptors  # noqa: E402
+from launch import VERSION, Failed, Preload, child_environment, fill_closed_descriptors  # noqa: E402
 from recording import new_recording  # noqa: E402
 from symbols import demangled  # noqa: E402
 
@@ -76,6 +82,9 @@ def read_arguments(arguments):
     settings = Settings()
     if arguments in (["-h"], ["--help"]):
         print(__doc__.strip())
+        sys.exit(0)
+    if arguments in (["-V"], ["--version"]):
+        print("goodlock-confirm " + VERSION)
         sys.exit(0)
     rest = list(arguments)
     while rest and rest[0] != "--":

@@ -37,6 +37,6 @@ def read_findings(path):
             findings.setdefault(key, Finding(key)).add(cycle)
     except OSError as error:
         raise ReportError("%s: %s" % (path, error.strerror))
-    except (ValueError, TypeError, KeyError, IndexError, AttributeError):
+    except (ValueError, TypeError, KeyError, IndexError, AttributeError, RecursionError):
         raise ReportError("%s: not a report of goodlock as JSON" % path)
     return sorted(findings.values(), key=lambda f: (len(f.sample), -f.cycles, f.pairs))

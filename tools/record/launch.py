@@ -12,6 +12,7 @@
                      cycle that is new, and a hang
 --every S            with --live, add a report so far to REPORT.lines every S seconds
 --convert DIRECTORY  no run: write the trace, or with --live the report, of what a recording left behind
+--help, --version    print this, print the version
 
 docs/RECORDING.md explains it.
 """
@@ -25,6 +26,7 @@ TOOLS = os.path.dirname(SOURCES)
 sys.path.insert(0, SOURCES)
 sys.pycache_prefix = os.path.join(TOOLS, "out", "python")
 
+VERSION = "0.1.0"
 STATUS_NO_EVENTS = 124
 STATUS_FAILED = 125
 STATUS_NOT_EXECUTABLE = 126
@@ -149,6 +151,9 @@ def read_arguments(arguments, explanation=__doc__, usage=USAGE, flags=("--all",)
             break
         if word in ("-h", "--help"):
             print(explanation.strip())
+            sys.exit(0)
+        if word in ("-V", "--version"):
+            print("%s %s" % (recorder.name, VERSION))
             sys.exit(0)
         if word in flags:
             setattr(settings, word[2:], True)

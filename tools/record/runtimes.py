@@ -5,6 +5,10 @@ import re
 
 from tool import find_tool
 
+# Where the other recorders are: beside this one in a checkout, or on PATH.
+TOOLS = os.path.dirname(os.path.dirname(os.path.realpath(__file__)))
+BESIDE = "tools/" if os.path.basename(TOOLS) == "tools" else ""
+
 
 class Runtime:
     def __init__(self, name, file, mark, advice):
@@ -20,14 +24,14 @@ RUNTIMES = (
         r"libjvm\.so",
         None,
         "the monitors (synchronized) and java.util.concurrent locks of Java code aren't in this trace; "
-        "record them with tools/goodlock-java",
+        "record them with %sgoodlock-java" % BESIDE,
     ),
     Runtime(
         "CPython",
         r"libpython\d[\w.]*\.so[\d.]*",
         re.compile(rb"\0Py_BytesMain\0"),
         "the locks of Python code (threading.Lock and all that is made of it) aren't in this trace; "
-        "record them with tools/goodlock-python",
+        "record them with %sgoodlock-python" % BESIDE,
     ),
     Runtime(
         "a Go program",

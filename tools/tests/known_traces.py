@@ -1,7 +1,8 @@
-"""What the tests of runtimes, Java and Python share: running programs, and comparing whole traces with known ones."""
+"""What the tests of all recorders share: running programs, and comparing whole traces with known ones."""
 
 import os
 import re
+import select
 import shutil
 import signal
 import subprocess
@@ -13,20 +14,29 @@ TOOLS = os.path.dirname(TESTS)
 RECORD = os.path.join(TOOLS, "goodlock-record")
 REFERENCE = os.path.join(os.path.dirname(TOOLS), "tests", "oracle", "reference.py")
 NO_EVENTS, REFUSED = 124, 125
+LIMIT = 180  # seconds: what takes longer hangs
+
+
+def marks_in(path, comment):
+    """`locks.py:12` for each mark `@name` in a comment of a source."""
+    marks = {}
+    with open(path) as file:
+        for number, line in enumerate(file, 1):
+            for mark in re.findall(comment + r" @(\w+)", line):
+                assert mark not in marks, "mark %s stands twice" % mark
+                marks[mark] = "%s:%d" % (os.path.basename(path), number)
+    return marks
 
 
 def marks_of(folder, comment):
-    """`locks.py:12` for each mark `@name` in a comment, of each source in a folder."""
+    """Those of each source in a folder."""
     marks = {}
     for name in sorted(os.listdir(folder)):
         path = os.path.join(folder, name)
-        if not os.path.isfile(path):
-            continue
-        with open(path) as file:
-            for number, line in enumerate(file, 1):
-                for mark in re.findall(comment + r" @(\w+)", line):
-                    assert mark not in marks, "mark %s stands twice" % mark
-                    marks[mark] = "%s:%d" % (name, number)
+        if os.path.isfile(path):
+            found = marks_in(path, comment)
+            assert not marks.keys() & found.keys(), "marks stand twice: %s" % (marks.keys() & found.keys())
+            marks.update(found)
     return marks
 
 
@@ -71,7 +81,7 @@ class Run:
             stdout=subprocess.PIPE,
             stderr=subprocess.PIPE,
             env=environment,
-            timeout=120,
+            timeout=LIMIT,
         )
         self.status, self.out, self.said = done.returncode, done.stdout.decode(), done.stderr.decode()
 
@@ -83,6 +93,37 @@ class Run:
         return sorted(name for name in os.listdir(".") if name.startswith(self.trace))
 
 
+def processes_in(folder):
+    """The other processes that run in this folder."""
+    found = []
+    for name in filter(str.isdigit, os.listdir("/proc")):
+        try:
+            is_there = os.readlink("/proc/%s/cwd" % name) == str(folder) and int(name) != os.getpid()
+        except OSError:  # it has ended, or is somebody else's
+            continue
+        if is_there:
+            found.append(int(name))
+    return found
+
+
+def wait_for(condition, what):
+    """Waits until this is so; what it answered."""
+    limit = time.monotonic() + LIMIT
+    while time.monotonic() < limit:
+        answer = condition()
+        if answer:
+            return answer
+        time.sleep(0.02)
+    raise AssertionError("waited in vain for " + what)
+
+
+def read_line(pipe):
+    """A program's next line, where it is known that none was read ahead; nothing at its end. What says nothing hangs."""
+    ready, _, _ = select.select([pipe], [], [], LIMIT)
+    assert ready, "it says nothing"
+    return pipe.readline()
+
+
 def start(recorder, command, trace="t.std"):
     """A recording that goes on, of a program that has said that it is ready, and its process."""
     clear(trace)
@@ -92,19 +133,51 @@ def start(recorder, command, trace="t.std"):
         stdout=subprocess.PIPE,
         stderr=subprocess.PIPE,
     )
-    words = running.stdout.readline().split()
+    words = read_line(running.stdout).split()
     assert words[:1] == [b"ready"], "the program didn't get ready: %s" % words
     return running, int(words[1])
 
 
-def killed(recorder, command, after=0.0):
-    """The lines of a program that was killed, some time after it was ready."""
+def sleeping_threads(process):
+    """How often each thread of a process went to sleep so far, by number; nothing where one doesn't sleep."""
+    found = {}
+    for thread in os.listdir("/proc/%d/task" % process):
+        with open("/proc/%d/task/%s/status" % (process, thread)) as file:
+            words = dict(line.split(":", 1) for line in file if ":" in line)
+        if words["State"].split()[0] != "S":
+            return None
+        found[thread] = int(words["voluntary_ctxt_switches"])
+    return found
+
+
+def wait_until_all_wait(process):
+    """Until each thread of a process sleeps at two looks, between which none was awake: then it hangs."""
+
+    def hangs():
+        before = sleeping_threads(process)
+        time.sleep(0.1)
+        return before is not None and sleeping_threads(process) == before
+
+    wait_for(hangs, "process %d to hang" % process)
+
+
+def ended(recorder, command, number=signal.SIGKILL, after=None):
+    """The lines of a program that a signal ended, and what the recorder said: when it hangs, or some time after it was ready."""
     running, process = start(recorder, command)
-    time.sleep(after)
-    os.kill(process, signal.SIGKILL)
-    _, said = running.communicate(timeout=180)
-    assert running.returncode == 128 + signal.SIGKILL, "status %d: %s" % (running.returncode, said.decode())
-    return read_lines("t.std")
+    if after is None:
+        wait_until_all_wait(process)
+    else:
+        time.sleep(after)
+    os.kill(process, number)
+    _, said = running.communicate(timeout=LIMIT)
+    assert running.returncode == 128 + number, "status %d: %s" % (running.returncode, said.decode())
+    return read_lines("t.std"), said.decode()
+
+
+def killed(recorder, command, after=None):
+    """The lines of a program that was killed, when it hangs or some time after it was ready."""
+    lines, _ = ended(recorder, command, after=after)
+    return lines
 
 
 def cycles_in(lines):

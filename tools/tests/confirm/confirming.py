@@ -7,6 +7,7 @@ import subprocess
 import sys
 
 from c_programs import RECORD, REFERENCE, TOOLS
+from known_traces import processes_in
 
 CONFIRM = os.path.join(TOOLS, "goodlock-confirm")
 VIEW = os.path.join(TOOLS, "goodlock-view")
@@ -53,13 +54,5 @@ def check_that_nothing_is_left(folder):
     """No folder of a confirmation, and no process of the program that runs in this folder."""
     left = [name for name in os.listdir(folder / TEMPORARY) if name.startswith("goodlock-confirm.")]
     assert not left, str(left)
-    for name in os.listdir("/proc"):
-        if name.isdigit():
-            try:
-                with open("/proc/%s/cmdline" % name, "rb") as file:
-                    is_left = file.read().startswith(b"./cycles\0") and os.readlink("/proc/%s/cwd" % name) == str(
-                        folder
-                    )
-            except OSError:
-                continue
-            assert not is_left, "process %s still runs" % name
+    running = processes_in(folder)
+    assert not running, "processes %s still run" % running

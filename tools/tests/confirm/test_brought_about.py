@@ -1,19 +1,14 @@
 """Predicted cycles that it brings about."""
 
-import os
 import re
 
-from c_programs import SOURCES
+from c_programs import MARKS
 from confirming import DEADLOCKED, deadlocks, run
 
 
 def test_opposite_orders(predict):
     steps, out = deadlocks(predict, "opposite", 2)
-    marks = {}
-    with open(os.path.join(SOURCES, "cycles.c")) as file:
-        for number, line in enumerate(file, 1):
-            for mark in re.findall(r"@(\w+)", line):
-                marks[mark] = "cycles.c:%d" % number
+    marks = {mark: place for (source, mark), place in MARKS.items() if source == "cycles.c"}
     assert sorted(steps) == [
         ("main.1:one_way", "a", marks["one_a"], "b", marks["one_b"]),
         ("main.2:other_way", "b", marks["other_b"], "a", marks["other_a"]),

@@ -25,12 +25,15 @@ def test_errors(predict):
     report = predict("opposite")
     with open("no-report.json", "w") as file:
         file.write('{"cycles": [[0, 1]]}')
+    with open("deep.json", "w") as file:
+        file.write("[" * 100_000)
     for arguments, text in (
         ([], "usage"),
         ([report], "usage"),
         (["--tries", "0", report, "--", "true"], "--tries"),
         (["missing.json", "--", "true"], "missing.json"),
         (["no-report.json", "--", "true"], "not a report"),
+        (["deep.json", "--", "true"], "not a report"),
         (["--finding", "2", report, "--", "true"], "1 findings"),
         ([report, "--", "./no-such-program"], "no-such-program"),
         ([report, "--", "./cycles-static", "opposite"], "statically linked"),

@@ -7,7 +7,9 @@ import shutil
 import subprocess
 
 TOP = pathlib.Path(__file__).resolve().parents[3]
-COMMANDS = ("goodlock", "goodlock-record", "goodlock-predict-all", "goodlock-view")
+# Their help has options in its usage, too.
+RECORDERS = ("goodlock-record", "goodlock-python", "goodlock-confirm")
+COMMANDS = ("goodlock", *RECORDERS, "goodlock-predict-all", "goodlock-view")
 SUBCOMMANDS = ("predict", "live", "stats", "replay", "check")
 
 

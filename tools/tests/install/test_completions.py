@@ -3,7 +3,7 @@
 import re
 
 import pytest
-from installing import COMMANDS, SUBCOMMANDS, TOP, has, long_options, run
+from installing import COMMANDS, RECORDERS, SUBCOMMANDS, TOP, has, long_options, run
 
 FOLDER = TOP / "tools" / "completions"
 CASES = [[command] for command in COMMANDS] + [["goodlock", command] for command in SUBCOMMANDS]
@@ -11,8 +11,9 @@ CASES = [[command] for command in COMMANDS] + [["goodlock", command] for command
 
 def expected(path, words):
     text = run(path / words[0], *words[1:], "--help")[1]
-    if words == ["goodlock-record"]:  # its help has the usage alone, without a list
-        return set(re.findall(r"(?<![\w-])--[a-z][a-z-]*", text)) | {"--help"}
+    if words[0] in RECORDERS:
+        usage = re.sub(r"goodlock-view --confirmed|-- [A-Z].*", "", text)  # an option of another command; the program
+        return set(re.findall(r"(?<![\w-])--[a-z][a-z-]*", usage))
     return long_options(text)
 
 
@@ -67,7 +68,7 @@ ZSH = r"""
 zmodload zsh/zpty
 zpty shell zsh -f -i
 zpty -w shell 'PROMPT=; fpath=('"$1"' $fpath); autoload -Uz compinit; compinit -u -D; LISTMAX=1000'
-zpty -w shell 'compdef _goodlock goodlock goodlock-record goodlock-predict-all goodlock-view; stty columns 300 rows 200'
+zpty -w shell 'compdef _goodlock '"$3"'; stty columns 300 rows 200'
 zpty -w shell 'bindkey "^I" complete-word; zstyle ":completion:*" verbose no; zstyle ":completion:*" list-prompt ""'
 zpty -w shell 'echo rea''dy'
 zpty -r shell line '*ready*'
@@ -86,7 +87,7 @@ zpty -d shell
 @pytest.mark.skipif(not has("zsh"), reason="zsh isn't installed")
 @pytest.mark.parametrize("words", CASES, ids=" ".join)
 def test_zsh_offers_the_options_of_the_help(path, words):
-    status, output, errors = run("zsh", "-f", "-c", ZSH, "zsh", FOLDER, " ".join([*words, "--"]))
+    status, output, errors = run("zsh", "-f", "-c", ZSH, "zsh", FOLDER, " ".join([*words, "--"]), " ".join(COMMANDS))
     assert (status, errors) == (0, "")
     shown = re.sub(r"\x1b\[[0-9;?]*[A-Za-z]", " ", output)
     assert long_options("\n".join(" " + word for word in shown.split())) == expected(path, words)

@@ -1,10 +1,11 @@
 """`make install`: what is installed runs without the checkout, and all of it can be taken away."""
 
 import os
+import re
 import shutil
 
 import pytest
-from installing import COMMANDS, SUBCOMMANDS, TOP, archive, has, run
+from installing import COMMANDS, RECORDERS, SUBCOMMANDS, TOP, archive, has, run
 
 TRACE = """\
 T0|acq(a)|Main.java:10
@@ -22,7 +23,6 @@ def test_each_command_is_installed_and_has_help_and_this_version(path):
         status, output, errors = run(path / command, "--help")
         assert (status, errors) == (0, "")
         assert command in output
-    for command in ("goodlock-view", "goodlock-predict-all"):
         assert run(path / command, "--version")[1] == f"{command} {version}\n"
     assert f"goodlock ({version}) " in (TOP / "debian" / "changelog").read_text().splitlines()[0]
 
@@ -38,6 +38,15 @@ def test_the_installed_commands_need_no_checkout(prefix, path, copy):
         assert (status, errors) == (1, "")
         assert "finding 1: 1 cycle in 1 report" in output
         assert run("goodlock-record", "-o", "t.std", "true")[0] == 124  # no lock and no thread: no trace
+        with open("locks.py", "w") as file:
+            file.write("import threading\nlock = threading.Lock()\nwith lock:\n    pass\n")
+        assert run("goodlock-python", "-o", "p.std", "locks.py")[0] == 0
+        with open("p.std") as file:
+            assert file.read().startswith("main|acq(Lock@locks.py:2#1)|locks.py:3\n")
+        assert run("goodlock-confirm", "--tries", "1", "reports/run.std.json", "--", "sh", "-c", "exit 0")[:2] == (
+            0,
+            "not seen in 1 try\n",
+        )
     finally:
         hidden.rename(copy)
 
@@ -102,6 +111,18 @@ def test_each_command_has_a_page_with_all_its_options(prefix, path):
         shown = page.replace("\\", "")
         for option in long_options(run(path / command[0], *command[1:], "--help")[1]):
             assert option in shown
+
+
+@needs_help2man
+@pytest.mark.parametrize("name", RECORDERS)
+def test_a_recorders_page_has_a_line_for_each_usage_and_each_option(prefix, path, name):
+    page = (prefix / "share/man/man1" / f"{name}.1").read_text()
+    text = run(path / name, "--help")[1]
+    usages, options = (re.findall(begins, text, re.M) for begins in (rf"^    {name} ", r"^(-.*?)  "))
+    synopsis = page.split(".SH SYNOPSIS\n")[1].split(".SH ")[0]
+    assert synopsis.count(f".B {name}\n") == len(usages) >= 1
+    heads = re.findall(r"^\.TP\n(.*)$", page, re.M)
+    assert [re.sub(r"\\f.|\\", "", head) for head in heads] == options
 
 
 @needs_help2man
@@ -170,6 +191,10 @@ def test_the_debian_package_has_all_and_its_recorder_builds_nothing(copy, tmp_pa
     library = root / "usr/lib/goodlock/out/goodlock_record.so"
     sources = [path for path in (root / "usr/lib/goodlock/record").rglob("*") if path.suffix in (".c", ".h")]
     assert library.stat().st_mtime >= max(path.stat().st_mtime for path in sources)
+    if has("lintian"):
+        (changes,) = tmp_path.glob("goodlock_*_amd64.changes")
+        status, output, errors = run("lintian", "--fail-on", "error,warning", changes)
+        assert status == 0, output + errors
 
 
 def test_a_carried_program_of_another_sum_is_not_packed(copy, tmp_path):

@@ -15,7 +15,7 @@ DEADLOCK = """
 
 
 def test_killed_in_a_deadlock():
-    lines = killed(PYTHON_RECORD, [INTERPRETER, LOCKS, "deadlock"], 1.5)
+    lines = killed(PYTHON_RECORD, [INTERPRETER, LOCKS, "deadlock"])
     compare(lines, expand(DEADLOCK, MARKS))
     assert cycles_in(lines) == 1, "no cycle"
 
@@ -48,7 +48,7 @@ def test_acquire_that_an_exception_ends_at_last():
 
 
 def test_lock_that_its_thread_holds():
-    lines = killed(PYTHON_RECORD, [INTERPRETER, LOCKS, "waits_for_itself"], 0.2)
+    lines = killed(PYTHON_RECORD, [INTERPRETER, LOCKS, "waits_for_itself"])
     compare(
         lines,
         expand(

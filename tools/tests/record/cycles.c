@@ -8,6 +8,8 @@
 #include <string.h>
 #include <unistd.h>
 
+#include "turns.h"
+
 static pthread_mutex_t a = PTHREAD_MUTEX_INITIALIZER, b = PTHREAD_MUTEX_INITIALIZER, gate = PTHREAD_MUTEX_INITIALIZER;
 static pthread_mutex_t ring[3] = {PTHREAD_MUTEX_INITIALIZER, PTHREAD_MUTEX_INITIALIZER, PTHREAD_MUTEX_INITIALIZER};
 static pthread_rwlock_t reads = PTHREAD_RWLOCK_INITIALIZER;
@@ -15,12 +17,12 @@ static pthread_cond_t condition = PTHREAD_COND_INITIALIZER;
 static sem_t first_done;
 static int ready, done;
 
-static void run_threads(void *(*const *routines)(void *), int count, useconds_t between)
+static void run_threads(void *(*const *routines)(void *), int count)
 {
     pthread_t threads[8];
     for (int i = 0; i < count; i++) {
         pthread_create(&threads[i], NULL, routines[i], (void *)(long)i);
-        usleep(between);
+        wait_for_others();
     }
     for (int i = 0; i < count; i++)
         pthread_join(threads[i], NULL);
@@ -55,7 +57,7 @@ static void *other_way(void *unused)
 
 static void opposite(void)
 {
-    run_threads((void *(*[])(void *)){one_way, other_way}, 2, 50000);
+    run_threads((void *(*[])(void *)){one_way, other_way}, 2);
 }
 
 /* Three threads that run the same lines. */
@@ -67,7 +69,7 @@ static void *philosopher(void *number)
 
 static void philosophers(void)
 {
-    run_threads((void *(*[])(void *)){philosopher, philosopher, philosopher}, 3, 50000);
+    run_threads((void *(*[])(void *)){philosopher, philosopher, philosopher}, 3);
 }
 
 /* Readers and a writer. */
@@ -91,7 +93,7 @@ static void *writer(void *unused)
 
 static void readers(void)
 {
-    run_threads((void *(*[])(void *)){reader, reader, writer}, 3, 50000);
+    run_threads((void *(*[])(void *)){reader, reader, writer}, 3);
 }
 
 /* The one holds a lock while it waits for the condition, the other one takes that lock after it gave the signal. */
@@ -121,14 +123,14 @@ static void *signals(void *unused)
 
 static void *wants_later(void *unused)
 {
-    usleep(100000);
+    wait_for_others();
     both(&b, &a);
     return unused;
 }
 
 static void conditions(void)
 {
-    run_threads((void *(*[])(void *)){waits, signals, wants_later}, 3, 50000);
+    run_threads((void *(*[])(void *)){waits, signals, wants_later}, 3);
 }
 
 /* The lock is asked for again within the wait, after the signal, while the one who gave it wants the other lock. */
@@ -193,7 +195,7 @@ static void *worker(void *unused)
 
 static void pool(void)
 {
-    run_threads((void *(*[])(void *)){worker, worker, worker, worker}, 4, 100);
+    run_threads((void *(*[])(void *)){worker, worker, worker, worker}, 4);
 }
 
 /* The second thread begins only when the first one has finished: nothing that the analysis knows of. */
@@ -213,7 +215,7 @@ static void *waits_for_post(void *unused)
 
 static void false_semaphore(void)
 {
-    run_threads((void *(*[])(void *)){posts, waits_for_post}, 2, 1000);
+    run_threads((void *(*[])(void *)){posts, waits_for_post}, 2);
 }
 
 /* A flag under a lock decides that the other order comes later. */
@@ -239,7 +241,7 @@ static void *waits_for_flag(void *unused)
 
 static void false_flag(void)
 {
-    run_threads((void *(*[])(void *)){sets_flag, waits_for_flag}, 2, 1000);
+    run_threads((void *(*[])(void *)){sets_flag, waits_for_flag}, 2);
 }
 
 /* The same lines with other locks in each thread. */
@@ -257,7 +259,7 @@ static void *own_locks(void *number)
 
 static void false_own_locks(void)
 {
-    run_threads((void *(*[])(void *)){own_locks, own_locks}, 2, 1000);
+    run_threads((void *(*[])(void *)){own_locks, own_locks}, 2);
 }
 
 /* A mutex that another thread unlocks than has locked it: the first one doesn't hold it any more, though it never unlocked it. */
@@ -298,7 +300,7 @@ static void *holds_long(void *unused)
 
 static void false_handed_over(void)
 {
-    run_threads((void *(*[])(void *)){locks_only, unlocks_first, holds_long}, 3, 20000);
+    run_threads((void *(*[])(void *)){locks_only, unlocks_first, holds_long}, 3);
 }
 
 int main(int count, char **arguments)

@@ -1,4 +1,5 @@
-/* Programs for goodlock-record --live: the first argument names one. What each is predicted to do stands in run_live.py. */
+/* Programs for goodlock-record --live: the first argument names one. What each is predicted to do stands in
+ * tools/tests/live. */
 #define _GNU_SOURCE
 #include <pthread.h>
 #include <signal.h>
@@ -6,6 +7,8 @@
 #include <stdlib.h>
 #include <string.h>
 #include <unistd.h>
+
+#include "turns.h"
 
 static pthread_mutex_t a = PTHREAD_MUTEX_INITIALIZER, b = PTHREAD_MUTEX_INITIALIZER, gate = PTHREAD_MUTEX_INITIALIZER;
 static int number;
@@ -30,18 +33,12 @@ static void *other_way(void *unused)
     return unused;
 }
 
-static void ready(void)
-{
-    puts("ready");
-    fflush(stdout);
-}
-
 /* One after the other, so that the run ends well; no event tells so. */
 static void in_turn(void *(*first)(void *), void *(*second)(void *))
 {
     pthread_t threads[2];
     pthread_create(&threads[0], NULL, first, NULL);
-    usleep(20000);
+    wait_for_others();
     pthread_create(&threads[1], NULL, second, NULL);
     for (int i = 0; i < 2; i++)
         pthread_join(threads[i], NULL);
@@ -51,7 +48,18 @@ static void waits(void)
 {
     in_turn(one_way, other_way);
     both(&gate, &b);
-    ready();
+    say_ready();
+    pause();
+}
+
+/* A cycle, and when a line is read an edge that is in none. */
+static void goes_on(void)
+{
+    char line[16];
+    in_turn(one_way, other_way);
+    say_ready();
+    if (fgets(line, sizeof line, stdin))
+        both(&gate, &b);
     pause();
 }
 
@@ -61,7 +69,8 @@ static void comes_later(void)
     char line[16];
     pthread_t thread;
     pthread_create(&thread, NULL, one_way, NULL);
-    ready();
+    wait_for_others();
+    say_ready();
     if (!fgets(line, sizeof line, stdin))
         return;
     other_way(NULL);
@@ -138,14 +147,10 @@ static void own_signal(void)
 static void forks(void)
 {
     both(&a, &b);
-    pid_t child = fork();
-    if (child == 0) {
+    if (fork() == 0) {
         in_turn(one_way, other_way);
-        ready();
-        pause();
+        say_ready();
     }
-    printf("%d\n", (int)child);
-    fflush(stdout);
     pause();
 }
 
@@ -164,7 +169,7 @@ static void repeats(void)
         pthread_create(&threads[i], NULL, turns, (void *)i);
     for (int i = 0; i < 2; i++)
         pthread_join(threads[i], NULL);
-    ready();
+    say_ready();
     pause();
 }
 
@@ -215,7 +220,7 @@ static void races(void)
     for (int i = 0; i < 6; i++)
         pthread_join(threads[i], NULL);
     in_turn(one_way, other_way);
-    ready();
+    say_ready();
     pause();
 }
 
@@ -225,8 +230,8 @@ int main(int count, char **arguments)
         const char *name;
         void (*run)(void);
     } programs[] = {
-        {"waits", waits}, {"comes_later", comes_later}, {"gates", gates}, {"churn", churn}, {"own_signal", own_signal},
-        {"forks", forks}, {"repeats", repeats}, {"killed", killed}, {"races", races},
+        {"waits", waits}, {"goes_on", goes_on}, {"comes_later", comes_later}, {"gates", gates}, {"churn", churn},
+        {"own_signal", own_signal}, {"forks", forks}, {"repeats", repeats}, {"killed", killed}, {"races", races},
     };
     number = count > 2 ? atoi(arguments[2]) : 0;
     for (size_t i = 0; count > 1 && i < sizeof programs / sizeof programs[0]; i++)

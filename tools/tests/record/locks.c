@@ -1,5 +1,5 @@
 /* Programs for the recorder's tests: the first argument names one. A mark as in `@name` in a comment stands for its
- * line in the expected traces of run_record.py. */
+ * line in the expected traces. */
 #define _GNU_SOURCE
 #include <errno.h>
 #include <pthread.h>
@@ -15,6 +15,8 @@
 #include <threads.h>
 #include <time.h>
 #include <unistd.h>
+
+#include "turns.h"
 
 /* A failed expectation is a status that no test waits for. */
 #define MUST(condition)                                                        \
@@ -288,7 +290,7 @@ static void cancel(void)
     void *value;
     pthread_create(&thread, NULL, cancelled, NULL);                            /* @cancel_create */
     sem_wait(&step);
-    usleep(20000);
+    wait_for_others();
     pthread_cancel(thread);
     pthread_join(thread, &value);                                              /* @cancel_join */
     MUST(value == PTHREAD_CANCELED);
@@ -327,7 +329,7 @@ static void *detached(void *unused)
 
 static void threads(void)
 {
-    struct timespec later = after(CLOCK_REALTIME, 5000), monotonic = after(CLOCK_MONOTONIC, 5000), past = {0, 0};
+    struct timespec later = after(CLOCK_REALTIME, 300000), monotonic = after(CLOCK_MONOTONIC, 300000), past = {0, 0};
     pthread_t first, second, third, fourth, fifth;
     pthread_attr_t attributes;
     pthread_attr_init(&attributes);
@@ -421,8 +423,7 @@ static void deadlock(void)
     pthread_mutex_lock(&a);                                                    /* @dead_a */
     sem_wait(&step);
     sem_post(&other_step);
-    puts("ready");
-    fflush(stdout);
+    say_ready();
     pthread_mutex_lock(&b);                                                    /* @dead_ab */
 }
 
@@ -448,15 +449,15 @@ static void upgrade(void)
 {
     pthread_mutex_lock(&a);                                                    /* @upgrade_a */
     pthread_rwlock_rdlock(&rw);                                                /* @upgrade_read */
-    alarm(1);
+    say_ready();
     pthread_rwlock_wrlock(&rw);                                                /* @upgrade_write */
 }
 
-/* A plain mutex, locked by the thread that holds it. */
+/* A plain mutex, locked by the thread that holds it. It hangs, as `upgrade` does: the test ends it. */
 static void again_plain(void)
 {
     pthread_mutex_lock(&a);                                                    /* @again_a */
-    alarm(1);
+    say_ready();
     pthread_mutex_lock(&a);                                                    /* @again_twice */
 }
 
@@ -594,12 +595,20 @@ static void volume(void)
         }
 }
 
+/* The last thread comes when there may be no room left. */
+static void volume_and_thread(void)
+{
+    pthread_t thread;
+    volume();
+    pthread_create(&thread, NULL, leaves, NULL);
+    pthread_join(thread, NULL);
+}
+
 static void volume_and_wait(void)
 {
     volume();
     one_pair();
-    puts("ready");
-    fflush(stdout);
+    say_ready();
     pause();
 }
 
@@ -671,12 +680,15 @@ static void clears_environment(void)
     one_pair();
 }
 
+/* Outlives its parent, until standard input ends. */
 static void goes_to_background(void)
 {
+    char unused;
     one_pair();
     if (fork() == 0) {
         setsid();
-        usleep(300000);
+        while (read(0, &unused, 1) > 0)
+            continue;
         both();
         _exit(0);
     }
@@ -719,8 +731,7 @@ static void waits_in_background(void)
 static void waits_for_signal(void)
 {
     one_pair();
-    puts("ready");
-    fflush(stdout);
+    say_ready();
     pause();
 }
 
@@ -783,7 +794,8 @@ static const struct {
     {"racing", racing}, {"deadlock", deadlock}, {"aborts", aborts}, {"leaves_at_once", leaves_at_once},
     {"upgrade", upgrade}, {"again_plain", again_plain}, {"handed_over", handed_over}, {"beyond", beyond}, {"gives_up_root", gives_up_root},
     {"many_locks", many_locks}, {"waits_in_background", waits_in_background}, {"stray", stray}, {"keys", keys}, {"signals", signals}, {"signal_storm", signal_storm},
-    {"repeats", repeats}, {"volume", volume}, {"volume_and_wait", volume_and_wait}, {"many_threads", many_threads}, {"forks", forks},
+    {"repeats", repeats}, {"volume", volume}, {"volume_and_wait", volume_and_wait}, {"volume_and_thread", volume_and_thread},
+    {"many_threads", many_threads}, {"forks", forks},
     {"raw_fork", raw_fork}, {"executes", executes}, {"clears_environment", clears_environment},
     {"goes_to_background", goes_to_background}, {"waits_for_signal", waits_for_signal}, {"frames", frames}, {"frames_vary", frames_vary},
     {"table", table}, {"nothing", nothing},
@@ -794,7 +806,7 @@ int main(int count, char **arguments)
     program = arguments[0];
     for (size_t i = 0; count > 1 && i < sizeof programs / sizeof programs[0]; i++)
         if (strcmp(programs[i].name, arguments[1]) == 0) {
-            programs[i].run();
+            programs[i].run();                                                 /* @frames_main */
             return 0;
         }
     return 98;

@@ -2,11 +2,14 @@
 #include <cstring>
 #include <mutex>
 #include <pthread.h>
-#include <unistd.h>
+#include <semaphore.h>
+
+#include "turns.h"
 
 static pthread_mutex_t a = PTHREAD_MUTEX_INITIALIZER;
 static pthread_once_t control = PTHREAD_ONCE_INIT;
 static std::once_flag flag;
+static sem_t initialising;
 
 static void use_a()
 {
@@ -35,6 +38,7 @@ static void throws()
 struct Takes {
     explicit Takes(int fails)
     {
+        sem_post(&initialising);
         use_a();
         if (fails)
             throw 1;
@@ -57,11 +61,12 @@ static void initialises()
     has_static(0);
 }
 
-// One thread initialises while it waits for the lock, the other one holds the lock and waits for the initialisation.
+// One thread initialises while it waits for the lock, the other one holds the lock and waits for the initialisation. It hangs: the test
+// ends it.
 static void *other_way(void *)
 {
     pthread_mutex_lock(&a);                                     // @hang_lock
-    usleep(200000);
+    sem_wait(&initialising);
     has_static(0);
     return nullptr;
 }
@@ -70,8 +75,8 @@ static void hangs()
 {
     pthread_t thread;
     pthread_create(&thread, nullptr, other_way, nullptr);       // @hang_fork
-    usleep(100000);
-    alarm(1);
+    wait_for_others();
+    say_ready();
     has_static(0);
 }
 

@@ -43,9 +43,9 @@ def report_for_looking():
     return report(*tame, *rings, *hostile, more=True, length=16)
 
 
-def show(driver, width, scheme="light"):
+def show(driver, width, scheme="light", height=900):
     """Shows p.html and clears what the browser has told until then."""
-    size = {"width": width, "height": 900, "deviceScaleFactor": 1, "mobile": width < 600}
+    size = {"width": width, "height": height, "deviceScaleFactor": 1, "mobile": width < 600}
     driver.execute_cdp_cmd("Emulation.setDeviceMetricsOverride", size)
     features = [{"name": "prefers-color-scheme", "value": scheme}]
     driver.execute_cdp_cmd("Emulation.setEmulatedMedia", {"features": features})

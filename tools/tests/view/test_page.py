@@ -3,6 +3,7 @@
 import re
 import xml.etree.ElementTree
 
+import pytest
 from viewing import (
     EXAMPLE,
     HOSTILE,
@@ -114,3 +115,26 @@ def test_rings_of_any_size_are_drawn():
             numbers = [float(number) for number in re.findall(r"-?[0-9.]+", path.get("d"))]
             for x, y in zip(numbers[0::2], numbers[1::2]):
                 assert (0 <= x <= width, -30 <= y <= height + 30) == (True, True)
+
+
+@pytest.mark.parametrize("length, is_whole", [(19, True), (40, True), (41, False), (4_000, False)])
+def test_two_threads_are_named_in_whole_beside_their_arrows(length, is_whole):
+    name = ("main.1:bank::transfer::lambda" + "n" * length)[:length]
+    write("r.json", report(pair(threads=(name, "main.2"))))
+    view("r.json", "-o", "p.html")
+    picture = xml.etree.ElementTree.fromstring(re.search(r"<svg.*?</svg>", read("p.html"), re.S)[0])
+    width, height = (float(number) for number in picture.get("viewBox").split()[2:])
+    first, second = (text for text in picture.iter("text") if text.get("class"))
+    assert (first.text == f"1. {name}", second.text) == (is_whole, "2. main.2")
+    for text in (first, second):  # as wide as letters of 12 pixels are
+        half = 7.3 * len(text.text) / 2
+        assert half <= float(text.get("x")) <= width - half
+        assert 6 <= float(text.get("y")) <= height - 6
+    # Each is on the far side of its arrow, which so stays in sight.
+    arrows = [path.get("d") for path in picture.iter("path") if path.get("class").startswith("arc")]
+    middles = []
+    for arrow in arrows:
+        _, start, _, control, _, end = (float(number) for number in re.findall(r"-?[0-9.]+", arrow))
+        middles.append((start + 2 * control + end) / 4)
+    assert float(first.get("y")) <= middles[0] - 8
+    assert float(second.get("y")) >= middles[1] + 8

@@ -43,6 +43,7 @@ MALFORMED = [
     (broken(put_top("format", True)), "not a report: the report has no key `format` of 1 or 2"),
     (broken(put_top("format", 2)), "not a report: the report has no key `edges`"),
     (broken(lambda v: v.pop("more")), "not a report: the report has no key `more`"),
+    ('{"len":' + "9" * 100_000 + "}", "not a report: a number has too many digits"),
     (broken(put_top("extra", 1)), "not a report: the report has the unknown key 'extra'"),
     (broken(put_top("\ud800" * 90, 1)), "not a report: the report has the unknown key '\\ud800"),
     (broken(put_top("mode", "fast")), 'not a report: mode is none of "basic", "guarded", "full"'),

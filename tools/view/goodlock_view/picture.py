@@ -19,7 +19,8 @@ Point = tuple[float, float]
 
 _BOXED = 8  # up to so many locks have their names
 _LABEL = 16  # columns of a lock's name
-_THREAD = 13  # and of a thread's
+_THREAD = 13  # and of a thread's, on its arrow
+_THREAD_BESIDE = 40  # and beside it, where there are two
 _WIDTH = 360.0
 _MIDDLE = _WIDTH / 2
 _MARGIN = 25.0
@@ -39,7 +40,7 @@ class Picture:
         self._labels = self._names() if self._is_boxed else [str(at + 1) for at in range(self._count)]
         self._radius = min(14, 0.4 * 2 * math.pi * _RADIUS / self._count)
         if self._count == 2:
-            self._points, self._height = [(75.0, 62.0), (285.0, 62.0)], 124.0
+            self._points, self._height = [(75.0, 68.0), (285.0, 68.0)], 136.0
         elif self._is_boxed:
             self._points, self._height = _columns(self._count)
         else:
@@ -71,7 +72,7 @@ class Picture:
         if not self._is_boxed:
             return self._on_circle(at + 0.5)
         if self._count == 2:
-            return _MIDDLE, -10.0 if at == 0 else 134.0
+            return _MIDDLE, -4.0 if at == 0 else 140.0
         (x, y), (to_x, to_y) = self._points[at], self._points[(at + 1) % self._count]
         return (x + to_x) / 2, (y + to_y) / 2
 
@@ -108,13 +109,21 @@ class Picture:
         return "".join(parts)
 
     def _thread(self, at: int, middle: Point, color: str) -> str:
-        """The thread's name on its arrow; below it where the arrow is flat and short."""
-        name = f"{at + 1}. {fitted(readable(self._cycle[at].thread), _THREAD)}"
+        """The thread's name on its arrow; below it where the arrow is flat and short.
+
+        Where there are two it stands above the one and below the other, with room for more.
+        """
+        most = _THREAD_BESIDE if self._count == 2 else _THREAD
+        name = f"{at + 1}. {fitted(readable(self._cycle[at].thread), most)}"
         x, y = middle
-        if self._count > 2 and self._points[at][1] == self._points[(at + 1) % self._count][1]:
-            y += _BELOW
-        half = 3.8 * columns(name) + 2
-        gap = f'<rect class="gap" x="{x - half:.1f}" y="{y - 8:.1f}" width="{2 * half:.1f}" height="16"/>'
+        gap = ""
+        if self._count == 2:
+            y += -12 if at == 0 else 12
+        else:
+            if self._points[at][1] == self._points[(at + 1) % self._count][1]:
+                y += _BELOW
+            half = 3.8 * columns(name) + 2
+            gap = f'<rect class="gap" x="{x - half:.1f}" y="{y - 8:.1f}" width="{2 * half:.1f}" height="16"/>'
         return f'{gap}<text class="thread {color}" x="{x:.1f}" y="{y:.1f}">{html.escape(name)}</text>'
 
     def _lock(self, at: int) -> str:

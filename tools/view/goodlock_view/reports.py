@@ -23,6 +23,10 @@ _REPORT_KEYS = frozenset(("cycles", "format", "len", "max", "mode", "more"))
 _REPORT_KEYS_2 = _REPORT_KEYS | {"edges", "trim"}
 
 
+class NotJson(ValueError):
+    """What the parser lets through, and JSON doesn't have."""
+
+
 class Wrong(Exception):
     """What is wrong with a part of a report. The callers put before it where in the report that is."""
 
@@ -252,12 +256,12 @@ def _object_of(pairs: list[tuple[str, Json]]) -> Json:
     if len(value) != len(pairs):
         keys = [key for key, _ in pairs]
         twice = next(key for key in keys if keys.count(key) > 1)
-        raise ValueError(f"the key {shortened(ascii(twice))} comes twice in one object")
+        raise NotJson(f"the key {shortened(ascii(twice))} comes twice in one object")
     return value
 
 
 def _no_constant(word: str) -> Json:
-    raise ValueError(f"{word} isn't JSON")
+    raise NotJson(f"{word} isn't JSON")
 
 
 def parsed(data: bytes, name: str, line: int = 1) -> Json:
@@ -269,7 +273,9 @@ def parsed(data: bytes, name: str, line: int = 1) -> Json:
     except json.JSONDecodeError as error:
         line += error.lineno - 1
         raise Refusal(f"{name}: line {line}, column {error.colno}: not JSON: {error.msg}") from None
-    except ValueError as error:
-        raise Refusal(f"{name}: not JSON: {str(error).splitlines()[0]}") from None
+    except NotJson as error:
+        raise Refusal(f"{name}: not JSON: {error}") from None
+    except ValueError:  # of Python's limit
+        raise Refusal(f"{name}: not a report: a number has too many digits") from None
     except RecursionError:
         raise Refusal(f"{name}: not a report: nested too deeply") from None

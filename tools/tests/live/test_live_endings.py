@@ -1,0 +1,106 @@
+"""Whatever is killed or full, the report says how far it goes; and what is refused, and left."""
+
+import os
+import shutil
+import signal
+import subprocess
+
+import pytest
+from c_programs import NO_DISK, SmallDisk, end, has_ended, raw_directories, raw_directory
+from following import ORDERS, Live, children_of, cycles_in, lines_of, read_report, report_later, reported
+from known_traces import LIMIT, RECORD, REFUSED, TOOLS, wait_for
+
+
+def test_killed_program():
+    done = reported("./live", "killed")
+    assert done.status == 128 + signal.SIGKILL, done.said
+    assert "1 cycle; so far, as signal 9 ended the process" in done.said, done.said
+    assert cycles_in(read_report()) == ORDERS, str(read_report())
+
+
+def test_killed_recorder():
+    """The program goes on, and what is left behind gives the report later."""
+    live = Live("./live", "waits").is_ready()
+    live.process.kill()
+    live.end()
+    assert not has_ended(live.program), "the program ended"
+    directory = raw_directory("r.json")
+    said = report_later(directory, "meanwhile.json")
+    assert cycles_in(read_report("meanwhile.json")) == ORDERS, said
+    assert "so far, as the process still runs" in said and "; settled" not in said, said
+    assert os.path.exists(directory), "the directory is gone"
+    end(live.program)
+    said = report_later(directory, "later.json")
+    assert cycles_in(read_report("later.json")) == ORDERS, said
+    assert "so far, as the process still runs" not in said and "; settled" in said, said
+    assert not os.path.exists(directory), "the directory is still there"
+
+
+def test_killed_companion():
+    """The report at the end doesn't need it, and what it left goes with the recording."""
+    live = Live("./live", "waits").is_ready()
+    live.wait_for_words("1 cycle so far")
+    (companion,) = children_of(live.process.pid) - {live.program}
+    os.kill(companion, signal.SIGKILL)
+    with open("%s/copy.%d" % (raw_directory("r.json"), companion), "w") as file:
+        file.write("part of a copy")
+    wait_for(lambda: not os.path.exists("/proc/%d" % companion), "the companion's end to be seen")
+    live.process.send_signal(signal.SIGUSR1)
+    live.end(signal.SIGTERM, 128 + signal.SIGTERM)
+    assert cycles_in(read_report()) == ORDERS, live.said
+    assert raw_directories() == [], "the recording is there"
+
+
+def test_lost_events_are_not_settled():
+    with SmallDisk("1500k") as mounted:
+        if not mounted:
+            pytest.skip(NO_DISK)
+        command = [RECORD, "--live", "-o", "small/r.txt", "./locks", "volume"]
+        done = subprocess.run(command, stdin=subprocess.DEVNULL, stderr=subprocess.PIPE, timeout=LIMIT)
+        assert done.returncode == REFUSED and b"No space left" in done.stderr, done.stderr.decode()
+        (name,) = [name for name in os.listdir("small") if ".raw." in name]
+        shutil.copytree("small/" + name, "kept")
+        shutil.rmtree("small/" + name)
+    said = report_later("kept")
+    assert "so far, as events were lost" in said, said
+
+
+@pytest.mark.parametrize("name", ["r.json", "r.json.lines"])
+def test_nothing_is_overwritten(name):
+    with open(name, "w") as file:
+        file.write("old")
+    done = subprocess.run([RECORD, "--live", "-o", "r.json", "./live", "killed"], stderr=subprocess.PIPE)
+    assert done.returncode == REFUSED and b"exists already; nothing was run" in done.stderr, done.stderr.decode()
+    with open(name) as file:
+        assert file.read() == "old", "the file was changed"
+
+
+@pytest.mark.parametrize(
+    "words",
+    [
+        ["--every", "1", "./live"],
+        ["--live", "--every", "0", "./live"],
+        ["--live", "--every", "x", "./live"],
+        ["--live", "--every"],
+        ["--live"],
+    ],
+    ids=" ".join,
+)
+def test_wrong_arguments(words):
+    done = subprocess.run([RECORD, "-o", "r.json"] + words, stderr=subprocess.PIPE)
+    assert done.returncode == REFUSED and b"Traceback" not in done.stderr, done.stderr.decode()
+
+
+@pytest.mark.parametrize("other", ["goodlock-python", "goodlock-java"])
+def test_other_recorders_have_no_reports_so_far(other):
+    done = subprocess.run([os.path.join(TOOLS, other), "--live", "true"], stderr=subprocess.PIPE)
+    assert done.returncode == REFUSED and b"unknown option --live" in done.stderr, done.stderr.decode()
+
+
+def test_nothing_is_left():
+    """The recording is gone, and with it what a look writes."""
+    live = Live("./live", "waits", options=["--every", "0.1"]).is_ready()
+    wait_for(lambda: len(lines_of()) > 2, "lines")
+    live.end(signal.SIGTERM)
+    left = sorted(name for name in os.listdir(".") if name.startswith("r.json"))
+    assert left == ["r.json", "r.json.lines", "r.json.said"], str(left)

@@ -1,0 +1,107 @@
+"""The report at the end: it is that of a trace."""
+
+import os
+import shutil
+import subprocess
+
+import pytest
+from c_programs import MARKS, end, raw_directory
+from following import Live, compare_bytes, cycles_in, predicted, read_report, recorded, report_later, reported
+from known_traces import NO_EVENTS, RECORD, compare
+
+
+@pytest.mark.parametrize(
+    "name, count",
+    [("opposite", 1), ("philosophers", 1), ("readers", 2), ("conditions", 1), ("false_semaphore", 1)],
+)
+def test_known_cycles(name, count):
+    """As many cycles as the program is made for, and the same bytes as from the trace of another run."""
+    done = reported("./cycles", name)
+    assert done.status == 0 and "; settled" in done.said, done.said
+    assert len(read_report()["cycles"]) == count, str(read_report()["cycles"])
+    assert done.files() in (["r.json"], ["r.json", "r.json.lines"]), str(done.files())
+    assert recorded("./cycles", name).status == 0
+    compare_bytes("r.json", predicted())
+
+
+def test_as_text():
+    """Two threads, two orders: the report is known to the byte."""
+    done = reported("./live", "churn", path="r.txt")
+    assert done.status == 0, done.said
+    first, second = MARKS["live.c", "first"], MARKS["live.c", "second"]
+    compare(
+        done.lines(),
+        [
+            "cycle 1: 2 edges",
+            "  main.1:one_way holds a since %s wants b at %s" % (first, second),
+            "  main.2:other_way holds b since %s wants a at %s" % (first, second),
+            "cycles: 1",
+        ],
+    )
+
+
+# Programs of locks.c whose traces are the same in each run.
+SAME_AGAIN = (
+    "mutexes failing recursive robust owner_died made_again rwlocks spins c11 conditions cancel table two_makers racing keys "
+    "signals stray handed_over beyond repeats"
+).split()
+
+
+@pytest.mark.parametrize("name", SAME_AGAIN)
+def test_same_report_as_by_a_trace(name):
+    done = reported("./locks", name)
+    assert done.status == 0, done.said
+    assert recorded("./locks", name).status == 0
+    compare_bytes("r.json", predicted())
+
+
+@pytest.mark.parametrize("options", [[], ["--all"], ["--frames", "2"]], ids=["plain", "all", "frames"])
+@pytest.mark.parametrize("seed", range(1, 9))
+def test_same_report_as_by_a_trace_on_random_events(seed, options):
+    command = ["./random", str(seed), "3000"]
+    done = reported(*command, options=options)
+    assert done.status == 0, done.said
+    recorded(*command, options=options)
+    compare_bytes("r.json", predicted())
+
+
+def left_behind(*command):
+    """What a followed program leaves when it and its recorder are killed."""
+    live = Live(*command).is_ready()
+    live.process.kill()
+    live.end()
+    end(live.program)
+    return raw_directory("r.json")
+
+
+@pytest.mark.parametrize("seed", range(4))
+def test_report_and_trace_of_one_recording(seed):
+    """Threads that race: what is left behind is read as a report and as a trace, which must say the same."""
+    directory = left_behind("./live", "races", str(seed))
+    shutil.copytree(directory, "copy")
+    done = subprocess.run([RECORD, "-o", "t.std", "--convert", "copy"], stderr=subprocess.PIPE)
+    assert done.returncode == 0, done.stderr.decode()
+    report_later(directory)
+    assert not os.path.exists(directory), "the directory is still there"
+    compare_bytes("r.json", predicted())
+    report = read_report()
+    assert len(report["edges"]) > 20 and len(report["cycles"]) == 1, "%d edges" % len(report["edges"])
+
+
+@pytest.mark.parametrize("path", ["r.json", "r.txt"])
+def test_threads_that_come_and_go(path):
+    """The cycle is that of the last two of 1,502 threads, more than goodlock reads at once."""
+    done = reported("./live", "churn", "1500", path=path)
+    assert done.status == 0 and "1 cycle; settled" in done.said and "in one of 2 windows" in done.said, done.said
+    if path == "r.json":
+        assert cycles_in(read_report()) == [[("main.1501:one_way", "a", "b"), ("main.1502:other_way", "b", "a")]]
+    else:
+        compare(
+            [line.split(" since")[0] for line in done.lines()],
+            ["cycle 1: 2 edges", "  main.1501:one_way holds a", "  main.1502:other_way holds b", "cycles: 1"],
+        )
+
+
+def test_nothing_to_report():
+    done = reported("./locks", "nothing")
+    assert done.status == NO_EVENTS and done.files() == [] and "no events, no report" in done.said, done.said

@@ -1,0 +1,37 @@
+"""Each test runs in a folder of its own with the programs."""
+
+import os
+
+import pytest
+from c_programs import C_FLAGS, SOURCES, build, put
+
+pytest.register_assert_rewrite("c_traces")
+
+
+def source(name):
+    return os.path.join(SOURCES, name)
+
+
+@pytest.fixture(scope="session")
+def programs(tmp_path_factory):
+    folder = tmp_path_factory.mktemp("programs")
+    build("gcc", C_FLAGS + ["-O1", "-o", "locks", source("locks.c")], folder)
+    build("gcc", C_FLAGS + ["-O1", "-g0", "-o", "locks-without-lines", source("locks.c")], folder)
+    build("gcc", C_FLAGS + ["-O1", "-static", "-o", "locks-static", source("locks.c")], folder)
+    build("gcc", C_FLAGS + ["-O1", "-o", "random", source("random.c")], folder)
+    build("g++", C_FLAGS + ["-std=c++17", "-O0", "-o", "wrappers-O0", source("wrappers.cc")], folder)
+    build("g++", C_FLAGS + ["-std=c++17", "-O2", "-o", "wrappers-O2", source("wrappers.cc")], folder)
+    build("g++", C_FLAGS + ["-std=c++17", "-O0", "-o", "once", source("once.cc")], folder)
+    build("gcc", C_FLAGS + ["-O1", "-o", "memory", source("memory.c"), "-ldl"], folder)
+    for name, line in (("one", 100), ("two", 200)):
+        flags = ["-shared", "-fPIC", "-DNAME=" + name, "-DLINE=%d" % line]
+        build("gcc", C_FLAGS + flags + ["-o", "plugin-%s.so" % name, source("plugin.c")], folder)
+    build("gcc", C_FLAGS + ["-shared", "-fPIC", "-o", "liblibrary.so", source("library.c")], folder)
+    flags = ["-L.", "-Wl,--no-as-needed", "-llibrary", "-Wl,-rpath,$ORIGIN"]
+    build("gcc", C_FLAGS + ["-o", "uses-library", source("uses_library.c")] + flags, folder)
+    return folder
+
+
+@pytest.fixture(autouse=True)
+def in_a_folder_with_the_programs(programs, folder):
+    put(programs, folder)

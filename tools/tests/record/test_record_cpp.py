@@ -1,0 +1,112 @@
+"""Wrappers of C++: the places are those of the program that uses them, and the names are the program's."""
+
+import pytest
+from c_traces import expect, known, record
+from known_traces import RECORD, compare, cycles_in, killed
+
+WRAPPERS = """
+    main|acq(a)|@lock
+    main|tryacq(b)|@try
+    main|rel(b)|@unlock_b
+    main|rel(a)|@unlock
+    main|acq(a)|@guard
+    main|acq(b)|@unique
+    main|rel(b)|@unique_end
+    main|rel(a)|@guard_end
+    main|acq(a)|@scoped
+    main|rel(a)|@scoped_end
+    main|acq(again)|@again
+    main|rel(again)|@again_end
+    main|tryacq(timed)|@timed
+    main|rel(timed)|@timed_end
+    main|racq(shared)|@shared
+    main|rrel(shared)|@shared_end
+    main|racq(shared)|@shared_guard
+    main|rrel(shared)|@shared_guard_end
+    main|acq(bank::Account::guard)|@bank
+    main|rel(bank::Account::guard)|@bank_end
+    main|acq(a)|@lock_both
+    main|tryacq(b)|@lock_both
+    main|rel(a)|@both_a
+    main|rel(b)|@both_b
+    main|acq(a)|@hold
+    main|fork(main.1:signaller)|@first
+    main|rel(a)|@wait
+    main|acq(a)|@wait
+    main|rel(a)|@hold_end
+    main|join(main.1:signaller)|@first_join
+    main|fork(main.2:main::lambda)|@second_end
+    main|join(main.2:main::lambda)|@second_join
+    main|fork(main.3:user)|@third
+    main|join(main.3:user)|@third_join
+    main.1:signaller|acq(a)|@signaller
+    main.1:signaller|rel(a)|@signaller_end
+    main.2:main::lambda|acq(a)|@lambda_lock
+    main.2:main::lambda|rel(a)|@lambda_unlock
+    main.3:user|acq(b)|@late_lock
+    main.3:user|rel(b)|@late_unlock"""
+
+
+@pytest.mark.parametrize("program", ["wrappers-O0", "wrappers-O2"], ids=["that_are_calls", "that_are_inlined"])
+def test_wrappers(program):
+    run = record("./" + program)
+    assert run.status == 0, run.said
+    compare(run.lines(), known(WRAPPERS, "wrappers.cc"))
+
+
+USE_A = """
+        main|acq(a)|@use_a
+        main|rel(a)|@use_a_end"""
+
+
+def test_routine_that_runs_once():
+    expect(
+        "routine",
+        """
+        main|acq(control)|@once_first"""
+        + USE_A
+        + """
+        main|rel(control)|@once_first
+        main|acq(a)|@once_lock
+        main|acq(control)|@once_second
+        main|rel(control)|@once_second
+        main|rel(a)|@once_unlock""",
+        "once.cc",
+    )
+
+
+def test_routine_that_fails_and_runs_again():
+    expect(
+        "throws",
+        """
+        main|acq(flag)|@call_first"""
+        + USE_A
+        + """
+        main|rel(flag)|@call_first
+        main|acq(flag)|@call_second"""
+        + USE_A
+        + """
+        main|rel(flag)|@call_second""",
+        "once.cc",
+    )
+
+
+GUARD = "guard variable for has_static::variable"
+
+
+def test_static_variables_that_are_initialised():
+    """The first one fails, the second one succeeds, the third needs none."""
+    one = "\nmain|acq(%s)|@static" % GUARD + USE_A + "\nmain|rel(%s)|@static" % GUARD
+    expect("initialises", one + one, "once.cc", options=["--all"])
+
+
+def test_lock_and_static_variable_that_wait_for_each_other():
+    lines = killed(RECORD, ["./once", "hangs"])
+    text = """
+        main|fork(main.1:other_way)|@hang_fork
+        main|acq(GUARD)|@static
+        main|acq(a)|@use_a
+        main.1:other_way|acq(a)|@hang_lock
+        main.1:other_way|acq(GUARD)|@static"""
+    compare(lines, known(text.replace("GUARD", GUARD), "once.cc"))
+    assert cycles_in(lines) == 1, "the cycle isn't predicted"

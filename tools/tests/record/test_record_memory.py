@@ -1,0 +1,54 @@
+"""Memory that is given back: a lock in it is at its end, and the next one there is another."""
+
+from c_traces import expect
+
+
+def test_lock_in_freed_memory_is_at_its_end():
+    expect(
+        "freed",
+        """
+        main|acq(mutex@@freed_first#1)|@freed_first
+        main|acq(b)|@freed_first_b
+        main|rel(b)|@freed_first_b_end
+        main|rel(mutex@@freed_first#1)|@freed_first_end
+        main|acq(b)|@freed_second_b
+        main|acq(mutex@@freed_second#1)|@freed_second
+        main|rel(mutex@@freed_second#1)|@freed_second_end
+        main|rel(b)|@freed_second_b_end""",
+        "memory.c",
+    )
+
+
+def uses(*numbers):
+    """A use of a lock that was used before is left out: so there are as many as there are locks."""
+    return "\n".join("main|acq(mutex@@use#%d)|@use\nmain|rel(mutex@@use#%d)|@use_end" % (n, n) for n in numbers)
+
+
+def test_lock_in_memory_that_moves():
+    expect("moved", uses(1, 2, 3, 4), "memory.c")
+
+
+def test_lock_in_memory_that_is_unmapped():
+    expect("unmapped", uses(1, 2, 3), "memory.c")
+
+
+def test_lock_on_the_stack_of_a_thread_that_ended():
+    text = [
+        "main|fork(main.%d:uses_stack)|@stack_fork\nmain|join(main.%d:uses_stack)|@stack_join" % (i, i) for i in (1, 2)
+    ]
+    for i in (1, 2):
+        text.append("main.%d:uses_stack|acq(mutex@@stack#main.%d:1)|@stack" % (i, i))
+        text.append("main.%d:uses_stack|rel(mutex@@stack#main.%d:1)|@stack_end" % (i, i))
+    expect("stacks", "\n".join(text), "memory.c")
+
+
+def test_library_in_the_place_of_another():
+    expect(
+        "plugins",
+        """
+        main|acq(lock_of_one)|plugin.c:100
+        main|rel(lock_of_one)|plugin.c:100
+        main|acq(lock_of_two)|plugin.c:200
+        main|rel(lock_of_two)|plugin.c:200""",
+        "memory.c",
+    )

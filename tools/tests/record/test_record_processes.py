@@ -1,0 +1,198 @@
+"""Processes: each has a trace of its own, those that outlive the program are waited for, and nobody else is touched."""
+
+import os
+import shutil
+import signal
+import subprocess
+import tempfile
+
+import pytest
+from c_programs import end, has_ended, raw_directories, raw_directory
+from c_traces import PAIR, convert, known, record
+from known_traces import LIMIT, RECORD, compare, read_line, read_lines, start, wait_for
+
+
+def test_forked_process():
+    run = record("./locks", "forks")
+    assert run.status == 0, run.said
+    child = run.out.strip()
+    assert run.files() == ["t.std", "t.std." + child], str(run.files())
+    compare(
+        run.lines(),
+        known(
+            """
+        main|acq(mutex@@make#1)|@forks_made
+        main|rel(mutex@@make#1)|@forks_made_end"""
+        ),
+    )
+    compare(
+        run.lines("." + child),
+        known(
+            """
+        main|tryacq(mutex@@make#1)|@forks_made
+        main|acq(b)|@forks_child_b
+        main|rel(b)|@forks_child_b_end
+        main|rel(mutex@@make#1)|@forks_child_made
+        main|fork(main.1:child_thread)|@forks_child_1
+        main|join(main.1:child_thread)|@forks_child_2
+        main.1:child_thread|acq(a)|@pair_lock
+        main.1:child_thread|rel(a)|@pair_unlock"""
+        ),
+    )
+
+
+def test_process_forked_past_the_library():
+    run = record("./locks", "raw_fork")
+    assert run.status == 0, run.said
+    child = run.out.strip()
+    compare(
+        run.lines(),
+        known(
+            """
+        main|acq(a)|@raw_lock
+        main|rel(a)|@raw_unlock"""
+        ),
+    )
+    compare(
+        run.lines("." + child),
+        known(
+            """
+        main|acq(b)|@raw_child
+        main|rel(b)|@raw_child_end"""
+        ),
+    )
+
+
+def test_program_that_becomes_another():
+    run = record("./locks", "executes")
+    assert run.status == 0, run.said
+    process = run.out.split("\n")[0]
+    assert run.files() == ["t.std", "t.std.%s.1" % process], str(run.files())
+    compare(run.lines(), known(PAIR))
+    assert len(run.lines(".%s.1" % process)) == 8, str(run.lines(".%s.1" % process))
+
+
+def test_children_of_a_shell():
+    run = record("sh", "-c", "./locks leaves_at_once; ./locks table; exit 3")
+    assert run.status == 3, run.said
+    files = run.files()
+    assert len(files) == 2 and "t.std" not in files, str(files)
+    assert "no events, no file" in run.said, run.said
+    traces = sorted(run.lines(name[len("t.std") :]) for name in files)
+    compare(traces[0], known(PAIR))
+    compare(
+        traces[1],
+        known(
+            """
+        main|acq(many+0x78)|@table
+        main|rel(many+0x78)|@table_end"""
+        ),
+    )
+
+
+def test_many_processes_without_events_are_counted():
+    run = record("sh", "-c", "for i in 1 2 3 4 5 6 7 8; do ./locks nothing; done; ./locks table")
+    assert run.status == 0, run.said
+    assert run.said.count("\n") == 2 and "9 processes: no events, no file" in run.said, run.said
+
+
+def test_process_in_the_background():
+    """It ends when its standard input does: after the recorder has said that it waits."""
+    command = [RECORD, "-o", "t.std", "./locks", "goes_to_background"]
+    running = subprocess.Popen(command, stdin=subprocess.PIPE, stderr=subprocess.PIPE)
+    said = read_line(running.stderr)
+    assert b"waiting for process" in said, said.decode()
+    _, said = running.communicate(timeout=LIMIT)
+    assert running.returncode == 0, said.decode()
+    files = sorted(name for name in os.listdir(".") if name.startswith("t.std"))
+    assert len(files) == 2, str(files)
+    compare(read_lines("t.std"), known(PAIR))
+    assert len(read_lines(files[1])) == 4, files[1]
+
+
+def test_the_directory_is_nobody_elses():
+    running, _ = start(RECORD, ["./locks", "waits_for_signal"])
+    mode = os.stat(raw_directory("t.std")).st_mode & 0o777
+    running.terminate()
+    running.communicate(timeout=LIMIT)
+    assert mode == 0o700, "mode %o" % mode
+
+
+def in_background(command):
+    """A recording that waits for a process that goes on, and that process."""
+    running = subprocess.Popen([RECORD, "-o", "t.std", *command], stdout=subprocess.PIPE, stderr=subprocess.PIPE)
+    return running, int(read_line(running.stdout))
+
+
+def test_foreign_files_are_left_alone():
+    """Names of files aren't taken for processes: a pipe isn't waited for, and another process gets no signal."""
+    stranger = subprocess.Popen(["sleep", "3600"])
+    running, background = in_background(["./locks", "waits_in_background"])
+    directory = raw_directory("t.std")
+    os.mkfifo(directory + "/1.0.0")
+    with open(directory + "/%d.0.0" % stranger.pid, "wb") as file:
+        file.write(bytes(4096))
+    try:
+        assert b"waiting for process %d" % background in read_line(running.stderr), "it doesn't wait"
+        running.terminate()
+        _, said = running.communicate(timeout=LIMIT)
+        assert stranger.poll() is None, "another process was ended"
+        assert running.returncode == 0, said.decode()
+        compare(read_lines("t.std"), known(PAIR))
+        compare(read_lines("t.std.%d" % background), known(PAIR))
+    finally:
+        stranger.kill()
+        stranger.wait()
+
+
+def test_second_signal_leaves_what_runs():
+    running, background = in_background(["sh", "-c", "trap '' HUP; ./locks waits_in_background"])
+    assert b"waiting for process" in read_line(running.stderr), "it doesn't wait"
+
+    def leaves():
+        running.send_signal(signal.SIGHUP)
+        try:
+            return running.wait(0.3) is not None
+        except subprocess.TimeoutExpired:  # two that come at once count as one
+            return False
+
+    wait_for(leaves, "the recorder to leave what runs")
+    _, said = running.communicate(timeout=LIMIT)
+    assert b"still running: process %d" % background in said, said.decode()
+    assert not has_ended(background), "the process was ended"
+    directory = raw_directory("t.std")
+    end(background)
+    done = convert(directory, "later.std")
+    assert done.returncode == 0, done.stderr.decode()
+    compare(read_lines("later.std.%d" % background), known(PAIR))
+
+
+def test_program_in_a_namespace_of_its_own():
+    command = ["unshare", "-pf", "--mount-proc"]
+    if subprocess.run(command + ["true"], stderr=subprocess.DEVNULL).returncode != 0:
+        pytest.skip("no namespaces of processes here")
+    run = record(*command, "./locks", "goes_to_background")
+    assert run.status == 0, run.said
+    traces = [run.lines(name[len("t.std") :]) for name in run.files()]
+    assert known(PAIR) in traces, str(run.files())
+
+
+@pytest.fixture
+def open_folder(folder, monkeypatch):
+    """The test runs where everybody may go, with the program."""
+    if os.geteuid() != 0:
+        pytest.skip("not root")
+    path = tempfile.mkdtemp(prefix="goodlock-record-tests.")
+    os.chmod(path, 0o755)
+    shutil.copy(folder / "locks", path)
+    monkeypatch.chdir(path)
+    yield
+    monkeypatch.chdir(folder)
+    shutil.rmtree(path)
+
+
+def test_program_that_gives_up_root(open_folder):
+    run = record("./locks", "gives_up_root")
+    assert run.status == 0 and "lost" not in run.said, run.said
+    assert len(run.lines()) >= 2 + 4 * 224 * 224, "%d lines" % len(run.lines())
+    assert run.files() == ["t.std"] and raw_directories() == [], str(os.listdir("."))

@@ -1,0 +1,57 @@
+"""What is left out: repeats, and nothing that makes an edge."""
+
+import os
+import re
+
+import pytest
+from c_traces import PAIR, expect, record
+from known_traces import edges_of
+
+
+def test_repeats_are_left_out():
+    both = """
+        main|acq(a)|@both_a
+        main|acq(b)|@both_b
+        main|rel(b)|@both_b_end
+        main|rel(a)|@both_a_end"""
+    first, second = "\nmain|fork(main.1:quick)|@repeats_1", "\nmain|join(main.1:quick)|@repeats_2"
+    run = expect("repeats", both + PAIR + first + both + second + both)
+    # Left out: of the first five turns four of 4 + 2 events, of the three two of 4 events.
+    assert "and %d of repeats" % (4 * 6 + 2 * 4) in run.said, run.said
+
+
+def test_what_is_left_out_adds_no_edge():
+    """On random events, the edges of the trace are those of the whole one, with the same first samples."""
+    longest = shortest = 0
+    for seed in range(1, 7):
+        command = ["./random", str(seed), "6000"]
+        short = record(*command, environment=dict(os.environ)).lines()
+        whole = record(*command, options=["--all"]).lines()
+        short_edges, whole_edges = edges_of(short), edges_of(whole)
+        assert len(whole_edges) > 100, "only %d edges" % len(whole_edges)
+        assert short_edges == whole_edges, "seed %d: the edges differ" % seed
+        longest += len(whole)
+        shortest += len(short)
+    assert shortest < 0.95 * longest, "%d of %d lines are left: nothing was tested" % (shortest, longest)
+
+
+def test_many_stretches():
+    """The 50,176 stretches of one pass are all kept, those of the next all left out, but a few at borders of chunks."""
+    run = record("./locks", "volume")
+    assert run.status == 0, run.said
+    lines = run.lines()
+    size = 4 * 224 * 224
+    assert size <= len(lines) <= size + 4 * 10, "%d lines" % len(lines)
+    assert len(set(lines)) == 2 * 448 - 448 + 448, "%d different lines" % len(set(lines))
+    for i in range(0, size, 4):
+        operands = [re.search(r"\((.*)\)", line).group(1) for line in lines[i : i + 4]]
+        assert operands == [operands[0], operands[1], operands[1], operands[0]], "stretch at line %d" % (i + 1)
+
+
+@pytest.mark.parametrize(
+    "command", [["./locks", "two_makers"], ["./locks", "racing"], ["./locks", "c11"], ["./wrappers-O2"]], ids=" ".join
+)
+def test_the_same_bytes_of_two_runs(command):
+    first = record(*command).lines()
+    second = record(*command).lines()
+    assert first == second, "two runs differ"

@@ -1,0 +1,87 @@
+"""What it is told, and where it runs: arguments, files that are there, a path with spaces, sanitizers, closed files, other libraries."""
+
+import glob
+import os
+import shutil
+import subprocess
+
+import pytest
+from c_programs import C_FLAGS, SOURCES
+from c_traces import record
+from known_traces import LIMIT, RECORD, REFUSED, TOOLS, read_lines, wait_for
+
+
+def test_nothing_is_overwritten():
+    with open("kept.std", "w") as file:
+        file.write("old\n")
+    with open("proof.sh", "w") as file:
+        file.write("touch was-run\n")
+    done = subprocess.run([RECORD, "-o", "kept.std", "sh", "proof.sh"], stderr=subprocess.PIPE)
+    assert done.returncode == REFUSED, done.stderr.decode()
+    assert b"kept.std exists already" in done.stderr, done.stderr.decode()
+    assert not os.path.exists("was-run"), "the program was run"
+    with open("kept.std") as file:
+        assert file.read() == "old\n", "the file was changed"
+
+
+@pytest.mark.parametrize(
+    "arguments",
+    [
+        [],
+        ["-o"],
+        ["--frames", "0", "./locks"],
+        ["--frames", "x", "./locks"],
+        ["--wrong", "./locks"],
+        ["-o", "no/such/directory/t.std", "./locks", "table"],
+    ],
+    ids=lambda arguments: " ".join(arguments) or "none",
+)
+def test_wrong_arguments(arguments):
+    done = subprocess.run([RECORD] + arguments, stdout=subprocess.PIPE, stderr=subprocess.PIPE)
+    assert done.returncode == REFUSED, "%s: %d" % (arguments, done.returncode)
+    assert done.stderr != b"" and b"Traceback" not in done.stderr, done.stderr.decode()
+
+
+def links_for_the_loader():
+    """Folders of links to libraries whose path the loader can't take, of this recording and of others that go on."""
+    return set(glob.glob("/tmp/goodlock-record.*"))
+
+
+def test_checkout_whose_path_has_a_space():
+    before = links_for_the_loader()
+    place = "with space: and colon"
+    shutil.copytree(TOOLS, place + "/tools", ignore=shutil.ignore_patterns("tests", "__pycache__"))
+    command = [place + "/tools/goodlock-record", "-o", place + "/t.std", "./locks", "table"]
+    done = subprocess.run(command, stderr=subprocess.PIPE)
+    assert done.returncode == 0, done.stderr.decode()
+    assert len(read_lines(place + "/t.std")) == 2, done.stderr.decode()
+    # Of those that have come, other recordings' go with these.
+    come = links_for_the_loader() - before
+    wait_for(lambda: not any(map(os.path.lexists, come)), "the links to go: %s" % come)
+
+
+def test_program_with_address_sanitizer():
+    source = os.path.join(SOURCES, "locks.c")
+    command = ["gcc", "-fsanitize=address"] + C_FLAGS + ["-o", "locks-asan", source]
+    if subprocess.run(command, stderr=subprocess.PIPE).returncode != 0:
+        pytest.skip("no AddressSanitizer here")
+    run = record("./locks-asan", "mutexes")
+    assert run.status == 0 and "ERROR" not in run.said, run.said
+    assert len(run.lines()) == 8, str(run.lines())
+
+
+def test_closed_standard_files():
+    """The program finds them closed, and its trace is there."""
+    program = "test ! -e /proc/self/fd/0 -a ! -e /proc/self/fd/1 && exec ./locks table"
+    script = '"$0" -o t.std sh -c "%s" <&- >&- 2>&-' % program
+    done = subprocess.run(["sh", "-c", script, RECORD], timeout=LIMIT)
+    assert done.returncode == 0, "status %d" % done.returncode
+    traces = [name for name in os.listdir(".") if name.startswith("t.std")]
+    assert len(traces) == 1 and len(read_lines(traces[0])) == 2, str(traces)
+
+
+def test_an_earlier_preload_library_stays():
+    environment = dict(os.environ, LD_PRELOAD=os.path.abspath("liblibrary.so"))
+    run = record("./locks", "table", environment=environment)
+    assert run.status == 0, run.said
+    assert any("library_lock" in line for line in run.lines()), str(run.lines())
