@@ -50,7 +50,7 @@ _goodlock_record() {
     if [ "$at" -lt "$COMP_CWORD" ]; then
         _goodlock_files -f
     elif [[ ${COMP_WORDS[COMP_CWORD]} == -* ]]; then
-        _goodlock_words "-o --frames --all --live --every --convert --help"
+        _goodlock_words "-o --frames --functions --all --live --every --convert --help"
     else
         _goodlock_files -c -A file
     fi

@@ -186,7 +186,8 @@ def waiting_cycle(waits):
 
 
 def first_place(text):
-    return text.split("<", 1)[0]
+    """Without its callers and its function."""
+    return text.split("<", 1)[0].partition(" (")[0]
 
 
 def same_place(one, other):

@@ -9,9 +9,12 @@ from c_programs import C_FLAGS, SOURCES, build, put
 @pytest.fixture(scope="session")
 def programs(tmp_path_factory):
     folder = tmp_path_factory.mktemp("programs")
-    for name in ("statics", "callers"):
+    for name in ("statics", "callers", "functions"):
         source = os.path.join(SOURCES, name + ".cc")
         build("g++", C_FLAGS + ["-std=c++17", "-O0", "-o", name, source], folder)
+    source = os.path.join(SOURCES, "functions.cc")
+    build("g++", C_FLAGS + ["-std=c++17", "-O0", "-g0", "-o", "functions-without-lines", source], folder)
+    build("gcc", C_FLAGS + ["-O1", "-o", "crowd", os.path.join(SOURCES, "crowd.c")], folder)
     return folder
 
 
