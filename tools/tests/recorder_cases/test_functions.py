@@ -45,7 +45,7 @@ def test_names_of_locks_have_none():
     """So a lock has the same name whether or not functions are asked for."""
     names = []
     for options in ([], ["--functions"]):
-        run = Run(["./crowd", "2"], options)
+        run = Run(["./crowd", "3"], options)
         assert run.status == 0, run.said
         names.append([line.split("|")[1] for line in run.lines()])
     assert names[0] == names[1], str(names)
