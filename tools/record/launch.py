@@ -250,7 +250,7 @@ def record(settings):
     from recording import new_recording
 
     recorder.prepare()
-    for name in ("goodlock_lines", "goodlock_live") * settings.live:
+    for name in ("goodlock_lines",) + ("goodlock_live",) * settings.live:
         built_before(name)
     mask = signal.pthread_sigmask(signal.SIG_BLOCK, WAITED)  # none ends this half way
     try:

@@ -51,6 +51,40 @@ static void visited_later()
     pthread_join(second, nullptr);                              // @second_join
 }
 
+static pthread_once_t control = PTHREAD_ONCE_INIT;
+
+static void uses_a()
+{
+    pthread_mutex_lock(&a);
+    usleep(20000);
+    pthread_mutex_unlock(&a);
+}
+
+static void *runs_routine(void *)
+{
+    pthread_once(&control, uses_a);
+    return nullptr;
+}
+
+static void *comes_second(void *)
+{
+    pthread_mutex_lock(&a);
+    pthread_once(&control, uses_a);
+    pthread_mutex_unlock(&a);
+    return nullptr;
+}
+
+// The same with a routine that runs once.
+static void routine_later()
+{
+    pthread_t first, second;
+    pthread_create(&first, nullptr, runs_routine, nullptr);
+    usleep(100000);
+    pthread_create(&second, nullptr, comes_second, nullptr);
+    pthread_join(first, nullptr);
+    pthread_join(second, nullptr);
+}
+
 static void visited_often()
 {
     for (int i = 0; i < 70000; i++)
@@ -87,6 +121,8 @@ int main(int, char **arguments)
     const char *name = arguments[1];
     if (std::strcmp(name, "later") == 0)
         visited_later();
+    else if (std::strcmp(name, "routine") == 0)
+        routine_later();
     else if (std::strcmp(name, "often") == 0)
         visited_often();
     else if (std::strcmp(name, "crowd") == 0)
