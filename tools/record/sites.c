@@ -345,18 +345,21 @@ struct walk {
     size_t count;
     uintptr_t addresses[WALK_LIMIT];
     uintptr_t stacks[WALK_LIMIT];
+    uint32_t interrupted; /* a bit for each frame that a signal interrupted: what called it may be on another stack */
 };
 
 static _Unwind_Reason_Code walk_step(struct _Unwind_Context *context, void *value)
 {
     struct walk *walk = value;
-    uintptr_t address = _Unwind_GetIP(context);
+    int interrupted = 0;
+    uintptr_t address = _Unwind_GetIPInfo(context, &interrupted);
     if (walk->count == 0 && address != walk->wanted)
         return _URC_NO_REASON;
     if (walk->count == WALK_LIMIT || address == 0)
         return _URC_END_OF_STACK;
     walk->addresses[walk->count] = address;
     walk->stacks[walk->count] = _Unwind_GetCFA(context);
+    walk->interrupted |= (uint32_t)(interrupted != 0) << walk->count;
     walk->count++;
     return _URC_NO_REASON;
 }
@@ -365,6 +368,7 @@ static void walk_from(struct walk *walk, uintptr_t return_address)
 {
     walk->wanted = return_address;
     walk->count = 0;
+    walk->interrupted = 0;
     _Unwind_Backtrace(walk_step, walk);
 }
 
@@ -492,14 +496,15 @@ static uint32_t site_single(uintptr_t return_address, uintptr_t stack, const str
  *
  * Unwinding is slow, so the table of sites also has what was found at each return address: how far up the next one lies, and whether
  * this is a call inside a wrapper. Following these steps leads to a site that is known, or the stack is unwound again. An
- * address at which two distances were found (of a function whose frame has no fixed size) is never used so.
+ * address at which two distances were found (of a function whose frame has no fixed size) is never used so, nor is a frame that a
+ * signal interrupted.
  */
 #define STEP_KNOWN 1u
 #define STEP_WRAPPER 2u
 #define STEP_LAST 4u
 #define STEP_VARIES 8u
 #define STEP_SHIFT 8
-#define STEP_LIMIT 4096u
+#define STEP_LIMIT (1u << 20)
 
 static uint64_t key_of_walk(uint64_t key, uintptr_t address)
 {
@@ -544,7 +549,8 @@ static void steps_learn(const struct walk *walk)
         uint64_t step = i + 1 < walk->count ? walk->stacks[i + 1] - walk->stacks[i] : 0;
         if (i + 1 == walk->count)
             value |= walk->count < WALK_LIMIT ? STEP_LAST : STEP_VARIES;
-        else if (step == 0 || step > STEP_LIMIT || ((uintptr_t *)walk->stacks[i + 1])[-1] != walk->addresses[i + 1])
+        else if (step == 0 || step > STEP_LIMIT || walk->interrupted >> i & 3 ||
+                 ((uintptr_t *)walk->stacks[i + 1])[-1] != walk->addresses[i + 1])
             value |= STEP_VARIES;
         else
             value |= step << STEP_SHIFT;
