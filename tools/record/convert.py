@@ -156,6 +156,21 @@ class Process:
             self.read_record(kind, words[place + 1 : place + size], modules)
             place += size
 
+    def check_births(self):
+        """Whether each thread was made by threads that are there, none by itself in the end."""
+        checked = set()
+        for number in self.threads:
+            way = {}
+            while number not in checked and number not in way:
+                thread = way[number] = self.threads[number]
+                if thread.parent == FOREIGN or thread.child == 0:
+                    break
+                number = thread.parent
+            else:
+                if number in way:
+                    raise KeyError(number)
+            checked.update(way)
+
     def read_record(self, kind, values, modules):
         if kind == RECORD_PROCESS:
             if values[0] != LAYOUT_VERSION:
@@ -248,6 +263,7 @@ def processes_of(events, tables, modules):
                 process.read_table(words, modules)
             for thread, order, path, offset, count in sorted(events[key]):
                 process.threads[thread].chunks.append((path, offset, count))
+            process.check_births()
             processes[key] = process
         except (ConvertError, KeyError, IndexError, ValueError) as error:
             faults.append(str(error) if isinstance(error, ConvertError) else "the files of process %d are damaged" % key[0])
