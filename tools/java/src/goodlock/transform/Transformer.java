@@ -4,6 +4,8 @@ import goodlock.runtime.Recorder;
 import java.lang.instrument.ClassFileTransformer;
 import java.lang.instrument.Instrumentation;
 import java.lang.instrument.UnmodifiableClassException;
+import java.security.AccessController;
+import java.security.PrivilegedAction;
 import java.security.ProtectionDomain;
 import java.util.ArrayList;
 import java.util.List;
@@ -40,18 +42,20 @@ public final class Transformer implements ClassFileTransformer {
         List<Class<?>> loaded = new ArrayList<>(List.of(Thread.class));
         for (Class<?> type : withJdk ? instrumentation.getAllLoadedClasses() : new Class<?>[0]) {
             if (instrumentation.isModifiableClass(type) && !type.isArray() && type != Thread.class
-                    && isWanted(type.getName().replace('.', '/'), type.getClassLoader(), true)) {
+                    && isWanted(type.getName().replace('.', '/'), type.getModule(), true)) {
                 loaded.add(type);
             }
         }
         instrumentation.retransformClasses(loaded.toArray(new Class<?>[0]));
     }
 
-    private static boolean isWanted(String name, ClassLoader loader, boolean withJdk) {
-        if (name.startsWith("goodlock/") || loader == Transformer.class.getClassLoader()) {
+    /** Classes of the boot class loader that are in no module were put on its path by the program. */
+    private static boolean isWanted(String name, Module module, boolean withJdk) {
+        ClassLoader loader = module.getClassLoader();
+        if (loader == null && name.startsWith("goodlock/runtime/") || loader == Transformer.class.getClassLoader()) {
             return false;
         }
-        if (loader != null && loader != ClassLoader.getPlatformClassLoader()) {
+        if (loader != null && loader != ClassLoader.getPlatformClassLoader() || !module.isNamed()) {
             return true;
         }
         boolean wanted = withJdk;
@@ -62,12 +66,17 @@ public final class Transformer implements ClassFileTransformer {
     }
 
     @Override
-    public byte[] transform(ClassLoader loader, String name, Class<?> loaded, ProtectionDomain domain, byte[] code) {
-        if (name == null || !name.equals(THREAD) && !isWanted(name, loader, withJdk)) {
+    public byte[] transform(Module module, ClassLoader loader, String name, Class<?> loaded, ProtectionDomain domain,
+            byte[] code) {
+        return AccessController.doPrivileged((PrivilegedAction<byte[]>) () -> transform(module, name, loaded != null, code));
+    }
+
+    private byte[] transform(Module module, String name, boolean loaded, byte[] code) {
+        if (name == null || !name.equals(THREAD) && !isWanted(name, module, withJdk)) {
             return null;
         }
         try {
-            return instrumented(name, loaded != null, code);
+            return instrumented(name, loaded, code);
         } catch (RuntimeException | Error failure) {
             leave(name, failure);
             return null;
@@ -138,10 +147,15 @@ public final class Transformer implements ClassFileTransformer {
 
     private static boolean instrumentMethods(ClassNode node, boolean loaded) {
         boolean changed = false;
+        References references = loaded ? null : new References(node);
         for (MethodNode method : node.methods) {
             if ((method.access & (Opcodes.ACC_ABSTRACT | Opcodes.ACC_NATIVE)) == 0) {
-                changed |= new MethodInstrumenter(node, method, loaded).instrument();
+                changed |= new MethodInstrumenter(node, method, loaded, references).instrument();
             }
+        }
+        for (MethodNode method : references == null ? List.<MethodNode>of() : references.added()) {
+            new MethodInstrumenter(node, method, false, null).instrument();
+            node.methods.add(method);
         }
         return changed;
     }
