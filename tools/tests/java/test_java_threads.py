@@ -33,7 +33,7 @@ def test_names_that_are_long():
     name = "main.1:x" + "n\u00e4" * 331 + "n..."
     text = ""
     for thread in (name, "main.2:short!?"):
-        text += "main|fork(%s)|@long_start\nmain|join(%s)|@long_join\n" % (thread, thread)
+        text += "\nmain|fork(%s)|@long_start\nmain|join(%s)|@long_join" % (thread, thread)
     expect("longNames", text + PAIR.replace("main|", name + "|") + PAIR.replace("main|", "main.2:short!?|"))
 
 
