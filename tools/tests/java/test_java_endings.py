@@ -55,8 +55,9 @@ def test_classes_of_the_jdk_on_demand():
     run = record("queue")
     assert run.status == NO_EVENTS, "%d %s" % (run.status, run.said)
     assert "in classes that aren't the JDK's" in run.said, run.said
-    lines = record("queue", "--jdk").lines()
-    assert any(re.match(r"main\|acq\(Vector@", line) for line in lines), "\n".join(lines)
+    run = record("queue", "--jdk")
+    assert any(re.match(r"main\|acq\(Vector@", line) for line in run.lines()), "\n".join(run.lines())
+    assert "couldn't be instrumented" not in run.said, run.said
 
 
 def test_virtual_threads_are_refused_by_name():

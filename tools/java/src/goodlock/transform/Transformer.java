@@ -5,16 +5,18 @@ import java.lang.instrument.ClassFileTransformer;
 import java.lang.instrument.Instrumentation;
 import java.lang.instrument.UnmodifiableClassException;
 import java.security.AccessController;
+import java.security.MessageDigest;
+import java.security.NoSuchAlgorithmException;
 import java.security.PrivilegedAction;
 import java.security.ProtectionDomain;
 import java.util.ArrayList;
 import java.util.List;
 import org.objectweb.asm.ClassReader;
-import org.objectweb.asm.ClassVisitor;
 import org.objectweb.asm.ClassWriter;
 import org.objectweb.asm.Opcodes;
 import org.objectweb.asm.commons.SerialVersionUIDAdder;
 import org.objectweb.asm.tree.ClassNode;
+import org.objectweb.asm.tree.FieldNode;
 import org.objectweb.asm.tree.MethodNode;
 
 /** Instruments the program's classes as they are loaded, and java.lang.Thread. */
@@ -37,7 +39,9 @@ public final class Transformer implements ClassFileTransformer {
         this.withJdk = withJdk;
     }
 
-    public static void install(Instrumentation instrumentation, boolean withJdk) throws UnmodifiableClassException {
+    public static void install(Instrumentation instrumentation, boolean withJdk)
+            throws UnmodifiableClassException, NoSuchAlgorithmException {
+        MessageDigest.getInstance("SHA"); // serial versions need it, and it must not be loaded amid one of its own classes
         instrumentation.addTransformer(new Transformer(withJdk), true);
         List<Class<?>> loaded = new ArrayList<>(List.of(Thread.class));
         for (Class<?> type : withJdk ? instrumentation.getAllLoadedClasses() : new Class<?>[0]) {
@@ -99,7 +103,10 @@ public final class Transformer implements ClassFileTransformer {
         }
         ClassReader reader = new ClassReader(read);
         ClassNode node = new ClassNode();
-        reader.accept(loaded ? node : keepingIdentity(node), ClassReader.EXPAND_FRAMES);
+        reader.accept(node, ClassReader.EXPAND_FRAMES);
+        if (!loaded && hasSynchronizedMethod(node)) {
+            keepIdentity(node, reader);
+        }
         boolean changed = name.equals(THREAD) ? hookStart(node) : instrumentMethods(node, loaded);
         if (!changed) {
             return null;
@@ -112,26 +119,25 @@ public final class Transformer implements ClassFileTransformer {
         return written;
     }
 
+    private static boolean hasSynchronizedMethod(ClassNode node) {
+        for (MethodNode method : node.methods) {
+            if ((method.access & Opcodes.ACC_SYNCHRONIZED) != 0) {
+                return true;
+            }
+        }
+        return false;
+    }
+
     /** A synchronized method will be one with a synchronized block. A class's serial version, where none is written down, depends
      * on that: it is written down here as it was. */
-    private static ClassVisitor keepingIdentity(ClassNode node) {
-        return new SerialVersionUIDAdder(Opcodes.ASM9, node) {
-            private boolean needed;
-
-            @Override
-            public org.objectweb.asm.MethodVisitor visitMethod(int access, String name, String descriptor, String signature,
-                    String[] exceptions) {
-                needed |= (access & Opcodes.ACC_SYNCHRONIZED) != 0;
-                return super.visitMethod(access, name, descriptor, signature, exceptions);
-            }
-
+    private static void keepIdentity(ClassNode node, ClassReader reader) {
+        reader.accept(new SerialVersionUIDAdder(Opcodes.ASM9, null) {
             @Override
             protected void addSVUID(long identity) {
-                if (needed) {
-                    super.addSVUID(identity);
-                }
+                int access = Opcodes.ACC_STATIC | Opcodes.ACC_FINAL;
+                node.fields.add(new FieldNode(access, "serialVersionUID", "J", null, identity));
             }
-        };
+        }, ClassReader.SKIP_CODE);
     }
 
     private static boolean hookStart(ClassNode node) {
