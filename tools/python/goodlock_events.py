@@ -2,7 +2,8 @@
 
 Nothing here takes a lock but where a lock, place or thread is new. A signal handler and the collector of garbage may run
 Python code, and so take locks, between any two steps: what they do while a thread is in here is put off until it is
-done (`busy`, `put_off`).
+done (`busy`, `put_off`). A RecursionError may come at each call of a function: what follows the last one in an acquire or a
+release is done wholly, or not at all.
 """
 
 from _thread import RLock, _local
@@ -17,6 +18,8 @@ KIND_MASK = 31
 SITE_SHIFT, OBJECT_SHIFT = 5, 32
 CALL_MASK = ~KIND_MASK
 HELD_LIMIT = 64
+# Words of the record of losses.
+LOST_LOCKS, LOST_PLACES, LOST_THREADS = 2, 3, 4
 KEYS_LIMIT = 1 << 22
 
 
@@ -148,33 +151,42 @@ class ThreadState:
         word = call | kind
         context = self.context_of(before, word)
         held = Held(lock, word, context, self.news)
+        if self.place >= self.room:
+            self.next_chunk()
         self.held.append(held)
-        if self.is_news(context):
+        if context not in self.seen or self.process.all:
+            self.seen.add(context)
             self.news += 1
-        held.place = self.store(word)
+        place = self.place
+        if place < self.room:
+            self.words[place] = word
+            self.place = place + 1
+            held.place = place
+        else:
+            self.record[THREAD_LOST] += 1
         held.chunk = self.words
-        return held, held.chunk, held.place
+        return held, held.chunk, held.place, False
 
     def acquire_further(self, call, kind, held, reentrant):
         """An acquire of a lock that is held already, or where too many are held. Who holds a lock that isn't reentrant waits for
         itself, or for another thread to release it."""
-        before = self.held[-1].context
         if held is None:
             kind = BEYOND
         else:
             self.keep_above(self.held.index(held))
-            if reentrant:
-                held.depth += 1
-            else:
+            if not reentrant:
                 held, kind = None, AGAIN
         word = call | kind
-        if self.is_news(self.context_of(before, word)):
+        if self.is_news(self.context_of(self.held[-1].context, word)):
             self.news += 1
-        return held, self.words, self.store(word)
+        place = self.store(word)
+        if held is not None:
+            held.depth += 1
+        return held, self.words, place, kind == AGAIN
 
     def take_back(self, token):
         """The acquire failed."""
-        held, words, place = token
+        held, words, place, _ = token
         if place is not None:
             words[place] = 0
             if words is self.words and self.place == place + 1:
@@ -220,14 +232,15 @@ class ThreadState:
         if held is None and not self.is_news(self.context_of(0, word)):
             self.record[THREAD_LEFT_OUT] += 1
             return False
+        if held is not None:
+            self.keep_above(self.held.index(held))
         self.store(word)
         if held is None:
             return False
-        held.depth -= 1
-        if held.depth == 0:
-            self.remove(held)
+        if held.depth > 1:
+            held.depth -= 1
         else:
-            self.keep_above(self.held.index(held))
+            self.remove(held)
         return True
 
 
@@ -245,8 +258,16 @@ class Known:
         self.order = order
 
 
+def is_generated(code):
+    """Whether this is a constructor that was made for a class with fields: of dataclasses, or attrs. Its fields may be locks."""
+    name = code.co_filename
+    if name[:1] != "<" or code.co_name != "__init__":
+        return False
+    return name.startswith("<attrs generated") or name == "<string>" and any("dflt_" in free for free in code.co_freevars)
+
+
 class Places:
-    """Numbers of places. Frames of the modules that are made of locks stand for their callers."""
+    """Numbers of places. Frames of the modules that are made of locks stand for their callers, and so do generated constructors."""
 
     def __init__(self, passed_over, own, frames):
         self.passed_over = passed_over
@@ -259,7 +280,7 @@ class Places:
         """The innermost frame of the program's own; where there is none, the innermost that isn't of a passed over file."""
         passed_over = self.passed_over
         start = frame
-        while frame is not None and frame.f_code.co_filename in passed_over:
+        while frame is not None and (frame.f_code.co_filename in passed_over or is_generated(frame.f_code)):
             frame = frame.f_back
         if frame is None:
             frame = start
@@ -304,12 +325,13 @@ class Process:
         self.files = make_files()
         above = (parent.files.process, parent.files.image) if parent else (0, 0)
         self.record = self.files.write_process(command, above, self.next_lock, self.next_site, places.frames)
+        self.losses = self.files.write_losses()
 
     def write(self, *record):
         """A record's words, or None: there is no room."""
         try:
             return None if self.full else self.files.write(*record)
-        except (OSError, ValueError):
+        except OSError:
             self.full = True
             return None
 
@@ -317,7 +339,7 @@ class Process:
         with self.births:
             try:
                 return None if self.full else self.files.new_events(thread, order)
-            except (OSError, ValueError):
+            except OSError:
                 self.full = True
                 return None
 
@@ -330,7 +352,9 @@ class Process:
                 record = None if self.full else self.files.write_thread(number, parent, child)
             except OSError:
                 self.full, record = True, None
-            if record is not None and routine:
+            if record is None:
+                self.losses[LOST_THREADS] += 1
+            elif routine:
                 self.write(RECORD_ROUTINE, [number], routine)
             return number, record
 
@@ -344,7 +368,8 @@ class Process:
     def new_site(self, key, text):
         with self.births:
             if key not in self.places.sites:
-                self.write(RECORD_PLACE, [self.next_site], text)
+                if self.write(RECORD_PLACE, [self.next_site], text) is None:
+                    self.losses[LOST_PLACES] += 1
                 self.places.sites[key] = self.next_site
                 self.next_site += 1
             return self.places.sites[key]
@@ -355,7 +380,9 @@ class Process:
                 number = self.next_lock
                 self.next_lock += 1
                 made = [number, LOCK_MUTEX | LOCK_MADE << 32, 0, known.site, known.maker | known.order << 32]
-                if self.write(RECORD_LOCK, made) is not None:
+                if self.write(RECORD_LOCK, made) is None:
+                    self.losses[LOST_LOCKS] += 1
+                else:
                     self.write(RECORD_LOCK_KIND, [number], known.kind)
                 known.number = number
             return known.number
@@ -418,11 +445,15 @@ class Recorder:
             if state.record is not None:
                 self.put_off(state, operation, known, frame, arguments)
             return None
+        if state.put_off:
+            self.catch_up(state)
         state.busy = True
         call = None
         try:
             call = self.process.call_of(known, frame)
             return operation(state, call, *arguments)
+        except RecursionError:
+            raise  # nothing was done
         except BaseException:
             # An exception of a signal handler's. The program doesn't go on with the lock.
             if call is not None:
@@ -440,10 +471,14 @@ class Recorder:
             try:
                 if not state.put_off:
                     continue
-                operation, known, key, text, arguments = state.put_off.pop(0)
+                late = state.put_off.pop(0)
+                operation, known, key, text, arguments = late
                 number = known.number or self.process.number_of(known)
                 site = self.process.new_site(key, text)
                 operation(state, number << OBJECT_SHIFT | site << SITE_SHIFT, *arguments)
+            except RecursionError:
+                state.put_off.insert(0, late)
+                raise
             finally:
                 state.busy = False
 
@@ -465,6 +500,10 @@ class Recorder:
 
     def wants(self, known, frame):
         return self.do(ThreadState.acquire, known, frame, ACQUIRE, known.reentrant)
+
+    def before_try(self):
+        """Near the limit of depth the call fails here, not when the lock is to be released."""
+        self.state()
 
     def took(self, known, frame):
         self.do(ThreadState.acquire, known, frame, TRY_ACQUIRE, known.reentrant)

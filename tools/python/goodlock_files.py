@@ -12,12 +12,14 @@ CHUNK_DOUBLINGS = 8
 TABLE_CHUNK_BYTES = 16 * CHUNK_UNIT
 CHUNK_EVENTS, CHUNK_TABLE = 0x676C6576, 0x676C7462
 
-RECORD_PROCESS, RECORD_LOCK, RECORD_THREAD = 1, 4, 5
+RECORD_PROCESS, RECORD_LOCK, RECORD_THREAD, RECORD_LOSSES = 1, 4, 5, 8
 RECORD_PLACE, RECORD_LOCK_KIND, RECORD_LOCK_NAME, RECORD_ROUTINE, RECORD_NOTE, RECORD_NO_LOCK = 16, 17, 18, 19, 20, 21
 LOCK_MUTEX, LOCK_MADE = 1, 1
 FOREIGN = 0xFFFFFFFF
 OBJECT_WORDS = 8
 IMAGE_LIMIT = 100000
+# Longer texts are cut: goodlock reads lines of 65,536 bytes.
+PLACE_LIMIT, NAME_LIMIT, CUT = 8000, 1000, b"..."
 
 # In a chunk's head, as words.
 USED = 2
@@ -25,6 +27,16 @@ USED = 2
 # Words of a process's and a thread's record, from the record's head on.
 PROCESS_FORKS = 9
 THREAD_UNMADE, THREAD_CHILDREN, THREAD_LEFT_OUT, THREAD_LOST, THREAD_OTHERS = 5, 7, 9, 10, 11
+
+
+def bytes_of(text, limit):
+    data = text.encode("utf-8", "backslashreplace")
+    if len(data) < limit:
+        return data
+    end = limit - len(CUT) - 1
+    while data[end] & 0xC0 == 0x80:  # within a character
+        end -= 1
+    return data[:end] + CUT
 
 
 class Files:
@@ -96,11 +108,9 @@ class Files:
         """Writes a record; its words, to be changed later. It counts once it is whole."""
         data = struct.pack("=%dQ" % len(numbers), *numbers)
         if text is not None:
-            data += text.encode("utf-8", "backslashreplace") + b"\0"
+            data += bytes_of(text, PLACE_LIMIT if kind == RECORD_PLACE else NAME_LIMIT) + b"\0"
         data += bytes(-len(data) % 8)
         size = 1 + len(data) // 8
-        if size > (TABLE_CHUNK_BYTES - CHUNK_HEAD) // 8:
-            raise ValueError("a name is too long")
         if self.table is None or self.table_place + size > len(self.table):
             self.table_head, self.table = self.new_chunk(CHUNK_TABLE, 0, self.table_chunks, TABLE_CHUNK_BYTES, 0)
             self.table_chunks += 1
@@ -115,6 +125,9 @@ class Files:
     def write_process(self, command, parent, first_lock, first_site, frames):
         numbers = [LAYOUT_VERSION, self.process, self.image, *parent, first_lock, first_site, frames, 0]
         return self.write(RECORD_PROCESS, numbers, command[:500])
+
+    def write_losses(self):
+        return self.write(RECORD_LOSSES, [0, 0, 0, 0])
 
     def write_thread(self, number, parent, child):
         return self.write(RECORD_THREAD, [number, parent, child] + [0] * (8 + OBJECT_WORDS))

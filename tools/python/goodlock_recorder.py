@@ -1,5 +1,6 @@
 """Stands before the locks and threads of the threading module: docs/RECORDING-PYTHON.md says what is recorded as what."""
 
+import _thread
 import functools
 import os
 import sys
@@ -10,11 +11,15 @@ from sys import _getframe
 
 import goodlock_events
 import goodlock_files
+from goodlock_events import settle
 
 FRAMES_LIMIT = 16
+AGAIN = 3  # in a token of an acquire: the thread seemed to hold the lock already
 
 # Modules whose frames stand for their callers.
 STANDARD = os.path.dirname(threading.Thread.start.__code__.co_filename)
+STANDARD_PREFIX = STANDARD + os.sep
+INSTALLED = tuple(STANDARD_PREFIX + folder + os.sep for folder in ("site-packages", "dist-packages"))
 THREADING = threading.Thread.start.__code__.co_filename
 OWN_FILES = {_getframe(0).f_code.co_filename, goodlock_events.Places.text_of.__code__.co_filename}
 PASSED_OVER = {THREADING} | OWN_FILES | {
@@ -74,41 +79,63 @@ class RecordedLock:
         if blocking and timeout == -1:
             token = recorder.wants(self._known, _getframe(1))
             try:
-                return raw.acquire(blocking, timeout)
+                taken = raw.acquire(blocking, timeout)
             except BaseException:
                 recorder.gives_up(token)
                 raise
+            if token is not None and token[AGAIN]:
+                recorder.gives_up(token)  # it was another thread that released the lock
+            return taken
+        recorder.before_try()
         taken = raw.acquire(blocking, timeout)
-        if taken:
-            recorder.took(self._known, _getframe(1))
-        else:
-            recorder.did_not_take()
+        try:
+            if taken:
+                recorder.took(self._known, _getframe(1))
+            else:
+                recorder.did_not_take()
+        except RecursionError:
+            pass  # the call of the program's would have ended well
         return taken
 
     def __enter__(self):
         token = recorder.wants(self._known, _getframe(1))
         try:
-            return self._raw.acquire()
+            taken = self._raw.acquire()
         except BaseException:
             recorder.gives_up(token)
             raise
+        if token is not None and token[AGAIN]:
+            recorder.gives_up(token)
+        return taken
 
     def release(self):
         self._raw.release()
-        recorder.released(self._known, _getframe(1))
+        try:
+            recorder.released(self._known, _getframe(1))
+        except RecursionError:
+            recorder.local.state.put_off.append((settle, self._known, "?", "?", ()))
 
     def __exit__(self, kind, value, traceback):
         self._raw.release()
-        recorder.released(self._known, _getframe(1))
+        try:
+            recorder.released(self._known, _getframe(1))
+        except RecursionError:
+            recorder.local.state.put_off.append((settle, self._known, "?", "?", ()))
 
     def __repr__(self):
         return repr(self._raw)
 
     def __reduce__(self):
-        raise TypeError("cannot pickle %r object" % type(self._raw).__qualname__)
+        kind = type(self._raw)
+        raise TypeError("cannot pickle '%s.%s' object" % (kind.__module__, kind.__qualname__))
 
     def __getattr__(self, name):
         return getattr(self._raw, name)
+
+    @property
+    def __class__(self):
+        """For isinstance: the lock is one of the real kind too."""
+        return type(self._raw)
 
     acquire.__qualname__, release.__qualname__ = "lock.acquire", "lock.release"
 
@@ -150,6 +177,14 @@ class RLock(RecordedLock):
     def _release_save(self):
         recorder.waits(self._known, _getframe(1))
         return self._raw._release_save()
+
+
+def allocate_raw_lock():
+    """Stands for _thread.allocate_lock: the standard library's own locks stay as they are."""
+    file = _getframe(1).f_code.co_filename
+    if file.startswith("<frozen ") or file.startswith(STANDARD_PREFIX) and not file.startswith(INSTALLED):
+        return allocate_lock()
+    return Lock()
 
 
 def allocate_lock_seen():
@@ -288,6 +323,7 @@ def stand_before_threading():
     threading.Lock = Lock
     threading._CRLock = RLock
     threading._allocate_lock = allocate_lock_seen
+    _thread.allocate_lock = _thread.allocate = allocate_raw_lock
     threading.Semaphore.__init__ = semaphore_start
     threading.Semaphore.acquire = threading.Semaphore.__enter__ = semaphore_acquire
     for kind in real_releases:

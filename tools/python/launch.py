@@ -3,7 +3,8 @@
     goodlock-python [-o TRACE] [--frames N] [--all] [--python INTERPRETER] [--] SCRIPT.py [ARGUMENT..]
     goodlock-python [-o TRACE] --convert DIRECTORY
 
-SCRIPT.py may also be a program that runs Python code, or options of the interpreter as -m MODULE or -c CODE.
+SCRIPT.py may also be -m MODULE, -c CODE, - (standard input), after -- any options of the interpreter, or a program that runs
+Python code.
 docs/RECORDING-PYTHON.md explains it.
 
 -o TRACE              the file, else goodlock.std
@@ -22,7 +23,8 @@ sys.path.insert(0, os.path.join(os.path.dirname(HERE), "record"))
 sys.pycache_prefix = os.path.join(os.path.dirname(HERE), "out", "python")
 
 import launch as recording  # noqa: E402
-from options import split_options  # noqa: E402
+from options import VALUED, split_options  # noqa: E402
+from tool import find_tool  # noqa: E402
 
 USAGE = __doc__.split("\n\n")[1]
 START = os.path.join(HERE, "start")
@@ -36,16 +38,34 @@ def interpreter_in(path):
     raise recording.Failed("there is no python3: name an interpreter with --python")
 
 
+def is_program(name):
+    """Whether it can be run as it is."""
+    if "/" in name:
+        return os.access(name, os.X_OK) and not os.path.isdir(name)
+    return find_tool(name) is not None
+
+
 def with_interpreter(command, interpreter):
     """A script, or options of the interpreter, are run by it; any other program runs as it is."""
     first = command[0]
-    if first.startswith("-") or first.endswith((".py", ".pyc", ".pyz")) or interpreter:
+    is_script = first.endswith((".py", ".pyc", ".pyz")) or os.path.exists(first) and not is_program(first)
+    if first.startswith("-") or is_script or interpreter:
         return [interpreter or interpreter_in(os.environ.get("PATH", os.defpath))] + command
     return command
 
 
+def with_command_marked(arguments):
+    """The words with -- before the options of the interpreter's that stand for a script."""
+    place = 0
+    while place < len(arguments) and arguments[place].startswith("-") and arguments[place] != "--":
+        if arguments[place] in ("-m", "-c", "-"):
+            return arguments[:place] + ["--"] + arguments[place:]
+        place += 2 if arguments[place] in VALUED + ("--python",) else 1
+    return arguments
+
+
 def read_arguments(arguments):
-    own, others = split_options(arguments, {"--python": True})
+    own, others = split_options(with_command_marked(arguments), {"--python": True})
     interpreter = own.get("--python")
     if "--python" in own and interpreter is None:
         raise recording.Failed("--python takes a value\n" + USAGE)

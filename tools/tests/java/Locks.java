@@ -13,6 +13,9 @@ import java.util.concurrent.locks.ReadWriteLock;
 import java.util.concurrent.locks.ReentrantLock;
 import java.util.concurrent.locks.ReentrantReadWriteLock;
 import java.util.concurrent.locks.StampedLock;
+import java.util.function.BooleanSupplier;
+import java.util.function.Consumer;
+import java.util.function.Supplier;
 
 /** Programs with known traces, by name. Marks in comments name their lines. */
 public class Locks {
@@ -399,6 +402,53 @@ public class Locks {
         lock.unlock(); // @counted_unlock_3
     }
 
+    /** An object that is a lock has a monitor, too: these are two locks. */
+    static void monitorsOfLocks() throws Exception {
+        synchronized (again) { // @monitor_of_lock
+            again.lock(); // @lock_in_its_monitor
+            again.notifyAll();
+            again.wait(1); // @wait_of_lock
+            again.unlock(); // @unlock_in_its_monitor
+        } // @monitor_of_lock_end
+        again.lock(); // @lock_around_its_monitor
+        synchronized (again) { // @monitor_in_its_lock
+            words[0].length();
+        } // @monitor_in_its_lock_end
+        again.unlock(); // @unlock_around_its_monitor
+    }
+
+    static void conditionOfWriteLock() throws Exception {
+        Lock write = new ReentrantReadWriteLock().writeLock(); // @write_made
+        Condition condition = write.newCondition();
+        write.lock(); // @write_lock
+        condition.await(1, TimeUnit.MILLISECONDS); // @write_await
+        write.unlock(); // @write_unlock
+    }
+
+    interface Action {
+        void run() throws InterruptedException;
+    }
+
+    static void references() throws Exception {
+        Supplier<Lock> maker = ReentrantLock::new; // @reference_new
+        Lock lock = maker.get();
+        Action first = lock::lock; // @reference_lock
+        first.run();
+        Action second = lock::lockInterruptibly; // @reference_interruptibly
+        second.run();
+        BooleanSupplier third = lock::tryLock; // @reference_try
+        third.getAsBoolean();
+        Action last = lock::unlock; // @reference_unlock
+        last.run();
+        Consumer<Lock> same = Lock::unlock; // @reference_unbound
+        same.accept(lock);
+        Thread thread = new Worker();
+        thread.start(); // @reference_start
+        Action end = thread::join; // @reference_join
+        end.run();
+        ((Runnable & java.io.Serializable) lock::unlock).run(); // a reference that can be written stays as it is
+    }
+
     // --- Threads
 
     static class Worker extends Thread {
@@ -447,6 +497,14 @@ public class Locks {
             end.countDown();
         }
         late.join(60_000, 1); // @late_join
+    }
+
+    static void longNames() throws Exception {
+        String name = "x" + "n\u00e4".repeat(50_000);
+        for (Thread thread : new Thread[] {new Thread(Locks::monitors, name), new Thread(Locks::monitors, "short|\n")}) {
+            thread.start(); // @long_start
+            thread.join(); // @long_join
+        }
     }
 
     static void pool() throws Exception {

@@ -1,7 +1,9 @@
 """What the tests of goodlock-java share: the program Locks, recorded, and its known traces."""
 
 import os
+import re
 import shutil
+import subprocess
 
 from known_traces import TESTS, TOOLS, Run, compare, cycles_in, expand, marks_of
 
@@ -50,3 +52,30 @@ def missing():
         if shutil.which(name) is None:
             return name
     return None if os.path.exists(ASM) else ASM
+
+
+def version_of(java):
+    """Its number, as 17; 0 where there is none."""
+    if not os.access(java, os.X_OK):
+        return 0
+    done = subprocess.run([java, "-version"], stdout=subprocess.PIPE, stderr=subprocess.STDOUT)
+    version = re.search(rb'version "(\d+)', done.stdout)
+    return int(version.group(1)) if version else 0
+
+
+def all_of_java():
+    """The first one of PATH, and each further one that is newer."""
+    found = [shutil.which("java") or "java"]
+    for name in sorted(os.listdir("/usr/lib/jvm")) if os.path.isdir("/usr/lib/jvm") else ():
+        path = "/usr/lib/jvm/%s/bin/java" % name
+        if version_of(path) > max(map(version_of, found)):
+            found.append(path)
+    return found
+
+
+def compile_source(name, text, javac="javac"):
+    """A class of its own, into the folder `own`."""
+    with open(name + ".java", "w") as file:
+        file.write(text)
+    done = subprocess.run([javac, "-g", "-d", "own", name + ".java"], stdout=subprocess.PIPE, stderr=subprocess.STDOUT)
+    assert done.returncode == 0, done.stdout.decode()

@@ -6,12 +6,13 @@ import re
 import subprocess
 
 import pytest
-from java_traces import JAVA_RECORD, MARKS, PAIR, expect, program, record
+from java_traces import JAVA_RECORD, MARKS, PAIR, all_of_java, expect, program, record, version_of
 from known_traces import NO_EVENTS, compare, cycles_in, expand, is_front_of_a_run, killed
 
 pytestmark = pytest.mark.usefixtures("classes")
 
 
+WITH_VIRTUAL_THREADS = 21
 DEADLOCK = """
     main|fork(main.1:Locks.lambda)|@dead_start
     main|acq(Object@@a#1)|@dead_a
@@ -54,27 +55,18 @@ def test_classes_of_the_jdk_on_demand():
     run = record("queue")
     assert run.status == NO_EVENTS, "%d %s" % (run.status, run.said)
     assert "in classes that aren't the JDK's" in run.said, run.said
-    lines = record("queue", "--jdk").lines()
-    assert any(re.match(r"main\|acq\(Vector@", line) for line in lines), "\n".join(lines)
+    run = record("queue", "--jdk")
+    assert any(re.match(r"main\|acq\(Vector@", line) for line in run.lines()), "\n".join(run.lines())
+    assert "couldn't be instrumented" not in run.said, run.said
 
 
 def test_virtual_threads_are_refused_by_name():
-    found = [
-        path for path in sorted(os.listdir("/usr/lib/jvm")) if has_virtual_threads("/usr/lib/jvm/%s/bin/java" % path)
-    ]
-    if not found:
+    java = all_of_java()[-1]
+    if version_of(java) < WITH_VIRTUAL_THREADS:
         pytest.skip("no Java 21 or later here")
-    command = ["/usr/lib/jvm/%s/bin/java" % found[-1], "-cp", "classes", "Locks", "virtualThreads"]
+    command = [java, "-cp", "classes", "Locks", "virtualThreads"]
     run = record(None, command=command)
     assert run.status == 0, run.said
     assert "virtual threads are refused" in run.said and "1 virtual threads took locks" in run.said, run.said
     main = [line for line in run.lines() if re.match(r"main\|(acq|rel)", line)]
     compare(main, expand(PAIR, MARKS))
-
-
-def has_virtual_threads(java):
-    if not os.access(java, os.X_OK):
-        return False
-    done = subprocess.run([java, "-version"], stdout=subprocess.PIPE, stderr=subprocess.STDOUT)
-    version = re.search(rb'version "(\d+)', done.stdout)
-    return version is not None and int(version.group(1)) >= 21

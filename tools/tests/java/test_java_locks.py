@@ -1,7 +1,8 @@
 """Locks of java.util.concurrent.locks."""
 
 import pytest
-from java_traces import expect, expect_cycles
+from java_traces import MARKS, all_of_java, expect, expect_cycles, record
+from known_traces import compare, expand
 
 pytestmark = pytest.mark.usefixtures("classes")
 
@@ -102,3 +103,55 @@ def test_classes_of_locks():
         main|rel(Locks$Counted@@counted_made#1)|@counted_unlock_2
         main|rel(Locks$Counted@@counted_made#1)|@counted_unlock_3""",
     )
+
+
+def test_monitors_of_locks():
+    """An object that is a lock has a monitor, too."""
+    lock, monitor = "(ReentrantLock@@again#1)", "(ReentrantLock.monitor@@monitor_of_lock#1)"
+    expect(
+        "monitorsOfLocks",
+        """
+        main|acqM|@monitor_of_lock
+        main|acqL|@lock_in_its_monitor
+        main|relM|@wait_of_lock
+        main|acqM|@wait_of_lock
+        main|relL|@unlock_in_its_monitor
+        main|relM|@monitor_of_lock_end
+        main|acqL|@lock_around_its_monitor
+        main|acqM|@monitor_in_its_lock
+        main|relM|@monitor_in_its_lock_end
+        main|relL|@unlock_around_its_monitor""".replace(
+            "M|", monitor + "|"
+        ).replace(
+            "L|", lock + "|"
+        ),
+    )
+
+
+def test_references_to_methods_of_locks():
+    """The place is the reference's."""
+    lock = "(ReentrantLock@@reference_new#1)"
+    expect(
+        "references",
+        """
+        main|acqL|@reference_lock
+        main|acqL|@reference_interruptibly
+        main|tryacqL|@reference_try
+        main|relL|@reference_unlock
+        main|relL|@reference_unbound
+        main|fork(main.1:Locks$Worker)|@reference_start
+        main|join(main.1:Locks$Worker)|@reference_join""".replace(
+            "L|", lock + "|"
+        ),
+    )
+
+
+@pytest.mark.parametrize("java", all_of_java())
+def test_conditions_of_write_locks(java):
+    run = record(None, command=[java, "-cp", "classes", "Locks", "conditionOfWriteLock"])
+    text = """
+        main|acq(L)|@write_lock
+        main|rel(L)|@write_await
+        main|acq(L)|@write_await
+        main|rel(L)|@write_unlock"""
+    compare(run.lines(), expand(text.replace("(L)", "(ReentrantReadWriteLock@@write_made#1)"), MARKS))

@@ -28,6 +28,15 @@ def test_threads_made_and_joined():
     )
 
 
+def test_names_that_are_long():
+    """A name that goodlock couldn't read in a line is cut, between two characters."""
+    name = "main.1:x" + "n\u00e4" * 331 + "n..."
+    text = ""
+    for thread in (name, "main.2:short!?"):
+        text += "\nmain|fork(%s)|@long_start\nmain|join(%s)|@long_join" % (thread, thread)
+    expect("longNames", text + PAIR.replace("main|", name + "|") + PAIR.replace("main|", "main.2:short!?|"))
+
+
 def test_thread_pools():
     expect("pool", "main|fork(main.1:pool-1-thread-1)|@pool_submit" + PAIR.replace("main|", "main.1:pool-1-thread-1|"))
 

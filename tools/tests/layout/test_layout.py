@@ -37,6 +37,7 @@ def records(*names):
 
 
 NAMED = ("PLACE", "LOCK_KIND", "LOCK_NAME", "ROUTINE", "NOTE", "NO_LOCK")
+LOST = {f"LOST_{what.upper()}": word("losses_record", what) for what in ("locks", "places", "threads")}
 COMMON = {**MAGICS, **same("LAYOUT_VERSION", "CHUNK_UNIT"), "CHUNK_HEAD": HEAD, "FOREIGN": "THREAD_FOREIGN"}
 
 # By file, each constant that is the layout's, and what it is in C.
@@ -58,7 +59,7 @@ PYTHON = {
     / "python"
     / "goodlock_files.py": {
         **COMMON,
-        **records("PROCESS", "LOCK", "THREAD", *NAMED),
+        **records("PROCESS", "LOCK", "THREAD", "LOSSES", *NAMED),
         **same("EXTENT_BYTES", "LOCK_MUTEX", "LOCK_MADE", "OBJECT_WORDS"),
         "USED": word("chunk", "used"),
         "PROCESS_FORKS": word("process_record", "forks"),
@@ -75,13 +76,14 @@ PYTHON = {
         **events("ACQUIRE", "RELEASE", "TRY_ACQUIRE", "FORK", "JOIN", "BEYOND", "AGAIN"),
         "KIND_MASK": f"({KINDS}) - 1",
         **same("HELD_LIMIT"),
+        **LOST,
     },
 }
 KINDS_OF_JAVA = ("ACQUIRE", "RELEASE", "SHARED_ACQUIRE", "SHARED_RELEASE", "TRY_ACQUIRE", "TRY_SHARED_ACQUIRE")
 IN_JAVA = {
     JAVA
     / "Files.java": {
-        **{name: f"RECORD_{name}" for name in ("PROCESS", "LOCK", "THREAD", *NAMED[:-1])},
+        **{name: f"RECORD_{name}" for name in ("PROCESS", "LOCK", "THREAD", "LOSSES", *NAMED[:-1])},
         **same("LAYOUT_VERSION", "EXTENT_BYTES", "CHUNK_UNIT", "OBJECT_WORDS"),
         "CHUNK_HEAD": HEAD,
         "EVENTS_MAGIC": "CHUNK_EVENTS",
@@ -99,6 +101,7 @@ IN_JAVA = {
         **same("HELD_LIMIT"),
     },
     JAVA / "Recorder.java": {"FOREIGN": "THREAD_FOREIGN"},
+    JAVA / "Process.java": LOST,
 }
 ALL = {**PYTHON, **IN_JAVA}
 LAYOUT_NAME = re.compile(r"(?:RECORD|CHUNK|EVENT|LOCK|LAYOUT|EXTENT)_[A-Z_]+$")

@@ -1,13 +1,18 @@
 """Programs with known traces, by name. Marks in comments name their lines."""
 
+import _thread
+import copy
+import dataclasses
 import functools
 import gc
 import os
+import pickle
 import queue
 import random
 import signal
 import subprocess
 import sys
+import tempfile
 import threading
 
 a = threading.Lock()  # @a
@@ -514,6 +519,113 @@ def stray():
     thread.start()  # @stray_start
     thread.join()  # @stray_join
     a.release()  # @stray_release
+
+
+@program
+def stray_and_again():
+    """The lock is taken again after another thread released it: nobody waits for itself."""
+    a.acquire()  # @handed_1
+    thread = threading.Thread(target=a.release)  # @handed_release
+    thread.start()  # @handed_start
+    thread.join()  # @handed_join
+    a.acquire()
+    with b:  # @handed_b
+        a.release()  # @handed_2
+
+
+@program
+def raw_locks():
+    raw = _thread.allocate_lock()  # @raw_made
+    raw.acquire()  # @raw
+    with b:  # @raw_b
+        raw.release()  # @raw_end
+    tempfile.gettempdir()  # takes a lock of the standard library's own
+
+
+@dataclasses.dataclass
+class Record:
+    name: str
+    lock: object = dataclasses.field(default_factory=threading.Lock)
+    again: object = dataclasses.field(init=False, default_factory=threading.RLock)
+
+
+@program
+def fields_of_dataclasses():
+    record = Record("one")  # @record
+    with record.lock:  # @record_lock
+        with record.again:  # @record_again
+            pass
+
+
+@program
+def long_names():
+    for name in ("x" + "n\u00e4" * 50000, "short|\n"):
+
+        def routine():
+            pair()
+
+        routine.__qualname__ = name
+        thread = threading.Thread(target=routine)
+        thread.start()  # @long_start
+        thread.join()  # @long_join
+
+
+@program
+def too_deep():
+    """However the interpreter's limit of depth ends a block, the lock isn't held afterwards."""
+
+    def deeper():
+        with again:  # @deeper
+            deeper()
+
+    def deeper_tries():
+        again.acquire(False)
+        try:
+            deeper_tries()
+        finally:
+            again.release()
+
+    sys.setrecursionlimit(120)
+    for i in range(60):
+        for function in (deeper, deeper_tries):
+            try:
+                nested(function, i % 20)
+            except RecursionError:
+                pass
+    try:
+        again.release()
+    except RuntimeError:
+        pass
+    else:
+        raise AssertionError("it is held")
+    with b:
+        pass
+    run_in_turn(lambda: both(b, again))
+
+
+def nested(function, more):
+    """The limit comes at another call."""
+    if more:
+        nested(function, more - 1)
+    else:
+        function()
+
+
+@program
+def like_the_real_ones():
+    for lock, real in ((a, _thread.LockType), (again, _thread.RLock)):
+        assert isinstance(lock, real) and isinstance(lock, type(lock))
+        name = "%s.%s" % (real.__module__, real.__qualname__)
+        for call in (copy.copy, copy.deepcopy, pickle.dumps):
+            try:
+                call(lock)
+            except TypeError as error:
+                assert str(error) == "cannot pickle '%s' object" % name, error
+            else:
+                raise AssertionError(call)
+        assert "unlocked" in repr(lock) and lock in {lock}
+    with b:  # @real_b
+        pass
 
 
 if __name__ == "__main__":

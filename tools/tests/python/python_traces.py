@@ -1,6 +1,8 @@
 """What the tests of goodlock-python share: the programs of locks.py, recorded, and their known traces."""
 
 import os
+import shutil
+import subprocess
 import sys
 
 from known_traces import TESTS, TOOLS, Run, compare, cycles_in, expand, marks_of
@@ -36,3 +38,12 @@ def expect_cycles(name, number):
     assert run.status == 0, run.said
     found = cycles_in(run.lines())
     assert found == number, "%d cycles in\n%s" % (found, "\n".join(run.lines()))
+
+
+def all_interpreters():
+    """The one of the tests, and each further version that is here."""
+    found = [INTERPRETER]
+    for path in filter(None, map(shutil.which, ("python3.9", "python3.10", "python3.12", "python3.13"))):
+        if subprocess.run([path, "-c", "0"], stderr=subprocess.DEVNULL).returncode == 0:
+            found.append(path)
+    return found

@@ -1,6 +1,8 @@
 """Locks, conditions and semaphores: whole traces, and how many cycles they have."""
 
-from python_traces import expect, expect_cycles
+import pytest
+from known_traces import Run, edges_of
+from python_traces import LOCKS, MARKS, PYTHON_RECORD, all_interpreters, expect, expect_cycles
 
 
 def test_mutexes():
@@ -164,3 +166,45 @@ def test_other_semaphores_are_none():
     )
     assert "1 semaphores were made with another value than 1" in run.said, run.said
     assert "1 semaphores of value 1 were released by threads that didn't hold them" in run.said, run.said
+
+
+def test_locks_of_the_thread_module():
+    """Those that the standard library makes there are its own."""
+    expect(
+        "raw_locks",
+        """
+        main|acq(Lock@@raw_made#1)|@raw
+        main|acq(Lock@@b#1)|@raw_b
+        main|rel(Lock@@raw_made#1)|@raw_end
+        main|rel(Lock@@b#1)|@raw_b""",
+    )
+
+
+def test_fields_of_dataclasses():
+    """The place of a lock is that of the object that it is a field of."""
+    expect(
+        "fields_of_dataclasses",
+        """
+        main|acq(Lock@@record#1)|@record_lock
+        main|acq(RLock@@record#1)|@record_again
+        main|rel(RLock@@record#1)|@record_again
+        main|rel(Lock@@record#1)|@record_lock""",
+    )
+
+
+def test_locks_behave_like_the_real_ones():
+    expect(
+        "like_the_real_ones",
+        """
+        main|acq(Lock@@b#1)|@real_b
+        main|rel(Lock@@b#1)|@real_b""",
+    )
+
+
+@pytest.mark.parametrize("interpreter", all_interpreters())
+def test_limit_of_depth(interpreter):
+    run = Run(PYTHON_RECORD, [LOCKS, "too_deep"], ["--python", interpreter])
+    assert run.status == 0, run.said
+    assert [edge[0] for edge in edges_of(run.lines())] == ["main.1:run_in_turn.run"], "a lock that isn't held is an edge's"
+    after = [line.rsplit("|", 1)[0] for line in run.lines() if line.startswith("main|") and "(Lock@" in line]
+    assert after == ["main|%s(Lock@%s#1)" % (word, MARKS["b"]) for word in ("acq", "rel")]

@@ -6,7 +6,7 @@ import subprocess
 
 import pytest
 from known_traces import NO_EVENTS, RECORD, REFUSED, Run, compare, edges_of, expand
-from python_traces import INTERPRETER, LOCKS, MARKS, MUTEXES, PYTHON_RECORD, record
+from python_traces import INTERPRETER, LOCKS, MARKS, MUTEXES, PYTHON_RECORD, all_interpreters, record
 
 
 def test_forked_process():
@@ -73,18 +73,37 @@ def test_ways_to_start():
     )
 
 
+def test_words_that_an_interpreter_would_take():
+    """They work as if the interpreter's name stood before them."""
+    code = "import threading; threading.Lock().acquire()"
+    os.makedirs("package", exist_ok=True)
+    for path in ("package/__main__.py", "no-program"):
+        with open(path, "w") as file:
+            file.write(code)
+    for command, place in (
+        (["-m", "package"], "package/__main__.py:1"),
+        (["-c", code], "<string>:1"),
+        (["package"], "package/__main__.py:1"),
+        (["no-program"], "no-program:1"),
+        (["-"], "<stdin>:1"),
+    ):
+        done = subprocess.run(
+            [PYTHON_RECORD, "-o", "w.std", "--python", INTERPRETER, *command], input=code.encode(), stderr=subprocess.PIPE
+        )
+        assert done.returncode == 0, "%s: %s" % (command, done.stderr.decode())
+        with open("w.std") as file:
+            compare(file.read().splitlines(), ["main|acq(Lock@%s#1)|%s" % (place, place)])
+        os.unlink("w.std")
+
+
 def test_other_versions():
     """The edges are the same under each CPython that is here."""
     with_edges = edges_of(record("exceptions").lines())
-    found = [path for path in map(shutil.which, ("python3.9", "python3.10", "python3.12", "python3.13")) if path]
-    tried = 0
+    found = all_interpreters()[1:]
     for path in found:
-        if subprocess.run([path, "-c", "0"], stderr=subprocess.DEVNULL).returncode != 0:
-            continue
-        tried += 1
         run = Run(PYTHON_RECORD, [LOCKS, "exceptions"], ["--python", path])
         assert edges_of(run.lines()) == with_edges, "%s: %s" % (path, run.lines())
-    if not tried:
+    if not found:
         pytest.skip("no further CPython here")
 
 

@@ -86,6 +86,28 @@ def test_lock_released_by_another_thread():
     assert words == ["fork", "join", "rel", "acq"], str(run.lines())
 
 
+def test_lock_taken_again_after_another_thread_released_it():
+    run = record("stray_and_again")
+    text = """
+        main|acq(Lock@@a#1)|@handed_1
+        main|fork(main.1:lock.release)|@handed_start
+        main|join(main.1:lock.release)|@handed_join
+        main|acq(Lock@@b#1)|@handed_b
+        main|rel(Lock@@a#1)|@handed_2
+        main|rel(Lock@@b#1)|@handed_b"""
+    compare(run.lines()[:-1], expand(text, MARKS))
+    assert "waits for itself" not in run.said, run.said
+
+
+def test_names_that_are_long():
+    """A name that goodlock couldn't read in a line is cut, between two characters."""
+    name = "main.1:x" + "n\u00e4" * 331 + "n..."
+    text = ""
+    for thread in (name, "main.2:short!?"):
+        text += "\nmain|fork(%s)|@long_start\nmain|join(%s)|@long_join" % (thread, thread)
+    expect("long_names", text + PAIR.replace("main|", name + "|") + PAIR.replace("main|", "main.2:short!?|"))
+
+
 def test_repeats_are_left_out():
     run = expect(
         "repeats", PAIR + "\nmain|fork(main.1)|@repeats_start" + PAIR + "\nmain|join(main.1)|@repeats_join" + PAIR

@@ -9,6 +9,9 @@ import java.nio.MappedByteBuffer;
 import java.nio.channels.ClosedByInterruptException;
 import java.nio.channels.FileChannel;
 import java.nio.charset.StandardCharsets;
+import java.security.AccessController;
+import java.security.PrivilegedActionException;
+import java.security.PrivilegedExceptionAction;
 
 /**
  * The files that a recorded Java process leaves behind: those of tools/record/layout.h, with records of names. Calls come from
@@ -18,6 +21,7 @@ final class Files {
     static final int PROCESS = 1;
     static final int LOCK = 4;
     static final int THREAD = 5;
+    static final int LOSSES = 8;
     static final int PLACE = 16;
     static final int LOCK_KIND = 17;
     static final int LOCK_NAME = 18;
@@ -41,6 +45,11 @@ final class Files {
     private static final int USED_PLACE = 16;
     private static final int OBJECT_WORDS = 8;
     private static final int IMAGE_LIMIT = 100_000;
+
+    /** Longer texts are cut: goodlock reads lines of 65,536 bytes. */
+    private static final int PLACE_LIMIT = 8000;
+    private static final int NAME_LIMIT = 1000;
+    private static final String CUT = "...";
 
     private final String directory;
     private final long process;
@@ -66,6 +75,14 @@ final class Files {
 
     /** Opens the next extent; false if there is a first extent of this image already: the process became another program. */
     private boolean openExtent() throws IOException {
+        try {
+            return AccessController.doPrivileged((PrivilegedExceptionAction<Boolean>) this::openNextExtent);
+        } catch (PrivilegedActionException failure) {
+            throw (IOException) failure.getCause();
+        }
+    }
+
+    private boolean openNextExtent() throws IOException {
         File path = new File(directory, process + "." + image + "." + extents);
         if (!path.createNewFile()) {
             if (extents > 0) {
@@ -132,11 +149,8 @@ final class Files {
 
     /** Writes a record, of numbers and perhaps a text; gives its words, to be changed later. It counts once it is whole. */
     ByteBuffer write(int kind, String text, long... numbers) throws IOException {
-        byte[] bytes = text == null ? new byte[0] : (text + "\0").getBytes(StandardCharsets.UTF_8);
+        byte[] bytes = text == null ? new byte[0] : bytesOf(text, kind == PLACE ? PLACE_LIMIT : NAME_LIMIT);
         int words = 1 + numbers.length + (bytes.length + 7) / 8;
-        if (8 * words > TABLE_BYTES - CHUNK_HEAD) {
-            throw new IOException("a name is too long");
-        }
         if (table == null || CHUNK_HEAD + 8 * (tableUsed + words) > TABLE_BYTES) {
             table = newChunk(TABLE_MAGIC, 0, tables, TABLE_BYTES, 0);
             tables++;
@@ -153,8 +167,24 @@ final class Files {
         return record;
     }
 
+    private static byte[] bytesOf(String text, int limit) {
+        byte[] bytes = (text + "\0").getBytes(StandardCharsets.UTF_8);
+        if (bytes.length <= limit) {
+            return bytes;
+        }
+        int end = limit - CUT.length() - 1;
+        while ((bytes[end] & 0xc0) == 0x80) { // within a character
+            end--;
+        }
+        return (new String(bytes, 0, end, StandardCharsets.UTF_8) + CUT + "\0").getBytes(StandardCharsets.UTF_8);
+    }
+
     void writeProcess(String command, int frames) throws IOException {
         write(PROCESS, command, LAYOUT_VERSION, process, image, 0, 0, 1, 1, frames, 0);
+    }
+
+    ByteBuffer writeLosses() throws IOException {
+        return write(LOSSES, null, 0, 0, 0, 0);
     }
 
     ByteBuffer writeThread(int number, long parent, int child) throws IOException {

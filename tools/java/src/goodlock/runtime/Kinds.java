@@ -3,6 +3,8 @@ package goodlock.runtime;
 import java.lang.reflect.Field;
 import java.lang.reflect.Method;
 import java.util.Map;
+import java.util.concurrent.locks.AbstractQueuedLongSynchronizer;
+import java.util.concurrent.locks.AbstractQueuedSynchronizer;
 import java.util.concurrent.locks.ReentrantLock;
 import java.util.concurrent.locks.ReentrantReadWriteLock;
 import java.util.concurrent.locks.StampedLock;
@@ -21,9 +23,13 @@ final class Kinds {
         @Override
         protected Integer computeValue(Class<?> type) {
             int found = 0;
-            for (Method method : type.getMethods()) {
-                boolean own = method.getDeclaringClass().getClassLoader() != null;
-                found |= own ? METHODS.getOrDefault(method.getName(), 0) : 0;
+            try {
+                for (Method method : type.getMethods()) {
+                    boolean own = method.getDeclaringClass().getClassLoader() != null;
+                    found |= own ? METHODS.getOrDefault(method.getName(), 0) : 0;
+                }
+            } catch (LinkageError missing) {
+                return 0; // a class that a method's declaration names isn't there
             }
             return found;
         }
@@ -37,10 +43,15 @@ final class Kinds {
     private static final Field READ_WRITE = field(ReentrantReadWriteLock.class, "sync");
     private static final Field READ_VIEW_OUTER = field(READ_VIEW, "this$0");
     private static final Field WRITE_VIEW_OUTER = field(WRITE_VIEW, "this$0");
-    private static final Field CONDITION =
-            field(java.util.concurrent.locks.AbstractQueuedSynchronizer.ConditionObject.class, "this$0");
+    private static final Field CONDITION = field(AbstractQueuedSynchronizer.ConditionObject.class, "this$0");
+    private static final Field LONG_CONDITION = field(AbstractQueuedLongSynchronizer.ConditionObject.class, "this$0");
 
     private Kinds() {
+    }
+
+    /** Looks for the fields, while that is allowed. */
+    static void start() {
+        nameOf(REENTRANT);
     }
 
     private static Class<?> nested(Class<?> outer, String name) {
@@ -105,8 +116,11 @@ final class Kinds {
         if (object.getClass() == WRITE_VIEW) {
             return value(WRITE_VIEW_OUTER, object);
         }
-        if (object instanceof java.util.concurrent.locks.AbstractQueuedSynchronizer.ConditionObject) {
+        if (object instanceof AbstractQueuedSynchronizer.ConditionObject) {
             return value(CONDITION, object);
+        }
+        if (object instanceof AbstractQueuedLongSynchronizer.ConditionObject) {
+            return value(LONG_CONDITION, object);
         }
         return object;
     }
@@ -121,7 +135,14 @@ final class Kinds {
     }
 
     static boolean isCondition(Object object) {
-        return object instanceof java.util.concurrent.locks.AbstractQueuedSynchronizer.ConditionObject;
+        return object instanceof AbstractQueuedSynchronizer.ConditionObject
+                || object instanceof AbstractQueuedLongSynchronizer.ConditionObject;
+    }
+
+    /** What stands for the class in the name of an object's monitor. That of a lock of java.util.concurrent is another lock. */
+    static String nameOfMonitor(Object object) {
+        boolean isLock = isLock(object) || object instanceof ReentrantReadWriteLock || object instanceof StampedLock;
+        return nameOf(object) + (isLock ? ".monitor" : "");
     }
 
     /** What stands for the class in a lock's name. */

@@ -6,6 +6,8 @@ import java.lang.ref.ReferenceQueue;
 final class LockEntry extends Identities.Entry {
     /** 0 until the lock's first event. Several objects may stand for one lock, as the two sides of a reader-writer lock. */
     volatile int number;
+    /** The lock is the object's monitor, and not the one that an object of java.util.concurrent is. */
+    final boolean monitor;
     /** Acquires through this object are shared. */
     final boolean shared;
     /** Where it was made; 0: that isn't known. */
@@ -14,8 +16,10 @@ final class LockEntry extends Identities.Entry {
     int order;
     String kind;
 
-    LockEntry(Object object, boolean shared, ReferenceQueue<Object> gone) {
+    LockEntry(Object object, boolean monitor, ReferenceQueue<Object> gone) {
         super(object, System.identityHashCode(object), gone);
-        this.shared = shared;
+        this.monitor = monitor;
+        shared = !monitor && Kinds.isShared(object);
+        kind = monitor ? Kinds.nameOfMonitor(object) : Kinds.nameOf(object);
     }
 }

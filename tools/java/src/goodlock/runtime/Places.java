@@ -10,6 +10,7 @@ final class Places {
     private static final StackWalker WALKER = StackWalker.getInstance(StackWalker.Option.RETAIN_CLASS_REFERENCE);
     private static final Field TARGET = Kinds.field(Thread.class, "target");
     private static final Field HOLDER = Kinds.field(Thread.class, "holder");
+    private static final Field TASK = Kinds.field(HOLDER == null ? null : HOLDER.getType(), "task");
     private static int frames;
 
     private Places() {
@@ -46,7 +47,8 @@ final class Places {
 
     /** A frame of the recorder's, or of Thread.start that called it. */
     private static boolean isStart(StackFrame frame) {
-        return frame.getClassName().startsWith("goodlock.") || frame.getClassName().equals("java.lang.Thread");
+        Class<?> type = frame.getDeclaringClass();
+        return type == Thread.class || type.getClassLoader() == null && type.getPackageName().equals("goodlock.runtime");
     }
 
     private static boolean isOfJdk(StackFrame frame) {
@@ -79,8 +81,7 @@ final class Places {
                 return TARGET.get(thread);
             }
             Object holder = HOLDER == null ? null : HOLDER.get(thread);
-            Field task = holder == null ? null : Kinds.field(holder.getClass(), "task");
-            return task == null ? null : task.get(holder);
+            return holder == null || TASK == null ? null : TASK.get(holder);
         } catch (IllegalAccessException refused) {
             return null;
         }

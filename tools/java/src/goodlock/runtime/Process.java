@@ -12,7 +12,13 @@ import java.util.Map;
 final class Process {
     final boolean all;
     final int frames;
+    /** Words of the record of losses. */
+    private static final int LOST_LOCKS = 2;
+    private static final int LOST_PLACES = 3;
+    private static final int LOST_THREADS = 4;
+
     private final Files files;
+    private final ByteBuffer losses;
     private final Map<String, Integer> places = new HashMap<>();
     private final Map<String, ByteBuffer> notes = new HashMap<>();
     private int nextLock = 1;
@@ -25,6 +31,7 @@ final class Process {
         this.frames = frames;
         files = new Files(directory, number);
         files.writeProcess(command, frames);
+        losses = files.writeLosses();
     }
 
     private ByteBuffer write(int kind, String text, long... numbers) {
@@ -34,6 +41,10 @@ final class Process {
             full = true;
             return null;
         }
+    }
+
+    private void lose(int what) {
+        losses.putLong(8 * what, losses.getLong(8 * what) + 1);
     }
 
     synchronized ByteBuffer newEvents(int thread, int order) {
@@ -51,7 +62,9 @@ final class Process {
         if (known != null) {
             return known;
         }
-        write(Files.PLACE, text, nextSite);
+        if (write(Files.PLACE, text, nextSite) == null) {
+            lose(LOST_PLACES);
+        }
         places.put(text, nextSite);
         return nextSite++;
     }
@@ -65,7 +78,9 @@ final class Process {
         } catch (IOException | Error failure) {
             full = true;
         }
-        if (record != null && routine != null) {
+        if (record == null) {
+            lose(LOST_THREADS);
+        } else if (routine != null) {
             write(Files.ROUTINE, routine, number);
         }
         return new ThreadState(this, record, number);
@@ -75,8 +90,11 @@ final class Process {
     synchronized int newLock(LockEntry entry, String name) {
         int number = nextLock++;
         long made = entry.site != 0 ? 1 : 2;
-        write(Files.LOCK, null, number, 1 | made << 32, 0, entry.site, entry.maker | (long) entry.order << 32);
-        write(name != null ? Files.LOCK_NAME : Files.LOCK_KIND, name != null ? name : entry.kind, number);
+        if (write(Files.LOCK, null, number, 1 | made << 32, 0, entry.site, entry.maker | (long) entry.order << 32) == null) {
+            lose(LOST_LOCKS);
+        } else {
+            write(name != null ? Files.LOCK_NAME : Files.LOCK_KIND, name != null ? name : entry.kind, number);
+        }
         return number;
     }
 

@@ -17,7 +17,9 @@ public final class Recorder {
             "virtual threads are refused: the locks that they take aren't recorded (%d virtual threads took locks)";
 
     private static final ThreadLocal<ThreadState> STATE = new ThreadLocal<>();
+    /** Locks of java.util.concurrent, and monitors: an object may be one and have the other. */
     private static final Identities<LockEntry> LOCKS = new Identities<>();
+    private static final Identities<LockEntry> MONITORS = new Identities<>();
     private static final Identities<ThreadEntry> THREADS = new Identities<>();
     private static Process process;
 
@@ -29,6 +31,7 @@ public final class Recorder {
         process = new Process(directory, number, command, frames, all);
         STATE.set(process.newThread(0, 0, null));
         Places.start(frames);
+        Kinds.start();
     }
 
     public static int place(String text) {
@@ -87,26 +90,26 @@ public final class Recorder {
 
     // --- Numbers of locks
 
-    /** The object's entry with its lock's number. */
-    private static LockEntry entryOf(ThreadState state, Object object) {
+    /** The entry of a lock of java.util.concurrent, with its number. */
+    private static LockEntry lockOf(ThreadState state, Object object) {
         LockEntry entry = LOCKS.find(object);
-        return entry != null && entry.number != 0 ? entry : newEntry(state, object);
+        return entry != null && entry.number != 0 ? entry : newEntry(state, object, false);
     }
 
-    /** The same for an object that is likely to be the lock acquired last: the hash of a locked object is slow to get. */
-    private static LockEntry heldEntryOf(ThreadState state, Object object) {
-        LockEntry entry = state.lastEntry(object);
-        return entry != null ? entry : entryOf(state, object);
+    /** The entry of an object's monitor, with its number. */
+    private static LockEntry monitorOf(ThreadState state, Object object) {
+        LockEntry entry = MONITORS.find(object);
+        return entry != null && entry.number != 0 ? entry : newEntry(state, object, true);
     }
 
-    private static LockEntry newEntry(ThreadState state, Object object) {
+    private static LockEntry newEntry(ThreadState state, Object object, boolean monitor) {
         state.busy = true;
         try {
             synchronized (LOCKS) {
-                LockEntry entry = added(object);
+                LockEntry entry = added(object, monitor);
                 if (entry.number == 0) {
-                    Object key = Kinds.keyOf(object);
-                    LockEntry whole = key == object ? entry : added(key);
+                    Object key = monitor ? object : Kinds.keyOf(object);
+                    LockEntry whole = key == object ? entry : added(key, false);
                     if (whole.number == 0) {
                         whole.number = process.newLock(whole, key instanceof Class ? Kinds.nameOfClass((Class<?>) key) : null);
                     }
@@ -119,12 +122,12 @@ public final class Recorder {
         }
     }
 
-    private static LockEntry added(Object object) {
-        LockEntry entry = LOCKS.find(object);
+    private static LockEntry added(Object object, boolean monitor) {
+        Identities<LockEntry> known = monitor ? MONITORS : LOCKS;
+        LockEntry entry = known.find(object);
         if (entry == null) {
-            entry = new LockEntry(object, Kinds.isShared(object), LOCKS.gone);
-            entry.kind = Kinds.nameOf(object);
-            LOCKS.add(entry);
+            entry = new LockEntry(object, monitor, known.gone);
+            known.add(entry);
         }
         return entry;
     }
@@ -139,7 +142,7 @@ public final class Recorder {
         state.busy = true;
         try {
             synchronized (LOCKS) {
-                LockEntry entry = added(Kinds.keyOf(object));
+                LockEntry entry = object.getClass() == Object.class ? added(object, true) : added(Kinds.keyOf(object), false);
                 if (entry.site == 0 && entry.number == 0) {
                     entry.kind = Kinds.nameOf(object);
                     entry.site = place;
@@ -158,7 +161,7 @@ public final class Recorder {
     public static void monitorEnter(Object object, int site) {
         ThreadState state = state();
         if (object != null && !state.isOff()) {
-            state.acquire(ThreadState.ACQUIRE, at(state, site), entryOf(state, object));
+            state.acquire(ThreadState.ACQUIRE, at(state, site), monitorOf(state, object));
         }
     }
 
@@ -166,7 +169,9 @@ public final class Recorder {
     public static void monitorExit(Object object, int site) {
         ThreadState state = state();
         if (object != null && !state.isOff()) {
-            state.release(at(state, site), heldEntryOf(state, object).number);
+            // The hash of a locked object is slow to get.
+            LockEntry last = state.lastEntry(object, true);
+            state.release(at(state, site), (last != null ? last : monitorOf(state, object)).number);
         }
     }
 
@@ -174,7 +179,7 @@ public final class Recorder {
     public static void waits(Object object, int site) {
         ThreadState state = state();
         if (object != null && !state.isOff()) {
-            waitFor(state, at(state, site), entryOf(state, object).number);
+            waitFor(state, at(state, site), monitorOf(state, object).number);
         }
     }
 
@@ -194,7 +199,7 @@ public final class Recorder {
     // --- Locks of java.util.concurrent.locks
 
     private static void acquires(ThreadState state, Object lock, int site) {
-        LockEntry entry = entryOf(state, lock);
+        LockEntry entry = lockOf(state, lock);
         state.acquire(entry.shared ? ThreadState.SHARED_ACQUIRE : ThreadState.ACQUIRE, at(state, site), entry);
     }
 
@@ -233,7 +238,7 @@ public final class Recorder {
             taken = true;
         } finally {
             if (!taken && !off) {
-                state.takeBack(entryOf(state, lock).number);
+                state.takeBack(lockOf(state, lock).number);
             }
         }
     }
@@ -244,7 +249,7 @@ public final class Recorder {
         if (isOff(state, lock, site, Kinds.TRY_LOCK)) {
             return;
         }
-        LockEntry entry = entryOf(state, lock);
+        LockEntry entry = lockOf(state, lock);
         if (taken) {
             int kind = entry.shared ? ThreadState.TRY_SHARED_ACQUIRE : ThreadState.TRY_ACQUIRE;
             state.acquire(kind, at(state, site), entry.number);
@@ -259,7 +264,8 @@ public final class Recorder {
         if (isOff(state, lock, site, Kinds.UNLOCK)) {
             return;
         }
-        int number = heldEntryOf(state, lock).number;
+        LockEntry last = state.lastEntry(lock, false);
+        int number = (last != null ? last : lockOf(state, lock)).number;
         if (state.holds(number)) {
             state.release(at(state, site), number);
         } else {
@@ -271,7 +277,7 @@ public final class Recorder {
     public static void awaits(Object condition, int site) {
         ThreadState state = state();
         if (condition != null && !state.isOff() && Kinds.isCondition(condition)) {
-            waitFor(state, at(state, site), entryOf(state, condition).number);
+            waitFor(state, at(state, site), lockOf(state, condition).number);
         }
     }
 
@@ -289,7 +295,7 @@ public final class Recorder {
     private static void stamped(Object lock, int site, int kind) {
         ThreadState state = state();
         if (lock instanceof StampedLock && !state.isOff()) {
-            state.acquire(kind, at(state, site), entryOf(state, lock).number);
+            state.acquire(kind, at(state, site), lockOf(state, lock).number);
         }
     }
 
@@ -319,7 +325,7 @@ public final class Recorder {
     private static void takeBackUnless(boolean taken, Object lock) {
         ThreadState state = state();
         if (!taken && lock != null && !state.isOff()) {
-            state.takeBack(entryOf(state, lock).number);
+            state.takeBack(lockOf(state, lock).number);
         }
     }
 
@@ -345,7 +351,7 @@ public final class Recorder {
     public static void stampedUnlocked(Object lock, int site) {
         ThreadState state = state();
         if (lock instanceof StampedLock && !state.isOff()) {
-            state.release(at(state, site), entryOf(state, lock).number);
+            state.release(at(state, site), lockOf(state, lock).number);
         }
     }
 
@@ -396,7 +402,12 @@ public final class Recorder {
         }
     }
 
-    /** After a form of Thread.join. */
+    /** After Thread.join with a Duration. */
+    public static void joined(Object object, boolean ended, int site) {
+        joined(object, site);
+    }
+
+    /** After the other forms of Thread.join. */
     public static void joined(Object object, int site) {
         if (!(object instanceof Thread)) {
             return;

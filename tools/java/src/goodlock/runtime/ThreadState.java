@@ -196,10 +196,10 @@ final class ThreadState {
         return index;
     }
 
-    /** The entry of the lock that was acquired last, if it was by this object; else null. */
-    LockEntry lastEntry(Object object) {
+    /** The entry of the lock that was acquired last, if it was by this object, or this object's monitor; else null. */
+    LockEntry lastEntry(Object object, boolean monitor) {
         LockEntry entry = heldCount > 0 ? held[heldCount - 1].entry : null;
-        return entry != null && entry.get() == object ? entry : null;
+        return entry != null && entry.get() == object && entry.monitor == monitor ? entry : null;
     }
 
     boolean holds(int lock) {

@@ -18,6 +18,7 @@ final class CallInstrumenter {
     private static final String LOCKS = "java/util/concurrent/locks/";
     private static final String STAMPED = LOCKS + "StampedLock";
     private static final String OBJECT = "Ljava/lang/Object;";
+    private static final String INTERRUPTIBLY = "lockInterruptibly()V";
     private static final String UNIT = "JLjava/util/concurrent/TimeUnit;";
 
     /** Classes whose objects are made to be locks. */
@@ -65,6 +66,16 @@ final class CallInstrumenter {
         arguments = Type.getArgumentTypes(call.desc);
     }
 
+    /** Whether a call of this method is one of these. */
+    static boolean isRecorded(String owner, String name, String descriptor) {
+        if (name.equals("<init>")) {
+            return MADE.contains(owner);
+        }
+        String key = name + descriptor;
+        boolean stamped = STAMPED_BEFORE.containsKey(key) || STAMPED_INSTEAD.containsKey(key) || STAMPED_AFTER.containsKey(key);
+        return BEFORE.containsKey(key) || AFTER.containsKey(key) || key.equals(INTERRUPTIBLY) || owner.equals(STAMPED) && stamped;
+    }
+
     /** Whether the call is one of these. */
     boolean instrument() {
         if (call.getOpcode() == Opcodes.INVOKESTATIC) {
@@ -77,7 +88,7 @@ final class CallInstrumenter {
         if (call.owner.equals(STAMPED)) {
             return stamped(key);
         }
-        if (key.equals("lockInterruptibly()V")) {
+        if (key.equals(INTERRUPTIBLY)) {
             return interruptible();
         }
         return before(BEFORE.get(key)) || after(AFTER.get(key));

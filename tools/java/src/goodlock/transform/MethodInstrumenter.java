@@ -8,6 +8,7 @@ import org.objectweb.asm.tree.ClassNode;
 import org.objectweb.asm.tree.FrameNode;
 import org.objectweb.asm.tree.InsnList;
 import org.objectweb.asm.tree.InsnNode;
+import org.objectweb.asm.tree.InvokeDynamicInsnNode;
 import org.objectweb.asm.tree.LabelNode;
 import org.objectweb.asm.tree.LdcInsnNode;
 import org.objectweb.asm.tree.LineNumberNode;
@@ -25,15 +26,18 @@ final class MethodInstrumenter {
     private final ClassNode owner;
     private final MethodNode method;
     private final boolean loaded;
+    private final References references;
     private final int firstTemporary;
     private int line = -1;
     private int count;
     private boolean changed;
 
-    MethodInstrumenter(ClassNode owner, MethodNode method, boolean loaded) {
+    /** `references`: null where no method can be added. */
+    MethodInstrumenter(ClassNode owner, MethodNode method, boolean loaded, References references) {
         this.owner = owner;
         this.method = method;
         this.loaded = loaded;
+        this.references = references;
         firstTemporary = method.maxLocals;
     }
 
@@ -56,6 +60,8 @@ final class MethodInstrumenter {
                 monitor(at, "monitorExit");
             } else if (at instanceof MethodInsnNode) {
                 changed |= new CallInstrumenter(this, owner.superName, method, (MethodInsnNode) at, firstTemporary).instrument();
+            } else if (at instanceof InvokeDynamicInsnNode && references != null) {
+                changed |= references.replace((InvokeDynamicInsnNode) at, line);
             }
             at = following;
         }

@@ -4,15 +4,19 @@ import goodlock.runtime.Recorder;
 import java.lang.instrument.ClassFileTransformer;
 import java.lang.instrument.Instrumentation;
 import java.lang.instrument.UnmodifiableClassException;
+import java.security.AccessController;
+import java.security.MessageDigest;
+import java.security.NoSuchAlgorithmException;
+import java.security.PrivilegedAction;
 import java.security.ProtectionDomain;
 import java.util.ArrayList;
 import java.util.List;
 import org.objectweb.asm.ClassReader;
-import org.objectweb.asm.ClassVisitor;
 import org.objectweb.asm.ClassWriter;
 import org.objectweb.asm.Opcodes;
 import org.objectweb.asm.commons.SerialVersionUIDAdder;
 import org.objectweb.asm.tree.ClassNode;
+import org.objectweb.asm.tree.FieldNode;
 import org.objectweb.asm.tree.MethodNode;
 
 /** Instruments the program's classes as they are loaded, and java.lang.Thread. */
@@ -35,23 +39,27 @@ public final class Transformer implements ClassFileTransformer {
         this.withJdk = withJdk;
     }
 
-    public static void install(Instrumentation instrumentation, boolean withJdk) throws UnmodifiableClassException {
+    public static void install(Instrumentation instrumentation, boolean withJdk)
+            throws UnmodifiableClassException, NoSuchAlgorithmException {
+        MessageDigest.getInstance("SHA"); // serial versions need it, and it must not be loaded amid one of its own classes
         instrumentation.addTransformer(new Transformer(withJdk), true);
         List<Class<?>> loaded = new ArrayList<>(List.of(Thread.class));
         for (Class<?> type : withJdk ? instrumentation.getAllLoadedClasses() : new Class<?>[0]) {
             if (instrumentation.isModifiableClass(type) && !type.isArray() && type != Thread.class
-                    && isWanted(type.getName().replace('.', '/'), type.getClassLoader(), true)) {
+                    && isWanted(type.getName().replace('.', '/'), type.getModule(), true)) {
                 loaded.add(type);
             }
         }
         instrumentation.retransformClasses(loaded.toArray(new Class<?>[0]));
     }
 
-    private static boolean isWanted(String name, ClassLoader loader, boolean withJdk) {
-        if (name.startsWith("goodlock/") || loader == Transformer.class.getClassLoader()) {
+    /** Classes of the boot class loader that are in no module were put on its path by the program. */
+    private static boolean isWanted(String name, Module module, boolean withJdk) {
+        ClassLoader loader = module.getClassLoader();
+        if (loader == null && name.startsWith("goodlock/runtime/") || loader == Transformer.class.getClassLoader()) {
             return false;
         }
-        if (loader != null && loader != ClassLoader.getPlatformClassLoader()) {
+        if (loader != null && loader != ClassLoader.getPlatformClassLoader() || !module.isNamed()) {
             return true;
         }
         boolean wanted = withJdk;
@@ -62,12 +70,17 @@ public final class Transformer implements ClassFileTransformer {
     }
 
     @Override
-    public byte[] transform(ClassLoader loader, String name, Class<?> loaded, ProtectionDomain domain, byte[] code) {
-        if (name == null || !name.equals(THREAD) && !isWanted(name, loader, withJdk)) {
+    public byte[] transform(Module module, ClassLoader loader, String name, Class<?> loaded, ProtectionDomain domain,
+            byte[] code) {
+        return AccessController.doPrivileged((PrivilegedAction<byte[]>) () -> transform(module, name, loaded != null, code));
+    }
+
+    private byte[] transform(Module module, String name, boolean loaded, byte[] code) {
+        if (name == null || !name.equals(THREAD) && !isWanted(name, module, withJdk)) {
             return null;
         }
         try {
-            return instrumented(name, loaded != null, code);
+            return instrumented(name, loaded, code);
         } catch (RuntimeException | Error failure) {
             leave(name, failure);
             return null;
@@ -90,7 +103,10 @@ public final class Transformer implements ClassFileTransformer {
         }
         ClassReader reader = new ClassReader(read);
         ClassNode node = new ClassNode();
-        reader.accept(loaded ? node : keepingIdentity(node), ClassReader.EXPAND_FRAMES);
+        reader.accept(node, ClassReader.EXPAND_FRAMES);
+        if (!loaded && hasSynchronizedMethod(node)) {
+            keepIdentity(node, reader);
+        }
         boolean changed = name.equals(THREAD) ? hookStart(node) : instrumentMethods(node, loaded);
         if (!changed) {
             return null;
@@ -103,26 +119,25 @@ public final class Transformer implements ClassFileTransformer {
         return written;
     }
 
+    private static boolean hasSynchronizedMethod(ClassNode node) {
+        for (MethodNode method : node.methods) {
+            if ((method.access & Opcodes.ACC_SYNCHRONIZED) != 0) {
+                return true;
+            }
+        }
+        return false;
+    }
+
     /** A synchronized method will be one with a synchronized block. A class's serial version, where none is written down, depends
      * on that: it is written down here as it was. */
-    private static ClassVisitor keepingIdentity(ClassNode node) {
-        return new SerialVersionUIDAdder(Opcodes.ASM9, node) {
-            private boolean needed;
-
-            @Override
-            public org.objectweb.asm.MethodVisitor visitMethod(int access, String name, String descriptor, String signature,
-                    String[] exceptions) {
-                needed |= (access & Opcodes.ACC_SYNCHRONIZED) != 0;
-                return super.visitMethod(access, name, descriptor, signature, exceptions);
-            }
-
+    private static void keepIdentity(ClassNode node, ClassReader reader) {
+        reader.accept(new SerialVersionUIDAdder(Opcodes.ASM9, null) {
             @Override
             protected void addSVUID(long identity) {
-                if (needed) {
-                    super.addSVUID(identity);
-                }
+                int access = Opcodes.ACC_STATIC | Opcodes.ACC_FINAL;
+                node.fields.add(new FieldNode(access, "serialVersionUID", "J", null, identity));
             }
-        };
+        }, ClassReader.SKIP_CODE);
     }
 
     private static boolean hookStart(ClassNode node) {
@@ -138,10 +153,15 @@ public final class Transformer implements ClassFileTransformer {
 
     private static boolean instrumentMethods(ClassNode node, boolean loaded) {
         boolean changed = false;
+        References references = loaded ? null : new References(node);
         for (MethodNode method : node.methods) {
             if ((method.access & (Opcodes.ACC_ABSTRACT | Opcodes.ACC_NATIVE)) == 0) {
-                changed |= new MethodInstrumenter(node, method, loaded).instrument();
+                changed |= new MethodInstrumenter(node, method, loaded, references).instrument();
             }
+        }
+        for (MethodNode method : references == null ? List.<MethodNode>of() : references.added()) {
+            new MethodInstrumenter(node, method, false, null).instrument();
+            node.methods.add(method);
         }
         return changed;
     }

@@ -1,0 +1,67 @@
+"""Where classes come from, and what a JVM may be told."""
+
+import os
+
+import pytest
+from java_traces import all_of_java, compile_source, record, version_of
+from known_traces import compare
+
+pytestmark = pytest.mark.usefixtures("classes")
+
+WITHOUT_SECURITY_MANAGERS = 24
+WITH_DURATIONS = 19
+PROGRAM = """PACKAGE
+public class Main {
+    static final Object lock = new Object();
+
+    public static void main(String[] words) throws Exception {
+        Thread thread = new Thread(Main::take);
+        thread.start();
+        thread.join(LIMIT);
+    }
+
+    static void take() {
+        synchronized (lock) {
+            lock.notify();
+        }
+    }
+}
+"""
+TRACE = """main|fork(main.1:Main.lambda)|Main.java:7
+main|join(main.1:Main.lambda)|Main.java:8
+main.1:Main.lambda|acq(Object@Main.java:3#1)|Main.java:12
+main.1:Main.lambda|rel(Object@Main.java:3#1)|Main.java:14"""
+
+
+def expect_trace(text, *words, javac="javac", java="java"):
+    compile_source("Main", text, javac)
+    run = record(None, command=[java, *words])
+    assert run.status == 0, run.said
+    compare(run.lines(), TRACE.split("\n"))
+
+
+def in_package(name, limit=""):
+    return PROGRAM.replace("PACKAGE", "package %s;" % name).replace("LIMIT", limit)
+
+
+def test_package_of_the_recorders_name():
+    expect_trace(in_package("goodlock.runtime.of.mine"), "-cp", "own", "goodlock.runtime.of.mine.Main")
+
+
+def test_classes_on_the_boot_class_path():
+    expect_trace(in_package("booted"), "-Xbootclasspath/a:own", "booted.Main")
+
+
+def test_security_manager():
+    if version_of(all_of_java()[0]) >= WITHOUT_SECURITY_MANAGERS:
+        pytest.skip("this Java has no security managers")
+    expect_trace(in_package("secured"), "-Djava.security.manager", "-cp", "own", "secured.Main")
+
+
+def test_join_with_a_duration():
+    java = all_of_java()[-1]
+    javac = os.path.join(os.path.dirname(java), "javac")
+    if version_of(java) < WITH_DURATIONS or not os.access(javac, os.X_OK):
+        pytest.skip("no Java 19 or later with its compiler here")
+    text = in_package("later", "java.time.Duration.ofMinutes(1)")
+    expect_trace(text, "-cp", "own", "later.Main", javac=javac, java=java)
