@@ -1,7 +1,8 @@
 -- What is found class by class, joined.
-use Rattle.std.proofs.Common.{◌≡◌, ℕ, zero, suc, ◌+◌, ◌-◌, ◌<◌, ◌≤◌, List, [], ◌∷◌, ◌++◌, length, map, take, get_or, Some, refl, sym, ap, ◌∙◌, arith}
-use Rattle.std.specs.Prelude.{slice_get, All}
-use Rattle.std.specs.List.{flat_map, range_with_len}
+use Rattle.std.proofs.Common.{◌≡◌, ℕ, zero, suc, ◌+◌, ◌-◌, ◌<◌, ◌≤◌, List, [], ◌∷◌, ◌++◌, length, map, take, get_or, Some, refl, sym, ap, subst, ◌∙◌, arith}
+use Rattle.std.specs.Prelude.{slice_get, All, IfOk}
+use Rattle.std.specs.List.{flat_map, range_with_len, AllZip}
+use Rattle.std.specs.declared.result.Result.{Result}
 use Rattle.std.proofs.lemmas.List.{append-nil}
 use Rattle.std.proofs.lemmas.List.Elements.{All-push}
 use Rattle.std.proofs.lemmas.Grind.{flat_map-append}
@@ -13,6 +14,11 @@ use Rattle.gl_findings.specs.bodies.Finding.{IsReady, block_of, below_of, first_
 use Rattle.gl_findings.specs.declared.finder.Finder.{Finder}
 use Rattle.gl_findings.proofs.Below.{findings-from}
 use Rattle.gl_findings.proofs.Prepared.{skipped}
+
+-- what each answer has, by what the closure that gave it holds
+pub by_held : {F V E : Type 0} (view : V → List (List ℕ)) (first : F → ℕ → List (List ℕ)) (f g : F) (roots : List ℕ) (rs : List (Result V E)) → f ≡ g
+    → AllZip (λ (root : ℕ) (r : Result V E). IfOk r (λ found. view found ≡ first f root)) roots rs → AllZip (λ (root : ℕ) (r : Result V E). IfOk r (λ found. view found ≡ first g root)) roots rs
+by_held {F} {V} {E} view first f g roots rs same all = subst (λ (q : F). AllZip (λ (root : ℕ) (r : Result V E). IfOk r (λ found. view found ≡ first q root)) roots rs) same all
 
 -- numbers that are one more
 one_on : {Y : Type 0} (g : ℕ → List Y) (a n : ℕ) → flat_map g (range_with_len (a + 1) n) ≡ flat_map (λ i. g (suc i)) (range_with_len a n)
