@@ -1,5 +1,5 @@
 -- What is found class by class, joined.
-use Rattle.std.proofs.Common.{◌≡◌, ℕ, zero, suc, ◌+◌, ◌-◌, ◌<◌, ◌≤◌, List, [], ◌∷◌, ◌++◌, length, map, take, get_or, Some, refl, sym, ap, subst, ◌∙◌, arith}
+use Rattle.std.proofs.Common.{◌≡◌, ℕ, zero, suc, ◌+◌, ◌-◌, ◌<◌, ◌≤◌, List, [], ◌∷◌, ◌++◌, length, take, get_or, Some, refl, sym, ap, subst, ◌∙◌, arith}
 use Rattle.std.specs.Prelude.{slice_get, All, IfOk}
 use Rattle.std.specs.List.{flat_map, range_with_len, AllZip}
 use Rattle.std.specs.declared.result.Result.{Result}
@@ -8,7 +8,7 @@ use Rattle.std.proofs.lemmas.List.Elements.{All-push}
 use Rattle.std.proofs.lemmas.Grind.{flat_map-append}
 use Rattle.gl_segments.specs.Clocks.{is_before}
 use Rattle.gl_cycles.proofs.Joining.{flat-take}
-use Rattle.gl_cycles.proofs.Lists.{same_flat_map, upto-more, upto-until}
+use Rattle.gl_cycles.proofs.Lists.{upto-more, upto-until}
 use Rattle.gl_findings.specs.Findings.{findings}
 use Rattle.gl_findings.specs.bodies.Finding.{IsReady, block_of, below_of, first_from, first_of_root}
 use Rattle.gl_findings.specs.declared.finder.Finder.{Finder}

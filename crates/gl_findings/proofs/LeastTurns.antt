@@ -1,7 +1,7 @@
 -- Turns of a list: one of them is least, and only one; a turn of a turn is a turn.
-use Rattle.std.proofs.Common.{◌≡◌, ℕ, zero, suc, ◌+◌, ◌-◌, ◌<◌, ◌≤◌, ◌⊎◌, Bool, true, false, List, [], ◌∷◌, ◌++◌, length, take, drop, refl, sym, ap, subst, ◌∙◌, arith, inl, inr}
+use Rattle.std.proofs.Common.{◌≡◌, ℕ, zero, suc, ◌+◌, ◌-◌, ◌<◌, ◌≤◌, Bool, true, false, List, [], ◌∷◌, ◌++◌, length, take, drop, refl, sym, ap, ◌∙◌, arith, inl, inr}
 use Rattle.std.specs.Prelude.{nat_eq, Contains}
-use Rattle.std.specs.List.{list_all, list_any, range_with_len}
+use Rattle.std.specs.List.{list_all, range_with_len}
 use Rattle.std.specs.Ordering.{nat_cmp, is_le, is_eq, ordering_reverse}
 use Rattle.std.specs.Cmp.Lexicographic.{pointwise, slice_cmp, same_text, texts_ties}
 use Rattle.std.specs.declared.cmp.Ordering.{Ordering}
@@ -165,14 +165,22 @@ least_of xs zero = (0, omega arith, λ j below. let none : 0 ≡ j = omega arith
 least_of xs (suc m) =
     let (k, below, least) = least_of xs m in
     elim (cases_Bool (is_le (order (turned k xs) (turned (suc m) xs)))) [
-      | inl le ↦ (k, omega (arith, below), λ j within. elim (cases_lt j (suc m)) [
+      | inl le ↦ (
+        k,
+        omega (arith, below),
+        λ j within. elim (cases_lt j (suc m)) [
           | inl lower ↦ least j lower
           | inr last ↦ let is : suc m ≡ j = omega (arith, within, last) in ap (λ n. is_le (order (turned k xs) (turned n xs))) (sym is) ∙ le
-        ])
-      | inr above ↦ (suc m, omega arith, λ j within. elim (cases_lt j (suc m)) [
+        ],
+      )
+      | inr above ↦ (
+        suc m,
+        omega arith,
+        λ j within. elim (cases_lt j (suc m)) [
           | inl lower ↦ le_along (turned (suc m) xs) (turned k xs) (turned j xs) (le_other_way (turned k xs) (turned (suc m) xs) above) (least j lower)
           | inr last ↦ let is : suc m ≡ j = omega (arith, within, last) in ap (λ n. is_le (order (turned (suc m) xs) (turned n xs))) (sym is) ∙ le_itself (turned (suc m) xs)
-        ])
+        ],
+      )
     ]
 
 -- each list has a turn that begins least
@@ -181,12 +189,11 @@ told [] some = absurd (omega arith)
 told (x ∷ xs) some =
     let (k, below, least) = least_of (x ∷ xs) (length xs) in
     let ys = turned k (x ∷ xs) in
-    let long : length ys ≡ length (x ∷ xs) = length-turned k (x ∷ xs) in
-    (
+    let long : length ys ≡ length (x ∷ xs) = length-turned k (x ∷ xs) in (
       ys,
       least_from ys (λ j within.
-      let (i, lower, is) = turn_along (x ∷ xs) ys (turned j ys) (k, omega (arith, below), refl) (j, within, refl) in
-      ap (λ l. is_le (order ys l)) (sym is) ∙ least i (omega (arith, lower))),
+          let (i, lower, is) = turn_along (x ∷ xs) ys (turned j ys) (k, omega (arith, below), refl) (j, within, refl) in
+          ap (λ l. is_le (order ys l)) (sym is) ∙ least i (omega (arith, lower))),
       (k, omega (arith, below), refl),
     )
 

@@ -1,5 +1,5 @@
 -- Edges and their models: what kinds tell of the ones they tell of the others.
-use Rattle.std.proofs.Common.{◌≡◌, ℕ, suc, ◌<◌, Bool, true, not, ◌&&◌, eqb, List, [], ◌∷◌, length, map, Some, refl, sym, ap, subst, ◌∙◌, arith}
+use Rattle.std.proofs.Common.{◌≡◌, ℕ, Bool, true, not, ◌&&◌, eqb, List, [], ◌∷◌, map, Some, refl, sym, ap, subst, arith}
 use Rattle.std.specs.Prelude.{slice_get, All}
 use Rattle.std.specs.List.{list_all, cons_option}
 use Rattle.std.proofs.lemmas.List.Elements.{All-cons, All-head, All-tail}

@@ -1,5 +1,5 @@
 -- What a search that can begin knows of the classes that it passes over.
-use Rattle.std.proofs.Common.{◌≡◌, ℕ, suc, ◌+◌, ◌-◌, ◌<◌, ◌≤◌, Bool, true, false, cond, List, [], ◌∷◌, ◌++◌, length, map, take, get_or, Option, Some, None, refl, sym, ap, subst, ◌∙◌, arith, inl, inr}
+use Rattle.std.proofs.Common.{◌≡◌, ℕ, suc, ◌+◌, ◌-◌, ◌<◌, ◌≤◌, Bool, true, false, cond, List, [], ◌∷◌, ◌++◌, length, take, get_or, Option, Some, None, refl, sym, ap, subst, ◌∙◌, arith, inl, inr}
 use Rattle.std.specs.Prelude.{slice_get, is_some, MatchOption}
 use Rattle.std.proofs.lemmas.Bool.{cases_lt, false≢true}
 use Rattle.std.proofs.lemmas.List.{append-nil}
@@ -7,11 +7,10 @@ use Rattle.std.proofs.lemmas.Option.{slice_get-get_or}
 use Rattle.gl_segments.specs.Clocks.{is_before}
 use Rattle.gl_filters.specs.Picked.{edges_of_table}
 use Rattle.gl_walks.specs.Walks.{NoWalk}
-use Rattle.gl_walks.specs.declared.purpose.Purpose.TheVariants.{Front}
 use Rattle.gl_findings.specs.Findings.{begins_least, first_with}
 use Rattle.gl_findings.specs.bodies.Finding.{IsReady, block_of, below_of, finding_of}
 use Rattle.gl_findings.specs.declared.finder.Finder.{Finder}
-use Rattle.gl_findings.proofs.Below.{HasGrown, grow_begin, grow_step, grow_end, grow_alone, grow_whole, block-lower}
+use Rattle.gl_findings.proofs.Below.{HasGrown, grow_begin, grow_step, grow_alone, grow_whole, block-lower}
 use Rattle.gl_findings.proofs.Choosing.{none_of_one}
 use Rattle.gl_findings.proofs.Passed.{none_begins, none_through}
 

@@ -1,11 +1,11 @@
 -- None is missed, each is shown by a cycle, and none is told twice.
 use Rattle.std.proofs.Common.{◌≡◌, ◌≢◌, ℕ, zero, suc, ◌+◌, ◌<◌, ◌≤◌, ◌⊎◌, Bool, true, false, cond, List, [], ◌∷◌, ◌++◌, length, map, filter, take, drop, get_or, Option, Some, None, refl, sym, ap, subst, ◌∙◌, arith, inl, inr}
 use Rattle.std.specs.Prelude.{slice_get, All, AllPairs, Contains}
-use Rattle.std.specs.List.{cons_option, filter_map, flat_map, position_or_len, range_with_len}
+use Rattle.std.specs.List.{cons_option, flat_map, position_or_len, range_with_len}
 use Rattle.std.proofs.lemmas.Bool.{cases_lt, false≢true, eq-eqb, and_from}
-use Rattle.std.proofs.lemmas.Option.{same_Some, slice_get-map, slice_get_within, get_or_from_slice_get}
+use Rattle.std.proofs.lemmas.Option.{same_Some}
 use Rattle.std.proofs.lemmas.List.{length-map, take-append-drop}
-use Rattle.std.proofs.lemmas.List.Elements.{All-append, All-nil, All-cons, All-head, All-tail, All-contains, All-contains_itself}
+use Rattle.std.proofs.lemmas.List.Elements.{All-append, All-nil, All-cons, All-head, All-tail, All-contains_itself}
 use Rattle.std.proofs.lemmas.List.Kept.{AllPairs-cons}
 use Rattle.std.proofs.lemmas.List.Sums.{fails_before_first}
 use Rattle.gl_event.specs.declared.events.Segment.{Segment}
@@ -13,15 +13,14 @@ use Rattle.gl_edges.specs.declared.edge.Edge.{Edge}
 use Rattle.gl_edges.specs.declared.edge.Sample.{Sample}
 use Rattle.gl_edges.proofs.Membership.{contains_here, contains_later, contains_cases, contains_none, contains_map, contains_map_from, contains_flat_map, contains_flat_map_from, contains_range, contains_range_from}
 use Rattle.gl_filters.specs.declared.query.Mode.{Mode}
-use Rattle.gl_filters.specs.Picked.{edges_of_table, picked}
+use Rattle.gl_filters.specs.Picked.{edges_of_table}
 use Rattle.gl_cycles.specs.AllCycles.{all_cycles, lists_below}
-use Rattle.gl_cycles.specs.Laws.{IsCycleAt}
-use Rattle.gl_cycles.proofs.Fronts.{element_at, length-picked}
+use Rattle.gl_cycles.proofs.Fronts.{length-picked}
 use Rattle.gl_cycles.proofs.Members.{filter_has, filter_from, there_is_cycle}
 use Rattle.gl_findings.specs.Findings.{same_places, class_of, classes_of, signature_of, turned, is_turn, begins_least, first_with, findings}
 use Rattle.gl_findings.specs.Laws.{IsToldBy, AreOneFinding, NoneIsMissed, EachIsCycle, NoneIsTwice}
 use Rattle.gl_findings.proofs.Cutting.{classes_told, All-left, All-right}
-use Rattle.gl_findings.proofs.LeastTurns.{IsTurnOf, turn_tells, turn_from, turn_and_back, told, told_once, length-turned}
+use Rattle.gl_findings.proofs.LeastTurns.{turn_tells, turn_from, turn_and_back, told, told_once, length-turned}
 
 -- the first of some
 first_of : {X : Type 0} (xs : List X) (x : X) → Contains xs x → (y : X) × Contains (take 1 xs) y × Contains xs y
@@ -72,11 +71,10 @@ in_either (y ∷ xs) ys x at =
 
 distinct_joined : {X : Type 0} (xs ys : List X) → AreDistinct xs → AreDistinct ys → ((x : X) → Contains xs x → Contains ys x → ⊥) → AreDistinct (xs ++ ys)
 distinct_joined [] ys one other apart = other
-distinct_joined (x ∷ xs) ys one other apart =
-    (
-      λ at. elim (in_either xs ys x at) [ inl here ↦ one.0 here | inr there ↦ apart x (contains_here x xs) there ],
-      distinct_joined xs ys one.1 other (λ y here there. apart y (contains_later x y xs here) there),
-    )
+distinct_joined (x ∷ xs) ys one other apart = (
+  λ at. elim (in_either xs ys x at) [ inl here ↦ one.0 here | inr there ↦ apart x (contains_here x xs) there ],
+  distinct_joined xs ys one.1 other (λ y here there. apart y (contains_later x y xs here) there),
+)
 
 -- lists that begin with i
 abbrev starting : List (List ℕ) → ℕ → List (List ℕ)
@@ -84,13 +82,12 @@ starting ls i = map (λ rest. i ∷ rest) ls
 
 distinct_starting : (i : ℕ) (ls : List (List ℕ)) → AreDistinct ls → AreDistinct (starting ls i)
 distinct_starting i [] distinct = tt
-distinct_starting i (l ∷ ls) distinct =
-    (
-      λ at.
+distinct_starting i (l ∷ ls) distinct = (
+  λ at.
       let (rest, among, is) = contains_map_from (λ rest. i ∷ rest) (i ∷ l) ls at in
       distinct.0 (subst (Contains ls) (ap (drop 1) is) among),
-      distinct_starting i ls distinct.1,
-    )
+  distinct_starting i ls distinct.1,
+)
 
 distinct_flat : (ls : List (List ℕ)) (b m : ℕ) → AreDistinct ls → AreDistinct (flat_map (starting ls) (range_with_len b m))
 distinct_flat ls b zero distinct = tt
@@ -106,14 +103,13 @@ distinct_flat ls b (suc m) distinct =
 
 distinct_lists : (size n : ℕ) → AreDistinct (lists_below size n)
 distinct_lists size zero = (λ at. contains_none {X = List ℕ} [] at, tt)
-distinct_lists size (suc n) =
-    (
-      λ at.
+distinct_lists size (suc n) = (
+  λ at.
       let (i, among, there) = contains_flat_map_from (starting (lists_below size n)) [] (range_with_len 0 size) at in
       let (rest, of_them, is) = contains_map_from (λ rest. i ∷ rest) [] (lists_below size n) there in
       cc,
-      distinct_flat (lists_below size n) 0 size (distinct_lists size n),
-    )
+  distinct_flat (lists_below size n) 0 size (distinct_lists size n),
+)
 
 -- the first place with the likes of an element of the list is a place of the list
 first_place_below : {X : Type 0} (like : X → X → Bool) → ((x : X) → like x x ≡ true) → (all xs : List X) → All (Contains all) xs
@@ -183,8 +179,7 @@ module _ (before : Segment → Segment → Bool) (mode : Mode) (len : ℕ) (tabl
       let (k, k_below, back) = turn_and_back (signature_of table positions) signature turn in
       let passes = turn_from signature (signature_of table positions) k k_below back in
       let (shown, first, there) = first_of (filter (λ l. is_turn signature (signature_of table l)) (all_cycles before mode len (edges_of_table table))) positions
-      (filter_has (λ l. is_turn signature (signature_of table l)) positions (all_cycles before mode len (edges_of_table table)) at passes) in
-      (
+      (filter_has (λ l. is_turn signature (signature_of table l)) positions (all_cycles before mode len (edges_of_table table)) at passes) in (
         shown,
         contains_flat_map (first_with before mode len table) signature shown (filter begins_least (lists_below (length table) len)) (filter_has begins_least signature (lists_below (length table) len) among begins) first,
         record { signature = signature; one = told_by_it signature shown begins first; other = record { begins = begins; turn = passes } },

@@ -1,5 +1,5 @@
 -- A cycle that is told from another of its edges on: its edges still lead on to each other, and go together.
-use Rattle.std.proofs.Common.{◌≡◌, ◌≢◌, ℕ, zero, suc, ◌+◌, ◌-◌, ◌<◌, ◌≤◌, ◌⊎◌, Bool, true, false, ◌&&◌, eqb, cond, List, [], ◌∷◌, ◌++◌, length, Some, None, refl, sym, ap, ◌∙◌, arith, inl, inr}
+use Rattle.std.proofs.Common.{◌≡◌, ◌≢◌, ℕ, suc, ◌+◌, ◌-◌, ◌<◌, ◌≤◌, ◌⊎◌, Bool, true, false, eqb, cond, List, [], ◌∷◌, ◌++◌, length, Some, refl, sym, ap, ◌∙◌, arith, inl, inr}
 use Rattle.std.specs.Prelude.{slice_get}
 use Rattle.std.specs.List.{list_all}
 use Rattle.std.proofs.lemmas.Bool.{and_parts, and_from, eqb-true, eq-eqb, cases_lt, false≢true}
@@ -49,10 +49,10 @@ home : {X : Type 0} (xs ys : List X) (i : ℕ) (e : X) → slice_get (ys ++ xs) 
 home xs ys i e at =
     elim (cases_lt i (length ys)) [
       | inl front ↦ record {
-          place = length xs + i;
-          stands = get_behind xs ys i ∙ sym (slice_get_before ys xs i front) ∙ at;
-          counts = inl (front, refl);
-        }
+        place = length xs + i;
+        stands = get_behind xs ys i ∙ sym (slice_get_before ys xs i front) ∙ at;
+        counts = inl (front, refl);
+      }
       | inr back ↦ behind back
     ]
   where
@@ -79,13 +79,13 @@ next_place : (m n i k l : ℕ) → ((i < n) × (k ≡ m + i)) ⊎ ((n + k ≡ i)
 next_place m n i k l p q =
     elim p [
       | inl a ↦ elim q [
-          | inl b ↦ pick _ (λ last. absurd (omega (arith, eqb-true (k + 1) (m + n) last, a.1, b.0))) (λ more. omega (arith, a.1, b.1))
-          | inr b ↦ pick _ (λ last. omega (arith, a.0, b.0)) (λ more. absurd (false≢true (sym more ∙ eq-eqb (k + 1) (m + n) (omega (arith, a.0, a.1, b.0)))))
-        ]
+        | inl b ↦ pick _ (λ last. absurd (omega (arith, eqb-true (k + 1) (m + n) last, a.1, b.0))) (λ more. omega (arith, a.1, b.1))
+        | inr b ↦ pick _ (λ last. omega (arith, a.0, b.0)) (λ more. absurd (false≢true (sym more ∙ eq-eqb (k + 1) (m + n) (omega (arith, a.0, a.1, b.0)))))
+      ]
       | inr a ↦ elim q [
-          | inl b ↦ absurd (omega (arith, a.0, b.0))
-          | inr b ↦ pick _ (λ last. absurd (omega (arith, eqb-true (k + 1) (m + n) last, a.0, b.0, b.1))) (λ more. omega (arith, a.0, b.0))
-        ]
+        | inl b ↦ absurd (omega (arith, a.0, b.0))
+        | inr b ↦ pick _ (λ last. absurd (omega (arith, eqb-true (k + 1) (m + n) last, a.0, b.0, b.1))) (λ more. omega (arith, a.0, b.0))
+      ]
     ]
   where
     pick : (t : Bool) → (t ≡ true → l ≡ 0) → (t ≡ false → l ≡ k + 1) → l ≡ cond t 0 (k + 1)

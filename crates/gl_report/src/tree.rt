@@ -49,7 +49,11 @@ fn push_edge(
 }
 
 // The edges.
-pub(crate) fn edge_values(alloc: Global, names: &Names, table: &[(Edge, Sample)]) -> Result<Vec<Value>, Memory>
+pub(crate) fn edge_values(
+    alloc: Global,
+    names: &Names,
+    table: &[(Edge, Sample)],
+) -> Result<Vec<Value>, Memory>
     ensures { IfOk result (λ vs. map view vs.items ≡ map (edge_tree names.now) table.now) }
 {
     let mut values = Vec::new(alloc);

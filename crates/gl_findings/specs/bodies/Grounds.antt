@@ -1,9 +1,6 @@
 -- What a search of signatures relies on.
 use Rattle.std.specs.Prelude.{◌≡◌, ℕ, ◌+◌, ◌<◌, ◌≤◌, Bool, true, List, length, slice_get, Some}
-use Rattle.gl_event.specs.declared.events.Segment.{Segment}
 use Rattle.gl_edges.specs.declared.edge.Edge.{Edge}
-use Rattle.gl_edges.specs.declared.edge.Sample.{Sample}
-use Rattle.gl_filters.specs.Picked.{edges_of_table}
 
 -- the two edges are alike but for thread and segments: they hold and want the same locks, in the same modes, under the same guards
 pub record AreAlike (e f : Edge) : Type 0 where

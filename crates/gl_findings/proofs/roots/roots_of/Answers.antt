@@ -1,4 +1,4 @@
-use Rattle.std.proofs.Common.{◌≡◌, ◌+◌, ◌<◌, ◌≤◌, get_or, subst, sym, arith}
+use Rattle.std.proofs.Common.{◌+◌, get_or, subst, sym, arith}
 use Rattle.gl_findings.proofs.Dealt.{AreRoots, roots_begin, roots_more, roots_all}
 use Rattle.gl_findings.proofs.Prepared.{later, next_at}
 use Rattle.gl_findings.proofs.roots.roots_of.Goals as goal

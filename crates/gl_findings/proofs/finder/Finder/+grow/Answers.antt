@@ -1,9 +1,8 @@
-use Rattle.std.proofs.Common.{◌≡◌, ℕ, ◌+◌, ◌-◌, ◌<◌, ◌≤◌, List, ◌++◌, length, map, take, get_or, sym, ap, ◌∙◌, arith, rules}
+use Rattle.std.proofs.Common.{◌+◌, ◌-◌, length, map, ap, arith, rules}
 use Rattle.std.proofs.lemmas.List.{length-map}
 use Rattle.std.proofs.lemmas.Result.{on_ok_weaker}
 use Rattle.gl_segments.specs.Clocks.{is_before}
-use Rattle.gl_findings.specs.bodies.Finding.{IsReady, finding_of, block_of, below_of}
-use Rattle.gl_findings.proofs.Below.{grow_end, grown_room, grow_none, finding_room}
+use Rattle.gl_findings.proofs.Below.{grown_room, finding_room}
 use Rattle.gl_findings.proofs.Prepared.{begin, step, lower, alone, whole, later, next_at}
 use Rattle.gl_findings.proofs.finder.Finder.+grow.Goals as goal
 

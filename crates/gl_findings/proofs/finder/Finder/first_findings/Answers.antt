@@ -1,4 +1,4 @@
-use Rattle.std.proofs.Common.{◌≡◌, suc, ◌+◌, ◌-◌, ◌++◌, [], length, map, take, sym, ap, ◌∙◌, arith}
+use Rattle.std.proofs.Common.{◌-◌, ◌++◌, [], length, map, take, sym, ap, ◌∙◌, arith}
 use Rattle.gl_segments.specs.Clocks.{is_before}
 use Rattle.gl_findings.specs.bodies.Finding.{below_of}
 use Rattle.gl_findings.proofs.Below.{findings-from}
