@@ -28,6 +28,22 @@ pub(super) fn predict<R: AllocGlobal + Threads + Sync, I: Source, O: Sink>(
     gl_commands::predict(rt, input, output, turns, seed, query, form)
 }
 
+pub(super) fn predict_findings<R: AllocGlobal + Threads + Sync, I: Source, O: Sink>(
+    rt: &R,
+    input: &mut I,
+    output: &mut O,
+    turns: u64,
+    seed: Seed,
+    query: &Query,
+    form: Form,
+) -> Ended
+    requires readable { I.failed input.old ≡ false }
+    requires writable { O.failed output.old ≡ false }
+    requires few_turns { turns ≤ 2 ^ 40 }
+{
+    gl_commands::predict_findings(rt, input, output, turns, seed, query, form)
+}
+
 pub(super) fn live<R: AllocGlobal + Threads + Wait + Sync, I: Source, O: Sink>(
     rt: &R,
     input: &mut I,

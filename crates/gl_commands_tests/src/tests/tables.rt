@@ -3,7 +3,7 @@
 ghost use Rattle.std.specs.Prelude.{◌≡◌, ◌<◌, ◌≤◌, ◌^◌, length, IfOk};
 ghost use Rattle.gl_options.specs.Sessions.{AreOfSession, CanRun};
 
-use super::calls::{check_input, live, predict, replay, stats};
+use super::calls::{check_input, live, predict, predict_findings, replay, stats};
 use super::checks::TRUE_REPORT;
 use super::sessions::session;
 use super::{OPPOSITE_ORDER, TURNS, full};
@@ -119,6 +119,9 @@ fn run<R: AllocGlobal + Threads + Wait + Sync>(
     let ended = match command {
         Command::Predict { query, form } => {
             predict(rt, &mut input, &mut output, turns, seed, query, *form)
+        }
+        Command::Findings { query, form } => {
+            predict_findings(rt, &mut input, &mut output, turns, seed, query, *form)
         }
         Command::Live(options) => live(rt, &mut input, &mut output, turns, seed, options),
         Command::Stats { query } => stats(rt, &mut input, &mut output, turns, seed, query),
@@ -292,6 +295,25 @@ fn predict_from_readers(rt: HostRuntime) -> Result<(), Fail> {
 #[test]
 fn predict_into_writers(rt: HostRuntime) -> Result<(), Fail> {
     expect_writers(&rt, &prediction()?)
+}
+
+fn findings() -> Result<Command, Fail>
+    ensures { IfOk result CanRun }
+{
+    Ok(Command::Findings {
+        query: full()?,
+        form: Form::Text,
+    })
+}
+
+#[test]
+fn findings_from_readers(rt: HostRuntime) -> Result<(), Fail> {
+    expect_readers(&rt, &findings()?)
+}
+
+#[test]
+fn findings_into_writers(rt: HostRuntime) -> Result<(), Fail> {
+    expect_writers(&rt, &findings()?)
 }
 
 #[test]

@@ -8,6 +8,12 @@ use std::test::Fail;
 const NO_LAST_LOCATION: &[u8] =
     b"cycle 1: 2 edges\n  T0 holds a since 1 wants b at 2\n  T1 holds b since 5 wants a at \ncycles: 1\n";
 
+const FINDING: &[u8] =
+    b"finding 1: 2 edges\n  T0 holds a since 1 wants b at 2\n  T1 holds b since 5 wants a at 6\nfindings: 1\n";
+
+const FINDING_WITHOUT_LAST_LOCATION: &[u8] =
+    b"finding 1: 2 edges\n  T0 holds a since 1 wants b at 2\n  T1 holds b since 5 wants a at \nfindings: 1\n";
+
 // What a command writes, what it says on standard error, and its status.
 #[derive(Drop)]
 pub(super) struct Wanted {
@@ -47,6 +53,15 @@ fn reported(alloc: Global, count: usize) -> Result<Wanted, Fail> {
         0..=69 => printed(alloc, NO_CYCLES, 0),
         70 => printed(alloc, NO_LAST_LOCATION, 1),
         _ => printed(alloc, OPPOSITE_ORDER_REPORT, 1),
+    }
+}
+
+// The same of findings.
+fn found(alloc: Global, count: usize) -> Result<Wanted, Fail> {
+    match count {
+        0..=69 => printed(alloc, b"findings: 0\n", 0),
+        70 => printed(alloc, FINDING_WITHOUT_LAST_LOCATION, 1),
+        _ => printed(alloc, FINDING, 1),
     }
 }
 
@@ -90,6 +105,7 @@ fn judged(alloc: Global, count: usize) -> Result<Wanted, Fail> {
 pub(super) fn answered(alloc: Global, command: &Command, trace: &[u8]) -> Result<Wanted, Fail> {
     match command {
         Command::Predict { .. } | Command::Live(_) => reported(alloc, trace.len()),
+        Command::Findings { .. } => found(alloc, trace.len()),
         Command::Stats { .. } => counted(alloc, trace.len()),
         Command::Replay => replayed(alloc, trace),
         Command::Check => judged(alloc, trace.len()),
