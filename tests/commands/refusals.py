@@ -55,6 +55,21 @@ OBJECTS = {
     "join_loop": LOOP,
     "bad line": BAD_LINE,
 }
+# The cycles of these traces are made at different places, so each is a finding.
+FINDINGS = {
+    "opposite_order": worked_traces.findings(("T0 a 1 b 2", "T1 b 5 a 6")),
+    "joined_before": worked_traces.findings(),
+    "first_of_two_cycles": worked_traces.findings(("T0 a 1 b 2", "T1 b 9 a 10"), ("T0 c 5 d 6", "T1 d 13 c 14")),
+    "join_loop": LOOP,
+    "bad line": BAD_LINE,
+}
+FINDING_OBJECTS = {
+    "opposite_order": worked_traces.findings_json(JOINED, [[0, 1]]),
+    "joined_before": worked_traces.findings_json(JOINED, []),
+    "first_of_two_cycles": worked_traces.findings_json(TWO_CYCLES, [[0, 2], [1, 3]]),
+    "join_loop": LOOP,
+    "bad line": BAD_LINE,
+}
 COUNTS = {
     "opposite_order": worked_traces.counts(6, 0, 0, 2, 2, 2, 2, 1),
     "joined_before": worked_traces.counts(9, 0, 0, 3, 2, 6, 2, 0),
@@ -76,6 +91,8 @@ LISTS = {name: (text, b"", 0) for name, text in TRACES.items()} | {"bad line": B
 ANSWERS = {
     "predict": TEXTS,
     "predict --json": OBJECTS,
+    "predict --findings": FINDINGS,
+    "predict --findings --json": FINDING_OBJECTS,
     "stats": COUNTS,
     "replay": LISTS,
     "live": TEXTS,
@@ -88,6 +105,10 @@ ANSWERS = {
 # Words that are answered without any input, and the status; what they print is theirs. By the command that knows them.
 USAGE = {
     "predict": {"--help": 0, "--version": 0, "predict --help": 0, "": 2, "predict --len 17": 2, "predict --mode Full": 2},
+    "predict --findings": {
+        "predict --findings=yes": 2, "predict --findings --findings": 2, "predict --findings --max 0": 2,
+        "predict --findings --stream": 2, "stats --findings": 2, "live --findings": 2, "replay --findings": 2,
+    },
     "stats": {"stats --json": 2},
     "live": {"live --help": 0, "live --ring 0": 2, "live --ring 65537": 2, "live --shards 0": 2, "live --recorders 17": 2},
     "live --stream": {

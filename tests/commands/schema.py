@@ -6,7 +6,7 @@
 Each rule of the schema has to refuse a wrong document that no other rule refuses, and hand-made reports have to
 pass. With a program (`goodlock predict`; `--json` and a query are added), its reports of the samples, of a trace
 with all bytes in its names and of random traces have to pass too, be spelled as the schema's description says,
-and say the query that was asked. The validator here knows the keywords of this schema alone and stops at any
+and say the query that was asked; with `--findings` too, which is skipped by name where the program's help doesn't have it. The validator here knows the keywords of this schema alone and stops at any
 other. The last line is `N passed, N failed`.
 """
 
@@ -140,7 +140,10 @@ NONE = dict(REPORT, cycles=[])
 TABLE = [dict(edge, guard_modes=["x"], held_mode="x", wanted_mode="x") for edge in EDGES]
 REPORT_2 = dict(REPORT, format=2, cycles=[[0, 1]], edges=TABLE, trim=None)
 NONE_2 = dict(REPORT_2, cycles=[], edges=[], trim=[])
+REPORT_3 = dict(edges=TABLE, findings=[[0, 1]], format=3, len=4, max=1000, mode="full", more=False)
+NONE_3 = dict(REPORT_3, edges=[], findings=[])
 LEFT_OUT = object()
+FORM_1, FORM_2, FORM_3 = "/else/else/$ref", "/then/$ref", "/else/then/$ref"  # the ways to their definitions
 
 
 def changed(report, *way_and_value):
@@ -164,8 +167,13 @@ def right_documents():
     yield dict(REPORT_2, cycles=[list(range(16))], len=16)
     yield dict(REPORT_2, cycles=[[0, 1]] * 100_000, max=100_000, more=True)
     yield dict(REPORT_2, cycles=[], trim=[1, 0])
-    yield changed(REPORT_2, "edges", 0, "guard_modes", ["s"] * 64)
-    for report, none, way in ((REPORT, NONE, ("cycles", 0)), (REPORT_2, NONE_2, ("edges",))):
+    yield dict(REPORT_3, findings=[list(range(16))], len=16)
+    yield dict(REPORT_3, findings=[[at, at + 1] for at in range(100_000)], max=100_000, more=True)
+    yield dict(REPORT_3, findings=[])
+    for report in (REPORT_2, REPORT_3):
+        yield changed(report, "edges", 0, "guard_modes", ["s"] * 64)
+    kinds = ((REPORT, NONE, ("cycles", 0)), (REPORT_2, NONE_2, ("edges",)), (REPORT_3, NONE_3, ("edges",)))
+    for report, none, way in kinds:
         yield report
         yield none
         yield dict(report, mode="basic", len=2, max=1, more=True)
@@ -183,21 +191,24 @@ def right_documents():
     for mode in ("x", "s"):
         for key in ("held_mode", "wanted_mode"):
             yield changed(REPORT_2, "edges", 1, key, mode)
+            yield changed(REPORT_3, "edges", 1, key, mode)
 
 
 def wrong_documents():
     """The one rule that the document breaks, and the document."""
     for kind in ([], "x", 1, True, None):
         yield "/type", kind
-    for value in (3, 0, "1", "2", True, None, [1]):
-        yield "/else/$ref/properties/format/const", dict(REPORT, format=value)
-    yield "/else/$ref/required/format", changed(REPORT, "format", LEFT_OUT)
-    yield from wrong_in_both(REPORT, "/else/$ref")
-    yield from wrong_in_both(REPORT_2, "/then/$ref")
-    yield "/else/$ref/additionalProperties", dict(REPORT, edges=[])
-    yield "/then/$ref/additionalProperties", dict(REPORT_2, seed=0)
+    for value in (4, 0, "1", "2", "3", True, None, [1]):
+        yield f"{FORM_1}/properties/format/const", dict(REPORT, format=value)
+    yield f"{FORM_1}/required/format", changed(REPORT, "format", LEFT_OUT)
+    yield from wrong_in_all(REPORT, FORM_1, "cycles")
+    yield from wrong_in_all(REPORT_2, FORM_2, "cycles")
+    yield from wrong_in_all(REPORT_3, FORM_3, "findings")
+    yield f"{FORM_1}/additionalProperties", dict(REPORT, edges=[])
+    yield f"{FORM_2}/additionalProperties", dict(REPORT_2, seed=0)
+    yield f"{FORM_3}/additionalProperties", dict(REPORT_3, trim=None)
 
-    cycle = "/else/$ref/properties/cycles/items/$ref"
+    cycle = f"{FORM_1}/properties/cycles/items/$ref"
     for value in ({}, "ab", 0, None):
         yield f"{cycle}/type", dict(REPORT, cycles=[EDGES, value])
     yield f"{cycle}/minItems", dict(REPORT, cycles=[EDGES[:1]])
@@ -205,46 +216,58 @@ def wrong_documents():
     yield from wrong_edges(REPORT, f"{cycle}/items/$ref", "cycles", 0)
     yield f"{cycle}/items/$ref/additionalProperties", changed(REPORT, "cycles", 0, 1, "held_mode", "x")
 
-    cycle = "/then/$ref/properties/cycles/items/$ref"
-    for value in ({}, "01", 0, None):
-        yield f"{cycle}/type", dict(REPORT_2, cycles=[[0, 1], value])
-    yield f"{cycle}/minItems", dict(REPORT_2, cycles=[[1]])
-    yield f"{cycle}/maxItems", dict(REPORT_2, cycles=[list(range(17))])
-    yield f"{cycle}/uniqueItems", dict(REPORT_2, cycles=[[0, 1, 0]])
-    yield from wrong_numbers(f"{cycle}/items/$ref", lambda value: dict(REPORT_2, cycles=[[0, value]]))
-
-    trim = "/then/$ref/properties/trim"
+    trim = f"{FORM_2}/properties/trim"
     for value in ({}, "", 0, False):
         yield f"{trim}/type", dict(REPORT_2, trim=value)
     yield f"{trim}/uniqueItems", dict(REPORT_2, cycles=[], trim=[0, 1, 0])
     yield from wrong_numbers(f"{trim}/items/$ref", lambda value: dict(REPORT_2, cycles=[], trim=[0, value]))
 
-    table = "/then/$ref/properties/edges"
+    yield f"{FORM_3}/properties/findings/uniqueItems", dict(REPORT_3, findings=[[0, 1], [0, 1]])
+
+    yield from wrong_with_table(REPORT_2, FORM_2, "cycles")
+    yield from wrong_with_table(REPORT_3, FORM_3, "findings")
+
+
+def wrong_with_table(report, top, listed):
+    """What the formats with a table refuse of it, and of the lists of positions."""
+    cycle = f"{top}/properties/{listed}/items/$ref"
+    for value in ({}, "01", 0, None):
+        yield f"{cycle}/type", changed(report, listed, [[0, 1], value])
+    yield f"{cycle}/minItems", changed(report, listed, [[1]])
+    yield f"{cycle}/maxItems", changed(report, listed, [list(range(17))])
+    yield f"{cycle}/uniqueItems", changed(report, listed, [[0, 1, 0]])
+    yield from wrong_numbers(f"{cycle}/items/$ref", lambda value: changed(report, listed, [[0, value]]))
+
+    table = f"{top}/properties/edges/$ref"
     for value in ({}, "", 0, None):
-        yield f"{table}/type", dict(REPORT_2, edges=value)
-    yield f"{table}/uniqueItems", dict(REPORT_2, edges=TABLE + TABLE[:1])
+        yield f"{table}/type", dict(report, edges=value)
+    yield f"{table}/uniqueItems", dict(report, edges=TABLE + TABLE[:1])
     edge = f"{table}/items/$ref"
-    yield from wrong_edges(REPORT_2, edge, "edges")
-    yield f"{edge}/additionalProperties", changed(REPORT_2, "edges", 1, "mode", "x")
+    yield from wrong_edges(report, edge, "edges")
+    yield f"{edge}/additionalProperties", changed(report, "edges", 1, "mode", "x")
     for name in ("held_mode", "wanted_mode"):
         for value in ("X", "", "xs", None, 0):
-            yield f"{edge}/properties/{name}/$ref/enum", changed(REPORT_2, "edges", 1, name, value)
+            yield f"{edge}/properties/{name}/$ref/enum", changed(report, "edges", 1, name, value)
     modes = f"{edge}/properties/guard_modes/$ref"
     for value in ("x", {"x": 0}, None):
-        yield f"{modes}/type", changed(REPORT_2, "edges", 1, "guard_modes", value)
-    yield f"{modes}/minItems", changed(REPORT_2, "edges", 1, "guard_modes", [])
-    yield f"{modes}/maxItems", changed(REPORT_2, "edges", 1, "guard_modes", ["x"] * 65)
+        yield f"{modes}/type", changed(report, "edges", 1, "guard_modes", value)
+    yield f"{modes}/minItems", changed(report, "edges", 1, "guard_modes", [])
+    yield f"{modes}/maxItems", changed(report, "edges", 1, "guard_modes", ["x"] * 65)
     for value in ("e", "", None, 1):
-        yield f"{modes}/items/$ref/enum", changed(REPORT_2, "edges", 1, "guard_modes", ["x", value])
+        yield f"{modes}/items/$ref/enum", changed(report, "edges", 1, "guard_modes", ["x", value])
 
 
-def wrong_in_both(report, top):
-    """What either format refuses of what was asked and of the list of cycles."""
+def wrong_in_all(report, top, listed):
+    """What each format refuses of what was asked and of the list of cycles or findings."""
     for name in report:
-        if name != "format":  # without it a report isn't of format 2
+        if name != "format":  # without it a report is of format 1
             yield f"{top}/required/{name}", changed(report, name, LEFT_OUT)
-    yield f"{top}/properties/cycles/type", dict(report, cycles={})
-    yield f"{top}/properties/cycles/maxItems", dict(report, cycles=report["cycles"] * 100_001)
+    yield f"{top}/properties/{listed}/type", changed(report, listed, {})
+    if listed == "findings":  # of which none stands there twice
+        many = [[at, at + 1] for at in range(100_001)]
+    else:
+        many = report[listed] * 100_001
+    yield f"{top}/properties/{listed}/maxItems", changed(report, listed, many)
     for name, least, most in (("len", 2, 16), ("max", 1, 100_000)):
         for value in ("4", 4.5, True, None, [4]):
             yield f"{top}/properties/{name}/$ref/type", changed(report, name, value)
@@ -264,7 +287,7 @@ def wrong_numbers(at, with_number):
 
 
 def wrong_edges(report, edge, *way):
-    """What either format refuses of the second edge that lies on this way."""
+    """What each format refuses of the second edge that lies on this way."""
     yield f"{edge}/type", changed(report, *way, 1, [])
     for name in report[way[0]][0][0] if len(way) > 1 else report[way[0]][0]:
         yield f"{edge}/required/{name}", changed(report, *way, 1, name, LEFT_OUT)
@@ -328,20 +351,27 @@ def wrong_in(schema, output, status, mode, length, most):
         return "isn't compact text on a line, with keys in order"
     if (report["mode"], report["len"], report["max"]) != (mode, length, most):
         return "says another query"
-    count = len(report["cycles"])
-    if count > most or (report["more"] and count < most) or any(len(cycle) > length for cycle in report["cycles"]):
+    listed = listed_in(report)
+    count = len(listed)
+    if count > most or (report["more"] and count < most) or any(len(cycle) > length for cycle in listed):
         return "lists more or longer cycles than were asked for"
     if status != (1 if count else 0):
         return f"{count} cycles with status {status}"
-    if report["format"] == 2:
+    if report["format"] != 1:
         size = len(report["edges"])
-        if any(position >= size for cycle in report["cycles"] for position in cycle):
+        if any(position >= size for cycle in listed for position in cycle):
             return "has a cycle of an edge that isn't in the table"
         if any(len(edge["guards"]) != len(edge["guard_modes"]) for edge in report["edges"]):
             return "has guards and no mode for each"
-        if report["trim"] is not None and (sorted(report["trim"]) != list(range(size)) or count):
+    if report["format"] == 2 and report["trim"] is not None:
+        if sorted(report["trim"]) != list(range(size)) or count:
             return "takes away other edges than there are, or with cycles"
     return None
+
+
+def listed_in(report):
+    """The listed cycles; of findings those that show them."""
+    return report["findings" if report["format"] == 3 else "cycles"]
 
 
 def traces(cases):
@@ -361,7 +391,7 @@ def main():
     parser.add_argument("program", nargs="?")
     parser.add_argument("arguments", nargs=argparse.REMAINDER)
     options = parser.parse_args()
-    passed = failed = 0
+    passed = failed = skipped = 0
 
     def check(name, problem):
         nonlocal passed, failed
@@ -386,32 +416,42 @@ def main():
     queries = [reference.Query(mode, length) for mode, length in (("full", 4), ("guarded", 2), ("basic", 3))]
     for number, (name, text) in enumerate(traces(min(options.cases, 100))):
         query = queries[number % 3]
-        for form in (1, 2):
+        for form in (1, 2, 3):
+            query.findings = form == 3
             output, _, status = reference.answer("predict", text, query, form)
             problem = status != 2 and wrong_in(schema, output, status, query.mode, query.length, query.most)
             check(f"the reference's report of {name}, format {form}", problem and f"{problem}: {output[:400]!r}")
 
     if options.program:
         command = [os.path.abspath(options.program), *options.arguments, "--json"]
-        with_cycles = with_more = 0
-        for number, (name, text) in enumerate(traces(options.cases)):
-            mode, length = ("full", "basic", "guarded")[number % 3], (4, 2, 16, 3)[number % 4]
-            most = (1000, 1)[number % 2]
-            words = ["--mode", mode, "--len", str(length), "--max", str(most)]
-            done = subprocess.run(command + words, input=text, capture_output=True)
-            if done.returncode == 2:
-                check(f"report of {name}", done.stdout and "refused, and there is output")
-                continue
-            problem = wrong_in(schema, done.stdout, done.returncode, mode, length, most)
-            check(f"report of {name}", problem and f"{problem}: {done.stdout[:400]!r}")
-            if not problem:
-                report = loaded(done.stdout)
-                with_cycles, with_more = with_cycles + (report["cycles"] != []), with_more + report["more"]
-        print(f"{with_cycles} reports with cycles, {with_more} of them with more")
-        if options.cases >= 100:
-            is_enough = with_cycles >= options.cases / 10 and with_more >= options.cases / 100
-            check("random traces", not is_enough and "too few cycles to tell")
-    print(f"{passed} passed, {failed} failed")
+        helped = subprocess.run([*command[:-1], "--help"], stdin=subprocess.DEVNULL, capture_output=True, text=True)
+        forms = [[], ["--findings"]]
+        if "--findings" not in helped.stdout:
+            forms, skipped = forms[:1], 1
+            print(f"{options.program}: no option --findings, so its reports of format 3 are SKIPPED")
+        for form in forms:
+            with_cycles = with_more = 0
+            for number, (name, text) in enumerate(traces(options.cases)):
+                mode, length = ("full", "basic", "guarded")[number % 3], (4, 2, 16, 3)[number % 4]
+                most = (1000, 1)[number % 2]
+                words = [*form, "--mode", mode, "--len", str(length), "--max", str(most)]
+                done = subprocess.run(command + words, input=text, capture_output=True)
+                name = f"report of {name}{', findings' * len(form)}"
+                if done.returncode == 2:
+                    check(name, done.stdout and "refused, and there is output")
+                    continue
+                problem = wrong_in(schema, done.stdout, done.returncode, mode, length, most)
+                report = None if problem else loaded(done.stdout)
+                if report is not None and (report["format"] == 3) != (form != []):
+                    problem = f"is of format {report['format']}"
+                check(name, problem and f"{problem}: {done.stdout[:400]!r}")
+                if not problem:
+                    with_cycles, with_more = with_cycles + (listed_in(report) != []), with_more + report["more"]
+            print(f"{with_cycles} reports with {'findings' if form else 'cycles'}, {with_more} of them with more")
+            if options.cases >= 100:
+                is_enough = with_cycles >= options.cases / 10 and with_more >= options.cases / 100
+                check("random traces", not is_enough and "too few cycles to tell")
+    print(f"{passed} passed, {failed} failed{f', {skipped} skipped' * (skipped > 0)}")
     return 1 if failed or passed == 0 else 0
 
 

@@ -17,9 +17,11 @@ class Maker:
         self.random = random_
         odd = random_.random() < 0.2
         names = PLAIN + (ODD if odd else [])
-        self.threads = random_.sample(names, random_.randint(1, 5))
+        # How many pieces of code the threads run, which are then many; none, where each line has a place of its own.
+        self.pieces = random_.choice([0, 0, 1, 2, 3])
+        self.threads = random_.sample(names, random_.randint(4 if self.pieces else 1, 5))
         locks = ["a", "b", "c", "d", "e", "g"] + (["a ", "a)", "(", "\u00fc", "\r"] if odd else [])
-        self.locks = random_.sample(locks, random_.randint(1, 5))
+        self.locks = random_.sample(locks, random_.randint(2 if self.pieces else 1, 5))
         self.stack = {}  # by thread, a lock and whether it is shared, once for each acquire
         self.made = []
         self.shared = random_.choice([0, 0, 0.2, 0.5, 0.8])
@@ -28,20 +30,20 @@ class Maker:
         self.size = random_.randint(0, most_lines)
         self.odd = odd
 
-    def line(self, thread, call):
+    def line(self, thread, call, place=None):
         places = (
             [str(len(self.made) + 1)] * 4 + ["Pool.java:88", "", "a|b", "x y"] + (["\r", "(1)"] if self.odd else [])
         )
-        self.made.append(f"{thread}|{call}|{self.random.choice(places)}")
+        self.made.append(f"{thread}|{call}|{self.random.choice(places) if place is None else place}")
 
-    def acquire(self, thread, lock):
+    def acquire(self, thread, lock, place=None):
         random_ = self.random
         stack = self.stack.setdefault(thread, [])
         held = [is_shared for held, is_shared in stack if held == lock]
         is_shared = random_.random() < self.shared
         if held and held[0] and random_.random() >= self.upgrades:
             is_shared = True
-        self.line(thread, f"{ACQUIRES[random_.random() < self.tried][is_shared]}({lock})")
+        self.line(thread, f"{ACQUIRES[random_.random() < self.tried][is_shared]}({lock})", place)
         stack.append((lock, held[0] if held else is_shared))
 
     def release(self, thread, at):
@@ -50,12 +52,13 @@ class Maker:
         self.line(thread, f"{word}({lock})")
 
     def block(self):
-        """Nested sections of one thread, mostly released in order."""
+        """Nested sections of one thread, mostly released in order; of a piece of code, where others run it too."""
         thread = self.random.choice(self.threads)
         depth = self.random.choice([2, 2, 2, 3, 4])
         held = len(self.stack.get(thread, []))
-        for lock in self.random.sample(self.locks, min(depth, len(self.locks))):
-            self.acquire(thread, lock)
+        piece = self.random.randrange(self.pieces) if self.pieces else None
+        for at, lock in enumerate(self.random.sample(self.locks, min(depth, len(self.locks)))):
+            self.acquire(thread, lock, None if piece is None else f"{piece}:{at}")
         if self.random.random() < 0.85:
             while len(self.stack[thread]) > held:
                 self.release(thread, -1)
@@ -115,7 +118,7 @@ class Maker:
         elif style < 0.4:
             self.relay()
         while len(self.made) < self.size:
-            if style < 0.75 and self.random.random() < 0.7:
+            if style < 0.75 and self.random.random() < (0.9 if self.pieces else 0.7):
                 self.block()
             else:
                 self.single()

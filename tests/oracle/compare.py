@@ -5,7 +5,7 @@
 
 Standard output, standard error and exit status must be equal byte for byte. Further arguments go to the
 program. `--mode`, `--len` and `--max` tell the reference another query than the stage's. `--commands`, as
-"predict, predict --json, stats, replay, live, live --stream", also runs the program with these words and without
+"predict, predict --json, predict --findings, stats, replay, live, live --stream", also runs the program with these words and without
 the further arguments: on the worked traces of each, and on each random one with one of them, with options of its
 own. A difference is shrunk by leaving out lines and written into a file; `--only K` runs case K of the seed
 alone. The last line is `N passed, N failed`, with one for each answer.
@@ -25,15 +25,16 @@ sys.path.insert(0, str(pathlib.Path(__file__).resolve().parent.parent))
 from fuzz import random_traces  # noqa: E402
 from oracle import reference, worked_traces  # noqa: E402
 
-FLAGS = ["--json", "--stream"]
+FLAGS = ["--findings", "--json", "--stream"]
 STREAM_THREADS = 64  # unless --threads is given
 
 
 def by_reference(words, text, form=worked_traces.FORMAT):
-    """The reference's answer to these words and this text, with JSON of this format."""
+    """The reference's answer to these words and this text, with JSON of cycles in this format."""
     word, *options = words
     values = {name: value for name, value in zip(options, [*options[1:], ""]) if name not in FLAGS}
     query = reference.Query(values.get("--mode", "full"), int(values.get("--len", 4)), int(values.get("--max", 1000)))
+    query.findings = "--findings" in options
     if "--stream" in options:
         query.threads = int(values.get("--threads", STREAM_THREADS))
     return reference.answer(word, text, query, form if "--json" in options else None)
@@ -134,7 +135,7 @@ def main():
                     answers.append(("program", run(command, text)))
                 compare(f"{name}, mode {mode}", answers)
         for name, words, text, by_hand in worked_traces.worked_of_commands():
-            if "--json" in words:  # the reference is tried in both formats
+            if "--json" in words and "--findings" not in words:  # the reference is tried in both formats of cycles
                 answers = [
                     ("by hand", worked_traces.in_format(by_hand, 1)),
                     ("reference", by_reference(words.split(), text, 1)),

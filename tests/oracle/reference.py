@@ -4,10 +4,11 @@
 It counts over prefixes, follows chains of steps and selects among lists of edges. Nothing is indexed,
 cached or searched cleverly, so it is for small traces only.
 
-    reference.py [predict|live|stats|replay] [--stage first|full] [--mode M] [--len L] [--max N] [--json]
+    reference.py [predict|live|stats|replay] [--stage first|full] [--mode M] [--len L] [--max N] [--findings] [--json]
         [--format 1|2] [--skip-forks] < trace.std
 
-The command is predict unless it is given; `--json` is for predict and live, and `--format` says which form of JSON (2).
+The command is predict unless it is given; `--findings` is for predict, and lists findings in place of cycles; `--json` is
+for predict and live, and `--format` says which form of JSON (2; findings have a form of their own, 3).
 Stage `first` is mode basic, length 2, and forks and joins are skipped like any other operation; stage `full` (the
 default) is mode full, length 4. Both list at most 1,000 cycles.
 """
@@ -32,12 +33,13 @@ EMPTY, SKIPPED, STRAY = "empty", "skipped", "stray"  # lines that tell no event
 
 
 class Query:
-    def __init__(self, mode="full", length=4, most=1000, with_forks=True, threads=THREAD_LIMIT):
+    def __init__(self, mode="full", length=4, most=1000, with_forks=True, threads=THREAD_LIMIT, findings=False):
         self.mode = mode  # "basic", "guarded" or "full"
         self.length = length
         self.most = most
         self.with_forks = with_forks
         self.threads = threads  # the most of a trace
+        self.findings = findings  # listed in place of cycles
 
 
 STAGES = {"first": Query("basic", 2, 1000, False), "full": Query("full", 4, 1000, True)}
@@ -310,6 +312,29 @@ def cycles_of(edges, before, query):
     return sorted(c for c in candidates if is_cycle(c, before, query.mode))
 
 
+# --- Findings ---------------------------------------------------------------------------------------
+
+
+def class_of(samples, edge):
+    """The position of the first of all edges, in ascending order, that has the pair of places of this one's sample:
+    where the held lock was acquired and the wanted one asked for."""
+    return next(at for at, other in enumerate(sorted(samples)) if samples[other][1:] == samples[edge][1:])
+
+
+def signature_of(classes, cycle):
+    """The classes of the cycle's edges, told from where round the cycle they come first in lexicographic order."""
+    told = [classes[edge] for edge in cycle]
+    return min(told[k:] + told[:k] for k in range(len(told)))
+
+
+def findings_of(samples, cycles):
+    """Of ascending cycles the first one of each signature, by their signatures."""
+    classes = {edge: class_of(samples, edge) for edge in samples}
+    signatures = [signature_of(classes, cycle) for cycle in cycles]
+    firsts = [(signatures[at], cycle) for at, cycle in enumerate(cycles) if signatures[at] not in signatures[:at]]
+    return [cycle for _, cycle in sorted(firsts)]
+
+
 # --- Trimming ---------------------------------------------------------------------------------------
 
 
@@ -344,7 +369,7 @@ def trimmed(edges, before, mode):
 
 class Report(typing.NamedTuple):
     edges: dict  # with their samples
-    cycles: list  # those that are listed
+    cycles: list  # those that are listed, of findings those that show them
     more: bool
     before: set  # pairs of segments
 
@@ -357,20 +382,22 @@ def report_of(trace, query):
             raise Refused(b"inconsistent: %s.%d precedes itself" % (trace.threads[t], i))
     edges = edges_of(trace.lists)
     cycles = cycles_of(sorted(edges), before, query)
+    if query.findings:
+        cycles = findings_of(edges, cycles)
     return Report(edges, cycles[: query.most], len(cycles) > query.most, before)
 
 
-def as_text(trace, report):
+def as_text(trace, report, query):
     threads, locks = trace.threads, trace.locks
-    text = b""
+    text, word = b"", b"finding" if query.findings else b"cycle"
     for number, cycle in enumerate(report.cycles, 1):
-        text += b"cycle %d: %d edges\n" % (number, len(cycle))
+        text += b"%s %d: %d edges\n" % (word, number, len(cycle))
         for edge in cycle:
             _, held_location, wanted_location = report.edges[edge]
             names = (threads[edge.thread], locks[edge.held], held_location, locks[edge.wanted], wanted_location)
             text += b"  %s holds %s since %s wants %s at %s\n" % names
     more = b" (more)" if report.more else b""
-    return text + b"cycles: %d%s\n" % (len(report.cycles), more)
+    return text + b"%ss: %d%s\n" % (word, len(report.cycles), more)
 
 
 def escaped(name):
@@ -382,7 +409,8 @@ LETTERS = {EXCLUSIVE: "x", SHARED: "s"}
 
 
 def as_json(trace, report, query, form):
-    """Form 1 spells out the edges of each cycle; form 2 has all edges, with modes, and the cycles by their positions."""
+    """Form 1 spells out the edges of each cycle; form 2 has all edges, with modes, and the cycles by their positions;
+    form 3 is that of findings, each by the positions of the cycle that shows it."""
 
     def edge_object(edge):
         place, held_location, wanted_location = report.edges[edge]
@@ -410,10 +438,11 @@ def as_json(trace, report, query, form):
         tree["cycles"] = [[edge_object(edge) for edge in cycle] for cycle in report.cycles]
     else:
         table = sorted(report.edges)
-        gone, left = trimmed(table, report.before, query.mode)
         tree["edges"] = [edge_object(edge) for edge in table]
-        tree["cycles"] = [[table.index(edge) for edge in cycle] for cycle in report.cycles]
-        tree["trim"] = None if left else [table.index(edge) for edge in gone]
+        tree["findings" if form == 3 else "cycles"] = [[table.index(edge) for edge in cycle] for cycle in report.cycles]
+        if form == 2:
+            gone, left = trimmed(table, report.before, query.mode)
+            tree["trim"] = None if left else [table.index(edge) for edge in gone]
     return json.dumps(tree, sort_keys=True, separators=(",", ":")).encode() + b"\n"
 
 
@@ -423,7 +452,7 @@ def as_json(trace, report, query, form):
 def predicted(text, query, form):
     trace = trace_of(text, query)
     report = report_of(trace, query)
-    printed = as_json(trace, report, query, form) if form else as_text(trace, report)
+    printed = as_json(trace, report, query, 3 if query.findings else form) if form else as_text(trace, report, query)
     return printed, b"", 1 if report.cycles else 0
 
 
@@ -461,7 +490,7 @@ COMMANDS = {"predict": predicted, "live": predicted, "stats": counted, "replay":
 
 
 def answer(command, text, query, form=None):
-    """Standard output, standard error and exit status; the form of JSON, or nothing for plain text."""
+    """Standard output, standard error and exit status; the form of JSON of cycles, or nothing for plain text."""
     try:
         return COMMANDS[command](text, query, form)
     except Refused as refused:
@@ -481,6 +510,7 @@ def main():
     parser.add_argument("--mode", choices=["basic", "guarded", "full"])
     parser.add_argument("--len", type=int, dest="length")
     parser.add_argument("--max", type=int, dest="most")
+    parser.add_argument("--findings", action="store_true")
     parser.add_argument("--json", action="store_true")
     parser.add_argument("--format", type=int, choices=[1, 2], default=2)
     parser.add_argument("--skip-forks", action="store_true")
@@ -491,6 +521,7 @@ def main():
         options.length or stage.length,
         options.most or stage.most,
         stage.with_forks and not options.skip_forks,
+        findings=options.findings and options.command == "predict",
     )
     output, errors, status = answer(
         options.command, sys.stdin.buffer.read(), query, options.format if options.json else None

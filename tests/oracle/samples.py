@@ -3,7 +3,7 @@
 
     samples.py [PROGRAM [ARGUMENT..]]
 
-Each output is that of `goodlock predict`, unless the text before it names other words, as `goodlock stats` or
+Each output is that of `goodlock predict`, unless the text before it names other words, as `goodlock stats`, `--findings` or
 `--len 5`. The program gets these words; further arguments in place of `predict`. `goodlock check` reads the sample's report
 as JSON before the sample, and tests/checker/check.py answers too. The last line is `N passed, N failed`, with one for each answer
 that was compared.
@@ -42,7 +42,7 @@ def main():
         for (before, shown), status in zip(blocks, statuses):
             named = re.search(r"`goodlock (\w+)", before)
             command = [named[1]] if named else sys.argv[2:] or ["predict"]
-            options = re.findall(r"(--(?:json|stream)\b|--(?:len|mode|max|recorders|shards|ring|threads)\s\w+)", before)
+            options = re.findall(r"(--(?:findings|json|stream)\b|--(?:len|mode|max|recorders|shards|ring|threads)\s\w+)", before)
             words = [*command, *(word for option in options for word in option.split())]
             read = text
             if command == ["check"]:

@@ -26,8 +26,8 @@ MANY_OPPOSITE = [
 ]
 
 
-def cycle(number, *edges):
-    text = f"cycle {number}: {len(edges)} edges\n"
+def cycle(number, *edges, word="cycle"):
+    text = f"{word} {number}: {len(edges)} edges\n"
     for edge in edges:
         text += "  {} holds {} since {} wants {} at {}\n".format(*edge.split(" "))
     return text.encode()
@@ -41,6 +41,12 @@ def two_edges(*cycles):
     """The answer that lists these cycles of two edges."""
     text = b"".join(cycle(number, *edges) for number, edges in enumerate(cycles, 1))
     return text + f"cycles: {len(cycles)}\n".encode(), b"", 1
+
+
+def findings(*shown, more=""):
+    """The answer that lists these findings, each with the edges of the cycle that shows it."""
+    text = b"".join(cycle(number, *edges, word="finding") for number, edges in enumerate(shown, 1))
+    return text + f"findings: {len(shown)}{more}\n".encode(), b"", 1 if shown else 0
 
 
 def worked_of_lock_modes():
@@ -338,9 +344,153 @@ def in_format(by_hand, form=FORMAT):
     return by_hand[form] if isinstance(by_hand, dict) else by_hand
 
 
+def findings_json(table, shown, most=1000, more="false"):
+    """The answer that lists these findings, each by the positions of the edges of the cycle that shows it."""
+    edges = ",".join(in_format_2 for _, in_format_2 in table)
+    listed = ",".join("[" + ",".join(map(str, cycle)) + "]" for cycle in shown)
+    asked = f'"len":4,"max":{most},"mode":"full","more":{more}'
+    return f'{{"edges":[{edges}],"findings":[{listed}],"format":3,{asked}}}\n'.encode(), b"", 1 if shown else 0
+
+
 def counts(events, skipped, stray, threads, locks, segments, edges, cycles):
     text = f"events: {events}\nskipped: {skipped}\nstray: {stray}\nthreads: {threads}\nlocks: {locks}\n"
     return (text + f"segments: {segments}\nedges: {edges}\ncycles: {cycles}\n").encode(), b"", 0
+
+
+def section(thread, held, held_at, wanted, wanted_at):
+    """The thread takes one lock and then, while it holds it, the other; and gives both back."""
+    taken = [f"{thread} acq {held} @{held_at}", f"{thread} acq {wanted} @{wanted_at}"]
+    return [*taken, f"{thread} rel {wanted} @-", f"{thread} rel {held} @-"]
+
+
+def sections(*told):
+    """`T0 a P b Q` stands for T0's section in which it holds a since P and wants b at Q."""
+    return lines(*[event for one in told for event in section(*one.split(" "))])
+
+
+# Three threads run one piece of code, and three the other: nine cycles, which are one finding.
+TWO_PIECES = sections(*[f"T{i} a P b Q" for i in range(3)], *[f"U{i} b R a S" for i in range(3)])
+# Of each of two faults four cycles. Edges 0 to 7 are of the classes 0, 1, 0, 1, 4, 5, 4 and 5.
+TWO_FAULTS = sections(*[f"T{i} {rest}" for i in range(2) for rest in ("a A b B", "c C d D")],
+                      *[f"U{i} {rest}" for i in range(2) for rest in ("b E a F", "d G c H")])
+TWO_FAULTS_EDGES = [
+    edge("T0", "a", "A", "b", "B", 1), edge("T0", "c", "C", "d", "D", 5),
+    edge("T1", "a", "A", "b", "B", 1), edge("T1", "c", "C", "d", "D", 5),
+    edge("U0", "b", "E", "a", "F", 1), edge("U0", "d", "G", "c", "H", 5),
+    edge("U1", "b", "E", "a", "F", 1), edge("U1", "d", "G", "c", "H", 5),
+]  # fmt: skip
+FIRST_FAULT, SECOND_FAULT = ("T0 a A b B", "U0 b E a F"), ("T0 c C d D", "U0 d G c H")
+
+
+def worked_of_findings():
+    """Name, command, text, answer by hand."""
+    one = findings(("T0 a 1 b 2", "T1 b 5 a 6"))
+    philosophers = sections(*[f"P{i} s{i} L s{(i + 1) % 5} R" for i in range(5)])
+    ring_of_five = findings(tuple(f"P{i} s{i} L s{(i + 1) % 5} R" for i in range(5)))
+    # The classes are 1, 2, 3 and, by T0's edge, 0; the cycles' signatures 1 3 and 2 0, which is told as 0 2.
+    crossed = ("T1 a U b V", "T1 c P d Q", "T2 b W a X", "T2 d R c S")
+    first, second = ("T1 a U b V", "T2 b W a X"), ("T1 c P d Q", "T2 d R c S")
+    # T0's and T1's sections are below a gate, T2's isn't.
+    gated = lines("T0 acq g @G", "T0 acq a @P", "T0 acq b @Q", "T1 acq g @G", "T1 acq b @R", "T1 acq a @S")
+    gated += sections("T2 a P b Q")
+    # All of T's part comes after M's, and U's part is ordered by nothing.
+    forked = sections("M a P b Q") + lines("M fork T @-") + sections("T b R a S", "U b R a S")
+    # A ring of three in one turn, the same told from another place, and in the other turn.
+    turns = sections("T0 a A b A2", "T1 b B c B2", "T2 c C a C2")
+    turns += sections("T3 d B e B2", "T4 e C f C2", "T5 f A d A2")
+    other_turn = sections("T6 g A h A2", "T7 h C i C2", "T8 i B g B2")
+    unclosed = lines("T0 acq a @1") + b"T0|rel(a|2\n" + lines("T0 acq b @3")
+    loop = lines("T0 join T1 @1", "T1 join T0 @2")
+    listed = "predict --findings"
+    return [
+        ("empty_input", listed, b"", findings()),
+        ("opposite_order", listed, lines(*OPPOSITE), one),
+        ("one thread alone", listed, sections("T0 a 1 b 2", "T0 b 3 a 4"), findings()),
+        ("many threads in two pieces of code", listed, TWO_PIECES, findings(("T0 a P b Q", "U0 b R a S"))),
+        ("many threads, one of them listed", f"{listed} --max 1", TWO_PIECES, findings(("T0 a P b Q", "U0 b R a S"))),
+        ("two faults", listed, TWO_FAULTS, findings(FIRST_FAULT, SECOND_FAULT)),
+        ("two faults, both listed", f"{listed} --max 2", TWO_FAULTS, findings(FIRST_FAULT, SECOND_FAULT)),
+        ("two faults, more", f"{listed} --max 1", TWO_FAULTS, findings(FIRST_FAULT, more=" (more)")),
+        # A place is a pair: where the held lock was acquired, and where the wanted one is asked for.
+        (
+            "held since other places",
+            listed,
+            sections("T0 a P b Q", "T1 a V b Q", "T2 b R a S"),
+            findings(("T0 a P b Q", "T2 b R a S"), ("T1 a V b Q", "T2 b R a S")),
+        ),
+        (
+            "wanted at other places",
+            listed,
+            sections("T0 a P b Q", "T1 a P b V", "T2 b R a S"),
+            findings(("T0 a P b Q", "T2 b R a S"), ("T1 a P b V", "T2 b R a S")),
+        ),
+        ("both places changed round", listed, sections("T0 a P b Q", "T1 a Q b P", "T2 b R a S"),
+         findings(("T0 a P b Q", "T2 b R a S"), ("T1 a Q b P", "T2 b R a S"))),
+        ("places without a name", listed, sections("T0 a  b ", "T1 b  a ", "T2 a  b "),
+         (b"finding 1: 2 edges\n  T0 holds a since  wants b at \n  T1 holds b since  wants a at \nfindings: 1\n", b"", 1)),
+        # Rings that one place makes: the signatures 0 0, 0 0 0 and so on.
+        ("a ring by one place", f"{listed} --len 5", philosophers, ring_of_five),
+        ("a ring by one place, too long", listed, philosophers, findings()),
+        (
+            "a front before what goes on from it",
+            listed,
+            sections("T0 a P b Q", "T1 b P c Q", "T2 c P a Q", "T3 b P a Q"),
+            findings(("T0 a P b Q", "T3 b P a Q"), ("T0 a P b Q", "T1 b P c Q", "T2 c P a Q")),
+        ),
+        (
+            "a front, of which alone there is more",
+            f"{listed} --max 1",
+            sections("T0 a P b Q", "T1 b P c Q", "T2 c P a Q", "T3 b P a Q"),
+            findings(("T0 a P b Q", "T3 b P a Q"), more=" (more)"),
+        ),
+        (
+            "a longer one before a shorter one",
+            listed,
+            sections("T0 a A b B", "T1 b C c D", "T2 c E a F", "T3 d G e H", "T4 e I d J"),
+            findings(("T0 a A b B", "T1 b C c D", "T2 c E a F"), ("T3 d G e H", "T4 e I d J")),
+        ),
+        ("a pair within another pair's classes", listed, sections("T0 a A b B", "T0 c C d D", "T1 d G c H", "T2 b E a F"),
+         findings(("T0 a A b B", "T2 b E a F"), ("T0 c C d D", "T1 d G c H"))),
+        # A signature is told from where it is least, though the cycle begins at its least thread.
+        ("told from elsewhere", listed, sections("T0 x R y S", *crossed), findings(second, first)),
+        ("told from elsewhere, more", f"{listed} --max 1", sections("T0 x R y S", *crossed),
+         findings(second, more=" (more)")),
+        ("without the edge that gives the class", listed, sections(*crossed), findings(first, second)),
+        ("a pair told from the other place", listed, sections("T0 a P b Q", "T1 b R a S", "T2 c R d S", "T3 d P c Q"),
+         findings(("T0 a P b Q", "T1 b R a S"))),
+        ("a ring told from another place", listed, turns, findings(("T0 a A b A2", "T1 b B c B2", "T2 c C a C2"))),
+        (
+            "a ring the other way round",
+            listed,
+            turns + other_turn,
+            findings(("T0 a A b A2", "T1 b B c B2", "T2 c C a C2"), ("T6 g A h A2", "T7 h C i C2", "T8 i B g B2")),
+        ),
+        ("rings of up to two", f"{listed} --len 2", turns + other_turn, findings()),
+        # Which cycles there are is the mode's to say, and so which one shows a finding.
+        ("a gate lock", listed, gated, findings(("T1 b R a S", "T2 a P b Q"))),
+        ("a gate lock, guarded", f"{listed} --mode guarded", gated, findings(("T1 b R a S", "T2 a P b Q"))),
+        ("a gate lock, basic", f"{listed} --mode basic", gated, findings(("T0 a P b Q", "T1 b R a S"))),
+        ("gate_lock", listed, lines(*GATE), findings()),
+        ("fork order", listed, forked, findings(("M a P b Q", "U b R a S"))),
+        ("fork order, guarded", f"{listed} --mode guarded", forked, findings(("M a P b Q", "T b R a S"))),
+        ("joined_before", listed, lines("M fork T0 @1", "M join T0 @2", "M fork T1 @3", *OPPOSITE), findings()),
+        # An edge that is made at several places is of the first one's class.
+        ("an edge made again elsewhere", listed, sections("T0 a P b Q", "T0 a V b W", "T1 b R a S"),
+         findings(("T0 a P b Q", "T1 b R a S"))),
+        ("an edge of another thread elsewhere", listed, sections("T0 a P b Q", "T0 a V b W", "T1 b R a S", "T2 a V b W"),
+         findings(("T0 a P b Q", "T1 b R a S"), ("T1 b R a S", "T2 a V b W"))),
+        ("readers", listed, lines("T0 racq a @P", "T0 acq b @Q", "T1 acq b @R", "T1 racq a @S"), findings()),
+        ("an unclosed operand", listed, unclosed, refused(2, "bad operand")),
+        ("join_loop", listed, loop, (b"", b"goodlock: inconsistent: T0.1 precedes itself\n", 2)),
+        ("empty_input", f"{listed} --json", b"", findings_json([], [])),
+        ("opposite_order", f"{listed} --json", lines(*OPPOSITE),
+         findings_json([edge("T0", "a", 1, "b", 2, 1), edge("T1", "b", 5, "a", 6, 1)], [[0, 1]])),
+        ("no finding", f"{listed} --json", sections("T0 a 1 b 2"), findings_json([edge("T0", "a", 1, "b", 2, 1)], [])),
+        ("two faults", f"{listed} --json", TWO_FAULTS, findings_json(TWO_FAULTS_EDGES, [[0, 4], [1, 5]])),
+        ("two faults, more", f"{listed} --json --max 1", TWO_FAULTS,
+         findings_json(TWO_FAULTS_EDGES, [[0, 4]], 1, "true")),
+        ("an unclosed operand", f"{listed} --json", unclosed, refused(2, "bad operand")),
+    ]  # fmt: skip
 
 
 def worked_of_commands():
@@ -421,4 +571,5 @@ def worked_of_commands():
         ("each word", "replay", each_word, (by_thread, b"", 0)),
         ("an unclosed operand", "replay", unclosed, refused(2, "bad operand")),
         ("fork_join_fork", "replay", fork_loop, (fork_loop, b"", 0)),
+        *worked_of_findings(),
     ]
