@@ -56,10 +56,13 @@ uint64_t call_word_slow(struct thread *thread, const void *address, enum lock_cl
     struct slot *slot = table_find(&process.sites, return_address);
     int plain = slot && (slot->value & SITE_PLAIN); /* else the return address doesn't tell the site */
     if (lock != 0 && plain && !thread->changing) {
+        struct known_call *known = &thread->known_calls[mix(key + return_address) >> (64 - KNOWN_CALL_BITS)];
         thread->changing = 1;
+        known->address = 0; /* a signal handler finds nothing here, or all */
         __atomic_signal_fence(__ATOMIC_SEQ_CST);
-        thread->known_calls[mix(key + return_address) >> (64 - KNOWN_CALL_BITS)] =
-            (struct known_call){key, return_address, word, generation};
+        *known = (struct known_call){0, return_address, word, generation};
+        __atomic_signal_fence(__ATOMIC_SEQ_CST);
+        known->address = key;
         __atomic_signal_fence(__ATOMIC_SEQ_CST);
         thread->changing = 0;
     }
