@@ -35,7 +35,7 @@ three_times() {
 }
 
 row() { # name, seconds, seconds of the plain run
-    awk -v name="$1" -v time="$2" -v plain="$3" 'BEGIN { printf "%-24s %8.2f s %8.2f\n", name, time, time / plain }'
+    awk -v name="$1" -v time="$2" -v plain="$3" 'BEGIN { printf "%-26s %8.2f s %8.2f\n", name, time, time / plain }'
 }
 
 server_is_up() {
@@ -80,6 +80,7 @@ echo "four threads, two nested locks each, $turns turns"
 plain=$(three_times cost "$work/nested" $turns)
 row plain "$plain" "$plain"
 row goodlock-record "$(three_times cost "$record" -o "$work/trace" "$work/nested" $turns)" "$plain"
+row "goodlock-record --frames 3" "$(three_times cost "$record" --frames 3 -o "$work/trace" "$work/nested" $turns)" "$plain"
 row "goodlock-record --live" "$(three_times cost "$record" --live --every 1 -o "$work/trace" "$work/nested" $turns)" "$plain"
 for compiler in gcc clang; do
     if $compiler -O2 -fsanitize=thread -pthread -o "$work/tsan" "$here/record/nested.c" 2> /dev/null; then
@@ -99,6 +100,7 @@ echo "memcached, 4 threads, $connections connections, $requests requests"
 plain=$(three_times server_cost "$requests")
 row plain "$plain" "$plain"
 row goodlock-record "$(three_times server_cost "$requests" "$record" -o "$work/trace")" "$plain"
+row "goodlock-record --frames 3" "$(three_times server_cost "$requests" "$record" --frames 3 -o "$work/trace")" "$plain"
 row "goodlock-record --live" "$(three_times server_cost "$requests" "$record" --live --every 1 -o "$work/trace")" "$plain"
 if command -v valgrind > /dev/null; then
     time=$(server_cost $((requests / 20)) valgrind --tool=helgrind)

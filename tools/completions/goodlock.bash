@@ -58,7 +58,7 @@ _goodlock_recorder() {
 }
 
 _goodlock_record() {
-    _goodlock_recorder "--live --every"
+    _goodlock_recorder "--functions --live --every"
 }
 
 _goodlock_python() {

@@ -20,6 +20,7 @@ complete -c goodlock -n '__fish_seen_subcommand_from live' -x -l threads -d 'Thr
 
 complete -c goodlock-record -r -s o -d 'The trace or report'
 complete -c goodlock-record -x -l frames -d 'Callers that a place has'
+complete -c goodlock-record -l functions -d 'Show the function beside each line'
 complete -c goodlock-record -l all -d 'Record every event'
 complete -c goodlock-record -l live -d 'A report of the running program, and no trace'
 complete -c goodlock-record -x -l every -d 'A report so far every so many seconds'

@@ -29,7 +29,7 @@ sys.pycache_prefix = os.path.join(os.path.dirname(SOURCES), "out", "python")
 
 from build import BuildError  # noqa: E402
 from convert import ConvertError, Sources, clean, name_process, read_processes, without_parameters  # noqa: E402
-from family import Family, adopt_orphans, descendants  # noqa: E402
+from family import Family, adopt_orphans, descendants, send_signal  # noqa: E402
 from findings import ReportError, read_findings  # noqa: E402
 from launch import VERSION, Failed, Preload, child_environment, fill_closed_descriptors  # noqa: E402
 from recording import new_recording  # noqa: E402
@@ -195,7 +195,8 @@ def waiting_cycle(waits):
 
 
 def first_place(text):
-    return text.split("<", 1)[0]
+    """Without its callers and its function."""
+    return text.split("<", 1)[0].partition(" (")[0]
 
 
 def same_place(one, other):
@@ -260,7 +261,7 @@ class Run:
             self.kill()
 
     def members(self):
-        return descendants(os.getpid(), self.family.strangers)
+        return descendants(self.family.strangers)
 
     def watch(self):
         """Until the program and all that it started have ended, hang in a cycle, or took too long."""
@@ -286,17 +287,7 @@ class Run:
             if not members:
                 break
             for process in members:
-                try:
-                    holder = os.pidfd_open(process)
-                except OSError:
-                    continue
-                try:
-                    if process in self.members():
-                        signal.pidfd_send_signal(holder, signal.SIGKILL)
-                except OSError:
-                    pass
-                finally:
-                    os.close(holder)
+                send_signal(process, signal.SIGKILL, self.members)
             self.family.reap()
             time.sleep(0.01)
         self.family.reap()

@@ -2,15 +2,17 @@
 here are the tables and the names."""
 
 import bisect
+import hashlib
 import mmap
 import os
 import re
 import struct
+import sys
 from array import array
 from collections import Counter
 
 from build import built
-from symbols import Module, demangled, is_wrapper_source, short_paths
+from symbols import Module, demangled, is_wrapper_source, short_function, short_paths
 
 LAYOUT_VERSION = 1
 CHUNK_UNIT = 4096
@@ -30,6 +32,9 @@ NO_KINDS = (0,) * KINDS
 UPGRADE, BEYOND, AGAIN = 9, 10, 11
 NO_THREAD = 0xFFFFFFFFFFFFFFFF
 THREAD_LIMIT = 1024  # goodlock reads no more threads
+EXAMPLES = 256  # how many threads at most are in all windows for what they do
+PIECE = 1 << 16  # words that are looked at at once
+KIND_AND_SITE = 0 if sys.byteorder == "little" else 1  # which half of a word has these
 HELD_LIMIT = 64
 
 
@@ -139,6 +144,7 @@ class Process:
         self.notes = []
         self.no_locks = []
         self.names = None
+        self.windows = None
 
     def read_table(self, words, modules):
         """Records of the tables, one after the other."""
@@ -149,6 +155,21 @@ class Process:
                 raise ConvertError("a table of process %d is damaged" % self.key[0])
             self.read_record(kind, words[place + 1 : place + size], modules)
             place += size
+
+    def check_births(self):
+        """Whether each thread was made by threads that are there, none by itself in the end."""
+        checked = set()
+        for number in self.threads:
+            way = {}
+            while number not in checked and number not in way:
+                thread = way[number] = self.threads[number]
+                if thread.parent == FOREIGN or thread.child == 0:
+                    break
+                number = thread.parent
+            else:
+                if number in way:
+                    raise KeyError(number)
+            checked.update(way)
 
     def read_record(self, kind, values, modules):
         if kind == RECORD_PROCESS:
@@ -242,6 +263,7 @@ def processes_of(events, tables, modules):
                 process.read_table(words, modules)
             for thread, order, path, offset, count in sorted(events[key]):
                 process.threads[thread].chunks.append((path, offset, count))
+            process.check_births()
             processes[key] = process
         except (ConvertError, KeyError, IndexError, ValueError) as error:
             faults.append(str(error) if isinstance(error, ConvertError) else "the files of process %d are damaged" % key[0])
@@ -346,6 +368,10 @@ class Places:
             self.known[site] = self.find_text(site)
         return self.known[site]
 
+    def text_without_functions(self, site):
+        text = self.text(site)
+        return re.sub(r" \([^<]*\)(?=<|$)", "", text) if self.sources.functions else text
+
     def find_text(self, site):
         if site in self.process.places:
             return clean("<".join(map(self.sources.shortened, self.process.places[site])))
@@ -370,7 +396,7 @@ class Places:
 class Sources:
     """Lines of addresses, of all processes together, so that each module is asked once."""
 
-    def __init__(self, processes):
+    def __init__(self, processes, with_functions=False):
         asked = {}
         for process in processes:
             for callers, when in process.sites.values():
@@ -383,6 +409,20 @@ class Sources:
         for process in processes:
             paths.update(place.rpartition(":")[0] for places in process.places.values() for place in places if ":" in place)
         self.short = short_paths(paths)
+        self.functions = self.find_functions() if with_functions else {}
+
+    def find_functions(self):
+        """The short name of each function, by the name that the symbols have; that of an address without lines by its symbol."""
+        names = {frame[0] for found in self.lines.values() for frames in found.values() for frame in frames}
+        for module, found in self.lines.items():
+            symbols = [module.symbol_at(address) for address, frames in found.items() if not frames]
+            names.update(symbol.name for symbol in symbols if symbol)
+        readable = demangled(names)
+        return {name: short_function(readable.get(name, name)) for name in names if name != "??"}
+
+    def with_function(self, place, name):
+        function = self.functions.get(name)
+        return "%s (%s)" % (place, function) if function else place
 
     def shortened(self, place):
         path, colon, line = place.rpartition(":")
@@ -396,7 +436,10 @@ class Sources:
         offset = address - loaded.bias
         frames = self.lines[loaded.module].get(offset, [])
         own = [frame for frame in frames if not is_wrapper_source(frame[1])] or frames[-1:]
-        return ["%s:%d" % (self.short[path], line) for _, path, line in own] or ["%s+0x%x" % (loaded.module.name, offset)]
+        if own:
+            return [self.with_function("%s:%d" % (self.short[path], line), name) for name, path, line in own]
+        symbol = loaded.module.symbol_at(offset) if self.functions else None
+        return [self.with_function("%s+0x%x" % (loaded.module.name, offset), symbol.name if symbol else None)]
 
 
 class Names:
@@ -529,7 +572,7 @@ class Names:
 
     def name_by_place(self, lock, site, thread):
         """kind@file:line#count, with the thread's name where it isn't the first thread."""
-        base = "%s@%s#" % (lock.kind if lock else "lock", self.places.text(site))
+        base = "%s@%s#" % (lock.kind if lock else "lock", self.places.text_without_functions(site))
         if thread != "main":
             base += thread.split(":", 1)[0] + ":"
         self.counts[base] += 1
@@ -607,7 +650,7 @@ class Summary:
 
     def too_many_lines(self):
         yield "%s: goodlock reads at most %d threads, it will refuse this trace" % (self.path, THREAD_LIMIT)
-        yield "%s.window1 to .window%d have at most %d threads each, born one after the other: a cycle is seen only where all its threads are in one" % (
+        yield "%s.window1 to .window%d have at most %d threads each, born one after the other, or doing what few others do: a cycle is seen only where all its threads are in one" % (
             self.path, len(windows(self.process)), THREAD_LIMIT)
 
     def name(self):
@@ -644,19 +687,75 @@ def write_lines(process, traces):
 
 
 def windows(process):
-    """Sets of threads that goodlock reads, for a process that has too many: in each the first thread and those that made threads, and
-    others that were born one after the other. Half of a window's are in the next one too, so that all that were born close to each
-    other are in one together."""
+    """Sets of threads that goodlock reads, for a process that has too many: in each the first thread, those that made threads, some
+    that do what few others do, and others that were born one after the other. Half of a window's are in the next one too, so
+    that all that were born close to each other are in one together."""
+    if process.windows is None:
+        process.windows = found_windows(process)
+    return process.windows
+
+
+def found_windows(process):
     threads = process.threads
     if len(threads) <= THREAD_LIMIT:
         return []
     kept = {number for number, thread in threads.items() if thread.child == 0 or thread.children}
     if len(kept) > THREAD_LIMIT // 2:
         kept = {number for number, thread in threads.items() if thread.child == 0 and thread.parent != FOREIGN}
-    others = sorted(set(threads) - kept)
+    found = windows_with(process, kept)
+    more = examples(process, found, min(EXAMPLES, THREAD_LIMIT // 2 - len(kept)))
+    return windows_with(process, kept | more) if more else found
+
+
+def windows_with(process, kept):
+    """Those with these threads in each."""
+    others = sorted(set(process.threads) - kept)
     room = THREAD_LIMIT - len(kept)
     starts = range(0, max(1, len(others) - room + room // 2), room // 2)
     return [kept.union(others[start : start + room]) for start in starts]
+
+
+def examples(process, found, room):
+    """Threads of each behaviour that isn't in all windows, so many at most: first of those that few threads have."""
+    groups = {}
+    with OpenFiles() as files:
+        for number, thread in sorted(process.threads.items()):
+            groups.setdefault(behaviour(thread, files), []).append(number)
+    groups = [group for group in groups.values() if any(members.isdisjoint(group) for members in found)]
+    groups.sort(key=lambda group: (len(group), group[0]))
+    chosen = set()
+    for place, group in enumerate(groups):
+        share = min(len(group), (room - len(chosen)) // (len(groups) - place) or 1, room - len(chosen))
+        chosen.update(group[(len(group) - 1) * i // max(1, share - 1)] for i in range(share))
+    return chosen
+
+
+def behaviour(thread, files):
+    """What a thread does at which places, whatever its locks are."""
+    text = hashlib.blake2b(digest_size=16)
+    for path, offset, count in thread.chunks:
+        for place in range(0, count, PIECE):
+            words = array("I")
+            words.frombytes(os.pread(files.of(path), 8 * min(PIECE, count - place), offset + 8 * place))
+            text.update(words[KIND_AND_SITE::2].tobytes())
+    return text.digest()
+
+
+class OpenFiles:
+    def __init__(self):
+        self.files = {}
+
+    def __enter__(self):
+        return self
+
+    def of(self, path):
+        if path not in self.files:
+            self.files[path] = os.open(path, os.O_RDONLY | os.O_CLOEXEC)
+        return self.files[path]
+
+    def __exit__(self, *_):
+        for file in self.files.values():
+            os.close(file)
 
 
 def process_paths(keys, trace, first):
@@ -724,14 +823,14 @@ def take_name(path, name):
         os.rename(path, name)
 
 
-def convert_recording(recording, trace, first=None):
+def convert_recording(recording, trace, first=None, with_functions=False):
     """Writes the trace of each process; their summaries, the first process's first, and what was damaged. `first`: its number,
-    else the least."""
+    else the least. `with_functions`: places have the names of their functions."""
     processes, faults = read_processes(recording)
     if first is None and processes:
         first = min(processes)[0]
     paths = trace_paths(processes, trace, first)
-    sources = Sources(processes.values())
+    sources = Sources(processes.values(), with_functions)
     order = sorted(processes.values(), key=lambda process: (process.key[0] != first, process.key))
     for process in order:
         name_process(process, sources)

@@ -27,8 +27,35 @@ def adopt_orphans():
         return False
 
 
-def descendants(root, strangers=()):
-    """The living processes below this one, but not these children and theirs."""
+def number_in_proc():
+    """This process's number in /proc, which may be that of a PID namespace around ours."""
+    try:
+        return int(os.readlink("/proc/self"))
+    except (OSError, ValueError):
+        return os.getpid()
+
+
+def numbers_of(process):
+    """Its numbers in /proc's PID namespace and in each one below down to its own."""
+    try:
+        with open("/proc/%d/status" % process, "rb") as status:
+            return [int(number) for line in status if line.startswith(b"NSpid:") for number in line.split()[1:]]
+    except (OSError, ValueError):
+        return []
+
+
+def number_here(process):
+    """What a process of /proc is called by us; None if it is gone, or isn't in our namespace."""
+    own = number_in_proc()
+    if own == os.getpid():
+        return process
+    level = len(numbers_of(own)) - 1
+    numbers = numbers_of(process)
+    return numbers[level] if 0 <= level < len(numbers) else None
+
+
+def descendants(strangers=()):
+    """The living processes below this one, but not these children and theirs, by their numbers in /proc."""
     children = {}
     for name in os.listdir("/proc"):
         if not name.isdigit():
@@ -40,7 +67,7 @@ def descendants(root, strangers=()):
             continue
         if fields[0] not in (b"Z", b"X"):
             children.setdefault(int(fields[1]), []).append(int(name))
-    found, waiting = [], [root]
+    found, waiting = [], [number_in_proc()]
     while waiting:
         for child in children.get(waiting.pop(), []):
             if child not in strangers:
@@ -49,18 +76,33 @@ def descendants(root, strangers=()):
     return found
 
 
+def send_signal(process, number, members):
+    """To a process, held fast before it is looked at again whether it is among the members."""
+    try:
+        holder = os.pidfd_open(number_here(process) or 0)
+    except OSError:
+        return
+    try:
+        if process in members():
+            signal.pidfd_send_signal(holder, number)
+    except OSError:
+        pass
+    finally:
+        os.close(holder)
+
+
 class Family:
     """The program and what it starts. Nothing else is ever waited for or sent a signal."""
 
     def __init__(self, recording, say):
         self.token = os.fsencode(os.path.basename(recording.directory)) + b"/"
         self.say = say
-        self.strangers = frozenset(descendants(os.getpid()))  # children from before: an exec may bring some
+        self.strangers = frozenset(descendants())  # children from before: an exec may bring some
         self.companion = None  # of a live recording: SIGUSR1 is for it
 
     def accompany(self, companion):
         self.companion = companion
-        self.strangers |= {companion.process}
+        self.strangers |= {process for process in descendants() if number_here(process) == companion.process}
 
     def is_asked(self, info):
         """Whether a signal asks for a report so far, which it does then."""
@@ -71,7 +113,7 @@ class Family:
 
     def recorded(self):
         """Those that write files of the recording, or may."""
-        return [p for p in descendants(os.getpid(), self.strangers) if maps_file(p, self.token) is not False]
+        return [p for p in descendants(self.strangers) if maps_file(p, self.token) is not False]
 
     def reap(self, first=None):
         """Takes the ends of children; the wait status of the first one if it is among them."""
@@ -103,17 +145,7 @@ class Family:
     def hand_on(self, number):
         """Sends a signal to the recorded processes, each held fast before it is looked at again."""
         for process in self.recorded():
-            try:
-                holder = os.pidfd_open(process)
-            except OSError:
-                continue
-            try:
-                if process in self.recorded():
-                    signal.pidfd_send_signal(holder, number)
-            except OSError:
-                pass
-            finally:
-                os.close(holder)
+            send_signal(process, number, self.recorded)
 
     def wait_for_others(self):
         """Waits for the further processes, as those of a server that went into the background. A signal is handed on to
@@ -122,7 +154,7 @@ class Family:
         limit = time.monotonic() + BEGIN_LIMIT
         while True:
             self.reap()
-            family = descendants(os.getpid(), self.strangers)
+            family = descendants(self.strangers)
             running = [p for p in family if maps_file(p, self.token) is not False]
             if not running and (not family or time.monotonic() > limit):
                 return True

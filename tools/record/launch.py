@@ -1,11 +1,12 @@
 """Records the lock events of a program, unchanged, as a trace that goodlock reads.
 
-    goodlock-record [-o TRACE] [--frames N] [--all] [--] PROGRAM [ARGUMENT..]
-    goodlock-record --live [--every S] [-o REPORT] [--frames N] [--all] [--] PROGRAM [ARGUMENT..]
-    goodlock-record [--live] [-o FILE] --convert DIRECTORY
+    goodlock-record [-o TRACE] [--frames N] [--functions] [--all] [--] PROGRAM [ARGUMENT..]
+    goodlock-record --live [--every S] [-o REPORT] [--frames N] [--functions] [--all] [--] PROGRAM [ARGUMENT..]
+    goodlock-record [--live] [-o FILE] [--functions] --convert DIRECTORY
 
 -o TRACE, -o REPORT  the file, else goodlock.std, or goodlock.report with --live
 --frames N           show N callers in a location (1 to 16)
+--functions          show the function beside each line, as a.c:10 (main)
 --all                leave no repeats out
 --live               no trace: follow the program while it runs, and write the report of what it did at its end, as JSON where
                      REPORT ends in .json. SIGUSR1 to goodlock-record adds a report so far to REPORT.lines, and so does a
@@ -37,7 +38,7 @@ SECONDS_LEAST, SECONDS_MOST = 0.1, 1000000
 PRELOAD_SEPARATORS = " :$\t\n"
 LINK_DIRECTORIES = ("/tmp", "/var/tmp", "/dev/shm")
 
-USAGE = "usage: goodlock-record [--live [--every S]] [-o FILE] [--frames N] [--all] [--] PROGRAM [ARGUMENT..]"
+USAGE = "usage: goodlock-record [--live [--every S]] [-o FILE] [--frames N] [--functions] [--all] [--] PROGRAM [ARGUMENT..]"
 
 
 class Failed(Exception):
@@ -108,6 +109,7 @@ class Settings:
         self.trace = None
         self.frames = 1
         self.all = False
+        self.functions = False
         self.live = False
         self.every = None
         self.convert = None
@@ -172,7 +174,7 @@ def read_arguments(arguments, explanation=__doc__, usage=USAGE, flags=("--all",)
 
 def read_own_arguments(arguments):
     """Those of goodlock-record: it can follow a program, too."""
-    settings = read_arguments(arguments, flags=("--all", "--live"), values=("-o", "--frames", "--convert", "--every"))
+    settings = read_arguments(arguments, flags=("--all", "--live", "--functions"), values=("-o", "--frames", "--convert", "--every"))
     if settings.every and not settings.live:
         raise Failed("--every is for --live\n" + USAGE)
     return settings
@@ -253,18 +255,19 @@ def record(settings):
     from recording import new_recording
 
     recorder.prepare()
-    for name in ("goodlock_lines", "goodlock_live") * settings.live:
+    for name in ("goodlock_lines",) + ("goodlock_live",) * settings.live:
         built_before(name)
+    mask = signal.pthread_sigmask(signal.SIG_BLOCK, WAITED)  # none ends this half way
     try:
         recording = new_recording(settings.trace)
     except OSError as error:
         recorder.clean_up()
+        signal.pthread_sigmask(signal.SIG_SETMASK, mask)
         raise Failed("can't write beside %s: %s" % (settings.trace, error.strerror))
     environment = recorder.environment(settings, recording.directory)
     if not adopt_orphans():
         say("processes that outlive their parents aren't waited for: Python's ctypes is missing")
     family = Family(recording, say)
-    mask = signal.pthread_sigmask(signal.SIG_BLOCK, WAITED)
     try:
         process = started_program(settings, environment, mask)
         if settings.live:
@@ -286,7 +289,7 @@ def follow(settings, recording, process, family):
     from live import Companion, Follower
 
     try:
-        family.accompany(Companion(Follower(recording, settings.trace, process, settings.every, say)))
+        family.accompany(Companion(Follower(recording, settings.trace, process, settings.every, settings.functions, say)))
     except OSError as error:
         say("no reports so far: %s" % error)
 
@@ -324,9 +327,9 @@ def convert_all(recording, settings, first, running, ended_by):
         if settings.live:
             from live import report_recording
 
-            summaries, faults = report_recording(recording, settings.trace, first, running, ended_by)
+            summaries, faults = report_recording(recording, settings.trace, first, running, ended_by, settings.functions)
         else:
-            summaries, faults = convert_recording(recording, settings.trace, first)
+            summaries, faults = convert_recording(recording, settings.trace, first, settings.functions)
     except (BuildError, ConvertError, OSError) as error:
         raise Failed("%s (what was recorded is kept in %s)" % (error, recording.directory))
     for line in summary_lines(summaries) + faults:

@@ -104,12 +104,12 @@ def read_tables(tables):
     return found
 
 
-def named_processes(recording, copied, modules):
+def named_processes(recording, copied, modules, with_functions):
     """All processes with their names, and what is damaged. The tables are read after the events: they have all that these name."""
     events = {key: copy.chunks for key, copy in copied.items()}
     tables = {key: read_tables(copy.tables) for key, copy in copied.items()}
     processes, faults = processes_of(events, tables, modules)
-    sources = Sources(processes.values())
+    sources = Sources(processes.values(), with_functions)
     for process in processes.values():
         name_process(process, sources)
     return processes, faults
@@ -245,8 +245,9 @@ class Followed:
 class Follower:
     """Looks at the files of a recording again and again, and writes lines of reports so far."""
 
-    def __init__(self, recording, path, first, every, say):
+    def __init__(self, recording, path, first, every, with_functions, say):
         self.recording = recording
+        self.with_functions = with_functions
         self.path = path
         self.first = first
         self.every = every
@@ -297,7 +298,7 @@ class Follower:
             followed.hash, followed.round = copy.hash, copy.round
         if not any(due.values()):
             return
-        processes, _ = named_processes(self.recording, copied, self.modules)
+        processes, _ = named_processes(self.recording, copied, self.modules, self.with_functions)
         paths = process_paths(processes, self.path, self.first)
         for key in due:
             if due[key] and key in processes:
@@ -453,10 +454,10 @@ class LiveSummary(Summary):
             self.path, THREAD_LIMIT, len(windows(self.process)))
 
 
-def report_recording(recording, path, first, running, ended_by):
+def report_recording(recording, path, first, running, ended_by, with_functions):
     """Writes the report of each process; what is said of each, the first process's first, and what was damaged."""
     copied = copy_events(recording)
-    processes, faults = named_processes(recording, copied, {})
+    processes, faults = named_processes(recording, copied, {}, with_functions)
     if first is None and processes:
         first = min(processes)[0]
     paths = process_paths(processes, path, first)

@@ -44,28 +44,59 @@ uint32_t lock_number_new(struct thread *thread, const void *address, enum lock_c
     return (uint32_t)number;
 }
 
+/* Calls of one lock by one return address, as in a wrapper of the C++ library, may have many callers: each of these has its place
+ * among the neighbours. */
+#define NEIGHBOURS 8u
+
+static uint64_t neighbour_word(const struct thread *thread, uint64_t key, uintptr_t return_address, uintptr_t stack,
+                               uint64_t generation)
+{
+    uint64_t first = known_call_place(key, return_address);
+    for (unsigned i = 1; i < NEIGHBOURS; i++) {
+        const struct known_call *known = &thread->known_calls[first ^ i];
+        uint64_t word = known->word;
+        __atomic_signal_fence(__ATOMIC_SEQ_CST);
+        int is_this = known->callers && known_call_is(known, key, return_address, stack, generation);
+        __atomic_signal_fence(__ATOMIC_SEQ_CST);
+        if (is_this && known->word == word)
+            return word;
+    }
+    return 0;
+}
+
+static void call_keep(struct thread *thread, struct known_call call)
+{
+    struct known_call *known = &thread->known_calls[known_call_place(call.address, call.return_address)];
+    if (call.callers && known->address == call.address && known->return_address == call.return_address &&
+        known->generation == call.generation) /* of other callers */
+        known = &thread->known_calls[(known - thread->known_calls) ^ (1 + (call.word >> SITE_SHIFT) % (NEIGHBOURS - 1))];
+    uint64_t address = call.address;
+    call.address = 0; /* a signal handler finds nothing here, or all */
+    thread->changing = 1;
+    known->address = 0;
+    __atomic_signal_fence(__ATOMIC_SEQ_CST);
+    *known = call;
+    __atomic_signal_fence(__ATOMIC_SEQ_CST);
+    known->address = address;
+    __atomic_signal_fence(__ATOMIC_SEQ_CST);
+    thread->changing = 0;
+}
+
 uint64_t call_word_slow(struct thread *thread, const void *address, enum lock_class class, uintptr_t return_address,
                         uintptr_t stack)
 {
     uint64_t generation = __atomic_load_n(&process.generation, __ATOMIC_ACQUIRE);
-    uint32_t lock = lock_number(thread, address, class);
-    uint64_t word = event_word(0, site_number(return_address, stack), lock);
-    if (process.frames > 1)
-        return word; /* the return address alone doesn't tell the site */
     uint64_t key = (uint64_t)(uintptr_t)address;
-    struct slot *slot = table_find(&process.sites, return_address);
-    int plain = slot && (slot->value & SITE_PLAIN); /* else the return address doesn't tell the site */
-    if (lock != 0 && plain && !thread->changing) {
-        struct known_call *known = &thread->known_calls[mix(key + return_address) >> (64 - KNOWN_CALL_BITS)];
-        thread->changing = 1;
-        known->address = 0; /* a signal handler finds nothing here, or all */
-        __atomic_signal_fence(__ATOMIC_SEQ_CST);
-        *known = (struct known_call){0, return_address, word, generation};
-        __atomic_signal_fence(__ATOMIC_SEQ_CST);
-        known->address = key;
-        __atomic_signal_fence(__ATOMIC_SEQ_CST);
-        thread->changing = 0;
-    }
+    uint64_t word = neighbour_word(thread, key, return_address, stack, generation);
+    if (word)
+        return word;
+    uint32_t lock = lock_number(thread, address, class);
+    const struct callers *callers = NULL;
+    word = event_word(0, site_slow(return_address, stack, &callers), lock);
+    struct slot *slot = process.frames == 1 ? table_find(&process.sites, return_address) : NULL;
+    int plain = slot && (slot->value & SITE_PLAIN); /* else the return address alone doesn't tell the site */
+    if (lock != 0 && (plain || callers) && !thread->changing)
+        call_keep(thread, (struct known_call){key, return_address, word, generation, plain ? NULL : callers});
     return word;
 }
 

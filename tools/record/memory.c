@@ -7,8 +7,11 @@
  */
 #define _GNU_SOURCE
 #include <dlfcn.h>
+#include <stdarg.h>
 #include <stdlib.h>
 #include <sys/mman.h>
+#include <sys/syscall.h>
+#include <unistd.h>
 
 #include "process.h"
 #include "real.h"
@@ -205,6 +208,38 @@ EXPORTED int munmap(void *start, size_t bytes)
         real_find();
     memory_end((uintptr_t)start, (uintptr_t)start + bytes);
     return real.munmap(start, bytes);
+}
+
+/* What is mapped over other memory takes its place. Called very early by some allocators, before the functions are found. */
+EXPORTED void *mmap(void *start, size_t bytes, int protection, int flags, int file, off_t offset)
+{
+    if (unlikely(!real_found))
+        return (void *)syscall(SYS_mmap, start, bytes, protection, flags, file, offset);
+    if (unlikely(flags & MAP_FIXED))
+        memory_end((uintptr_t)start, (uintptr_t)start + bytes);
+    return real.mmap(start, bytes, protection, flags, file, offset);
+}
+
+EXPORTED void *mmap64(void *start, size_t bytes, int protection, int flags, int file, off_t offset)
+    __attribute__((alias("mmap")));
+
+/* The last parameter is there with MREMAP_FIXED alone. */
+EXPORTED void *mremap(void *start, size_t bytes, size_t new_bytes, int flags, ...)
+{
+    va_list further;
+    va_start(further, flags);
+    void *wanted = flags & MREMAP_FIXED ? va_arg(further, void *) : NULL;
+    va_end(further);
+    if (unlikely(!real_found))
+        return (void *)syscall(SYS_mremap, start, bytes, new_bytes, flags, wanted);
+    if (wanted)
+        memory_end((uintptr_t)wanted, (uintptr_t)wanted + new_bytes);
+    void *result = real.mremap(start, bytes, new_bytes, flags, wanted);
+    if (result != MAP_FAILED && result != start)
+        memory_end((uintptr_t)start, (uintptr_t)start + bytes);
+    else if (result != MAP_FAILED && new_bytes < bytes)
+        memory_end((uintptr_t)start + new_bytes, (uintptr_t)start + bytes);
+    return result;
 }
 
 EXPORTED int dlclose(void *handle)

@@ -394,6 +394,7 @@ static void process_start(const struct process *parent)
     if (parent) {
         process.locks = parent->locks;
         process.sites = parent->sites;
+        process.callers = parent->callers;
         process.lock_pages = parent->lock_pages;
         process.frames = parent->frames;
         process.all = parent->all;

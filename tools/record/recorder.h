@@ -72,9 +72,10 @@ struct process {
     uint64_t pid, image;
     struct address_table locks;   /* address of a lock: its number, 0 after it was destroyed */
     struct address_table sites;   /* return address: its site or step to the caller, see sites.c */
+    struct address_table callers; /* sites of several callers: their struct callers */
     struct address_table threads; /* pthread_t: number of the thread, plus one */
     struct address_table lock_pages; /* pages of memory: where locks are in them, see memory.c */
-    uint64_t generation; /* counts locks made and destroyed: then an address may stand for another lock */
+    uint64_t generation; /* counts what ends known calls: locks made and destroyed, steps up the stack that vary */
     uint64_t next_lock, next_site, next_thread;
     char *extent;
     uint64_t extent_used, extent_bytes, extents;
@@ -132,12 +133,24 @@ struct level {
     uint64_t news;   /* the thread's news before the acquire */
 };
 
+/* The return addresses further up the stack that tell a site: each lies so far above the one before it. Is never changed. */
+struct caller {
+    uintptr_t address;
+    uint64_t step;
+};
+
+struct callers {
+    size_t count;
+    struct caller further[];
+};
+
 /* What is known of a call of a lock function: its site and lock, as parts of a word. */
 struct known_call {
     uint64_t address; /* of the lock; 0: nothing is known */
     uint64_t return_address;
     uint64_t word;
     uint64_t generation;
+    const struct callers *callers; /* NULL: the return address alone tells the site */
 };
 
 #define KNOWN_CALL_BITS 9
@@ -352,17 +365,30 @@ static inline void lock_forget(const void *address)
  * library, the distance from the stack pointer at the call to that at the call of the wrapper. */
 #define SITE_PLAIN (1ull << 62)
 
-uint32_t site_slow(uintptr_t return_address, uintptr_t stack);
+/* `callers`: those by which the site is known again; NULL where it isn't. */
+uint32_t site_slow(uintptr_t return_address, uintptr_t stack, const struct callers **callers);
 
 /* `stack`: the stack pointer just before the call pushed `return_address`. */
 static inline uint32_t site_number(uintptr_t return_address, uintptr_t stack)
 {
+    const struct callers *callers;
     if (unlikely(process.frames > 1))
-        return site_slow(return_address, stack);
+        return site_slow(return_address, stack, &callers);
     struct slot *slot = table_find(&process.sites, return_address);
     if (likely(slot && (slot->value & SITE_PLAIN)))
         return (uint32_t)slot->value;
-    return site_slow(return_address, stack);
+    return site_slow(return_address, stack, &callers);
+}
+
+/* Whether the call has these callers. Each one is looked at before the place of the next, as far up as the stack goes. */
+static inline int has_callers(const struct callers *callers, uintptr_t stack)
+{
+    for (size_t i = 0; i < callers->count; i++) {
+        stack += callers->further[i].step;
+        if (((uintptr_t *)stack)[-1] != callers->further[i].address)
+            return 0;
+    }
+    return 1;
 }
 
 #define CALLER (uintptr_t)__builtin_return_address(0), (uintptr_t)__builtin_dwarf_cfa()
@@ -371,17 +397,29 @@ static inline uint32_t site_number(uintptr_t return_address, uintptr_t stack)
 uint64_t call_word_slow(struct thread *thread, const void *address, enum lock_class class, uintptr_t return_address,
                         uintptr_t stack);
 
+static inline uint64_t known_call_place(uint64_t lock, uintptr_t return_address)
+{
+    return mix(lock + return_address) >> (64 - KNOWN_CALL_BITS);
+}
+
+static inline int known_call_is(const struct known_call *known, uint64_t lock, uintptr_t return_address, uintptr_t stack,
+                                uint64_t generation)
+{
+    return known->address == lock && known->return_address == return_address && known->generation == generation &&
+           (likely(!known->callers) || has_callers(known->callers, stack));
+}
+
 /* Site and lock of a call, as parts of a word. A signal handler's call may take the place between any two of these reads: the
  * word is that of the call only if it is the same before and after the others. */
 static inline __attribute__((always_inline)) uint64_t call_word(struct thread *thread, const void *address, enum lock_class class,
                                  uintptr_t return_address, uintptr_t stack)
 {
     uint64_t lock = (uint64_t)(uintptr_t)address;
-    struct known_call *known = &thread->known_calls[mix(lock + return_address) >> (64 - KNOWN_CALL_BITS)];
+    struct known_call *known = &thread->known_calls[known_call_place(lock, return_address)];
+    uint64_t generation = __atomic_load_n(&process.generation, __ATOMIC_ACQUIRE);
     uint64_t word = known->word;
     __atomic_signal_fence(__ATOMIC_SEQ_CST);
-    if (likely(known->address == lock && known->return_address == return_address &&
-               known->generation == __atomic_load_n(&process.generation, __ATOMIC_ACQUIRE))) {
+    if (likely(known_call_is(known, lock, return_address, stack, generation))) {
         __atomic_signal_fence(__ATOMIC_SEQ_CST);
         if (likely(known->word == word))
             return word;

@@ -345,18 +345,21 @@ struct walk {
     size_t count;
     uintptr_t addresses[WALK_LIMIT];
     uintptr_t stacks[WALK_LIMIT];
+    uint32_t interrupted; /* a bit for each frame that a signal interrupted: what called it may be on another stack */
 };
 
 static _Unwind_Reason_Code walk_step(struct _Unwind_Context *context, void *value)
 {
     struct walk *walk = value;
-    uintptr_t address = _Unwind_GetIP(context);
+    int interrupted = 0;
+    uintptr_t address = _Unwind_GetIPInfo(context, &interrupted);
     if (walk->count == 0 && address != walk->wanted)
         return _URC_NO_REASON;
     if (walk->count == WALK_LIMIT || address == 0)
         return _URC_END_OF_STACK;
     walk->addresses[walk->count] = address;
     walk->stacks[walk->count] = _Unwind_GetCFA(context);
+    walk->interrupted |= (uint32_t)(interrupted != 0) << walk->count;
     walk->count++;
     return _URC_NO_REASON;
 }
@@ -365,6 +368,7 @@ static void walk_from(struct walk *walk, uintptr_t return_address)
 {
     walk->wanted = return_address;
     walk->count = 0;
+    walk->interrupted = 0;
     _Unwind_Backtrace(walk_step, walk);
 }
 
@@ -394,6 +398,22 @@ static uint32_t site_new(struct slot *slot, const uintptr_t *callers, size_t cou
 }
 
 #ifdef __x86_64__
+/* Room for callers, which is never given back, and which a forked child has too. */
+static void *callers_room(size_t bytes)
+{
+    static char *room;
+    static size_t left;
+    if (bytes > left) {
+        room = pages_new(16 * CHUNK_UNIT);
+        left = room ? 16 * CHUNK_UNIT : 0;
+    }
+    if (bytes > left)
+        return NULL;
+    left -= bytes;
+    room += bytes;
+    return room - bytes;
+}
+
 /* The distance to the caller's stack pointer if this is a call inside a wrapper, else 0. */
 static uint64_t step_of(uintptr_t return_address, uintptr_t stack)
 {
@@ -424,17 +444,47 @@ static uint64_t site_value_new(uintptr_t return_address, uintptr_t stack)
     return value;
 }
 
-static uint32_t site_single(uintptr_t return_address, uintptr_t stack)
+/* The callers that lead to a site, as they are kept: one row for each site and first return address. */
+static const struct callers *callers_known(uint32_t site, uintptr_t return_address, const struct caller *further, size_t count)
 {
+    uint64_t key = mix(return_address) ^ site;
+    struct slot *slot = table_find(&process.callers, key);
+    const struct callers *known = slot ? (const struct callers *)__atomic_load_n(&slot->value, __ATOMIC_ACQUIRE) : NULL;
+    if (known || site == 0 || count == 0)
+        return known;
+    struct slow_state state;
+    slow_enter(&state);
+    slot = table_place(&process.callers, key);
+    size_t bytes = sizeof *known + count * sizeof *further;
+    if (slot && !slot->value) {
+        struct callers *made = callers_room(bytes);
+        if (made) {
+            made->count = count;
+            memcpy(made->further, further, count * sizeof *further);
+            __atomic_store_n(&slot->value, (uint64_t)(uintptr_t)made, __ATOMIC_RELEASE);
+        }
+    }
+    known = slot ? (const struct callers *)slot->value : NULL;
+    slow_leave(&state);
+    return known;
+}
+
+static uint32_t site_single(uintptr_t return_address, uintptr_t stack, const struct callers **callers)
+{
+    struct caller further[WALK_LIMIT];
+    uintptr_t first = return_address;
     for (unsigned i = 0; i < WALK_LIMIT; i++) {
         struct slot *slot = table_find(&process.sites, return_address);
         uint64_t value = slot ? __atomic_load_n(&slot->value, __ATOMIC_ACQUIRE) : 0;
         if (value == 0)
             value = site_value_new(return_address, stack);
-        if (value & SITE_PLAIN)
+        if (value & SITE_PLAIN) {
+            *callers = callers_known((uint32_t)value, first, further, i);
             return (uint32_t)value;
+        }
         stack += value;
         return_address = ((uintptr_t *)stack)[-1];
+        further[i] = (struct caller){return_address, value};
     }
     return 0;
 }
@@ -446,14 +496,15 @@ static uint32_t site_single(uintptr_t return_address, uintptr_t stack)
  *
  * Unwinding is slow, so the table of sites also has what was found at each return address: how far up the next one lies, and whether
  * this is a call inside a wrapper. Following these steps leads to a site that is known, or the stack is unwound again. An
- * address at which two distances were found (of a function whose frame has no fixed size) is never used so.
+ * address at which two distances were found (of a function whose frame has no fixed size) is never used so, nor is a frame that a
+ * signal interrupted.
  */
 #define STEP_KNOWN 1u
 #define STEP_WRAPPER 2u
 #define STEP_LAST 4u
 #define STEP_VARIES 8u
 #define STEP_SHIFT 8
-#define STEP_LIMIT 4096u
+#define STEP_LIMIT (1u << 20)
 
 static uint64_t key_of_walk(uint64_t key, uintptr_t address)
 {
@@ -461,8 +512,10 @@ static uint64_t key_of_walk(uint64_t key, uintptr_t address)
 }
 
 #ifdef __x86_64__
-static uint32_t site_of_steps(uintptr_t return_address, uintptr_t stack)
+static uint32_t site_of_steps(uintptr_t return_address, uintptr_t stack, const struct callers **callers)
 {
+    struct caller further[WALK_LIMIT];
+    uintptr_t first = return_address;
     uint64_t key = unloads;
     unsigned count = 0;
     for (unsigned i = 0; i < WALK_LIMIT; i++) {
@@ -476,10 +529,13 @@ static uint32_t site_of_steps(uintptr_t return_address, uintptr_t stack)
         }
         if (count == process.frames || value & STEP_LAST) {
             slot = table_find(&process.sites, key | 1ull << 63);
-            return slot ? (uint32_t)__atomic_load_n(&slot->value, __ATOMIC_ACQUIRE) : 0;
+            uint32_t site = slot ? (uint32_t)__atomic_load_n(&slot->value, __ATOMIC_ACQUIRE) : 0;
+            *callers = callers_known(site, first, further, i);
+            return site;
         }
         stack += value >> STEP_SHIFT;
         return_address = ((uintptr_t *)stack)[-1];
+        further[i] = (struct caller){return_address, value >> STEP_SHIFT};
     }
     return 0;
 }
@@ -493,15 +549,19 @@ static void steps_learn(const struct walk *walk)
         uint64_t step = i + 1 < walk->count ? walk->stacks[i + 1] - walk->stacks[i] : 0;
         if (i + 1 == walk->count)
             value |= walk->count < WALK_LIMIT ? STEP_LAST : STEP_VARIES;
-        else if (step == 0 || step > STEP_LIMIT || ((uintptr_t *)walk->stacks[i + 1])[-1] != walk->addresses[i + 1])
+        else if (step == 0 || step > STEP_LIMIT || walk->interrupted >> i & 3 ||
+                 ((uintptr_t *)walk->stacks[i + 1])[-1] != walk->addresses[i + 1])
             value |= STEP_VARIES;
         else
             value |= step << STEP_SHIFT;
         struct slot *slot = table_place(&process.sites, address);
         if (slot && slot->value && slot->value != value)
             value = STEP_KNOWN | STEP_VARIES;
+        int varies_now = slot && slot->value && slot->value != value;
         if (slot)
             __atomic_store_n(&slot->value, value, __ATOMIC_RELEASE);
+        if (varies_now)
+            __atomic_fetch_add(&process.generation, 1, __ATOMIC_RELEASE);
     }
 }
 #endif
@@ -535,12 +595,13 @@ static uint32_t site_of_walk(uintptr_t return_address)
     return site;
 }
 
-uint32_t site_slow(uintptr_t return_address, uintptr_t stack)
+uint32_t site_slow(uintptr_t return_address, uintptr_t stack, const struct callers **callers)
 {
+    *callers = NULL;
 #ifdef __x86_64__
     if (process.frames == 1)
-        return site_single(return_address, stack);
-    uint32_t site = site_of_steps(return_address, stack);
+        return site_single(return_address, stack, callers);
+    uint32_t site = site_of_steps(return_address, stack, callers);
     if (site)
         return site;
 #else

@@ -15,6 +15,9 @@ NT_GNU_BUILD_ID = 3
 WRAPPER_SOURCE = re.compile(r"/c\+\+/(v1|\d+(\.\d+)*)/|libstdc\+\+-v3/|/gthr-[a-z]+\.h$")
 # Names of Python's that say nothing without a directory.
 PACKAGE_FILES = ("__init__.py", "__main__.py")
+OPERATOR = re.compile(r"\boperator((?:<<|>>|->|<|>)[=*]?)")
+OPERATOR_MARKS = {"<": "less", ">": "greater", "-": "minus", "=": "equal", "*": "star"}
+CLONE = re.compile(r" ?\[(?:clone|abi:)[^\]]*\]")
 DISCRIMINATOR = re.compile(r" \(discriminator \d+\)$")
 
 
@@ -78,6 +81,22 @@ def demangled(names):
     output = run_tool("c++filt", ["-p"], asked) if asked else None
     readable_names.update(zip(asked, output.split("\n")) if output else ())
     return {name: readable_names[name] for name in mangled if name in readable_names}
+
+
+def short_function(name):
+    """A function's readable name without its parameters, its template's arguments and its return type: a place has these marks
+    between its parts."""
+    for long, short in (("(anonymous namespace)", "{anonymous}"), ("operator()", "operator call"), ("operator<=>", "operator three-way")):
+        name = name.replace(long, short)
+    name = OPERATOR.sub(lambda match: "operator " + "".join(OPERATOR_MARKS[mark] for mark in match.group(1)), name)
+    kept, depth = [], 0
+    for mark in CLONE.sub("", name):
+        depth += mark in "(<"
+        if depth == 0:
+            kept.append(mark)
+        depth -= mark in ")>" and depth > 0
+    words = re.split(r"(?<!operator) ", re.sub(r" const$", "", "".join(kept).strip()))
+    return words[-1].replace("operator call", "operator()")
 
 
 class Module:

@@ -8,6 +8,7 @@
 
 #include <errno.h>
 #include <fcntl.h>
+#include <signal.h>
 #include <stdio.h>
 #include <stdlib.h>
 #include <string.h>
@@ -52,8 +53,10 @@ struct request {
     size_t count, at;
 };
 
+/* What comes first in each program. A limit of file sizes is an error of writing, and no end by a signal. */
 static inline struct request request_read(void)
 {
+    signal(SIGXFSZ, SIG_IGN);
     struct request request = {NULL, 0, 0};
     size_t room = 0, size = 0;
     ssize_t got = 1;

@@ -58,7 +58,6 @@ static void initialises()
 {
     has_static(1);
     has_static(0);
-    has_static(0);
 }
 
 // One thread initialises while it waits for the lock, the other one holds the lock and waits for the initialisation. It hangs: the test

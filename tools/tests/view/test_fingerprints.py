@@ -44,6 +44,14 @@ def test_a_finding_whose_code_moved_by_ten_lines_stays_known():
     assert view("moved.json", "--known", "known")[0] == 1
 
 
+def test_functions_beside_places_leave_the_id_as_it_is():
+    known = identity(SERVER)
+    functions = ("serve", "serve", "reap", "reap")
+    places = [f"src/server.c:{line} ({function})" for line, function in zip(LINES, functions)]
+    write("r.json", report(pair(places=places)))
+    assert ids(view("r.json", "--source", "src")[1]) == [known]
+
+
 def test_changed_code_at_the_same_lines_is_new():
     identity(SERVER)
     view("r.json", "--source", "src", "--write-known", "known")

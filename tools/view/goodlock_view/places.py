@@ -9,8 +9,8 @@ from typing import NamedTuple
 from .names import unspell
 
 _ADDRESS = re.compile(r"0x[0-9a-fA-F]+")
-_MODULE = re.compile(r"(.+)\+0x([0-9a-f]{1,15})")
-_FRAME = re.compile(r"(.*?[^:]):([1-9][0-9]{0,8})(?::([1-9][0-9]{0,8}))?")
+_MODULE = re.compile(r"(.+)\+0x([0-9a-f]{1,15})(?: \(.*\))?")
+_FRAME = re.compile(r"(.*?[^:]):([1-9][0-9]{0,8})(?::([1-9][0-9]{0,8}))?(?: \(.*\))?")
 
 
 class Frame(NamedTuple):
@@ -39,7 +39,7 @@ def place_of(location: str, lock: str) -> str:
 
 @functools.lru_cache(maxsize=10_000)
 def frames_of(location: str) -> list[Frame | None]:
-    """The frames of `a.c:10<b.c:20`, the innermost first; None for those that aren't a file and a line."""
+    """The frames of `a.c:10<b.c:20 (main)`, the innermost first; None for those that aren't a file and a line."""
     return [_frame_of(part.strip()) for part in location.split("<")]
 
 
