@@ -54,8 +54,12 @@ static uint64_t neighbour_word(const struct thread *thread, uint64_t key, uintpt
     uint64_t first = known_call_place(key, return_address);
     for (unsigned i = 1; i < NEIGHBOURS; i++) {
         const struct known_call *known = &thread->known_calls[first ^ i];
-        if (known->callers && known_call_is(known, key, return_address, stack, generation))
-            return known->word;
+        uint64_t word = known->word;
+        __atomic_signal_fence(__ATOMIC_SEQ_CST);
+        int is_this = known->callers && known_call_is(known, key, return_address, stack, generation);
+        __atomic_signal_fence(__ATOMIC_SEQ_CST);
+        if (is_this && known->word == word)
+            return word;
     }
     return 0;
 }

@@ -409,15 +409,21 @@ static inline int known_call_is(const struct known_call *known, uint64_t lock, u
            (likely(!known->callers) || has_callers(known->callers, stack));
 }
 
-/* Site and lock of a call, as parts of a word. */
+/* Site and lock of a call, as parts of a word. A signal handler's call may take the place between any two of these reads: the
+ * word is that of the call only if it is the same before and after the others. */
 static inline __attribute__((always_inline)) uint64_t call_word(struct thread *thread, const void *address, enum lock_class class,
                                  uintptr_t return_address, uintptr_t stack)
 {
     uint64_t lock = (uint64_t)(uintptr_t)address;
     struct known_call *known = &thread->known_calls[known_call_place(lock, return_address)];
     uint64_t generation = __atomic_load_n(&process.generation, __ATOMIC_ACQUIRE);
-    if (likely(known_call_is(known, lock, return_address, stack, generation)))
-        return known->word;
+    uint64_t word = known->word;
+    __atomic_signal_fence(__ATOMIC_SEQ_CST);
+    if (likely(known_call_is(known, lock, return_address, stack, generation))) {
+        __atomic_signal_fence(__ATOMIC_SEQ_CST);
+        if (likely(known->word == word))
+            return word;
+    }
     return call_word_slow(thread, address, class, return_address, stack);
 }
 

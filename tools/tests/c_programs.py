@@ -6,7 +6,7 @@ import subprocess
 import time
 
 import known_traces
-from known_traces import LIMIT, RECORD, REFERENCE, TESTS, TOOLS, marks_in  # noqa: F401
+from known_traces import LIMIT, NO_EVENTS, RECORD, REFERENCE, REFUSED, TESTS, TOOLS, marks_in  # noqa: F401
 
 SOURCES = os.path.join(TESTS, "record")
 C_FLAGS = ["-Wall", "-g", "-fno-optimize-sibling-calls", "-pthread"]
