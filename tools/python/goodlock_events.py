@@ -261,7 +261,7 @@ class Known:
 def is_generated(code):
     """Whether this is a constructor that was made for a class with fields: of dataclasses, or attrs. Its fields may be locks."""
     name = code.co_filename
-    if name[:1] != "<" or code.co_name != "__init__":
+    if code.co_name != "__init__":
         return False
     return name.startswith("<attrs generated") or name == "<string>" and any("dflt_" in free for free in code.co_freevars)
 
@@ -280,7 +280,10 @@ class Places:
         """The innermost frame of the program's own; where there is none, the innermost that isn't of a passed over file."""
         passed_over = self.passed_over
         start = frame
-        while frame is not None and (frame.f_code.co_filename in passed_over or is_generated(frame.f_code)):
+        while frame is not None:
+            name = frame.f_code.co_filename
+            if name not in passed_over and (name[:1] != "<" or not is_generated(frame.f_code)):
+                break
             frame = frame.f_back
         if frame is None:
             frame = start

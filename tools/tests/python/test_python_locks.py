@@ -205,6 +205,8 @@ def test_locks_behave_like_the_real_ones():
 def test_limit_of_depth(interpreter):
     run = Run(PYTHON_RECORD, [LOCKS, "too_deep"], ["--python", interpreter])
     assert run.status == 0, run.said
-    assert [edge[0] for edge in edges_of(run.lines())] == ["main.1:run_in_turn.run"], "a lock that isn't held is an edge's"
+    assert [edge[0] for edge in edges_of(run.lines())] == [
+        "main.1:run_in_turn.run"
+    ], "a lock that isn't held is an edge's"
     after = [line.rsplit("|", 1)[0] for line in run.lines() if line.startswith("main|") and "(Lock@" in line]
     assert after == ["main|%s(Lock@%s#1)" % (word, MARKS["b"]) for word in ("acq", "rel")]

@@ -88,7 +88,9 @@ def test_words_that_an_interpreter_would_take():
         (["-"], "<stdin>:1"),
     ):
         done = subprocess.run(
-            [PYTHON_RECORD, "-o", "w.std", "--python", INTERPRETER, *command], input=code.encode(), stderr=subprocess.PIPE
+            [PYTHON_RECORD, "-o", "w.std", "--python", INTERPRETER, *command],
+            input=code.encode(),
+            stderr=subprocess.PIPE,
         )
         assert done.returncode == 0, "%s: %s" % (command, done.stderr.decode())
         with open("w.std") as file:
