@@ -245,7 +245,8 @@ impl Search<'_> {
         requires short { length path.now < length pattern.now }
         requires front { IsFront (sought_by self.now.area self.now.purpose pattern.now) path.now }
         requires there { next < length self.now.area.table.now }
-        requires has { key_behind (sought_by self.now.area self.now.purpose pattern.now) path.now next
+        requires has { key_behind
+            (sought_by self.now.area self.now.purpose pattern.now) path.now next
             ≡ Some (key_after (sought_by self.now.area self.now.purpose pattern.now) path.now) }
         ensures { IfOk result
             (λ found. MatchOption found
