@@ -42,7 +42,9 @@ def main():
         for (before, shown), status in zip(blocks, statuses):
             named = re.search(r"`goodlock (\w+)", before)
             command = [named[1]] if named else sys.argv[2:] or ["predict"]
-            options = re.findall(r"(--(?:findings|json|stream)\b|--(?:len|mode|max|recorders|shards|ring|threads)\s\w+)", before)
+            options = re.findall(
+                r"(--(?:findings|json|stream)\b|--(?:len|mode|max|recorders|shards|ring|threads)\s\w+)", before
+            )
             words = [*command, *(word for option in options for word in option.split())]
             read = text
             if command == ["check"]:

@@ -371,8 +371,10 @@ def sections(*told):
 # Three threads run one piece of code, and three the other: nine cycles, which are one finding.
 TWO_PIECES = sections(*[f"T{i} a P b Q" for i in range(3)], *[f"U{i} b R a S" for i in range(3)])
 # Of each of two faults four cycles. Edges 0 to 7 are of the classes 0, 1, 0, 1, 4, 5, 4 and 5.
-TWO_FAULTS = sections(*[f"T{i} {rest}" for i in range(2) for rest in ("a A b B", "c C d D")],
-                      *[f"U{i} {rest}" for i in range(2) for rest in ("b E a F", "d G c H")])
+TWO_FAULTS = sections(
+    *[f"T{i} {rest}" for i in range(2) for rest in ("a A b B", "c C d D")],
+    *[f"U{i} {rest}" for i in range(2) for rest in ("b E a F", "d G c H")],
+)
 TWO_FAULTS_EDGES = [
     edge("T0", "a", "A", "b", "B", 1), edge("T0", "c", "C", "d", "D", 5),
     edge("T1", "a", "A", "b", "B", 1), edge("T1", "c", "C", "d", "D", 5),
