@@ -4,8 +4,8 @@
     lint.py [TOOL..]
 
 Every shell script and Python file has to be read by its language. shellcheck reads all shell scripts, clang-format lays out the
-C outside of the recorder (.clang-format), black and isort the viewer, the gate's tools, the benches and the tests outside of
-the recorder, and pylint and mypy check the viewer (pyproject.toml). A tool that isn't installed is skipped by name, and so is a
+C but for programs whose lines are expected in traces (.clang-format), black and isort the Python but for such a program, and
+pylint and mypy check the viewer (pyproject.toml). A tool that isn't installed is skipped by name, and so is a
 black of another major version than pyproject.toml asks for, as it would lay out otherwise. The last line is `N passed, N failed`, with one for each
 Python file, each shell script and each tool; with `, N skipped` behind it where tools are missing.
 """
@@ -20,29 +20,8 @@ import sys
 
 TOP = pathlib.Path(__file__).resolve().parent.parent.parent
 PACKAGE = "tools/view/goodlock_view"
-PYTHON = (
-    "tools/view/",
-    "tools/tests/view/",
-    "tools/tests/install/",
-    "tools/tests/layout/",
-    "tools/tests/confirm/",
-    "tools/tests/live/",
-    "tools/tests/record/",
-    "tools/tests/runtimes/",
-    "tools/tests/java/",
-    "tools/tests/python/conftest.py",
-    "tools/tests/python/python_traces.py",
-    "tools/tests/python/test_",
-    "tools/tests/conftest.py",
-    "tools/tests/known_traces.py",
-    "tools/tests/c_programs.py",
-    "tools/gate/",
-    "tools/goodlock-view",
-    "tests/",
-    "test",
-    "bench/",
-)
-NOT_LAID_OUT = ("tools/record/", "tools/tests/record/")
+NOT_PYTHON = ("tools/tests/python/locks.py",)
+NOT_LAID_OUT = ("tools/tests/record/", "tools/tests/recorder_cases/")
 
 
 def files():
@@ -129,7 +108,7 @@ def main():
     lint = Lint(sys.argv[1:])
     names = files()
     shell, python, c = ([name for name in names if test(name)] for test in (is_shell, is_python, is_c))
-    laid_out = [name for name in python if name.startswith(PYTHON)]
+    laid_out = [name for name in python if name not in NOT_PYTHON]
     if not lint.tools:
         lint.parse(python)
     for name in shell:

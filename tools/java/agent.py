@@ -46,7 +46,9 @@ def compile_sources(*arguments):
     if path is None:
         raise AgentError("javac is missing (Debian: openjdk-17-jdk-headless)")
     # Options that the environment has for the program's own JVMs aren't meant for this one.
-    environment = {k: v for k, v in os.environ.items() if k not in ("JAVA_TOOL_OPTIONS", "JDK_JAVAC_OPTIONS", "_JAVA_OPTIONS")}
+    environment = {
+        k: v for k, v in os.environ.items() if k not in ("JAVA_TOOL_OPTIONS", "JDK_JAVAC_OPTIONS", "_JAVA_OPTIONS")
+    }
     done = subprocess.run([path, *arguments], stdout=subprocess.PIPE, stderr=subprocess.STDOUT, env=environment)
     if done.returncode != 0:
         raise AgentError("building the agent failed:\n" + done.stdout.decode(errors="replace"))

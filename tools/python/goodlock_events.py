@@ -9,8 +9,21 @@ release is done wholly, or not at all.
 from _thread import RLock, _local
 
 from goodlock_files import (
-    FOREIGN, LOCK_MADE, LOCK_MUTEX, PROCESS_FORKS, RECORD_LOCK, RECORD_LOCK_KIND, RECORD_NOTE, RECORD_NO_LOCK, RECORD_PLACE,
-    RECORD_ROUTINE, THREAD_CHILDREN, THREAD_LEFT_OUT, THREAD_LOST, THREAD_OTHERS, THREAD_UNMADE,
+    FOREIGN,
+    LOCK_MADE,
+    LOCK_MUTEX,
+    PROCESS_FORKS,
+    RECORD_LOCK,
+    RECORD_LOCK_KIND,
+    RECORD_NO_LOCK,
+    RECORD_NOTE,
+    RECORD_PLACE,
+    RECORD_ROUTINE,
+    THREAD_CHILDREN,
+    THREAD_LEFT_OUT,
+    THREAD_LOST,
+    THREAD_OTHERS,
+    THREAD_UNMADE,
 )
 
 ACQUIRE, RELEASE, TRY_ACQUIRE, FORK, JOIN, BEYOND, AGAIN = 1, 2, 5, 7, 8, 10, 11
@@ -263,7 +276,9 @@ def is_generated(code):
     name = code.co_filename
     if code.co_name != "__init__":
         return False
-    return name.startswith("<attrs generated") or name == "<string>" and any("dflt_" in free for free in code.co_freevars)
+    return (
+        name.startswith("<attrs generated") or name == "<string>" and any("dflt_" in free for free in code.co_freevars)
+    )
 
 
 class Places:

@@ -22,17 +22,28 @@ STANDARD_PREFIX = STANDARD + os.sep
 INSTALLED = tuple(STANDARD_PREFIX + folder + os.sep for folder in ("site-packages", "dist-packages"))
 THREADING = threading.Thread.start.__code__.co_filename
 OWN_FILES = {_getframe(0).f_code.co_filename, goodlock_events.Places.text_of.__code__.co_filename}
-PASSED_OVER = {THREADING} | OWN_FILES | {
-    os.path.join(STANDARD, name)
-    for name in ("queue.py", "contextlib.py", "concurrent/futures/_base.py", "concurrent/futures/thread.py",
-                 "concurrent/futures/process.py")
-}
+PASSED_OVER = (
+    {THREADING}
+    | OWN_FILES
+    | {
+        os.path.join(STANDARD, name)
+        for name in (
+            "queue.py",
+            "contextlib.py",
+            "concurrent/futures/_base.py",
+            "concurrent/futures/thread.py",
+            "concurrent/futures/process.py",
+        )
+    }
+)
 UNSEEN_MODULES = {
     "asyncio.locks": "asyncio was imported: its locks (asyncio.Lock, ..) are no locks of threads, and aren't seen",
     "multiprocessing.synchronize": "multiprocessing's locks were imported: they aren't seen",
 }
 SEMAPHORES_UNSEEN = "%d semaphores were made with another value than 1: they are no locks, and aren't seen"
-SEMAPHORES_NO_LOCKS = "%d semaphores of value 1 were released by threads that didn't hold them: they are no locks, and are left out"
+SEMAPHORES_NO_LOCKS = (
+    "%d semaphores of value 1 were released by threads that didn't hold them: they are no locks, and are left out"
+)
 
 recorder = None
 
@@ -345,9 +356,7 @@ def start():
     places = goodlock_events.Places(PASSED_OVER, OWN_FILES, frames)
     everything = "GOODLOCK_PYTHON_ALL" in os.environ
     try:
-        process = goodlock_events.Process(
-            lambda: goodlock_files.Files(directory), places, everything, read_command()
-        )
+        process = goodlock_events.Process(lambda: goodlock_files.Files(directory), places, everything, read_command())
     except OSError as error:
         sys.stderr.write("goodlock-python: this process isn't recorded: %s\n" % error)
         return

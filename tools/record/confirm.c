@@ -1,10 +1,11 @@
 /*
- * Brings a predicted cycle about: `goodlock-confirm` runs the program with a plan, which has the places of the cycle's edges.
+ * Brings a predicted cycle about: `goodlock-confirm` runs the program with a plan, which has the places of the cycle's
+ * edges.
  *
- * A thread that holds a lock acquired at the first place of an edge, and is about to acquire at the second one, is held back, until a
- * thread stands at each edge of the cycle and each one wants the lock that the next one holds; or for a moment. So when they are let
- * go, each waits for the next. What each thread waits for stands in a file, which goodlock-confirm looks at: whether they really do is
- * decided there.
+ * A thread that holds a lock acquired at the first place of an edge, and is about to acquire at the second one, is held
+ * back, until a thread stands at each edge of the cycle and each one wants the lock that the next one holds; or for a
+ * moment. So when they are let go, each waits for the next. What each thread waits for stands in a file, which
+ * goodlock-confirm looks at: whether they really do is decided there.
  */
 #define _GNU_SOURCE
 #include <errno.h>
@@ -32,8 +33,8 @@ int confirming;
 
 /* --- The plan --------------------------------------------------------------------------------------------- */
 
-/* Lines: first `EDGES MILLISECONDS`, then `ROLE OFFSET PATH` for each place, the offset in hexadecimal. The role is the edge's number
- * for the place where its lock is wanted, and 16 more for the one where the held lock was acquired. */
+/* Lines: first `EDGES MILLISECONDS`, then `ROLE OFFSET PATH` for each place, the offset in hexadecimal. The role is the
+ * edge's number for the place where its lock is wanted, and 16 more for the one where the held lock was acquired. */
 static char *plan;
 static unsigned plan_edges, plan_milliseconds;
 static uint32_t *roles;
@@ -172,8 +173,8 @@ static int cycle_closes(struct waiter *first, unsigned first_edge, struct waiter
         return first->go = last->go = 1;
     }
     for (struct waiter *next = waiters; next < waiters + WAITERS; next++)
-        if (next->thread && !next->go && next->held[edge] == last->wanted && next != first && next->thread != last->thread &&
-            cycle_closes(first, first_edge, next, count + 1))
+        if (next->thread && !next->go && next->held[edge] == last->wanted && next != first &&
+            next->thread != last->thread && cycle_closes(first, first_edge, next, count + 1))
             return next->go = 1;
     return 0;
 }

@@ -15,8 +15,8 @@ void confirm_start(void);
 /* Slow: a new site, whose call lies at this offset in the module's file. */
 void confirm_site(uint64_t site, const char *path, uint64_t offset);
 
-/* Before and after a call that may wait for ever for a lock. `word`: of the acquire; `condition`: the thread waits for a
- * condition first. */
+/* Before and after a call that may wait for ever for a lock. `word`: of the acquire; `condition`: the thread waits for
+ * a condition first. */
 void confirm_before(struct thread *thread, uint64_t word, const void *lock, uintptr_t return_address, int condition);
 void confirm_after(struct thread *thread);
 

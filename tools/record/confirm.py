@@ -176,7 +176,9 @@ def waiting_cycle(waits):
     nexts = {}
     for wait in waits:
         if wait.is_blocked():
-            nexts[wait] = [other for other in waits if other is not wait and other.process == wait.process and wait.is_for(other)]
+            nexts[wait] = [
+                other for other in waits if other is not wait and other.process == wait.process and wait.is_for(other)
+            ]
     for start in nexts:
         way, seen = [start], {start}
         while True:
@@ -338,6 +340,7 @@ class Deadlock:
 
     def is_of(self, finding):
         """Whether its pairs of places are those of the finding."""
+
         def covers(ones, others):
             return all(any(same_place(a, c) and same_place(b, d) for c, d in others) for a, b in ones)
 
@@ -366,8 +369,12 @@ class Deadlock:
         names = self.process.names
         for wait, held in self.steps:
             yield "  %s holds %s since %s and waits for %s at %s" % (
-                names.thread_name(wait.thread), names.locks.get(held >> OBJECT_SHIFT, "?"), self.place(held),
-                names.locks.get(wait.wanted >> OBJECT_SHIFT, "?"), self.place(wait.wanted))
+                names.thread_name(wait.thread),
+                names.locks.get(held >> OBJECT_SHIFT, "?"),
+                self.place(held),
+                names.locks.get(wait.wanted >> OBJECT_SHIFT, "?"),
+                self.place(wait.wanted),
+            )
             for word, stack in (("since", self.held_stack(wait, held)), ("at", self.stack(wait.stacks[:STACK_LIMIT]))):
                 for number, frame in enumerate(stack):
                     yield "    %-5s %s" % (word if number == 0 else "", frame)
@@ -388,12 +395,16 @@ def outcome_of(settings, finding, directory, preload):
         run = Run(settings, own, preload, places.plan(hold))
         processes = run.processes()
         if not processes:
-            raise Failed("nothing was recorded: is the program statically linked, set-user-id or of another machine type?")
+            raise Failed(
+                "nothing was recorded: is the program statically linked, set-user-id or of another machine type?"
+            )
         if run.cycle:
             deadlock = Deadlock(run, processes, places)
             if deadlock.is_true() and deadlock.is_of(finding):
                 return deadlock, number, late
-            what = "hung in another cycle" if deadlock.is_true() else "waited for a mutex that another thread had unlocked"
+            what = (
+                "hung in another cycle" if deadlock.is_true() else "waited for a mutex that another thread had unlocked"
+            )
             say("run %d: the program %s:" % (number, what))
             for line in deadlock.lines():
                 say(line)

@@ -65,8 +65,22 @@ class Thread:
     """There may be very many."""
 
     __slots__ = (
-        "number", "parent", "child", "routine", "unmade", "children", "left_out", "lost", "others", "object", "when", "chunks",
-        "kinds", "path", "name", "routine_name",
+        "number",
+        "parent",
+        "child",
+        "routine",
+        "unmade",
+        "children",
+        "left_out",
+        "lost",
+        "others",
+        "object",
+        "when",
+        "chunks",
+        "kinds",
+        "path",
+        "name",
+        "routine_name",
     )
 
     def __init__(self, values, when):
@@ -266,7 +280,9 @@ def processes_of(events, tables, modules):
             process.check_births()
             processes[key] = process
         except (ConvertError, KeyError, IndexError, ValueError) as error:
-            faults.append(str(error) if isinstance(error, ConvertError) else "the files of process %d are damaged" % key[0])
+            faults.append(
+                str(error) if isinstance(error, ConvertError) else "the files of process %d are damaged" % key[0]
+            )
     for process in processes.values():
         process.parent = processes.get(process.parent)
     return processes, faults
@@ -324,7 +340,9 @@ def run_program(name, arguments, request):
 
     done = subprocess.run([built(name)] + arguments, input=request, stdout=subprocess.PIPE, stderr=subprocess.PIPE)
     if done.returncode != 0:
-        raise ConvertError(done.stderr.decode(errors="replace").strip() or "%s ended by signal %d" % (name, -done.returncode))
+        raise ConvertError(
+            done.stderr.decode(errors="replace").strip() or "%s ended by signal %d" % (name, -done.returncode)
+        )
     return done.stdout
 
 
@@ -332,7 +350,11 @@ def scan_events(process, threads):
     """Counts each thread's events by kind; the thread and word of each lock's first event, in the order of these threads."""
     files, packed = packed_files(threads)
     answer = array("Q")
-    answer.frombytes(run_program("goodlock_lines", ["scan"], packed + packed_numbers(process.no_locks) + packed_chunks(threads, files)))
+    answer.frombytes(
+        run_program(
+            "goodlock_lines", ["scan"], packed + packed_numbers(process.no_locks) + packed_chunks(threads, files)
+        )
+    )
     place = 0
     while answer[place] != NO_THREAD:
         process.threads[answer[place]].kinds = answer[place + 1 : place + 1 + KINDS]
@@ -407,7 +429,9 @@ class Sources:
         self.lines = {module: module.lines_of(addresses) for module, addresses in asked.items()}
         paths = {f[1] for found in self.lines.values() for frames in found.values() for f in frames}
         for process in processes:
-            paths.update(place.rpartition(":")[0] for places in process.places.values() for place in places if ":" in place)
+            paths.update(
+                place.rpartition(":")[0] for places in process.places.values() for place in places if ":" in place
+            )
         self.short = short_paths(paths)
         self.functions = self.find_functions() if with_functions else {}
 
@@ -623,10 +647,21 @@ class Summary:
         process = self.process
         if self.events:
             yield "%s: %d events (and %d of repeats, left out), %d threads, %d locks, %d other calls; %s" % (
-                self.path, self.events, self.left_out, len(process.threads), self.locks, self.others, self.name())
+                self.path,
+                self.events,
+                self.left_out,
+                len(process.threads),
+                self.locks,
+                self.others,
+                self.name(),
+            )
         for what, count in self.lost.items():
             if count:
-                yield "%s: %d %s were lost: there was no room for them" % (self.path if self.events else self.name(), count, what)
+                yield "%s: %d %s were lost: there was no room for them" % (
+                    self.path if self.events else self.name(),
+                    count,
+                    what,
+                )
         for note in process.notes:
             yield "%s: %s" % (self.path if self.events else self.name(), note)
         if not self.events:
@@ -638,20 +673,30 @@ class Summary:
     def special_lines(self):
         if self.kinds[AGAIN]:
             yield "%s: %d times a thread asked for a lock that isn't recursive and that it held (`again` lines): it waits for itself" % (
-                self.path, self.kinds[AGAIN])
+                self.path,
+                self.kinds[AGAIN],
+            )
         if self.kinds[UPGRADE]:
             yield "%s: %d times a thread asked for a lock exclusively that it held shared (`upgrade` lines): it waits for itself" % (
-                self.path, self.kinds[UPGRADE])
+                self.path,
+                self.kinds[UPGRADE],
+            )
         if self.kinds[BEYOND]:
             yield "%s: %d acquires by threads that held %d locks (`beyond` lines): goodlock skips these" % (
-                self.path, self.kinds[BEYOND], HELD_LIMIT)
+                self.path,
+                self.kinds[BEYOND],
+                HELD_LIMIT,
+            )
         if len(self.process.threads) > THREAD_LIMIT:
             yield from self.too_many_lines()
 
     def too_many_lines(self):
         yield "%s: goodlock reads at most %d threads, it will refuse this trace" % (self.path, THREAD_LIMIT)
         yield "%s.window1 to .window%d have at most %d threads each, born one after the other, or doing what few others do: a cycle is seen only where all its threads are in one" % (
-            self.path, len(windows(self.process)), THREAD_LIMIT)
+            self.path,
+            len(windows(self.process)),
+            THREAD_LIMIT,
+        )
 
     def name(self):
         return "process %d (%s)" % (self.process.key[0], shortened(self.process.command))
@@ -682,7 +727,11 @@ def write_lines(process, traces):
     parts.append(array("Q", [len(traces)]).tobytes())
     for path, members in traces:
         order = [thread for thread in names.order if members is None or thread.number in members]
-        parts += [packed_text(path), packed_texts({thread.number: thread.name for thread in order}), packed_chunks(order, files)]
+        parts += [
+            packed_text(path),
+            packed_texts({thread.number: thread.name for thread in order}),
+            packed_chunks(order, files),
+        ]
     run_program("goodlock_lines", ["write"], b"".join(parts))
 
 

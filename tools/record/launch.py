@@ -38,7 +38,9 @@ SECONDS_LEAST, SECONDS_MOST = 0.1, 1000000
 PRELOAD_SEPARATORS = " :$\t\n"
 LINK_DIRECTORIES = ("/tmp", "/var/tmp", "/dev/shm")
 
-USAGE = "usage: goodlock-record [--live [--every S]] [-o FILE] [--frames N] [--functions] [--all] [--] PROGRAM [ARGUMENT..]"
+USAGE = (
+    "usage: goodlock-record [--live [--every S]] [-o FILE] [--frames N] [--functions] [--all] [--] PROGRAM [ARGUMENT..]"
+)
 
 
 class Failed(Exception):
@@ -144,7 +146,9 @@ def read_value(settings, word, value):
         settings.convert = value
 
 
-def read_arguments(arguments, explanation=__doc__, usage=USAGE, flags=("--all",), values=("-o", "--frames", "--convert")):
+def read_arguments(
+    arguments, explanation=__doc__, usage=USAGE, flags=("--all",), values=("-o", "--frames", "--convert")
+):
     settings = Settings()
     rest = list(arguments)
     while rest and rest[0].startswith("-"):
@@ -174,7 +178,9 @@ def read_arguments(arguments, explanation=__doc__, usage=USAGE, flags=("--all",)
 
 def read_own_arguments(arguments):
     """Those of goodlock-record: it can follow a program, too."""
-    settings = read_arguments(arguments, flags=("--all", "--live", "--functions"), values=("-o", "--frames", "--convert", "--every"))
+    settings = read_arguments(
+        arguments, flags=("--all", "--live", "--functions"), values=("-o", "--frames", "--convert", "--every")
+    )
     if settings.every and not settings.live:
         raise Failed("--every is for --live\n" + USAGE)
     return settings
@@ -213,8 +219,10 @@ class Preload:
                 return path
             except OSError:
                 continue
-        raise Failed("%s: the loader can't preload a path with spaces or colons, and no link to it can be made in %s"
-                     % (self.path, " or ".join(LINK_DIRECTORIES)))
+        raise Failed(
+            "%s: the loader can't preload a path with spaces or colons, and no link to it can be made in %s"
+            % (self.path, " or ".join(LINK_DIRECTORIES))
+        )
 
     def remove(self):
         if self.directory:
@@ -289,7 +297,9 @@ def follow(settings, recording, process, family):
     from live import Companion, Follower
 
     try:
-        family.accompany(Companion(Follower(recording, settings.trace, process, settings.every, settings.functions, say)))
+        family.accompany(
+            Companion(Follower(recording, settings.trace, process, settings.every, settings.functions, say))
+        )
     except OSError as error:
         say("no reports so far: %s" % error)
 
@@ -319,7 +329,8 @@ def recording_at(path):
 
 def convert_all(recording, settings, first, running, ended_by):
     """Writes the traces or reports; whether there is an event in any, and whether any process began its files. `running`: the
-    processes that still write, as was seen before anything is read. `ended_by`: the signal that ended the first process."""
+    processes that still write, as was seen before anything is read. `ended_by`: the signal that ended the first process.
+    """
     from build import BuildError
     from convert import ConvertError, convert_recording, summary_lines
 
@@ -327,7 +338,9 @@ def convert_all(recording, settings, first, running, ended_by):
         if settings.live:
             from live import report_recording
 
-            summaries, faults = report_recording(recording, settings.trace, first, running, ended_by, settings.functions)
+            summaries, faults = report_recording(
+                recording, settings.trace, first, running, ended_by, settings.functions
+            )
         else:
             summaries, faults = convert_recording(recording, settings.trace, first, settings.functions)
     except (BuildError, ConvertError, OSError) as error:
@@ -346,8 +359,10 @@ def convert_all(recording, settings, first, running, ended_by):
 def keep_or_remove(recording, running, faults):
     """What was recorded is removed once it is all in traces."""
     if running:
-        say("still running: %s; this is what they did so far, and %s is kept" % (
-            ", ".join("process %s" % process for process in running), recording.directory))
+        say(
+            "still running: %s; this is what they did so far, and %s is kept"
+            % (", ".join("process %s" % process for process in running), recording.directory)
+        )
     elif faults:
         say("%s is kept" % recording.directory)
     else:

@@ -9,9 +9,10 @@
  * An extent is a row of chunks, each a multiple of CHUNK_UNIT bytes. A chunk holds either words of one
  * thread's events or records of the tables. All numbers have the machine's byte order.
  *
- * The tables are read in the order of their chunks, whatever comes first in time: a record of a module holds for the sites, locks
- * and threads after it, until RECORD_UNLOADED takes it away. RECORD_PROCESS is the first record; RECORD_START, RECORD_UNLOADED
- * and RECORD_LOSSES may be missing. Records of other kinds are skipped. A lock without a record has a name of its own too.
+ * The tables are read in the order of their chunks, whatever comes first in time: a record of a module holds for the
+ * sites, locks and threads after it, until RECORD_UNLOADED takes it away. RECORD_PROCESS is the first record;
+ * RECORD_START, RECORD_UNLOADED and RECORD_LOSSES may be missing. Records of other kinds are skipped. A lock without a
+ * record has a name of its own too.
  */
 #ifndef GOODLOCK_LAYOUT_H
 #define GOODLOCK_LAYOUT_H
@@ -158,13 +159,13 @@ struct thread_record {
     uint64_t parent; /* THREAD_FOREIGN: not made by a recorded call; the first thread names itself */
     uint64_t child;  /* which child of its parent it is, from 1 */
     uint64_t routine;
-    uint64_t unmade;   /* 1: the call that should have made it failed */
-    uint64_t chunks;   /* how many chunks of events it has */
-    uint64_t children; /* how many threads it has made */
-    uint64_t made;     /* how many locks it has made */
-    uint64_t left_out; /* events of repeated stretches */
-    uint64_t lost;     /* events for which there was no room */
-    uint64_t others;   /* calls that make no event */
+    uint64_t unmade;               /* 1: the call that should have made it failed */
+    uint64_t chunks;               /* how many chunks of events it has */
+    uint64_t children;             /* how many threads it has made */
+    uint64_t made;                 /* how many locks it has made */
+    uint64_t left_out;             /* events of repeated stretches */
+    uint64_t lost;                 /* events for which there was no room */
+    uint64_t others;               /* calls that make no event */
     uint64_t object[OBJECT_WORDS]; /* the front of the C++ object that the thread runs; zeros if there is none */
 };
 

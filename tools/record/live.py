@@ -181,7 +181,9 @@ def merged(reports, is_json):
         if part["trim"] is None:
             whole["trim"] = None
         for cycle in part["cycles"]:
-            places = tuple(edges.setdefault(identity(part["edges"][at]), (len(edges), part["edges"][at]))[0] for at in cycle)
+            places = tuple(
+                edges.setdefault(identity(part["edges"][at]), (len(edges), part["edges"][at]))[0] for at in cycle
+            )
             cycles.setdefault(places)
     listed = list(cycles)[:CYCLES]
     kept = sorted({at for cycle in listed for at in cycle})
@@ -451,7 +453,10 @@ class LiveSummary(Summary):
 
     def too_many_lines(self):
         yield "%s: goodlock reads at most %d threads at once: the report has the cycles whose threads are in one of %d windows" % (
-            self.path, THREAD_LIMIT, len(windows(self.process)))
+            self.path,
+            THREAD_LIMIT,
+            len(windows(self.process)),
+        )
 
 
 def report_recording(recording, path, first, running, ended_by, with_functions):

@@ -25,7 +25,7 @@ uint32_t lock_number_new(struct thread *thread, const void *address, enum lock_c
             count_loss(&process.losses->locks);
         if (record) {
             record->lock = number;
-            record->class_and_origin = (uint64_t)class | (uint64_t)origin << 32;
+            record->class_and_origin = (uint64_t) class | (uint64_t)origin << 32;
             record->address = (uint64_t)(uintptr_t)address;
             record->site = site;
             record->thread_and_order = thread->number | thread->record->made << 32;
@@ -44,8 +44,8 @@ uint32_t lock_number_new(struct thread *thread, const void *address, enum lock_c
     return (uint32_t)number;
 }
 
-/* Calls of one lock by one return address, as in a wrapper of the C++ library, may have many callers: each of these has its place
- * among the neighbours. */
+/* Calls of one lock by one return address, as in a wrapper of the C++ library, may have many callers: each of these has
+ * its place among the neighbours. */
 #define NEIGHBOURS 8u
 
 static uint64_t neighbour_word(const struct thread *thread, uint64_t key, uintptr_t return_address, uintptr_t stack,
@@ -69,7 +69,8 @@ static void call_keep(struct thread *thread, struct known_call call)
     struct known_call *known = &thread->known_calls[known_call_place(call.address, call.return_address)];
     if (call.callers && known->address == call.address && known->return_address == call.return_address &&
         known->generation == call.generation) /* of other callers */
-        known = &thread->known_calls[(known - thread->known_calls) ^ (1 + (call.word >> SITE_SHIFT) % (NEIGHBOURS - 1))];
+        known =
+            &thread->known_calls[(known - thread->known_calls) ^ (1 + (call.word >> SITE_SHIFT) % (NEIGHBOURS - 1))];
     uint64_t address = call.address;
     call.address = 0; /* a signal handler finds nothing here, or all */
     thread->changing = 1;

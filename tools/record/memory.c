@@ -1,9 +1,9 @@
 /*
- * Memory that is given back. A lock in it is at its end, though nobody destroyed it: what is made later at its address is
- * another lock.
+ * Memory that is given back. A lock in it is at its end, though nobody destroyed it: what is made later at its address
+ * is another lock.
  *
- * Each page of memory in which a lock was met has a map of the places where one is; a filter of bytes says fast of most pages
- * that there is none. Places are set and cleared in slow parts, and read by anybody.
+ * Each page of memory in which a lock was met has a map of the places where one is; a filter of bytes says fast of most
+ * pages that there is none. Places are set and cleared in slow parts, and read by anybody.
  */
 #define _GNU_SOURCE
 #include <dlfcn.h>
@@ -123,21 +123,21 @@ static void page_end(struct lock_page *page, uintptr_t start, uintptr_t end)
 }
 
 /* Calls `use` for the pages of a range that have ever held a lock, until it says yes. */
-#define FOR_PAGES(start, end, use)                                                                 \
-    uintptr_t from = (start) >> PAGE_BITS, to = ((end) - 1) >> PAGE_BITS;                          \
-    if (to - from < lock_page_count) {                                                             \
-        for (uintptr_t at = from; at <= to; at++) {                                                \
-            struct lock_page *page = *filter_of(at) ? page_find(at) : NULL;                        \
-            if (page) {                                                                            \
-                use;                                                                               \
-            }                                                                                      \
-        }                                                                                          \
-    } else {                                                                                       \
-        struct lock_page *page = __atomic_load_n(&lock_pages, __ATOMIC_ACQUIRE);                   \
-        for (; page; page = page->next)                                                            \
-            if (page->page >= from && page->page <= to) {                                          \
-                use;                                                                               \
-            }                                                                                      \
+#define FOR_PAGES(start, end, use) \
+    uintptr_t from = (start) >> PAGE_BITS, to = ((end)-1) >> PAGE_BITS; \
+    if (to - from < lock_page_count) { \
+        for (uintptr_t at = from; at <= to; at++) { \
+            struct lock_page *page = *filter_of(at) ? page_find(at) : NULL; \
+            if (page) { \
+                use; \
+            } \
+        } \
+    } else { \
+        struct lock_page *page = __atomic_load_n(&lock_pages, __ATOMIC_ACQUIRE); \
+        for (; page; page = page->next) \
+            if (page->page >= from && page->page <= to) { \
+                use; \
+            } \
     }
 
 static int range_holds(uintptr_t start, uintptr_t end)
@@ -153,7 +153,8 @@ void memory_end_inside(uintptr_t start, uintptr_t end)
 
 void memory_end(uintptr_t start, uintptr_t end)
 {
-    if (lock_page_count == 0 || start >= end || slow_inside() || process.state != PROCESS_RECORDED || !range_holds(start, end))
+    if (lock_page_count == 0 || start >= end || slow_inside() || process.state != PROCESS_RECORDED ||
+        !range_holds(start, end))
         return;
     struct slow_state state;
     slow_enter(&state);
@@ -210,7 +211,8 @@ EXPORTED int munmap(void *start, size_t bytes)
     return real.munmap(start, bytes);
 }
 
-/* What is mapped over other memory takes its place. Called very early by some allocators, before the functions are found. */
+/* What is mapped over other memory takes its place. Called very early by some allocators, before the functions are
+ * found. */
 EXPORTED void *mmap(void *start, size_t bytes, int protection, int flags, int file, off_t offset)
 {
     if (unlikely(!real_found))

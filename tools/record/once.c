@@ -1,5 +1,5 @@
-/* What is run once under a lock: routines of pthread_once and call_once, initialisations of static variables; and the calls
- * that change a process's user. */
+/* What is run once under a lock: routines of pthread_once and call_once, initialisations of static variables; and the
+ * calls that change a process's user. */
 #define _GNU_SOURCE
 #include <dlfcn.h>
 #include <sched.h>
@@ -31,24 +31,25 @@ static void once_begin(void)
     once_routine();
 }
 
-/* Who comes second waits until the routine has ended. Whether it has is up to the schedule: so the lock is taken each time. */
-#define ONCE(once, routine, call)                                                          \
-    struct thread *thread = recording_thread();                                            \
-    uint64_t word __attribute__((cleanup(once_end))) = 0;                                  \
-    if (likely(thread != NULL))                                                            \
-        word = call_word(thread, once, LOCK_ONCE, CALLER);                                 \
-    if (word_object(word) == LOCK_IGNORED)                                                 \
-        word = 0;                                                                          \
-    if (unlikely(confirming && word)) {                                                    \
+/* Who comes second waits until the routine has ended. Whether it has is up to the schedule: so the lock is taken each
+ * time. */
+#define ONCE(once, routine, call) \
+    struct thread *thread = recording_thread(); \
+    uint64_t word __attribute__((cleanup(once_end))) = 0; \
+    if (likely(thread != NULL)) \
+        word = call_word(thread, once, LOCK_ONCE, CALLER); \
+    if (word_object(word) == LOCK_IGNORED) \
+        word = 0; \
+    if (unlikely(confirming && word)) { \
         confirm_before(thread, word | EVENT_ACQUIRE, once, (uintptr_t)__builtin_return_address(0), 0); \
-        once_routine = routine;                                                            \
-        routine = once_begin;                                                              \
-    }                                                                                      \
-    if (word)                                                                              \
-        acquire_write(thread, EVENT_ACQUIRE, word, 1);                                     \
-    call;                                                                                  \
-    if (unlikely(confirming && word))                                                      \
-        confirm_after(thread)
+        once_routine = routine; \
+        routine = once_begin; \
+    } \
+    if (word) \
+        acquire_write(thread, EVENT_ACQUIRE, word, 1); \
+    call; \
+    if (unlikely(confirming && word)) \
+    confirm_after(thread)
 
 EXPORTED int pthread_once(pthread_once_t *once, void (*routine)(void))
 {
@@ -63,8 +64,8 @@ EXPORTED void call_once(once_flag *once, void (*routine)(void))
 
 /* --- Static variables -------------------------------------------------------------------------------------- */
 
-/* The functions of the C++ library, which a program in C may have loaded for a plugin alone; where there is none, as for a plugin
- * with a library of its own, these here do the same. */
+/* The functions of the C++ library, which a program in C may have loaded for a plugin alone; where there is none, as
+ * for a plugin with a library of its own, these here do the same. */
 static int guard_take(uint64_t *guard)
 {
     unsigned char *done = (unsigned char *)guard, *taken = done + 1;
@@ -128,10 +129,11 @@ static void guards_find(void)
 }
 
 /*
- * The compiler looks at the guard's first byte, and calls nothing once it is set: whoever comes later leaves no event, though a thread
- * that comes while the initialisation runs has to wait for it. So the byte stays zero, and that the variable is initialised stands in
- * the guard's upper half, of which GNU's C++ library makes no use: each visit comes here, and takes the lock for a moment. After
- * many visits the byte is set, so that a variable that is used all the time costs what it does without the recorder.
+ * The compiler looks at the guard's first byte, and calls nothing once it is set: whoever comes later leaves no event,
+ * though a thread that comes while the initialisation runs has to wait for it. So the byte stays zero, and that the
+ * variable is initialised stands in the guard's upper half, of which GNU's C++ library makes no use: each visit comes
+ * here, and takes the lock for a moment. After many visits the byte is set, so that a variable that is used all the
+ * time costs what it does without the recorder.
  */
 #define GUARD_DONE 0x80000000u
 #define GUARD_VISITS 0x10000u
@@ -154,7 +156,8 @@ static void guard_visit(uint64_t *guard)
         __atomic_store_n((unsigned char *)guard, 1, __ATOMIC_RELEASE);
 }
 
-/* Whether the present thread has to initialise the variable. Who waited is let in when it is done, as after one that failed. */
+/* Whether the present thread has to initialise the variable. Who waited is let in when it is done, as after one that
+ * failed. */
 static int guard_enter(uint64_t *guard)
 {
     if (guard_is_done(guard)) {
@@ -191,13 +194,13 @@ int __cxa_guard_acquire(uint64_t *guard)
     return result;
 }
 
-#define GUARD_END(guard, call)                                                             \
-    struct thread *thread = recording_thread();                                            \
-    guards_find();                                                                         \
-    uint64_t word = thread ? call_word(thread, guard, LOCK_STATIC, CALLER) : 0;            \
-    call;                                                                                  \
-    if (likely(thread != NULL))                                                            \
-        release_write(thread, word)
+#define GUARD_END(guard, call) \
+    struct thread *thread = recording_thread(); \
+    guards_find(); \
+    uint64_t word = thread ? call_word(thread, guard, LOCK_STATIC, CALLER) : 0; \
+    call; \
+    if (likely(thread != NULL)) \
+    release_write(thread, word)
 
 /* In a process that isn't recorded, or by another library, the first byte is set at once. */
 static void guard_end(uint64_t *guard, int is_recorded)

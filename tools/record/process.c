@@ -95,8 +95,8 @@ void *pages_new_wiped(size_t bytes)
     return pages;
 }
 
-/* Opens a new file of this process: in the recording's directory, or, where the user that this process became may not make
- * files there, in the directory that was made for that user. */
+/* Opens a new file of this process: in the recording's directory, or, where the user that this process became may not
+ * make files there, in the directory that was made for that user. */
 static int extent_open(char *path, size_t size, uint64_t image, uint64_t number)
 {
     unsigned long long pid = process.pid, images = image, numbers = number;
@@ -145,8 +145,8 @@ static uint64_t extent_bytes(uint64_t number)
     return bytes;
 }
 
-/* Creates an extent's file with room for so many bytes at least, and maps it; NULL if that fails, with EEXIST in errno if
- * there is such a file. */
+/* Creates an extent's file with room for so many bytes at least, and maps it; NULL if that fails, with EEXIST in errno
+ * if there is such a file. */
 static char *extent_map(uint64_t image, uint64_t number, uint64_t least)
 {
     char path[4096];
@@ -412,8 +412,8 @@ static void process_start(const struct process *parent)
 
 /* --- Other users ---------------------------------------------------------------------------------------- */
 
-/* A process that gives up root's rights may make no more files in root's directory: it gets one of its own in there, as long
- * as this process may make it. */
+/* A process that gives up root's rights may make no more files in root's directory: it gets one of its own in there, as
+ * long as this process may make it. */
 void user_directory(uid_t user)
 {
     char path[4096];

@@ -39,9 +39,9 @@ int real_find(void)
     /* All at once, so that no lock is really taken while its release isn't found yet. */
     struct real_functions all = real;
     void *function;
-#define REAL_FIND(result, name, parameters)    \
-    function = dlsym(RTLD_NEXT, #name);        \
-    if (function)                              \
+#define REAL_FIND(result, name, parameters) \
+    function = dlsym(RTLD_NEXT, #name); \
+    if (function) \
         all.name = (result(*) parameters)function;
     REAL_FUNCTIONS(REAL_FIND)
 #undef REAL_FIND

@@ -70,10 +70,10 @@ struct process {
     int state;
     int slow_lock;
     uint64_t pid, image;
-    struct address_table locks;   /* address of a lock: its number, 0 after it was destroyed */
-    struct address_table sites;   /* return address: its site or step to the caller, see sites.c */
-    struct address_table callers; /* sites of several callers: their struct callers */
-    struct address_table threads; /* pthread_t: number of the thread, plus one */
+    struct address_table locks;      /* address of a lock: its number, 0 after it was destroyed */
+    struct address_table sites;      /* return address: its site or step to the caller, see sites.c */
+    struct address_table callers;    /* sites of several callers: their struct callers */
+    struct address_table threads;    /* pthread_t: number of the thread, plus one */
     struct address_table lock_pages; /* pages of memory: where locks are in them, see memory.c */
     uint64_t generation; /* counts what ends known calls: locks made and destroyed, steps up the stack that vary */
     uint64_t next_lock, next_site, next_thread;
@@ -133,7 +133,8 @@ struct level {
     uint64_t news;   /* the thread's news before the acquire */
 };
 
-/* The return addresses further up the stack that tell a site: each lies so far above the one before it. Is never changed. */
+/* The return addresses further up the stack that tell a site: each lies so far above the one before it. Is never
+ * changed. */
 struct caller {
     uintptr_t address;
     uint64_t step;
@@ -170,7 +171,7 @@ struct thread {
     struct thread_record *record;
     uint32_t number;
     uint32_t exit_rounds;
-    uint32_t holds; /* how often it was held back in vain (confirm.c) */
+    uint32_t holds;                 /* how often it was held back in vain (confirm.c) */
     uintptr_t stack_top, stack_low; /* where its stack begins, and the lowest lock in it; 0: not known, none */
     struct thread *next_free;
     uint64_t sink; /* takes what there is no room for */
@@ -255,8 +256,8 @@ static inline int word_is_in_chunk(struct thread *thread, const uint64_t *place)
 }
 
 /* Takes the words from here on away. Zero first: should the process be killed in between, zeros stand for no
- * events. The last word first, and then the count of what was left out: so a reader of the running process finds a list that
- * was there once, or another count (convert/live.c). */
+ * events. The last word first, and then the count of what was left out: so a reader of the running process finds a list
+ * that was there once, or another count (convert/live.c). */
 static inline void words_leave_out(struct thread *thread, uint64_t *start)
 {
     struct chunk *chunk = thread->chunk;
@@ -284,9 +285,9 @@ static inline uint32_t word_object(uint64_t word)
 
 /*
  * An acquire tells goodlock something new only if it is the first one in its segment (between forks and joins of its
- * thread) of this lock at this place while these locks are held, each acquired at its place. A key stands for all that; the
- * thread keeps the keys of its segment. When the thread holds as many locks again as before an acquire, all since then is left
- * out, if there was no news and no event of a lock that was held before.
+ * thread) of this lock at this place while these locks are held, each acquired at its place. A key stands for all that;
+ * the thread keeps the keys of its segment. When the thread holds as many locks again as before an acquire, all since
+ * then is left out, if there was no news and no event of a lock that was held before.
  */
 static inline uint64_t key_of(uint64_t context, uint64_t word)
 {
@@ -380,7 +381,8 @@ static inline uint32_t site_number(uintptr_t return_address, uintptr_t stack)
     return site_slow(return_address, stack, &callers);
 }
 
-/* Whether the call has these callers. Each one is looked at before the place of the next, as far up as the stack goes. */
+/* Whether the call has these callers. Each one is looked at before the place of the next, as far up as the stack goes.
+ */
 static inline int has_callers(const struct callers *callers, uintptr_t stack)
 {
     for (size_t i = 0; i < callers->count; i++) {
@@ -391,7 +393,7 @@ static inline int has_callers(const struct callers *callers, uintptr_t stack)
     return 1;
 }
 
-#define CALLER (uintptr_t)__builtin_return_address(0), (uintptr_t)__builtin_dwarf_cfa()
+#define CALLER (uintptr_t) __builtin_return_address(0), (uintptr_t)__builtin_dwarf_cfa()
 #define CALLER_SITE() site_number(CALLER)
 
 uint64_t call_word_slow(struct thread *thread, const void *address, enum lock_class class, uintptr_t return_address,
@@ -402,17 +404,17 @@ static inline uint64_t known_call_place(uint64_t lock, uintptr_t return_address)
     return mix(lock + return_address) >> (64 - KNOWN_CALL_BITS);
 }
 
-static inline int known_call_is(const struct known_call *known, uint64_t lock, uintptr_t return_address, uintptr_t stack,
-                                uint64_t generation)
+static inline int known_call_is(const struct known_call *known, uint64_t lock, uintptr_t return_address,
+                                uintptr_t stack, uint64_t generation)
 {
     return known->address == lock && known->return_address == return_address && known->generation == generation &&
            (likely(!known->callers) || has_callers(known->callers, stack));
 }
 
-/* Site and lock of a call, as parts of a word. A signal handler's call may take the place between any two of these reads: the
- * word is that of the call only if it is the same before and after the others. */
-static inline __attribute__((always_inline)) uint64_t call_word(struct thread *thread, const void *address, enum lock_class class,
-                                 uintptr_t return_address, uintptr_t stack)
+/* Site and lock of a call, as parts of a word. A signal handler's call may take the place between any two of these
+ * reads: the word is that of the call only if it is the same before and after the others. */
+static inline __attribute__((always_inline)) uint64_t
+call_word(struct thread *thread, const void *address, enum lock_class class, uintptr_t return_address, uintptr_t stack)
 {
     uint64_t lock = (uint64_t)(uintptr_t)address;
     struct known_call *known = &thread->known_calls[known_call_place(lock, return_address)];
@@ -460,10 +462,11 @@ static inline void held_add(struct thread *thread, uint32_t count, uint64_t word
     } while (unlikely(held->word != word));
 }
 
-/* Writes an acquire; gives its place. `call` has site and lock, `kind` is one of the four acquires; `plain`: a thread that
- * holds the lock would wait for itself. The lock
- * counts as held before the word is stored, so that a signal handler's events lie between its acquire and release. */
-static inline __attribute__((always_inline)) uint64_t *acquire_write(struct thread *thread, enum event_kind kind, uint64_t call, int plain)
+/* Writes an acquire; gives its place. `call` has site and lock, `kind` is one of the four acquires; `plain`: a thread
+ * that holds the lock would wait for itself. The lock counts as held before the word is stored, so that a signal
+ * handler's events lie between its acquire and release. */
+static inline __attribute__((always_inline)) uint64_t *acquire_write(struct thread *thread, enum event_kind kind,
+                                                                     uint64_t call, int plain)
 {
     uint64_t word = call | kind;
     uint64_t context = 0;

@@ -56,7 +56,9 @@ class Recording:
     def mark(self):
         """The mark's bytes; empty where there is none."""
         try:
-            with open(os.open(os.path.join(self.directory, MARK), os.O_RDONLY | os.O_NOFOLLOW | os.O_NONBLOCK), "rb") as file:
+            with open(
+                os.open(os.path.join(self.directory, MARK), os.O_RDONLY | os.O_NOFOLLOW | os.O_NONBLOCK), "rb"
+            ) as file:
                 data = file.read(MARK_BYTES)
         except OSError:
             return b""

@@ -38,7 +38,7 @@ RUNTIMES = (
         r"libgo\.so[\d.]*",
         re.compile(rb"\xff Go buildinf:"),
         "sync.Mutex and sync.RWMutex don't pass the C library and aren't in this trace; no tool here records them: "
-        "write the trace from the program itself (docs/RECORDING.md, \"Traces from another language\")",
+        'write the trace from the program itself (docs/RECORDING.md, "Traces from another language")',
     ),
     Runtime(
         "Rust code",
@@ -46,7 +46,7 @@ RUNTIMES = (
         re.compile(rb"/rustc/(?:[0-9a-f]{40}|[0-9.]+)/library/"),
         "std::sync::Mutex and RwLock don't pass the C library and aren't in this trace (those of Rust before 1.62 are); "
         "no tool here records them: write the trace from the program itself "
-        "(docs/RECORDING.md, \"Traces from another language\")",
+        '(docs/RECORDING.md, "Traces from another language")',
     ),
 )
 

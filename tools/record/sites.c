@@ -115,7 +115,7 @@ static int is_wrapper_name(const char *symbol)
 /* --- Wrappers of a module --------------------------------------------------------------------------------- */
 
 /* Collects the wrappers among the symbols of one table; counts them only where `ranges` is NULL. */
-static size_t wrappers_among(const char *file, size_t size, const ElfW(Shdr) *table, const ElfW(Shdr) *strings,
+static size_t wrappers_among(const char *file, size_t size, const ElfW(Shdr) * table, const ElfW(Shdr) * strings,
                              uintptr_t bias, struct range *ranges)
 {
     if (table->sh_offset + table->sh_size > size || strings->sh_offset + strings->sh_size > size ||
@@ -125,8 +125,8 @@ static size_t wrappers_among(const char *file, size_t size, const ElfW(Shdr) *ta
     size_t found = 0;
     for (size_t i = 0; i < table->sh_size / sizeof *symbols; i++) {
         const ElfW(Sym) *symbol = &symbols[i];
-        if (ELF64_ST_TYPE(symbol->st_info) != STT_FUNC || symbol->st_size == 0 ||
-            symbol->st_name >= strings->sh_size || !is_wrapper_name(file + strings->sh_offset + symbol->st_name))
+        if (ELF64_ST_TYPE(symbol->st_info) != STT_FUNC || symbol->st_size == 0 || symbol->st_name >= strings->sh_size ||
+            !is_wrapper_name(file + strings->sh_offset + symbol->st_name))
             continue;
         if (ranges)
             ranges[found] = (struct range){bias + symbol->st_value, bias + symbol->st_value + symbol->st_size};
@@ -135,11 +135,11 @@ static size_t wrappers_among(const char *file, size_t size, const ElfW(Shdr) *ta
     return found;
 }
 
-static const ElfW(Shdr) *symbol_table(const char *file, size_t size)
+static const ElfW(Shdr) * symbol_table(const char *file, size_t size)
 {
     const ElfW(Ehdr) *head = (const ElfW(Ehdr) *)file;
-    if (size < sizeof *head || memcmp(head->e_ident, ELFMAG, SELFMAG) != 0 ||
-        head->e_shentsize != sizeof(ElfW(Shdr)) || head->e_shoff + head->e_shnum * sizeof(ElfW(Shdr)) > size)
+    if (size < sizeof *head || memcmp(head->e_ident, ELFMAG, SELFMAG) != 0 || head->e_shentsize != sizeof(ElfW(Shdr)) ||
+        head->e_shoff + head->e_shnum * sizeof(ElfW(Shdr)) > size)
         return NULL;
     const ElfW(Shdr) *sections = (const ElfW(Shdr) *)(file + head->e_shoff);
     for (unsigned i = 0; i < head->e_shnum; i++)
@@ -445,7 +445,8 @@ static uint64_t site_value_new(uintptr_t return_address, uintptr_t stack)
 }
 
 /* The callers that lead to a site, as they are kept: one row for each site and first return address. */
-static const struct callers *callers_known(uint32_t site, uintptr_t return_address, const struct caller *further, size_t count)
+static const struct callers *callers_known(uint32_t site, uintptr_t return_address, const struct caller *further,
+                                           size_t count)
 {
     uint64_t key = mix(return_address) ^ site;
     struct slot *slot = table_find(&process.callers, key);
@@ -491,13 +492,13 @@ static uint32_t site_single(uintptr_t return_address, uintptr_t stack, const str
 #endif
 
 /*
- * Sites of several callers, and of machines where return addresses don't lie at the ends of frames: the stack is unwound. The site's
- * key is a mix of its addresses, told from a single address by its top bit.
+ * Sites of several callers, and of machines where return addresses don't lie at the ends of frames: the stack is
+ * unwound. The site's key is a mix of its addresses, told from a single address by its top bit.
  *
- * Unwinding is slow, so the table of sites also has what was found at each return address: how far up the next one lies, and whether
- * this is a call inside a wrapper. Following these steps leads to a site that is known, or the stack is unwound again. An
- * address at which two distances were found (of a function whose frame has no fixed size) is never used so, nor is a frame that a
- * signal interrupted.
+ * Unwinding is slow, so the table of sites also has what was found at each return address: how far up the next one
+ * lies, and whether this is a call inside a wrapper. Following these steps leads to a site that is known, or the stack
+ * is unwound again. An address at which two distances were found (of a function whose frame has no fixed size) is never
+ * used so, nor is a frame that a signal interrupted.
  */
 #define STEP_KNOWN 1u
 #define STEP_WRAPPER 2u

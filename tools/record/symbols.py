@@ -53,7 +53,9 @@ def read_symbols(data, sections, wanted):
             continue
         _, strings, strings_size, _ = sections[link]
         text = data[strings : strings + strings_size]
-        for name, info, _, section, start, size in struct.iter_unpack("=IBBHQQ", data[place : place + length // 24 * 24]):
+        for name, info, _, section, start, size in struct.iter_unpack(
+            "=IBBHQQ", data[place : place + length // 24 * 24]
+        ):
             if section == 0 or (info & 15) not in (STT_OBJECT, STT_FUNC) or name >= len(text):
                 continue
             found.append(Symbol(start, size, text[name : text.index(b"\0", name)].decode("utf-8", "backslashreplace")))
@@ -86,7 +88,11 @@ def demangled(names):
 def short_function(name):
     """A function's readable name without its parameters, its template's arguments and its return type: a place has these marks
     between its parts."""
-    for long, short in (("(anonymous namespace)", "{anonymous}"), ("operator()", "operator call"), ("operator<=>", "operator three-way")):
+    for long, short in (
+        ("(anonymous namespace)", "{anonymous}"),
+        ("operator()", "operator call"),
+        ("operator<=>", "operator three-way"),
+    ):
         name = name.replace(long, short)
     name = OPERATOR.sub(lambda match: "operator " + "".join(OPERATOR_MARKS[mark] for mark in match.group(1)), name)
     kept, depth = [], 0

@@ -255,8 +255,7 @@ static struct beginning *beginning_plan(struct thread *thread, uint64_t routine,
     struct beginning *beginning = beginning_new();
     if (beginning) {
         beginning->argument = argument;
-        beginning->record = thread_record_new(thread->number, thread->record->children + 1, routine,
-                                              argument);
+        beginning->record = thread_record_new(thread->number, thread->record->children + 1, routine, argument);
     }
     if (beginning && !beginning->record) {
         count_loss(&process.losses->threads);
@@ -325,8 +324,7 @@ EXPORTED int pthread_create(pthread_t *handle, const pthread_attr_t *attributes,
 {
     struct thread *thread = recording_thread();
     uint32_t site = thread ? CALLER_SITE() : 0;
-    struct beginning *beginning =
-        thread ? beginning_plan(thread, (uint64_t)(uintptr_t)routine, argument) : NULL;
+    struct beginning *beginning = thread ? beginning_plan(thread, (uint64_t)(uintptr_t)routine, argument) : NULL;
     if (!beginning)
         return real.pthread_create(handle, attributes, routine, argument);
     beginning->routine = routine;
@@ -343,8 +341,7 @@ EXPORTED int thrd_create(thrd_t *handle, thrd_start_t routine, void *argument)
 {
     struct thread *thread = recording_thread();
     uint32_t site = thread ? CALLER_SITE() : 0;
-    struct beginning *beginning =
-        thread ? beginning_plan(thread, (uint64_t)(uintptr_t)routine, argument) : NULL;
+    struct beginning *beginning = thread ? beginning_plan(thread, (uint64_t)(uintptr_t)routine, argument) : NULL;
     if (!beginning)
         return real.thrd_create(handle, routine, argument);
     beginning->c11_routine = routine;
@@ -378,14 +375,14 @@ static void join_write(struct thread *thread, uint64_t number, uint32_t site, in
     words_keep(thread);
 }
 
-#define JOIN(handle, success, call)                                  \
-    struct thread *thread = recording_thread();                      \
-    if (!thread)                                                     \
-        return call;                                                 \
-    uint32_t site = CALLER_SITE();                                   \
-    uint64_t number = joined_number((pthread_t)(handle));            \
-    int result = call;                                               \
-    join_write(thread, number, site, result == (success));           \
+#define JOIN(handle, success, call) \
+    struct thread *thread = recording_thread(); \
+    if (!thread) \
+        return call; \
+    uint32_t site = CALLER_SITE(); \
+    uint64_t number = joined_number((pthread_t)(handle)); \
+    int result = call; \
+    join_write(thread, number, site, result == (success)); \
     return result
 
 EXPORTED int pthread_join(pthread_t handle, void **value)

@@ -21,66 +21,66 @@ static inline int is_plain(const pthread_mutex_t *lock)
     return type != PTHREAD_MUTEX_RECURSIVE_NP && type != PTHREAD_MUTEX_ERRORCHECK_NP;
 }
 
-/* A call that may wait for ever: the acquire is written before it. If that of a plain mutex which the thread holds comes back,
- * another thread had unlocked it: it is held as before. */
-#define ACQUIRE(lock, class, kind, plain, good, call)                                                  \
-    struct thread *thread = recording_thread();                                                 \
-    if (unlikely(!thread))                                                                      \
-        return call;                                                                            \
-    uint64_t word = call_word(thread, lock, class, CALLER);                                     \
-    if (unlikely(confirming))                                                                   \
-        confirm_before(thread, word | kind, lock, (uintptr_t)__builtin_return_address(0), 0);   \
-    uint64_t *place = acquire_write(thread, kind, word, plain);                                 \
-    int result = call;                                                                          \
-    if (unlikely(confirming))                                                                   \
-        confirm_after(thread);                                                                  \
-    if (unlikely(!(good) || word_kind(*place) == EVENT_AGAIN))                                  \
-        acquire_take_back(thread, place);                                                       \
+/* A call that may wait for ever: the acquire is written before it. If that of a plain mutex which the thread holds
+ * comes back, another thread had unlocked it: it is held as before. */
+#define ACQUIRE(lock, class, kind, plain, good, call) \
+    struct thread *thread = recording_thread(); \
+    if (unlikely(!thread)) \
+        return call; \
+    uint64_t word = call_word(thread, lock, class, CALLER); \
+    if (unlikely(confirming)) \
+        confirm_before(thread, word | kind, lock, (uintptr_t)__builtin_return_address(0), 0); \
+    uint64_t *place = acquire_write(thread, kind, word, plain); \
+    int result = call; \
+    if (unlikely(confirming)) \
+        confirm_after(thread); \
+    if (unlikely(!(good) || word_kind(*place) == EVENT_AGAIN)) \
+        acquire_take_back(thread, place); \
     return result
 
 /* A call that can't wait for ever: the acquire is written after it. */
-#define TRY_ACQUIRE(lock, class, kind, good, call)                                              \
-    struct thread *thread = recording_thread();                                                 \
-    if (unlikely(!thread))                                                                      \
-        return call;                                                                            \
-    int result = call;                                                                          \
-    if (good)                                                                                   \
-        acquire_write(thread, kind, call_word(thread, lock, class, CALLER), 0);                 \
-    else                                                                                        \
-        count_other(thread);                                                                    \
+#define TRY_ACQUIRE(lock, class, kind, good, call) \
+    struct thread *thread = recording_thread(); \
+    if (unlikely(!thread)) \
+        return call; \
+    int result = call; \
+    if (good) \
+        acquire_write(thread, kind, call_word(thread, lock, class, CALLER), 0); \
+    else \
+        count_other(thread); \
     return result
 
 /* The lock's number is asked for before: once released, another thread may destroy the lock. */
-#define RELEASE(lock, class, good, call)                                                        \
-    struct thread *thread = recording_thread();                                                 \
-    if (unlikely(!thread))                                                                      \
-        return call;                                                                            \
-    uint64_t word = call_word(thread, lock, class, CALLER);                                     \
-    int result = call;                                                                          \
-    if (good)                                                                                   \
-        release_write(thread, word);                                                            \
-    else                                                                                        \
-        count_other(thread);                                                                    \
+#define RELEASE(lock, class, good, call) \
+    struct thread *thread = recording_thread(); \
+    if (unlikely(!thread)) \
+        return call; \
+    uint64_t word = call_word(thread, lock, class, CALLER); \
+    int result = call; \
+    if (good) \
+        release_write(thread, word); \
+    else \
+        count_other(thread); \
     return result
 
-#define MAKE(lock, class, good, call)                                                           \
-    struct thread *thread = recording_thread();                                                 \
-    if (unlikely(!thread))                                                                      \
-        return call;                                                                            \
-    int result = call;                                                                          \
-    if (good)                                                                                   \
-        lock_number_new(thread, lock, class, LOCK_MADE, CALLER_SITE());                         \
-    count_other(thread);                                                                        \
+#define MAKE(lock, class, good, call) \
+    struct thread *thread = recording_thread(); \
+    if (unlikely(!thread)) \
+        return call; \
+    int result = call; \
+    if (good) \
+        lock_number_new(thread, lock, class, LOCK_MADE, CALLER_SITE()); \
+    count_other(thread); \
     return result
 
-#define DESTROY(lock, call)                                                                     \
-    struct thread *thread = recording_thread();                                                 \
-    if (unlikely(!thread))                                                                      \
-        return call;                                                                            \
-    int result = call;                                                                          \
-    if (result == 0)                                                                            \
-        lock_forget(lock);                                                                      \
-    count_other(thread);                                                                        \
+#define DESTROY(lock, call) \
+    struct thread *thread = recording_thread(); \
+    if (unlikely(!thread)) \
+        return call; \
+    int result = call; \
+    if (result == 0) \
+        lock_forget(lock); \
+    count_other(thread); \
     return result
 
 /* --- Mutexes ---------------------------------------------------------------------------------------------- */
@@ -112,8 +112,7 @@ EXPORTED int pthread_mutex_timedlock(pthread_mutex_t *lock, deadline_t deadline)
 
 EXPORTED int pthread_mutex_clocklock(pthread_mutex_t *lock, clockid_t clock, deadline_t deadline)
 {
-    TRY_ACQUIRE(lock, LOCK_MUTEX, EVENT_TRY_ACQUIRE, took(result),
-                real.pthread_mutex_clocklock(lock, clock, deadline));
+    TRY_ACQUIRE(lock, LOCK_MUTEX, EVENT_TRY_ACQUIRE, took(result), real.pthread_mutex_clocklock(lock, clock, deadline));
 }
 
 EXPORTED int pthread_mutex_unlock(pthread_mutex_t *lock)
@@ -167,8 +166,7 @@ EXPORTED int pthread_rwlock_trywrlock(pthread_rwlock_t *lock)
 
 EXPORTED int pthread_rwlock_timedwrlock(pthread_rwlock_t *lock, deadline_t deadline)
 {
-    TRY_ACQUIRE(lock, LOCK_RWLOCK, EVENT_TRY_ACQUIRE, result == 0,
-                real.pthread_rwlock_timedwrlock(lock, deadline));
+    TRY_ACQUIRE(lock, LOCK_RWLOCK, EVENT_TRY_ACQUIRE, result == 0, real.pthread_rwlock_timedwrlock(lock, deadline));
 }
 
 EXPORTED int pthread_rwlock_clockwrlock(pthread_rwlock_t *lock, clockid_t clock, deadline_t deadline)
@@ -234,17 +232,17 @@ static inline void wait_write(struct thread *thread, uint64_t word, int good)
     acquire_write(thread, EVENT_ACQUIRE, word, 0);
 }
 
-#define WAIT(lock, good, call)                                                   \
-    struct thread *thread = recording_thread();                                  \
-    if (unlikely(!thread))                                                       \
-        return call;                                                             \
-    uint64_t word = call_word(thread, lock, LOCK_MUTEX, CALLER);                 \
-    if (unlikely(confirming))                                                    \
+#define WAIT(lock, good, call) \
+    struct thread *thread = recording_thread(); \
+    if (unlikely(!thread)) \
+        return call; \
+    uint64_t word = call_word(thread, lock, LOCK_MUTEX, CALLER); \
+    if (unlikely(confirming)) \
         confirm_before(thread, word | EVENT_ACQUIRE, lock, (uintptr_t)__builtin_return_address(0), 1); \
-    wait_write(thread, word, good);                                              \
-    int result = call;                                                           \
-    if (unlikely(confirming))                                                    \
-        confirm_after(thread);                                                   \
+    wait_write(thread, word, good); \
+    int result = call; \
+    if (unlikely(confirming)) \
+        confirm_after(thread); \
     return result
 
 EXPORTED int pthread_cond_wait(pthread_cond_t *condition, pthread_mutex_t *lock)

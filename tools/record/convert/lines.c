@@ -14,8 +14,9 @@
  *     `write` alone, for threads: number of texts;   each: its number, a text
  *     number of chunks;  each: file, thread, offset of its words in the file, how many
  *
- * `write` leaves out forks and joins of threads without a text. `scan` answers, for each thread in the order of the chunks, its number and how many events of each of the 32 kinds it has,
- * then a row of NO_THREAD words of the same length, then for each lock the thread and word of its first event.
+ * `write` leaves out forks and joins of threads without a text. `scan` answers, for each thread in the order of the
+ * chunks, its number and how many events of each of the 32 kinds it has, then a row of NO_THREAD words of the same
+ * length, then for each lock the thread and word of its first event.
  */
 #define _GNU_SOURCE
 #include "request.h"
@@ -84,17 +85,10 @@ static void scan_all(struct request *request)
 /* --- Lines ------------------------------------------------------------------------------------------------ */
 
 static const char *const operations[KINDS] = {
-    [EVENT_ACQUIRE] = "|acq(",
-    [EVENT_RELEASE] = "|rel(",
-    [EVENT_SHARED_ACQUIRE] = "|racq(",
-    [EVENT_SHARED_RELEASE] = "|rrel(",
-    [EVENT_TRY_ACQUIRE] = "|tryacq(",
-    [EVENT_TRY_SHARED_ACQUIRE] = "|tryracq(",
-    [EVENT_FORK] = "|fork(",
-    [EVENT_JOIN] = "|join(",
-    [EVENT_UPGRADE] = "|upgrade(",
-    [EVENT_BEYOND] = "|beyond(",
-    [EVENT_AGAIN] = "|again(",
+    [EVENT_ACQUIRE] = "|acq(",         [EVENT_RELEASE] = "|rel(",        [EVENT_SHARED_ACQUIRE] = "|racq(",
+    [EVENT_SHARED_RELEASE] = "|rrel(", [EVENT_TRY_ACQUIRE] = "|tryacq(", [EVENT_TRY_SHARED_ACQUIRE] = "|tryracq(",
+    [EVENT_FORK] = "|fork(",           [EVENT_JOIN] = "|join(",          [EVENT_UPGRADE] = "|upgrade(",
+    [EVENT_BEYOND] = "|beyond(",       [EVENT_AGAIN] = "|again(",
 };
 
 struct lines {

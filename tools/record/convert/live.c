@@ -8,11 +8,10 @@
  *
  *     number of processes;   each: number of its extents, and the path of each as a text
  *
- * It answers, for each process: the number of chunks of tables, each: order, extent, offset of the chunk; the number of chunks of
- * events, each: thread, offset in the copy, number of words; a hash of the events that
- * stay, which changes with each that is news; the
- * number of threads that wait for each other, each: thread, the word of the acquire that waits, the thread that has the lock.
- * That of `report`:
+ * It answers, for each process: the number of chunks of tables, each: order, extent, offset of the chunk; the number of
+ * chunks of events, each: thread, offset in the copy, number of words; a hash of the events that stay, which changes
+ * with each that is news; the number of threads that wait for each other, each: thread, the word of the acquire that
+ * waits, the thread that has the lock. That of `report`:
  *
  *     number of files;   a text each: the path
  *     number of locks that turned out to be none;   each: its number
@@ -21,8 +20,8 @@
  *     for threads: number of texts;   each: its number, a text
  *     number of chunks;  each: file, thread, offset of its words in the file, how many
  *
- * It answers, for each report: what the library answered (WITHOUT_EVENTS: it was asked for nothing), how many cycles are listed,
- * and whether there are more.
+ * It answers, for each report: what the library answered (WITHOUT_EVENTS: it was asked for nothing), how many cycles
+ * are listed, and whether there are more.
  */
 #define _GNU_SOURCE
 #include <stdbool.h>
@@ -209,7 +208,8 @@ static void tables_read(struct recorded *recorded)
             uint64_t size = *record >> 32;
             if (size == 0 || size > end - at)
                 break;
-            if ((uint32_t)*record == RECORD_THREAD && size * 8 >= sizeof(struct thread_record) && record[1] <= UINT32_MAX)
+            if ((uint32_t)*record == RECORD_THREAD && size * 8 >= sizeof(struct thread_record) &&
+                record[1] <= UINT32_MAX)
                 thread_note(recorded, (const struct thread_record *)record);
             at += size;
         }
@@ -227,7 +227,8 @@ static void tables_put(const struct recorded *recorded)
     }
 }
 
-/* The latest thread first: a child's events are copied before its parent's, and so the fork is in each copy that has any. */
+/* The latest thread first: a child's events are copied before its parent's, and so the fork is in each copy that has
+ * any. */
 static int by_thread(const void *one, const void *other)
 {
     const struct chunk *a = ((const struct place *)one)->chunk, *b = ((const struct place *)other)->chunk;
@@ -242,10 +243,11 @@ static uint64_t version_of(const struct thread_record *record)
     return __atomic_load_n(&record->left_out, __ATOMIC_ACQUIRE) + __atomic_load_n(&record->others, __ATOMIC_ACQUIRE);
 }
 
-/* Copies the words of a thread's latest chunk as they were at one moment; how many. The words in front stay for ever; those behind
- * may be taken back and stored anew meanwhile, which the version tells: then they are read again. Should that not end, what stays
- * is the copy. `stay`: how many of the words stay. */
-static uint64_t words_copy(const struct place *place, const struct thread_record *record, uint64_t *copy, uint64_t *stay)
+/* Copies the words of a thread's latest chunk as they were at one moment; how many. The words in front stay for ever;
+ * those behind may be taken back and stored anew meanwhile, which the version tells: then they are read again. Should
+ * that not end, what stays is the copy. `stay`: how many of the words stay. */
+static uint64_t words_copy(const struct place *place, const struct thread_record *record, uint64_t *copy,
+                           uint64_t *stay)
 {
     const struct chunk *chunk = place->chunk;
     uint64_t done = 0;
@@ -336,7 +338,8 @@ static int wait_is_kept_up(struct waits *waits, struct wait *wait)
     return 0;
 }
 
-/* Leaves out those that wait for somebody who doesn't, until all that are left wait for each other; writes one round of these. */
+/* Leaves out those that wait for somebody who doesn't, until all that are left wait for each other; writes one round of
+ * these. */
 static void waits_put(struct waits *waits)
 {
     for (int changed = 1; changed;) {
@@ -410,7 +413,8 @@ static void chunk_copy(const struct recorded *recorded, size_t i, struct copied 
         if (at < stay || !is_last)
             copied->hash = hash_step(copied->hash, copied->words[at]);
         unsigned kind = copied->words[at] % KINDS;
-        if (!holding_step(&copied->holding, copied->words[at]) && (kind == EVENT_RELEASE || kind == EVENT_SHARED_RELEASE))
+        if (!holding_step(&copied->holding, copied->words[at]) &&
+            (kind == EVENT_RELEASE || kind == EVENT_SHARED_RELEASE))
             locks_add(&copied->waits.strays, copied->words[at] >> OBJECT_SHIFT);
     }
     copied->hash = hash_step(copied->hash, (uint64_t)thread << 32 | stay);
@@ -787,8 +791,8 @@ static void report_write(struct report *report, goodlock_report *made, uint64_t 
 }
 
 /* Records all events, and makes and writes the report. */
-static void report_session(struct request *request, struct report *report, const int *files, uint64_t ways, const char *path,
-                           uint64_t *answer)
+static void report_session(struct request *request, struct report *report, const int *files, uint64_t ways,
+                           const char *path, uint64_t *answer)
 {
     goodlock_report made = {NULL};
     size_t cycles = 0;

@@ -1,7 +1,7 @@
 /*
- * What the programs that read a recording's events share: their request, which comes on standard input, the events of its
- * chunks, and what they write. lines.c and live.c say what their requests have; all is words of 8 bytes in the machine's byte order, and a text is
- * its length in bytes and then its bytes, filled up with zeros to a whole word.
+ * What the programs that read a recording's events share: their request, which comes on standard input, the events of
+ * its chunks, and what they write. lines.c and live.c say what their requests have; all is words of 8 bytes in the
+ * machine's byte order, and a text is its length in bytes and then its bytes, filled up with zeros to a whole word.
  */
 #ifndef GOODLOCK_REQUEST_H
 #define GOODLOCK_REQUEST_H
@@ -183,8 +183,8 @@ static inline void no_locks_leave_out(uint64_t *words, size_t count)
 }
 
 /* Calls `use` with the words of each chunk, in pieces. */
-static inline void events_read(struct request *request, const int *files, void (*use)(void *, uint64_t, const uint64_t *, size_t),
-                        void *state)
+static inline void events_read(struct request *request, const int *files,
+                               void (*use)(void *, uint64_t, const uint64_t *, size_t), void *state)
 {
     static uint64_t piece[PIECE_WORDS];
     for (uint64_t left = next_word(request); left > 0; left--) {

@@ -27,7 +27,9 @@ def recording_of(threads):
     assert CHUNK_HEAD == 32 and len(chunk) < 4096
     data = chunk.ljust(4096, b"\0")
     for thread, _ in threads:
-        events = struct.pack("=IIIIQQ", 0x676C6576, thread, 0, 4096, 2, 0) + struct.pack("=QQ", 1 | 5 << 32, 2 | 5 << 32)
+        events = struct.pack("=IIIIQQ", 0x676C6576, thread, 0, 4096, 2, 0) + struct.pack(
+            "=QQ", 1 | 5 << 32, 2 | 5 << 32
+        )
         data += events.ljust(4096, b"\0")
     with open("t.raw/77.0.0", "wb") as file:
         file.write(data)

@@ -9,7 +9,9 @@ from c_programs import RECORD, Run
 def outside(*command):
     """Runs a command as the second process of a namespace of its own, without a /proc of its own."""
     script = '"$0" "$@"; status=$?; exit $status'  # so the shell stays the first one
-    return subprocess.run(["unshare", "-p", "-f", "sh", "-c", script, *command], stdout=subprocess.PIPE, stderr=subprocess.PIPE)
+    return subprocess.run(
+        ["unshare", "-p", "-f", "sh", "-c", script, *command], stdout=subprocess.PIPE, stderr=subprocess.PIPE
+    )
 
 
 def test_process_that_outlives_its_parent():
