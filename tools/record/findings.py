@@ -30,7 +30,8 @@ def read_findings(path):
         with open(path, encoding="utf-8") as file:
             report = json.load(file)
         edges = report.get("edges")
-        cycles = [[edges[position] for position in cycle] if edges is not None else cycle for cycle in report["cycles"]]
+        listed = report["findings" if report.get("format") == 3 else "cycles"]
+        cycles = [[edges[position] for position in cycle] if edges is not None else cycle for cycle in listed]
         findings = {}
         for cycle in cycles:
             key = frozenset(map(pair_of, cycle))

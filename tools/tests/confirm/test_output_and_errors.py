@@ -21,6 +21,19 @@ def test_output_for_tools(predict):
     assert status == ERROR and "exists already" in said, said
 
 
+def test_a_report_of_findings(predict):
+    """It lists findings in place of cycles, and no trim order."""
+    with open(predict("opposite")) as file:
+        report = json.load(file)
+    del report["trim"]
+    report.update(format=3, findings=report.pop("cycles"))
+    with open("findings.json", "w") as file:
+        json.dump(report, file)
+    status, out, said = run(["findings.json", "--", "./cycles", "opposite"])
+    assert status == DEADLOCKED and out.startswith("deadlocked in try "), out + said
+    assert "main.1:one_way holds a since " in out and "main.2:other_way holds b since " in out, out
+
+
 def test_errors(predict):
     report = predict("opposite")
     with open("no-report.json", "w") as file:

@@ -17,6 +17,7 @@ from viewing import (
     ring,
     second_format,
     text_of_page,
+    third_format,
     view,
     write,
 )
@@ -115,11 +116,24 @@ def test_findings_come_shortest_first_then_most_cycles():
     assert shown == ["z1 wants b at z2", "1 wants b at 2", "p wants b at q"]
 
 
-def test_both_formats_give_the_same_findings():
+def test_all_formats_give_the_same_findings():
     write("1.json", report(pair(), ring("abc", "p", "q")))
     write("2.json", second_format(pair(), ring("abc", "p", "q")))
+    write("3.json", third_format(pair(), ring("abc", "p", "q")))
     assert view("2.json") == view("1.json")
-    assert heads(view("1.json", "2.json")[1])[1] == "2 findings, 4 cycles in 2 reports"
+    assert view("3.json") == view("1.json")
+    assert heads(view("1.json", "2.json", "3.json")[1])[1] == "2 findings, 6 cycles in 3 reports"
+
+
+def test_more_findings_than_listed_are_told():
+    write("whole.json", third_format(pair()))
+    write("cut.json", third_format(pair(), more=True))
+    write("cycles.json", report(pair(), more=True))
+    assert "may be missing" not in view("whole.json")[1]
+    words = "findings may be missing: cut.json has more findings than are listed (ask for a larger max)"
+    assert words in view("whole.json", "cut.json")[1]
+    words = "findings may be missing: cut.json and cycles.json have more cycles or findings than are listed"
+    assert words.replace(" and ", ", ") in view("cut.json", "cycles.json")[1]
 
 
 def test_a_trim_order_shows_no_findings():

@@ -7,7 +7,21 @@ import subprocess
 import sys
 
 import pytest
-from viewing import EXAMPLE, TOOL, TWO, broken, heads, hostile_report, pair, read, report, text_of_page, view, write
+from viewing import (
+    EXAMPLE,
+    THREE,
+    TOOL,
+    TWO,
+    broken,
+    heads,
+    hostile_report,
+    pair,
+    read,
+    report,
+    text_of_page,
+    view,
+    write,
+)
 
 
 def put(key, new):
@@ -33,14 +47,14 @@ MALFORMED = [
     (b"[]", "not a report: the report is an array, not an object"),
     (b"null", "not a report: the report is null, not an object"),
     (b"[" * 100_000, "not a report: nested too deeply"),
-    (b"{}", "not a report: the report has no key `format` of 1 or 2"),
+    (b"{}", "not a report: the report has no key `format` of 1, 2 or 3"),
     (EXAMPLE.replace('"max":1000', '"max":NaN'), "not JSON: NaN isn't JSON"),
     (EXAMPLE.replace('"max":1000', '"max":' + "9" * 5000), "not "),  # some versions of Python refuse it as JSON
     (EXAMPLE.replace('"max":1000', '"max":18446744073709551616'), "not a report: max is too large"),
     (EXAMPLE.replace('"max":1000', '"max":1000,"max":1000'), "not JSON: the key 'max' comes twice in one object"),
     (EXAMPLE.replace('"max":1000', '"max":1e3'), "max is a number with a fraction or exponent, not a whole number"),
-    (broken(put_top("format", 3)), "not a report: the report has no key `format` of 1 or 2"),
-    (broken(put_top("format", True)), "not a report: the report has no key `format` of 1 or 2"),
+    (broken(put_top("format", 4)), "not a report: the report has no key `format` of 1, 2 or 3"),
+    (broken(put_top("format", True)), "not a report: the report has no key `format` of 1, 2 or 3"),
     (broken(put_top("format", 2)), "not a report: the report has no key `edges`"),
     (broken(lambda v: v.pop("more")), "not a report: the report has no key `more`"),
     ('{"len":' + "9" * 100_000 + "}", "not a report: a number has too many digits"),
@@ -98,6 +112,16 @@ MALFORMED = [
     (broken(put("guard_modes", []), TWO), "not a report: edges[0].guard_modes hasn't one mode for each guard"),
     (broken(put("guard_modes", ["y"]), TWO), "not a report: edges[0].guard_modes isn't an array"),
     (broken(lambda v: v["edges"][1].pop("held_mode"), TWO), "not a report: edges[1] has no key `held_mode`"),
+    (broken(put_top("format", 2), THREE), "not a report: the report has no key `cycles`"),
+    (broken(put_top("format", 3), TWO), "not a report: the report has no key `findings`"),
+    (broken(put_top("trim", None), THREE), "not a report: the report has the unknown key 'trim'"),
+    (broken(put_top("cycles", []), THREE), "not a report: the report has the unknown key 'cycles'"),
+    (broken(put_top("findings", {}), THREE), "not a report: findings is an object, not an array"),
+    (broken(put_top("findings", [[0, 2]]), THREE), "not a report: findings[0][1] isn't a position in `edges`"),
+    (broken(put_top("findings", [[0]]), THREE), "not a report: findings[0] has 1 edge, a cycle has two or more"),
+    (broken(put_top("max", 0), THREE), "not a report: findings lists 1 findings, more than `max`"),
+    (broken(put_top("len", 1), THREE), "not a report: findings[0] has 2 edges, more than `len`"),
+    (broken(lambda v: v["edges"][1].pop("held_mode"), THREE), "not a report: edges[1] has no key `held_mode`"),
 ]
 
 

@@ -98,6 +98,14 @@ def second_format(*cycles, more=False, trim=None, modes=("x", "x")):
     return json.dumps(dict(value, more=more, trim=trim), separators=(",", ":")) + "\n"
 
 
+def third_format(*cycles, more=False):
+    """A report of findings, each shown by one cycle."""
+    value = json.loads(second_format(*cycles, more=more))
+    del value["trim"]
+    value.update(format=3, findings=value.pop("cycles"))
+    return json.dumps(value, separators=(",", ":")) + "\n"
+
+
 EXAMPLE = (
     '{"cycles":[[{"first":0,"guards":["a"],"held":"a","held_at":"1","place":1,"second":0,"thread":"T0",'
     '"wanted":"b","wanted_at":"2"},{"first":0,"guards":["b"],"held":"b","held_at":"5","place":1,"second":0,'
@@ -149,6 +157,7 @@ def broken(change, text=None):
 
 
 TWO = second_format(pair())  # the example in format 2
+THREE = third_format(pair())  # and as a finding
 OTHER = ("7", "8", "9", "10")  # places of another finding than the example's
 SOURCE = "".join(f"line {i} of server\n" for i in range(1, 41))
 

@@ -12,7 +12,7 @@ from .fingerprints import Fingerprints
 from .known import Known
 from .names import counted, file_name, shortened
 from .refusal import Refusal
-from .reports import Cycle, Edge, Pair, Reader, Wrong, check_report, parsed
+from .reports import Cycle, Edge, Pair, Reader, Wrong, check_report, listed_in, parsed
 
 
 class Report(NamedTuple):
@@ -23,6 +23,7 @@ class Report(NamedTuple):
     length: int
     most: int
     more: bool
+    lists: str  # "cycles" or "findings"
     listed: int
 
 
@@ -82,7 +83,7 @@ def read_reports(paths: Iterable[str]) -> tuple[list[Report], list[Finding]]:
         except Wrong as wrong:
             where = f"{wrong.where} " if wrong.where else "the report "
             raise Refusal(f"{name}: not a report: {where}{wrong.text}") from None
-        reports.append(Report(name, value["mode"], value["len"], value["max"], value["more"], listed))
+        reports.append(Report(name, value["mode"], value["len"], value["max"], value["more"], listed_in(value), listed))
     return reports, list(findings.values())
 
 
@@ -145,4 +146,5 @@ class Summary:
         rest = len(self.cut) - 5
         some += f" and {counted(rest, 'more report')}" if rest > 0 else ""
         verb = "has" if len(self.cut) == 1 else "have"
-        return [f"findings may be missing: {some} {verb} more cycles than are listed (ask for a larger max)"]
+        what = " or ".join(sorted({report.lists for report in self.cut}))
+        return [f"findings may be missing: {some} {verb} more {what} than are listed (ask for a larger max)"]

@@ -1,4 +1,4 @@
-"""Reading reports: JSON of format 1 or 2, checked key by key, as cycles of edges."""
+"""Reading reports: JSON of format 1, 2 or 3, checked key by key, as cycles of edges."""
 
 from __future__ import annotations
 
@@ -19,8 +19,12 @@ _NUMBER_KEYS = ("first", "place", "second")
 _NAMES_OF = operator.itemgetter(*NAME_KEYS)
 _EDGE_KEYS = frozenset(NAME_KEYS + _NUMBER_KEYS + ("guards",))
 _EDGE_KEYS_2 = _EDGE_KEYS | {"guard_modes", "held_mode", "wanted_mode"}
-_REPORT_KEYS = frozenset(("cycles", "format", "len", "max", "mode", "more"))
-_REPORT_KEYS_2 = _REPORT_KEYS | {"edges", "trim"}
+_COMMON_KEYS = frozenset(("format", "len", "max", "mode", "more"))
+_REPORT_KEYS = {
+    1: _COMMON_KEYS | {"cycles"},
+    2: _COMMON_KEYS | {"cycles", "edges", "trim"},
+    3: _COMMON_KEYS | {"edges", "findings"},
+}
 
 
 class NotJson(ValueError):
@@ -72,25 +76,32 @@ class Reader:
         self._edges: dict[tuple[Any, ...], Edge] = {}
 
     def cycles(self, report: Json) -> Iterator[Cycle]:
-        """Each cycle of a report that `check_report` took, checked one after the other."""
-        table = None
-        if report["format"] == 2:
-            try:
-                table = self._list_of_edges(report["edges"], _EDGE_KEYS_2)
-            except Wrong as wrong:
-                raise wrong.under("edges") from None
-            _check_trim(report["trim"], table)
-        if type(report["cycles"]) is not list:
-            raise Wrong(f"is {_kind(report['cycles'])}, not an array", "cycles")
-        if len(report["cycles"]) > report["max"]:
-            raise Wrong(f"lists {len(report['cycles'])} cycles, more than `max`", "cycles")
-        for at, value in enumerate(report["cycles"]):
+        """Each cycle of a report that `check_report` took, checked one after the other; of format 3 those that show its
+        findings."""
+        table = self._table_of(report)
+        listed = listed_in(report)
+        if type(report[listed]) is not list:
+            raise Wrong(f"is {_kind(report[listed])}, not an array", listed)
+        if len(report[listed]) > report["max"]:
+            raise Wrong(f"lists {len(report[listed])} {listed}, more than `max`", listed)
+        for at, value in enumerate(report[listed]):
             try:
                 cycle = self._list_of_edges(value, _EDGE_KEYS) if table is None else _edges_at(value, table)
                 _check_cycle(cycle, report["len"])
             except Wrong as wrong:
-                raise wrong.under(f"cycles[{at}]") from None
+                raise wrong.under(f"{listed}[{at}]") from None
             yield cycle
+
+    def _table_of(self, report: Json) -> list[Edge] | None:
+        """The edges that cycles are positions of; None in format 1, whose cycles have the edges themselves."""
+        if report["format"] == 1:
+            return None
+        try:
+            table = self._list_of_edges(report["edges"], _EDGE_KEYS_2)
+        except Wrong as wrong:
+            raise wrong.under("edges") from None
+        _check_trim(report.get("trim"), table)
+        return table
 
     def _list_of_edges(self, values: Json, keys: frozenset[str]) -> list[Edge]:
         if type(values) is not list:
@@ -170,15 +181,20 @@ def check_report(report: Json) -> None:
     if type(report) is not dict:
         raise Wrong(f"is {_kind(report)}, not an object")
     number = report.get("format")
-    if type(number) is not int or number not in (1, 2):
-        raise Wrong("has no key `format` of 1 or 2")
-    _check_keys(report, _REPORT_KEYS if number == 1 else _REPORT_KEYS_2)
+    if type(number) is not int or number not in _REPORT_KEYS:
+        raise Wrong("has no key `format` of 1, 2 or 3")
+    _check_keys(report, _REPORT_KEYS[number])
     _check_numbers(report, ("len", "max"))
     _check_choice(report, "mode", ("basic", "guarded", "full"))
     if type(report["more"]) is not bool:
         raise Wrong(f"is {_kind(report['more'])}, not true or false", "more")
     if number == 2 and type(report["trim"]) not in (list, type(None)):
         raise Wrong(f"is {_kind(report['trim'])}, not an array or null", "trim")
+
+
+def listed_in(report: Json) -> str:
+    """The key of a report that lists its cycles."""
+    return "findings" if report["format"] == 3 else "cycles"
 
 
 def _kind(value: Json) -> str:
