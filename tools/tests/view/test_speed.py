@@ -1,9 +1,11 @@
-"""How long large reports take."""
+"""How long large reports take, and how much memory many."""
 
 import json
 import resource
+import subprocess
+import sys
 
-from viewing import heads, read, view, write
+from viewing import TOOL, heads, read, view, write
 
 OUTPUTS = ["-o", "p.html", "--sarif", "s.sarif", "--dot", "g.dot", "--text"]
 
@@ -53,3 +55,17 @@ def test_a_hundred_thousand_cycles_make_a_page_of_some_megabytes():
     assert (status, errors, last) == (1, "", "1,000 findings, 100,000 cycles in 1 report")
     assert used < 6
     assert len(read("p.html")) < 3_000_000
+
+
+def test_reports_whose_names_all_differ_take_the_memory_of_a_few():
+    """Each of 40 runs has 8,000 edges between locks of its own, and shows one of the same two places."""
+    modes = {"guard_modes": ["x"], "held_mode": "x", "wanted_mode": "x"}
+    value = {"findings": [[0, 1]], "format": 3, "len": 4, "max": 100, "mode": "full", "more": False}
+    for run in range(40):
+        pairs = [(f"run-{run}-lock-{2 * i}", f"run-{run}-lock-{2 * i + 1}") for i in range(4_000)]
+        edges = [one_edge(a, b, "a.c:1", f"run-{run}-T0", "a.c:2", **modes) for a, b in pairs]
+        back = [one_edge(b, a, "b.c:1", f"run-{run}-T1", "b.c:2", **modes) for a, b in pairs]
+        write(f"runs/{run}.json", json.dumps(dict(value, edges=[edge for both in zip(edges, back) for edge in both])))
+    limited = ["sh", "-c", 'ulimit -v 230000 && exec "$0" "$@"', sys.executable, TOOL, "runs"]  # all edges: 320,000 kB
+    output = subprocess.run(limited, stdout=subprocess.PIPE, text=True).stdout
+    assert heads(output) == (["finding 1: 40 cycles in 40 reports"], "1 finding, 40 cycles in 40 reports")

@@ -25,6 +25,7 @@ _REPORT_KEYS = {
     2: _COMMON_KEYS | {"cycles", "edges", "trim"},
     3: _COMMON_KEYS | {"edges", "findings"},
 }
+_MOST_SHARED = 100_000  # names or edges that are kept from report to report
 
 
 class NotJson(ValueError):
@@ -68,7 +69,8 @@ Cycle = list[Edge]
 
 
 class Reader:
-    """Checks reports and turns them into cycles of edges. Names and edges are shared between reports."""
+    """Checks reports and turns them into cycles of edges. Names and edges are shared between reports, as long as they
+    aren't too many: each run may have its own."""
 
     def __init__(self) -> None:
         self._names: set[str] = set()  # those that were found well spelled
@@ -78,6 +80,7 @@ class Reader:
     def cycles(self, report: Json) -> Iterator[Cycle]:
         """Each cycle of a report that `check_report` took, checked one after the other; of format 3 those that show its
         findings."""
+        self._forget()
         table = self._table_of(report)
         listed = listed_in(report)
         if type(report[listed]) is not list:
@@ -91,6 +94,13 @@ class Reader:
             except Wrong as wrong:
                 raise wrong.under(f"{listed}[{at}]") from None
             yield cycle
+
+    def _forget(self) -> None:
+        """Lets go of what earlier reports had, where it is much; what findings show stays with them."""
+        tables: tuple[set[Any] | dict[Any, Any], ...] = (self._names, self._modes, self._edges)
+        for table in tables:
+            if len(table) > _MOST_SHARED:
+                table.clear()
 
     def _table_of(self, report: Json) -> list[Edge] | None:
         """The edges that cycles are positions of; None in format 1, whose cycles have the edges themselves."""
