@@ -39,6 +39,18 @@ def test_each_trace_of_a_folder_has_its_report(path):
     }
 
 
+def test_findings_of_two_runs_are_merged_by_the_viewer(path):
+    """The second run has twelve pairs of other threads at the same places: 144 cycles, and the same finding."""
+    write("one.std", TRACE)
+    write("two.std", "".join(TRACE.replace("T0|", f"A{i}|").replace("T1|", f"B{i}|") for i in range(12)))
+    assert predict_all(path, "one.std", "two.std", "--", "--findings") == (0, "", "")
+    assert [(report["format"], len(report["findings"])) for report in reports().values()] == [(3, 1), (3, 1)]
+    status, output, errors = run(path / "goodlock-view", "reports")
+    assert (status, errors) == (1, "")
+    assert output.startswith("finding 1: 2 cycles in 2 reports\n")
+    assert output.endswith("\n1 finding, 2 cycles in 2 reports\n")
+
+
 def test_a_refused_trace_is_named_and_the_others_have_their_reports(path):
     for name in ("a.std", "c.std"):
         write(name, TRACE)
