@@ -64,6 +64,8 @@ SERVERS = {
     # A thread for each connection, forked and joined as they come and go, and a table of locks, taken in any order with
     # tries for most of those that aren't the first.
     "connections": dict(threads=1_000, locks=2_000, sections=12, tried=0.75),
+    # Many threads run one of two pieces of code, on all locks: millions of cycles of one mistake.
+    "shared-code": dict(threads=1_000, locks=50),
 }
 NAMES = {"colliding-names": dict(locks=100_000), "ordinary-names": dict(locks=100_000)}
 GENERAL = dict(
@@ -337,6 +339,17 @@ def connections(options):
     return Server(options).connections()
 
 
+def shared_code(options):
+    """Every second thread runs another piece of code, which takes an account and its journal the other way round."""
+    for t in range(options.threads):
+        for number in range(options.locks):
+            account, journal = f"account{number}", f"journal{number}"
+            if t % 2 == 0:
+                yield from nested(f"worker{t}", "Pay.java", [account, journal])
+            else:
+                yield from nested(f"worker{t}", "Audit.java", [journal, account])
+
+
 def locks_in_turn(options, prefix):
     """One thread takes and releases each lock twice; a lock's name is the prefix and eight digits."""
     for _ in range(2):
@@ -365,6 +378,7 @@ MADE_BY = {
     "item-locks": cache_server,
     "long-sections": cache_server,
     "connections": connections,
+    "shared-code": shared_code,
     "colliding-names": colliding_names,
     "ordinary-names": ordinary_names,
 }
