@@ -1,7 +1,10 @@
 //! What is known of a session once its receipts were settled.
-ghost use Rattle.std.specs.Prelude.{◌≡◌, List, map, IfOk, IfErr};
+ghost use Rattle.std.specs.Prelude.{◌≡◌, ◌≤◌, ℕ, List, Some, length, map, slice_get, IfOk, IfErr};
+ghost use Rattle.gl_event.specs.Bounds.{greatest};
+ghost use Rattle.gl_event.specs.Lawful.{IsLawful};
+ghost use Rattle.gl_event.specs.declared.events.Event.{Event};
 ghost use Rattle.gl_cycles.specs.Reports.{IsReport, IsGoodlockReport, IsReportFault};
-ghost use Rattle.gl_edges.specs.Edges.{once};
+ghost use Rattle.gl_edges.specs.Edges.{edges, once};
 ghost use Rattle.gl_shards.specs.Feeds.{AllSent};
 ghost use Rattle.gl_shards.specs.Tables.{union};
 ghost use Rattle.gl_engine.specs.Recording.{Closed};
@@ -9,7 +12,8 @@ ghost use Rattle.gl_engine.specs.Settling.{IsSettled};
 
 use crate::reports::report_of_all;
 use gl_cycles::{Report, ReportFault, report_over_parallel};
-use gl_event::Event;
+use gl_edges::EdgeList;
+use gl_event::{Event, Memory};
 use gl_filters::Query;
 use gl_intake::Intake;
 use gl_shards::{Table, merge};
@@ -37,11 +41,31 @@ impl Model for Settled {
 }
 
 impl Settled {
-    /// The events of each thread, in the order of thread numbers.
+    /// The events of each thread, in the order of thread numbers. They are at most 1,024 lists, and each is
+    /// lawful under the greatest limits.
     pub fn lists(&self) -> &[Vec<Event>]
-        ensures { map (λ list. list.items) result.now ≡ self.now }
+        ensures value { map (λ list. list.items) result.now ≡ self.now }
+        ensures few { length result.now ≤ 1024 }
+        ensures lawful { (thread : ℕ) (es : List Event)
+            → slice_get (map (λ list. list.items) result.now) thread ≡ Some es
+            → IsLawful greatest thread es }
     {
         self.intake.logs()
+    }
+
+    /// The edges of these tables, taken together. Whichever tables they are, each edge counts once, with its
+    /// least sample.
+    ///
+    /// **Where they are the tables of the settled workers they are the edges of what the threads recorded.**
+    ///
+    /// Err where memory was refused.
+    pub fn edges(&self, tables: Vec<Table>) -> Result<EdgeList, Memory>
+        ensures union { IfOk result (λ list. list ≡ union tables.items) }
+        ensures recorded { (receipts : List Closed) (sent : List AllSent)
+            → IsSettled receipts self.now sent → tables.items ≡ map (λ s. once s.sent) sent
+            → IfOk result (λ list. list ≡ edges self.now) }
+    {
+        merge(self.alloc, tables)
     }
 
     /// The report over the edges of these tables, taken together, by the order of the lists. Whichever
@@ -66,9 +90,10 @@ impl Settled {
             → IsSettled receipts self.now sent → tables.items ≡ map (λ s. once s.sent) sent
             → IfOk result (λ report. IsGoodlockReport query.now self.now report) }
     {
-        let edges = merge(self.alloc, tables)?;
+        let edges = self.edges(tables)?;
         report_over_parallel(rt, self.alloc, edges, self.intake.logs(), query)
     }
+
     /// The same report on the calling thread, which finds the edges in the lists: the Goodlock report of
     /// what the threads recorded.
     ///
