@@ -51,14 +51,14 @@ classes_told classes (i ∷ is) within =
     (λ j. here.1 j ∷ rest j) ∙ sym (ap (λ o. map Some (cons_option o (filter_map (slice_get classes) is))) here.1)
 
 -- two lists that map to the parts of a list
-record IsSplit {X Y : Type 0} (f : X → Y) (xs : List X) (us vs : List Y) : Type 0 where
-  front : List X
-  back : List X
-  whole : front ++ back ≡ xs
-  of_front : map f front ≡ us
-  of_back : map f back ≡ vs
+pub record IsSplit {X Y : Type 0} (f : X → Y) (xs : List X) (us vs : List Y) : Type 0 where
+  pub front : List X
+  pub back : List X
+  pub whole : front ++ back ≡ xs
+  pub of_front : map f front ≡ us
+  pub of_back : map f back ≡ vs
 
-split : {X Y : Type 0} (f : X → Y) (xs : List X) (us vs : List Y) → map f xs ≡ us ++ vs → IsSplit f xs us vs
+pub split : {X Y : Type 0} (f : X → Y) (xs : List X) (us vs : List Y) → map f xs ≡ us ++ vs → IsSplit f xs us vs
 split f xs [] vs is = record { front = []; back = xs; whole = refl; of_front = refl; of_back = is }
 split f [] (u ∷ us) vs is = absurd (cc)
 split f (x ∷ xs) (u ∷ us) vs is =
@@ -98,7 +98,7 @@ walk_begins before mode edges classes kept models have positions front rest told
     })
 
 -- where positions have the classes of a turned signature, they have those of the signature itself when turned back
-turned_back : (f : ℕ → Option ℕ) (front back signature : List ℕ) (k : ℕ) → map f front ≡ map Some (drop k signature) → map f back ≡ map Some (take k signature) → map f (back ++ front) ≡ map Some signature
+pub turned_back : (f : ℕ → Option ℕ) (front back signature : List ℕ) (k : ℕ) → map f front ≡ map Some (drop k signature) → map f back ≡ map Some (take k signature) → map f (back ++ front) ≡ map Some signature
 turned_back f front back signature k of_front of_back =
     map-append f back front ∙ (λ i. of_back i ++ of_front i) ∙ sym (map-append Some (take k signature) (drop k signature)) ∙ ap (map Some) (take-append-drop k signature)
 

@@ -1,5 +1,6 @@
 pub mod Below
 pub mod Choosing
+pub mod ClassNumbers
 pub mod Compared
 pub mod Cutting
 pub mod Dealt
@@ -10,5 +11,8 @@ pub mod Modelled
 pub mod NextFlagged
 pub mod Passed
 pub mod Prepared
+pub mod RunTwice
+pub mod RunnerSteps
+pub mod Tallied
 pub mod Told
 pub mod Turning

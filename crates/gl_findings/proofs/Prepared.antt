@@ -12,7 +12,9 @@ use Rattle.gl_findings.specs.bodies.Finding.{IsReady, block_of, below_of, findin
 use Rattle.gl_findings.specs.declared.finder.Finder.{Finder}
 use Rattle.gl_findings.proofs.Below.{HasGrown, grow_begin, grow_step, grow_alone, grow_whole, block-lower}
 use Rattle.gl_findings.proofs.Choosing.{none_of_one}
+use Rattle.gl_findings.specs.bodies.Running.{IsRunTwice}
 use Rattle.gl_findings.proofs.Passed.{none_begins, none_through}
+use Rattle.gl_findings.proofs.RunTwice.{none_by_one}
 
 -- what holds where there is nothing
 pub where_none : {V : Type 0} (o : Option V) (N : Type 0) (P : V → Type 0) → MatchOption o N P → is_some o ≡ false → N
@@ -26,6 +28,10 @@ module _ (s : Finder) (ready : IsReady s) where
       let f = ready.fronts in
       none_begins (is_before s.order.now) s.mode s.len s.table.now s.cycles.ground.flags.now s.fronts.ground.flags.now ready.kept ready.models n front
       (rw (f.same_purpose, f.same_order, f.same_mode, f.same_table, f.same_classes) at none)
+
+  -- nor does one of which one thread alone runs two classes
+  pub none_run_twice : (n : ℕ) (front : List ℕ) → IsRunTwice s.runners.now front → block_of s n front ≡ []
+  none_run_twice n front twice = none_by_one (is_before s.order.now) s.mode s.len s.table.now s.cycles.ground.flags.now s.runners.now ready.kept ready.run n front twice
 
   -- classes that are passed over
   pub skipped : (n : ℕ) (front : List ℕ) (m next i : ℕ) → slice_get s.next.now m ≡ Some next → m ≤ i → i < next → block_of s n (front ++ i ∷ []) ≡ []

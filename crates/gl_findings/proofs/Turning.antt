@@ -40,12 +40,12 @@ led_from (c ∷ []) next = refl
 led_from (c ∷ d ∷ es) next = and_from (leads_to c d) _ (next 0 c d refl refl) (led_from (d ∷ es) (λ i e f here there. next (suc i) e f here there))
 
 -- where an element of the turned list stands in the list
-record IsHome {X : Type 0} (xs ys : List X) (i : ℕ) (e : X) : Type 0 where
-  place : ℕ
-  stands : slice_get (xs ++ ys) place ≡ Some e
-  counts : ((i < length ys) × (place ≡ length xs + i)) ⊎ ((length ys + place ≡ i) × (place < length xs))
+pub record IsHome {X : Type 0} (xs ys : List X) (i : ℕ) (e : X) : Type 0 where
+  pub place : ℕ
+  pub stands : slice_get (xs ++ ys) place ≡ Some e
+  pub counts : ((i < length ys) × (place ≡ length xs + i)) ⊎ ((length ys + place ≡ i) × (place < length xs))
 
-home : {X : Type 0} (xs ys : List X) (i : ℕ) (e : X) → slice_get (ys ++ xs) i ≡ Some e → IsHome xs ys i e
+pub home : {X : Type 0} (xs ys : List X) (i : ℕ) (e : X) → slice_get (ys ++ xs) i ≡ Some e → IsHome xs ys i e
 home xs ys i e at =
     elim (cases_lt i (length ys)) [
       | inl front ↦ record {
@@ -67,7 +67,7 @@ home xs ys i e at =
           counts = inr (is, slice_get_within xs k e there);
         }
 
-homes_differ : {X : Type 0} (xs ys : List X) (i j : ℕ) (e f : X) → i < j → (a : IsHome xs ys i e) → (b : IsHome xs ys j f) → a.place ≢ b.place
+pub homes_differ : {X : Type 0} (xs ys : List X) (i j : ℕ) (e f : X) → i < j → (a : IsHome xs ys i e) → (b : IsHome xs ys j f) → a.place ≢ b.place
 homes_differ xs ys i j e f lower a b same =
     elim a.counts [
       | inl p ↦ elim b.counts [ inl q ↦ absurd (omega (arith, p.1, q.1, lower, same)) | inr q ↦ absurd (omega (arith, p.1, q.1, same)) ]

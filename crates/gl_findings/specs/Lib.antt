@@ -1,3 +1,5 @@
+pub mod Counts
 pub mod Findings
 pub mod Laws
+pub mod Reports
 pub mod bodies

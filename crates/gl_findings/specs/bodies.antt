@@ -4,4 +4,6 @@ pub mod Finding
 pub mod Growing
 pub mod Grounds
 pub mod Lesser
+pub mod Running
+pub mod Tallies
 pub mod Told

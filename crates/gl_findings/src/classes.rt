@@ -12,8 +12,11 @@ use gl_event::{LocId, Memory};
 use std::alloc::Global;
 use std::collections::HashMap;
 
-/// The class of each edge. Two look-ups for each.
-pub(crate) fn classes_of(alloc: Global, table: &[(Edge, Sample)]) -> Result<Vec<usize>, Memory>
+/// The class of each edge: the position of the first edge that was made at the same pair of places. Two look-ups
+/// for each.
+///
+/// Err where memory was refused.
+pub fn classes_of(alloc: Global, table: &[(Edge, Sample)]) -> Result<Vec<usize>, Memory>
     ensures { IfOk result (λ classes. classes.items ≡ classes_of table.now) }
 {
     let mut first = HashMap::new(alloc);

@@ -6,6 +6,7 @@ ghost use Rattle.gl_findings.specs.bodies.Finding.{IsReady, finding_of, block_of
 ghost use Rattle.gl_findings.specs.bodies.Told.{AreGrounds};
 
 use crate::grounds::Grounds;
+use crate::runners::{Runner, is_run_twice};
 use crate::shown::first_with;
 use crate::turns::{begins_least, longer};
 use gl_edges::{Edge, EdgeList, Sample};
@@ -27,6 +28,8 @@ pub(crate) struct Finder<'a> {
     pub(crate) fronts: Walker<'a>,
     // for each class the next one that has a model
     pub(crate) next: &'a [usize],
+    // and which thread runs it, where one alone does
+    pub(crate) runners: &'a [Runner],
     // how many edges a cycle may have
     pub(crate) len: usize,
     // how many findings are looked for: one more than are listed
@@ -77,6 +80,7 @@ impl<'a> Finder<'a> {
             cycles,
             fronts,
             next: grounds.next.as_slice(),
+            runners: grounds.runners.as_slice(),
             len: query.len() as usize,
             cap: query.max() as usize + 1,
         })
@@ -221,7 +225,8 @@ impl Finder<'_> {
         self.grow(alloc, longer.as_slice(), found)
     }
 
-    // Whether a signature of a cycle may begin so: whether models show a walk.
+    // Whether a signature of a cycle may begin so: no thread would have to run two classes alone, and models show
+    // a walk.
     fn may_begin(&self, alloc: Global, front: &[usize]) -> Result<bool, Memory>
         requires some { 0 < length front.now }
         requires short { length front.now ≤ self.now.len }
@@ -230,6 +235,9 @@ impl Finder<'_> {
             (λ may. may ≡ false
             → (n : ℕ) → block_of self.now n front.now ≡ []) }
     {
+        if is_run_twice(self.runners, front) {
+            return Ok(false);
+        }
         let walk = self.fronts.first(alloc, front)?;
         Ok(walk.is_some())
     }

@@ -8,6 +8,7 @@ ghost use Rattle.gl_findings.specs.bodies.Told.{AreGrounds};
 
 use crate::classes::{classes_of, next_classes};
 use crate::models::models_of;
+use crate::runners::{Runner, runners_of};
 use gl_edges::EdgeList;
 use gl_event::Memory;
 use std::alloc::Global;
@@ -23,6 +24,8 @@ pub(crate) struct Grounds {
     pub(crate) models: Vec<bool>,
     // for each class the next one that has a model
     pub(crate) next: Vec<usize>,
+    // and which thread runs it, where one alone does
+    pub(crate) runners: Vec<Runner>,
 }
 
 impl Grounds {
@@ -37,11 +40,13 @@ impl Grounds {
         let classes = classes_of(alloc, edges.entries())?;
         let models = models_of(alloc, edges, &classes, &kept)?;
         let next = next_classes(alloc, &classes, &models)?;
+        let runners = runners_of(alloc, edges.entries(), &classes, &kept)?;
         Ok(Grounds {
             classes,
             kept,
             models,
             next,
+            runners,
         })
     }
 }

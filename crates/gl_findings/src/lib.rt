@@ -3,20 +3,29 @@
 //! A server runs the same code in many threads, on many locks. Where two pieces of its code acquire locks in
 //! opposite order, there are as many cycles as there are pairs of threads, and all of them are one fault.
 //! A finding is such a fault: all cycles of one signature, which is the pairs of places in the source where
-//! their edges were made. [`findings`] lists them, each once and shown by one of its cycles.
+//! their edges were made. [`findings`] lists them, each once and shown by one of its cycles, and
+//! [`class_counts`] tells how many threads made the edges of the same places, and on how many locks.
 #![tactic(auto)]
 
 mod classes;
+mod counts;
 mod finder;
 mod grounds;
 mod laws;
+mod listing;
 mod models;
 mod parallel;
 mod pieces;
+mod reports;
 mod roots;
+mod runners;
 mod search;
 mod shown;
 mod turns;
 
+pub use classes::classes_of;
+pub use counts::{ClassCounts, class_counts};
 pub use laws::{findings_are_cycles, findings_differ, no_finding_is_missed};
+pub use listing::Listing;
+pub use reports::listing_by_parallel;
 pub use search::{findings, findings_parallel};

@@ -37,7 +37,7 @@ fn listed(findings: Vec<Vec<usize>>, max: usize) -> Found
 ///
 /// Signatures grow class by class, among classes of edges that may be in a cycle. Of edges that are alike
 /// but for their threads and segments one is the model; where there is no walk through models of these
-/// classes no cycle's signature begins so, and it grows no further. For each signature that begins where it
+/// classes, or one thread alone runs two of them, no cycle's signature begins so, and it grows no further. For each signature that begins where it
 /// is to be told from the first cycle is looked for, told from each of its places on.
 ///
 /// There may be as many signatures as classes to the power of the greatest length of a cycle. Threads that

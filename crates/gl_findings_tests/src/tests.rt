@@ -3,6 +3,7 @@ use gl_cycles::Found;
 use gl_edges::{EdgeList, edges_of};
 use gl_event::{Event, LocId, LockId, LockMode, Memory, ThreadId};
 use gl_filters::{Mode, Query};
+use gl_findings::ClassCounts;
 use gl_segments::Order;
 use gl_segments_tests::lawful::are_lawful;
 use std::alloc::Global;
@@ -31,6 +32,15 @@ fn fork(thread: u32, loc: u32) -> Event {
 fn join(thread: u32, loc: u32) -> Event {
     Event::Join {
         thread: ThreadId::new(thread),
+        loc: LocId::new(loc),
+    }
+}
+
+// A release.
+fn rel(lock: u32, loc: u32) -> Event {
+    Event::Release {
+        lock: LockId::new(lock),
+        mode: LockMode::Exclusive,
         loc: LocId::new(loc),
     }
 }
@@ -104,6 +114,81 @@ fn expect(
     let found = findings_parallel(rt, alloc, &known, query)?;
     assert!(rt; shows(&found, wanted, more));
     Ok(())
+}
+
+// What is counted of the class of each edge, of which nothing is told.
+fn class_counts(alloc: Global, known: &Known) -> Result<Vec<ClassCounts>, Memory> {
+    gl_findings::class_counts(alloc, known.edges.entries())
+}
+
+// Whether these are the counts of threads and locks.
+fn are_counts(counts: &[ClassCounts], wanted: &[(usize, usize)]) -> bool {
+    if counts.len() != wanted.len() {
+        return false;
+    }
+    for (count, want) in counts.iter().zip(wanted) {
+        if count.threads != want.0 || count.locks != want.1 {
+            return false;
+        }
+    }
+    true
+}
+
+// The edges of these lists have classes with these counts of threads and locks.
+fn expect_counts(
+    rt: &impl Abort,
+    alloc: Global,
+    lists: &[&[Event]],
+    wanted: &[(usize, usize)],
+) -> Result<(), Fail> {
+    let lists = lists_of(alloc, lists)?;
+    let known = known_of(rt, alloc, &lists)?;
+    let counts = class_counts(alloc, &known)?;
+    assert!(rt; are_counts(&counts, wanted));
+    Ok(())
+}
+
+// Two threads that run the same two places, on three locks.
+#[test]
+fn counts_of_one_place(rt: HostRuntime) -> Result<(), Fail> {
+    let alloc = rt.alloc();
+    let one = [acq(0, 1), acq(1, 2)];
+    let other = [acq(1, 1), acq(2, 2)];
+    expect_counts(&rt, alloc, &[&one, &other], &[(2, 3), (2, 3)])?;
+    expect_counts(&rt, alloc, &[], &[])
+}
+
+// A thread that runs one piece of code twice, on four locks, and two that run another, on the same two locks.
+#[test]
+fn counts_of_two_places(rt: HostRuntime) -> Result<(), Fail> {
+    let alloc = rt.alloc();
+    let one = [
+        acq(0, 1),
+        acq(1, 2),
+        rel(1, 5),
+        rel(0, 6),
+        acq(2, 1),
+        acq(3, 2),
+    ];
+    let other = [acq(1, 3), acq(0, 4)];
+    let lists: [&[Event]; 3] = [&one, &other, &other];
+    expect_counts(&rt, alloc, &lists, &[(1, 4), (1, 4), (2, 2), (2, 2)])
+}
+
+// Edges that share one place alone are of two classes, and a lock that is only a guard isn't counted.
+#[test]
+fn counts_beside_a_guard(rt: HostRuntime) -> Result<(), Fail> {
+    let alloc = rt.alloc();
+    let one = [acq(9, 1), acq(0, 2), acq(1, 3)];
+    let other = [acq(9, 1), acq(0, 4), acq(2, 3)];
+    let lists: [&[Event]; 2] = [&one, &other];
+    // the edges of each thread: from its second lock to its third one, 9 to 0, and 9 to its third one
+    expect_counts(
+        &rt,
+        alloc,
+        &lists,
+        &[(1, 2), (1, 2), (2, 3), (1, 2), (1, 2), (2, 3)],
+    )
 }
 
 // Three threads that run one piece of code, and three that run another: nine cycles, one finding.

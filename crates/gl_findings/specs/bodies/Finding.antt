@@ -9,6 +9,7 @@ use Rattle.gl_walks.specs.declared.walker.TheConstants.{LONGEST}
 use Rattle.gl_walks.specs.declared.walker.Walker.{Walker}
 use Rattle.gl_findings.specs.Findings.{classes_of}
 use Rattle.gl_findings.specs.bodies.Grounds.{AreModels, IsNextClass}
+use Rattle.gl_findings.specs.bodies.Running.{AreRunners}
 use Rattle.gl_findings.specs.bodies.Growing.{finding, block, blocks_below}
 use Rattle.gl_findings.specs.declared.finder.Finder.{Finder}
 
@@ -32,6 +33,8 @@ pub record IsReady (s : Finder) : Type 0 where
   pub models : AreModels (edges_of_table s.table.now) (classes_of s.table.now) s.cycles.ground.flags.now s.fronts.ground.flags.now
   -- and the classes that have a model follow one another
   pub next : IsNextClass (length s.table.now) (classes_of s.table.now) s.fronts.ground.flags.now s.next.now
+  -- and each has the thread that runs it, where one alone does
+  pub run : AreRunners (edges_of_table s.table.now) (classes_of s.table.now) s.cycles.ground.flags.now s.runners.now
 
 -- the finding of a signature, where it has one
 abbrev pub finding_of : Finder → List ℕ → List (List ℕ)

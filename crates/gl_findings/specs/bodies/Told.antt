@@ -8,6 +8,7 @@ use Rattle.gl_filters.specs.Picked.{edges_of_table}
 use Rattle.gl_cycles.specs.OffCycles.{KeepsCycles}
 use Rattle.gl_findings.specs.Findings.{classes_of}
 use Rattle.gl_findings.specs.bodies.Grounds.{AreModels, IsNextClass}
+use Rattle.gl_findings.specs.bodies.Running.{AreRunners}
 use Rattle.gl_findings.specs.declared.grounds.Grounds.{Grounds}
 
 -- it is so
@@ -17,3 +18,4 @@ pub record AreGrounds (before : Segment → Segment → Bool) (mode : Mode) (len
   pub long : length g.models.items ≡ length table
   pub have : AreModels (edges_of_table table) (classes_of table) g.kept.items g.models.items
   pub follow : IsNextClass (length table) (classes_of table) g.models.items g.next.items
+  pub run : AreRunners (edges_of_table table) (classes_of table) g.kept.items g.runners.items

@@ -1,6 +1,10 @@
-use Rattle.std.proofs.Common.{sym, ◌∙◌}
-use Rattle.gl_findings.proofs.Prepared.{none_below, where_none}
+use Rattle.std.proofs.Common.{refl, sym, ◌∙◌}
+use Rattle.gl_findings.proofs.Prepared.{none_below, none_run_twice, where_none}
 use Rattle.gl_findings.proofs.finder.Finder.may_begin.Goals as goal
+
+-- one thread alone would run two classes
+pub returns-then-is_run_twice : goal.returns-then-is_run_twice
+returns-then-is_run_twice c = λ not n. none_run_twice c.args.self.now c.requires.ready n c.args.front.now (c.if-is_run_twice.ensures refl)
 
 -- models show no walk
 pub returns : goal.returns
