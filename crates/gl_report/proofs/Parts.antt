@@ -1,13 +1,18 @@
 -- A text that grows edge by edge and cycle by cycle.
 use Rattle.std.proofs.Common.{◌≡◌, ℕ, ◌+◌, ◌<◌, List, [], ◌∷◌, ◌++◌, length, take, get_or, map, Option, Some, None, refl, sym, ap, ◌∙◌, arith}
 use Rattle.std.specs.List.{filter_map, flat_map, cons_option}
-use Rattle.std.specs.Option.{option_map_or}
+use Rattle.std.specs.Option.{option_map, option_map_or}
+use Rattle.std.specs.Prelude.{slice_get}
+use Rattle.std.proofs.lemmas.Option.{slice_get-map}
 use Rattle.std.proofs.lemmas.List.{append_assoc, append-nil, take_more, map_more, length-map, length-take-le}
 use Rattle.gl_std.specs.Names.{NameLists}
 use Rattle.gl_edges.specs.declared.edge.Edge.{Edge}
 use Rattle.gl_edges.specs.declared.edge.Sample.{Sample}
-use Rattle.gl_report.specs.Text.{cycle_text, cycles_text}
-use Rattle.gl_report.specs.declared.listing.Listing.{Listing}
+use Rattle.gl_findings.specs.Counts.{counts_of}
+use Rattle.gl_findings.specs.declared.listing.Listing.{Listing}
+use Rattle.gl_findings.specs.declared.listing.Listing.TheVariants.{Cycles, Findings}
+use Rattle.gl_report.specs.Text.{counts_line, cycle_text, cycles_text, edge_line, edge_text}
+use Rattle.gl_report.specs.bodies.Counted.{listed_counts}
 
 -- what is put for the items that are there, one item more
 pub some_more : {X Y : Type 0} (f : Y → List ℕ) (g : X → Option Y) (xs : List X) (x : X) → flat_map f (filter_map g (xs ++ x ∷ [])) ≡ flat_map f (filter_map g xs) ++ option_map_or f (g x) []
@@ -46,3 +51,14 @@ cycles_more listing names table items cycles i d now more within before put =
 -- two parts put one after the other
 pub two_parts : (start mid end first second both : List ℕ) → mid ≡ start ++ first → end ≡ mid ++ second → first ++ second ≡ both → end ≡ start ++ both
 two_parts start mid end first second both one two join = two ∙ ap (λ l. l ++ second) one ∙ append_assoc start first second ∙ ap (λ l. start ++ l) join
+
+-- the line of an edge, and that of its counts if they are listed
+pub edge_and_counts : (listing : Listing) (names : NameLists) (table : List (Edge × Sample)) (position : ℕ)
+    → option_map_or (edge_line names) (slice_get table position) [] ++ option_map_or counts_line (slice_get (listed_counts listing table) position) [] ≡ option_map_or (edge_text listing names table) (slice_get table position) []
+edge_and_counts Cycles names table position = append-nil (option_map_or (edge_line names) (slice_get table position) [])
+edge_and_counts Findings names table position =
+    ap (λ o. option_map_or (edge_line names) (slice_get table position) [] ++ option_map_or counts_line o []) (slice_get-map (counts_of table) table position) ∙ by (slice_get table position)
+  where
+    by : (o : Option (Edge × Sample)) → option_map_or (edge_line names) o [] ++ option_map_or counts_line (option_map (counts_of table) o) [] ≡ option_map_or (edge_text Findings names table) o []
+    by (Some pair) = refl
+    by None = refl

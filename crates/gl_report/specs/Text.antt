@@ -1,11 +1,13 @@
--- The text report: what is printed of cycles.
+-- The text report: what is printed of cycles, and of findings.
 use Rattle.std.specs.Prelude.{ℕ, ◌+◌, Bool, List, [], ◌∷◌, ◌++◌, length, slice_get, unwrap_or, if◌then◌else◌, codes, decimal}
 use Rattle.std.specs.List.{filter_map, flat_map}
 use Rattle.gl_std.specs.Names.{NameLists}
 use Rattle.gl_edges.specs.declared.edge.Edge.{Edge}
 use Rattle.gl_edges.specs.declared.edge.Sample.{Sample}
-use Rattle.gl_report.specs.declared.listing.Listing.{Listing}
-use Rattle.gl_report.specs.declared.listing.Listing.TheVariants.{Cycles, Findings}
+use Rattle.gl_findings.specs.Counts.{counts_of}
+use Rattle.gl_findings.specs.declared.counts.ClassCounts.{ClassCounts}
+use Rattle.gl_findings.specs.declared.listing.Listing.{Listing}
+use Rattle.gl_findings.specs.declared.listing.Listing.TheVariants.{Cycles, Findings}
 
 -- the name with this number, as its bytes
 abbrev pub name_of : List (List ℕ) → ℕ → List ℕ
@@ -28,6 +30,15 @@ wanted_text names pair =
 abbrev pub edge_line : NameLists → Edge × Sample → List ℕ
 edge_line names pair = held_text names pair ++ wanted_text names pair
 
+-- how many threads made the edges of a class, and how many locks they hold or want
+abbrev pub counts_line : ClassCounts → List ℕ
+counts_line counts = codes "    threads: " ++ decimal counts.threads ++ codes ", locks: " ++ decimal counts.locks ++ codes "\n"
+
+-- one edge of what is listed: of a finding with the counts of its class
+abbrev pub edge_text : Listing → NameLists → List (Edge × Sample) → Edge × Sample → List ℕ
+edge_text Cycles names table pair = edge_line names pair
+edge_text Findings names table pair = edge_line names pair ++ counts_line (counts_of table pair)
+
 -- the word before the number of one that is listed, and before how many are
 abbrev pub one_word : Listing → List ℕ
 one_word Cycles = codes "cycle "
@@ -43,7 +54,7 @@ cycle_line listing number size = one_word listing ++ decimal number ++ codes ": 
 
 -- a cycle with its edges
 abbrev pub cycle_text : Listing → NameLists → List (Edge × Sample) → ℕ → List ℕ → List ℕ
-cycle_text listing names table number cycle = cycle_line listing number (length cycle) ++ flat_map (edge_line names) (filter_map (slice_get table) cycle)
+cycle_text listing names table number cycle = cycle_line listing number (length cycle) ++ flat_map (edge_text listing names table) (filter_map (slice_get table) cycle)
 
 -- cycles, of which the first has this number
 abbrev pub cycles_text : Listing → NameLists → List (Edge × Sample) → ℕ → List (List ℕ) → List ℕ

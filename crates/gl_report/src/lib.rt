@@ -1,16 +1,17 @@
 //! Printed reports: as text, and as JSON. And counts of traces and their reports.
 #![tactic(auto)]
 
+mod counted;
 mod escapes;
 mod exclusive;
 mod findings;
-mod listing;
 mod members;
 mod printing;
 mod stats;
 mod tree;
 mod tree_v1;
 mod values;
+mod words;
 
 pub use escapes::escaped_name;
 pub use exclusive::{is_exclusive, lists_exclusive};

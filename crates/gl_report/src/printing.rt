@@ -2,12 +2,16 @@
 ghost use Rattle.std.specs.Prelude.{◌≡◌, ◌+◌, ◌≤◌, ◌^◌, ◌<◌, List, ℕ, [], ◌++◌, codes, decimal, length, slice_get, map, IfOk, OnOk};
 ghost use Rattle.std.specs.List.{filter_map, flat_map};
 ghost use Rattle.std.specs.Option.{option_map_or};
-ghost use Rattle.gl_report.specs.Text.{name_of, held_text, wanted_text, edge_line, cycle_line, cycle_text, cycles_text, last_line, listing_text, report_text, findings_text};
+ghost use Rattle.gl_findings.specs.declared.listing.Listing.{Listing};
+ghost use Rattle.gl_report.specs.bodies.Counted.{listed_counts};
+ghost use Rattle.gl_report.specs.Text.{name_of, held_text, wanted_text, edge_line, edge_text, cycle_line, cycle_text, cycles_text, last_line, listing_text, report_text, findings_text};
 
-use crate::listing::Listing;
+use crate::counted::{counts_listed, put_counts};
+use crate::words::{all_word, one_word};
 use gl_cycles::{Found, Report};
 use gl_edges::{Edge, EdgeList, Sample};
 use gl_event::{LocId, LockId, Memory, ThreadId};
+use gl_findings::{ClassCounts, Listing};
 use gl_std::Names;
 use itoa::Buffer;
 use std::alloc::Global;
@@ -89,6 +93,23 @@ fn put_edge(
     Ok(())
 }
 
+// Adds what is printed of the edge at a position: its line, and that of its counts if there are any.
+fn put_edge_text(
+    out: &mut Vec<u8>,
+    names: &Names,
+    table: &[(Edge, Sample)],
+    counts: &[ClassCounts],
+    position: usize,
+) -> Result<(), Memory>
+    ensures { (listing : Listing) → counts.now ≡ listed_counts listing table.now
+        → OnOk result (out.new.items ≡ out.old.items ++ option_map_or
+        (edge_text listing names.now table.now) (slice_get table.now position) []) }
+{
+    put_edge(out, names, table, position)?;
+    put_counts(out, counts, position)?;
+    Ok(())
+}
+
 // Adds a number.
 pub(crate) fn put_number(out: &mut Vec<u8>, number: u64) -> Result<(), Memory>
     ensures { OnOk result (out.new.items ≡ out.old.items ++ decimal number) }
@@ -107,7 +128,7 @@ fn put_cycle_line(
 ) -> Result<(), Memory>
     ensures { OnOk result (out.new.items ≡ out.old.items ++ cycle_line listing number size) }
 {
-    out.extend_from_slice(listing.one_word())?;
+    out.extend_from_slice(one_word(listing))?;
     put_number(out, number as u64)?;
     out.extend_from_slice(b": ")?;
     put_number(out, size as u64)?;
@@ -121,16 +142,18 @@ fn put_cycle(
     listing: Listing,
     names: &Names,
     table: &[(Edge, Sample)],
+    counts: &[ClassCounts],
     number: usize,
     cycle: &[usize],
 ) -> Result<(), Memory>
+    requires { counts.now ≡ listed_counts listing table.now }
     ensures { OnOk result
         (out.new.items
         ≡ out.old.items ++ cycle_text listing names.now table.now number cycle.now) }
 {
     put_cycle_line(out, listing, number, cycle.len())?;
     for &position in cycle {
-        put_edge(out, names, table, position)?;
+        put_edge_text(out, names, table, counts, position)?;
     }
     Ok(())
 }
@@ -144,7 +167,7 @@ fn put_last_line(
 ) -> Result<(), Memory>
     ensures { OnOk result (out.new.items ≡ out.old.items ++ last_line listing count more) }
 {
-    out.extend_from_slice(listing.all_word())?;
+    out.extend_from_slice(all_word(listing))?;
     put_number(out, count as u64)?;
     if more {
         out.extend_from_slice(b" (more)\n")?;
@@ -154,8 +177,8 @@ fn put_last_line(
     Ok(())
 }
 
-// The text of what is listed: for each a line that numbers it, and a line for each of its edges; then
-// how many are listed, and whether there are more.
+// The text of what is listed: for each a line that numbers it, and what is printed of each of its edges;
+// then how many are listed, and whether there are more.
 fn listing_text(
     alloc: Global,
     listing: Listing,
@@ -169,9 +192,18 @@ fn listing_text(
 {
     let mut out = Vec::new(alloc);
     let table = edges.entries();
+    let counts = counts_listed(alloc, listing, table)?;
     let cycles = found.cycles.as_slice();
     for (i, cycle) in cycles.iter().enumerate() {
-        put_cycle(&mut out, listing, names, table, i + 1, cycle.as_slice())?;
+        put_cycle(
+            &mut out,
+            listing,
+            names,
+            table,
+            &counts,
+            i + 1,
+            cycle.as_slice(),
+        )?;
     }
     put_last_line(&mut out, listing, cycles.len(), found.more)?;
     Ok(out)
@@ -191,8 +223,10 @@ pub fn text(alloc: Global, names: &Names, report: &Report) -> Result<Vec<u8>, Me
 
 /// The text of findings over these edges, with the names of threads, locks and locations as their bytes.
 ///
-/// For each listed finding a line that numbers it, and a line for each edge of the cycle that shows it; then
-/// how many findings are listed, and whether there are more. Err where memory was refused.
+/// For each listed finding a line that numbers it, and for each edge of the cycle that shows it a line, and one
+/// that tells how many threads made the edges of its class, and how many locks these hold or want; then how
+/// many findings are listed, and whether there are more. All edges are looked at, for the counts. Err where
+/// memory was refused.
 pub fn findings_text(
     alloc: Global,
     names: &Names,
