@@ -1,6 +1,7 @@
 pub mod Seated
 pub mod Opened
 pub mod Leaving
+pub mod Listings
 pub mod Padding
 pub mod Following
 pub mod Streamings

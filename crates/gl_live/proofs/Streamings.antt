@@ -1,5 +1,5 @@
 -- What a session leaves that has recorded a text, and its report.
-use Rattle.std.proofs.Common.{◌≡◌, ◌∙◌, ℕ, ◌+◌, ◌-◌, Bool, List, [], length, Option, Ok, Err, sym, subst, arith}
+use Rattle.std.proofs.Common.{◌≡◌, ◌∙◌, ℕ, ◌+◌, ◌-◌, List, [], length, Option, Ok, Err, sym, subst, arith}
 use Rattle.std.specs.List.{All}
 use Rattle.std.proofs.lemmas.List.Elements.{All-nil}
 use Rattle.gl_event.specs.Bounds.{Bounds}
@@ -7,8 +7,10 @@ use Rattle.gl_event.specs.declared.events.Event.{Event}
 use Rattle.gl_event.specs.declared.events.Event.TheVariants.{Fork, Join}
 use Rattle.gl_io.specs.Uses.{Use}
 use Rattle.gl_filters.specs.Asked.{Asked}
-use Rattle.gl_cycles.specs.Reports.{IsGoodlockReport}
+use Rattle.gl_edges.specs.Edges.{edges}
 use Rattle.gl_cycles.specs.declared.found.Report.{Report}
+use Rattle.gl_findings.specs.Reports.{IsReportListing}
+use Rattle.gl_findings.specs.declared.listing.Listing.{Listing}
 use Rattle.gl_shards.specs.Feeds.{Sending}
 use Rattle.gl_std.specs.Streaming.{HasTold, HasToldAt, IsDone, Stream}
 use Rattle.gl_std.specs.Trace.{nothing, IsNamed, IsTraceOver}
@@ -104,13 +106,15 @@ module _ (limits : Bounds) (turns : ℕ) (input : Use) (items : Stream) where
     concluded : (P : List (List Event) → Type 0) → ((lists : List (List Event)) → ran.gathered.limits.threads ≡ length lists → All (IsReceiptOf (gathered_from ran.gathered) lists) ran.receipts.items → P lists) → P (padded more of.told.lists)
     concluded P each = each (padded more of.told.lists) (threads ∙ fits ∙ sym (long more of.told.lists)) (of.leaves.1 more fits)
 
-    pub becomes_report : (asked : Asked) (report : Report) → ((lists : List (List Event)) → ran.gathered.limits.threads ≡ length lists → All (IsReceiptOf (gathered_from ran.gathered) lists) ran.receipts.items → IsGoodlockReport asked lists report) → Becomes asked limits turns input items (Ok report)
-    becomes_report asked report each =
+    pub becomes_report : (listing : Listing) (asked : Asked) (report : Report)
+        → ((lists : List (List Event)) → ran.gathered.limits.threads ≡ length lists → All (IsReceiptOf (gathered_from ran.gathered) lists) ran.receipts.items → IsReportListing listing asked (edges lists) lists report)
+        → Becomes listing asked limits turns input items (Ok report)
+    becomes_report listing asked report each =
         record {
           text = of.text;
           told = of.told;
           tells = of.tells;
-          reports = (of.leaves.0, report_only more of.told.lists (have_all limits of.told its) asked report (concluded (λ lists. IsGoodlockReport asked lists report) each));
+          reports = (of.leaves.0, report_only more of.told.lists (have_all limits of.told its) listing asked report (concluded (λ lists. IsReportListing listing asked (edges lists) lists report) each));
         }
 
     fault_only : (fault : LiveFault) → IsLiveFault (padded more of.told.lists) fault → IsLiveFault of.told.lists fault
@@ -123,13 +127,13 @@ module _ (limits : Bounds) (turns : ℕ) (input : Use) (items : Stream) where
     session_fault Memory is = tt
     session_fault Unconfirmed is = tt
 
-    pub becomes_fault : (asked : Asked) (fault : LiveFault)
-        → ((lists : List (List Event)) → ran.gathered.limits.threads ≡ length lists → All (IsReceiptOf (gathered_from ran.gathered) lists) ran.receipts.items → IsLiveFault lists fault) → Becomes asked limits turns input items (Err (Session fault))
-    becomes_fault asked fault each =
+    pub becomes_fault : (listing : Listing) (asked : Asked) (fault : LiveFault)
+        → ((lists : List (List Event)) → ran.gathered.limits.threads ≡ length lists → All (IsReceiptOf (gathered_from ran.gathered) lists) ran.receipts.items → IsLiveFault lists fault) → Becomes listing asked limits turns input items (Err (Session fault))
+    becomes_fault listing asked fault each =
         record { text = of.text; told = of.told; tells = of.tells; reports = session_fault fault (fault_only fault (concluded (λ lists. IsLiveFault lists fault) each)) }
 
-  pub becomes_stopped : (asked : Asked) (threads : ℕ) (fault : StreamFault) → HasStreamed limits turns input threads items (Err fault) → Becomes asked limits turns input items (Err fault)
-  becomes_stopped asked threads fault of = record { text = of.text; told = of.told; tells = of.tells; reports = of.leaves }
+  pub becomes_stopped : (listing : Listing) (asked : Asked) (threads : ℕ) (fault : StreamFault) → HasStreamed limits turns input threads items (Err fault) → Becomes listing asked limits turns input items (Err fault)
+  becomes_stopped listing asked threads fault of = record { text = of.text; told = of.told; tells = of.tells; reports = of.leaves }
 
 -- ---- when it fails
 

@@ -1,12 +1,12 @@
 //! Why a session gives no report.
 ghost use Rattle.std.specs.Prelude.{List};
 ghost use Rattle.gl_event.specs.declared.events.Event.{Event};
-ghost use Rattle.gl_cycles.specs.Reports.{IsReportFault};
+ghost use Rattle.gl_segments.specs.Orders.{IsFaultOf};
 ghost use Rattle.gl_live.specs.Faults.{IsLiveFault};
 
-use gl_cycles::ReportFault;
 use gl_engine::SettleFault;
 use gl_event::Segment;
+use gl_segments::OrderFault;
 use gl_shards::ServeFault;
 use gl_std::LinesFault;
 
@@ -31,13 +31,13 @@ pub enum StreamFault {
     Session(LiveFault),
 }
 
-/// Why there is no report over the edges that were collected.
-pub fn unreported(fault: ReportFault) -> LiveFault
-    ensures { (lists : List (List Event)) → IsReportFault lists fault → IsLiveFault lists result }
+/// Why there is no report where the segments have no order.
+pub fn unordered(fault: OrderFault) -> LiveFault
+    ensures { (lists : List (List Event)) → IsFaultOf lists fault → IsLiveFault lists result }
 {
     match fault {
-        ReportFault::Inconsistent { at, ring } => LiveFault::Inconsistent { at, ring },
-        ReportFault::Memory => LiveFault::Memory,
+        OrderFault::Inconsistent { at, ring } => LiveFault::Inconsistent { at, ring },
+        OrderFault::Memory => LiveFault::Memory,
     }
 }
 

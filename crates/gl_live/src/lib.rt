@@ -1,5 +1,6 @@
 //! Sessions over given lists of events: threads record them at once, workers take the edges, and the
-//! report is that of the lists. And sessions over a text, which is recorded as it is read.
+//! report is that of the lists. And sessions over a text, which is recorded as it is read. The report of
+//! either lists cycles, or findings, as its caller asks.
 //!
 //! ```text
 //! let options = SessionOptions { recorders: 2, shards: 3, ring: 256 };
@@ -10,6 +11,7 @@
 mod faults;
 mod live;
 mod recording;
+mod reports;
 mod room;
 mod run;
 mod session;
@@ -19,7 +21,7 @@ mod streaming;
 mod working;
 
 pub use faults::{LiveFault, StreamFault};
-pub use live::live_report;
+pub use live::{live_listing, live_report};
 pub use session::SessionOptions;
-pub use stream::stream_report;
+pub use stream::{stream_listing, stream_report};
 pub use streaming::StreamOptions;

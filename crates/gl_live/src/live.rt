@@ -8,25 +8,28 @@ ghost use Rattle.gl_event.specs.declared.events.Event.{Event};
 ghost use Rattle.gl_event.specs.declared.limits.TheConstants.{MAX_RING};
 ghost use Rattle.gl_segments.specs.Orders.{lists_of};
 ghost use Rattle.gl_cycles.specs.Reports.{IsGoodlockReport};
-ghost use Rattle.gl_edges.specs.Edges.{once};
+ghost use Rattle.gl_edges.specs.Edges.{edges, once};
 ghost use Rattle.gl_intake.specs.Stream.{logs_of};
 ghost use Rattle.gl_shards.specs.declared.shard.TheConstants.{MAX_SHARDS};
 ghost use Rattle.gl_shards.specs.Feeds.{AllSent};
 ghost use Rattle.gl_engine.specs.Recording.{Closed};
 ghost use Rattle.gl_engine.specs.Settling.{IsSettled};
+ghost use Rattle.gl_findings.specs.Reports.{IsReportListing};
 ghost use Rattle.gl_live.specs.Faults.{IsLiveFault};
 ghost use Rattle.gl_live.specs.bodies.Runs.{HasRun};
 ghost use Rattle.gl_live.specs.bodies.Seats.{gathered_from, AreReceipts, IsReceiptOf};
 
-use crate::faults::{LiveFault, unreported, unserved, unsettled};
+use crate::faults::{LiveFault, unserved, unsettled};
+use crate::reports::report_over;
 use crate::room::keep;
 use crate::run::{Ran, run_session};
 use crate::session::{SessionOptions, prepare};
-use gl_cycles::{Report, report_over};
+use gl_cycles::Report;
 use gl_edges::EdgeList;
 use gl_engine::{Gathered, Receipt, Settled};
 use gl_event::Event;
 use gl_filters::Query;
+use gl_findings::Listing;
 use gl_shards::{Gate, Sent, Served, Table};
 use std::alloc::Global;
 use std::sync::Wait;
@@ -77,26 +80,32 @@ fn settle(gathered: Gathered, receipts: &mut [Receipt]) -> Result<(Settled, Vec<
 // The report of what was settled, over the tables of all workers.
 fn report_settled(
     rt: &(impl Threads + Sync),
+    alloc: Global,
     settled: Settled,
     tables: Vec<Table>,
+    listing: Listing,
     query: &Query,
 ) -> Result<Report, LiveFault>
     ensures report { (receipts : List Closed) (sent : List AllSent)
         → IsSettled receipts settled sent → tables.items ≡ map (λ s. once s.sent) sent
-        → IfOk result (λ report. IsGoodlockReport query.now settled report) }
+        → IfOk result
+        (λ report. IsReportListing listing query.now (edges settled) settled report) }
     ensures fault { IfErr result (IsLiveFault settled) }
 {
-    match settled.report(rt, tables, query) {
-        Ok(report) => Ok(report),
-        Err(fault) => Err(unreported(fault)),
-    }
+    let Ok(edges) = settled.edges(tables) else {
+        return Err(LiveFault::Memory);
+    };
+    report_over(rt, alloc, listing, edges, settled.lists(), query)
 }
 
-/// The report of a session that has run: that of the lists that its receipts are for.
+/// The report of a session that has run, which lists cycles or findings: that of the lists that its
+/// receipts are for.
 pub fn conclude(
     rt: &(impl Threads + Sync),
+    alloc: Global,
     ran: Ran,
     tables: Vec<Table>,
+    listing: Listing,
     query: &Query,
 ) -> Result<Report, LiveFault>
     requires run { HasRun (vec_capacity tables) ran.gathered ran.served.items }
@@ -105,7 +114,7 @@ pub fn conclude(
     requires none { vec_len tables ≡ 0 }
     ensures report { (lists : List (List Event)) → ran.gathered.limits.threads ≡ length lists
         → All (IsReceiptOf (gathered_from ran.gathered) lists) ran.receipts.items
-        → IfOk result (λ report. IsGoodlockReport query.now lists report) }
+        → IfOk result (λ report. IsReportListing listing query.now (edges lists) lists report) }
     ensures fault { (lists : List (List Event)) → ran.gathered.limits.threads ≡ length lists
         → All (IsReceiptOf (gathered_from ran.gathered) lists) ran.receipts.items
         → IfErr result (IsLiveFault lists) }
@@ -118,7 +127,7 @@ pub fn conclude(
     let mut tables = tables;
     match settle(gathered, receipts.as_mut_slice()) {
         Ok((settled, sent)) => match settle_workers(served, sent, &mut tables) {
-            Ok(()) => report_settled(rt, settled, tables, query),
+            Ok(()) => report_settled(rt, alloc, settled, tables, listing, query),
             Err(fault) => Err(fault),
         },
         Err(fault) => Err(fault),
@@ -126,20 +135,24 @@ pub fn conclude(
 }
 
 // The report of no lists.
-fn report_of_none(alloc: Global, lists: &[Vec<Event>], query: &Query) -> Result<Report, LiveFault>
+fn report_of_none(
+    rt: &(impl Threads + Sync),
+    alloc: Global,
+    lists: &[Vec<Event>],
+    listing: Listing,
+    query: &Query,
+) -> Result<Report, LiveFault>
     requires none { lists.now ≡ [] }
     ensures report { IfOk result
-        (λ report. IsGoodlockReport query.now (lists_of lists.now) report) }
+        (λ report. IsReportListing listing query.now (edges (lists_of lists.now))
+        (lists_of lists.now) report) }
     ensures fault { IfErr result (IsLiveFault (lists_of lists.now)) }
 {
-    match report_over(alloc, EdgeList::new(alloc), lists, query) {
-        Ok(report) => Ok(report),
-        Err(fault) => Err(unreported(fault)),
-    }
+    report_over(rt, alloc, listing, EdgeList::new(alloc), lists, query)
 }
 
-/// The Goodlock report of these lists, by a session in which threads record them at once: whatever their
-/// timing, it is that of the lists. A thread's number is the position of its list.
+/// The report of these lists that lists cycles or findings, by a session in which threads record them at
+/// once: whatever their timing, it is that of the lists. A thread's number is the position of its list.
 ///
 /// Lane `t` is recorded by recorder thread `t` modulo their number, list after list; each worker is passed
 /// the gate; the collector runs in the calling thread. No recorder thread records before every thread was
@@ -150,6 +163,46 @@ fn report_of_none(alloc: Global, lists: &[Vec<Event>], query: &Query) -> Result<
 /// In this order: [`LiveFault::Memory`] where a growth was refused before the threads;
 /// [`LiveFault::Unconfirmed`] where a thread couldn't be started; what went wrong in the run; a worker, of
 /// the least shard, that had no memory; then why there is no report.
+pub fn live_listing<R: Threads + Wait + Sync, G: Gate + Sync>(
+    rt: &R,
+    alloc: Global,
+    lists: &[Vec<Event>],
+    options: &SessionOptions,
+    listing: Listing,
+    query: &Query,
+    gate: &G,
+) -> Result<Report, LiveFault>
+    requires few { length lists.now ≤ 1024 }
+    requires some_recorder { 1 ≤ options.now.recorders }
+    requires some_shard { 1 ≤ options.now.shards }
+    requires shards_fit { options.now.shards ≤ MAX_SHARDS }
+    requires some_ring { 1 ≤ options.now.ring }
+    requires ring_fits { options.now.ring ≤ MAX_RING }
+    ensures report { IfOk result
+        (λ report. IsReportListing listing query.now (edges (lists_of lists.now))
+        (lists_of lists.now) report) }
+    ensures fault { IfErr result (IsLiveFault (lists_of lists.now)) }
+{
+    if lists.is_empty() {
+        return report_of_none(rt, alloc, lists, listing, query);
+    }
+    let Ok(session) = prepare(alloc, lists.len() as u32, options) else {
+        return Err(LiveFault::Memory);
+    };
+    let Ok(tables) = Vec::with_capacity(alloc, options.shards as usize) else {
+        return Err(LiveFault::Memory);
+    };
+    match run_session(rt, alloc, lists, gate, session) {
+        Ok(ran) => conclude(rt, alloc, ran, tables, listing, query),
+        Err(fault) => Err(fault),
+    }
+}
+
+/// The Goodlock report of these lists, by a session as in [`live_listing`]: it lists cycles.
+///
+/// # Errors
+///
+/// Those of [`live_listing`], in the same order.
 pub fn live_report<R: Threads + Wait + Sync, G: Gate + Sync>(
     rt: &R,
     alloc: Global,
@@ -168,17 +221,5 @@ pub fn live_report<R: Threads + Wait + Sync, G: Gate + Sync>(
         (λ report. IsGoodlockReport query.now (lists_of lists.now) report) }
     ensures fault { IfErr result (IsLiveFault (lists_of lists.now)) }
 {
-    if lists.is_empty() {
-        return report_of_none(alloc, lists, query);
-    }
-    let Ok(session) = prepare(alloc, lists.len() as u32, options) else {
-        return Err(LiveFault::Memory);
-    };
-    let Ok(tables) = Vec::with_capacity(alloc, options.shards as usize) else {
-        return Err(LiveFault::Memory);
-    };
-    match run_session(rt, alloc, lists, gate, session) {
-        Ok(ran) => conclude(rt, ran, tables, query),
-        Err(fault) => Err(fault),
-    }
+    live_listing(rt, alloc, lists, options, Listing::Cycles, query, gate)
 }

@@ -3,6 +3,7 @@ ghost use Rattle.std.specs.Prelude.{◌≡◌, ◌≤◌, ℕ, Bool, [], List, O
 ghost use Rattle.std.specs.Vec.{vec_len, vec_capacity};
 ghost use Rattle.gl_event.specs.Bounds.{Bounds};
 ghost use Rattle.gl_event.specs.declared.limits.TheConstants.{MAX_THREADS, MAX_RING};
+ghost use Rattle.gl_findings.specs.declared.listing.Listing.TheVariants.{Cycles};
 ghost use Rattle.gl_io.specs.Uses.{Use, used};
 ghost use Rattle.gl_shards.specs.declared.shard.TheConstants.{MAX_SHARDS};
 ghost use Rattle.gl_std.specs.Streaming.{CanBeAsked, HasTold, IsDone};
@@ -18,6 +19,7 @@ use crate::run::Ran;
 use crate::streaming::{StreamOptions, prepare_to_read, read_session};
 use gl_cycles::Report;
 use gl_filters::Query;
+use gl_findings::Listing;
 use gl_shards::{Gate, Table};
 use gl_std::{Items, Source};
 use std::alloc::Global;
@@ -27,8 +29,10 @@ use std::thread::Threads;
 // The report of a session that has recorded a text, or why there is none.
 fn report_streamed(
     rt: &(impl Threads + Sync),
+    alloc: Global,
     ran: Result<Ran, StreamFault>,
     tables: Vec<Table>,
+    listing: Listing,
     query: &Query,
 ) -> Result<Report, StreamFault>
     requires run { IfOk ran (λ r. HasRun (vec_capacity tables) r.gathered r.served.items) }
@@ -38,12 +42,12 @@ fn report_streamed(
     ensures becomes { (limits : Bounds) (turns : ℕ) (input : Use) (items : Items)
         → IfOk ran (λ r. r.gathered.limits.threads ≡ limits.threads)
         → HasStreamed limits turns input limits.threads items ran
-        → Becomes query.now limits turns input items result }
+        → Becomes listing query.now limits turns input items result }
     ensures in_time { (old new : Option (List ℕ)) (items : Items) → OnOk ran (IsDone items)
         → FailsInTime old new items ran → FailsInTime old new items result }
 {
     match ran {
-        Ok(ran) => match conclude(rt, ran, tables, query) {
+        Ok(ran) => match conclude(rt, alloc, ran, tables, listing, query) {
             Ok(report) => Ok(report),
             Err(fault) => Err(StreamFault::Session(fault)),
         },
@@ -51,9 +55,9 @@ fn report_streamed(
     }
 }
 
-/// The Goodlock report of the text that a source gives, by a session that records it as it is read:
-/// whatever the threads' timing, it is that of the trace of the text, where this names no more threads than
-/// there are lanes.
+/// The report of the text that a source gives, which lists cycles or findings, by a session that records
+/// it as it is read: whatever the threads' timing, it is that of the trace of the text, where this names no
+/// more threads than there are lanes.
 ///
 /// The items are those of the text, of which none was asked for yet, under a limit of as many threads as
 /// there are lanes; they are handed back. The calling thread reads, and records each event into the lane of
@@ -67,6 +71,53 @@ fn report_streamed(
 /// threads; [`LiveFault::Unconfirmed`] where a thread couldn't be started;
 /// [`StreamFault::Text`] with the fault that the items answered; what went wrong in the run; a worker, of
 /// the least shard, that had no memory; then why there is no report.
+pub fn stream_listing<R: Threads + Wait + Sync, S: Source, G: Gate + Sync>(
+    rt: &R,
+    alloc: Global,
+    items: Items,
+    input: &mut S,
+    options: &StreamOptions,
+    listing: Listing,
+    query: &Query,
+    gate: &G,
+) -> (Result<Report, StreamFault>, Items)
+    requires usable { CanBeAsked items (S.failed input.old) }
+    requires unread { IsUnread options.now.threads (S.remaining input.old)
+        (S.failed input.old) items }
+    requires some_thread { 1 ≤ options.now.threads }
+    requires threads_fit { options.now.threads ≤ MAX_THREADS }
+    requires some_shard { 1 ≤ options.now.shards }
+    requires shards_fit { options.now.shards ≤ MAX_SHARDS }
+    requires some_ring { 1 ≤ options.now.ring }
+    requires ring_fits { options.now.ring ≤ MAX_RING }
+    ensures becomes { (limits : Bounds) (turns : ℕ) (start : Option (List ℕ))
+        → limits.threads ≡ options.now.threads
+        → HasTold limits turns
+        (used start (S.remaining input.old) (S.failed input.old)) items [] nothing
+        → Becomes listing query.now limits turns
+        (used start (S.remaining input.new) (S.failed input.new)) result.1 result.0 }
+    ensures in_time { FailsInTime (S.remaining input.old)
+        (S.remaining input.new) result.1 result.0 }
+{
+    let Ok(session) = prepare_to_read(alloc, options) else {
+        return (Err(StreamFault::Session(LiveFault::Memory)), items);
+    };
+    let Ok(tables) = Vec::with_capacity(alloc, options.shards as usize) else {
+        return (Err(StreamFault::Session(LiveFault::Memory)), items);
+    };
+    let (ran, items) = read_session(rt, alloc, gate, session, items, input);
+    (
+        report_streamed(rt, alloc, ran, tables, listing, query),
+        items,
+    )
+}
+
+/// The Goodlock report of the text that a source gives, by a session as in [`stream_listing`]: it lists
+/// cycles.
+///
+/// # Errors
+///
+/// Those of [`stream_listing`], in the same order.
 pub fn stream_report<R: Threads + Wait + Sync, S: Source, G: Gate + Sync>(
     rt: &R,
     alloc: Global,
@@ -89,17 +140,19 @@ pub fn stream_report<R: Threads + Wait + Sync, S: Source, G: Gate + Sync>(
         → limits.threads ≡ options.now.threads
         → HasTold limits turns
         (used start (S.remaining input.old) (S.failed input.old)) items [] nothing
-        → Becomes query.now limits turns
+        → Becomes Cycles query.now limits turns
         (used start (S.remaining input.new) (S.failed input.new)) result.1 result.0 }
     ensures in_time { FailsInTime (S.remaining input.old)
         (S.remaining input.new) result.1 result.0 }
 {
-    let Ok(session) = prepare_to_read(alloc, options) else {
-        return (Err(StreamFault::Session(LiveFault::Memory)), items);
-    };
-    let Ok(tables) = Vec::with_capacity(alloc, options.shards as usize) else {
-        return (Err(StreamFault::Session(LiveFault::Memory)), items);
-    };
-    let (ran, items) = read_session(rt, alloc, gate, session, items, input);
-    (report_streamed(rt, ran, tables, query), items)
+    stream_listing(
+        rt,
+        alloc,
+        items,
+        input,
+        options,
+        Listing::Cycles,
+        query,
+        gate,
+    )
 }

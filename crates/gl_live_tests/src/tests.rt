@@ -17,6 +17,7 @@ use std::test::Fail;
 use std::thread;
 use std::thread::Threads;
 
+mod findings;
 mod streams;
 
 fn acquire(lock: u32, loc: u32) -> Event {

@@ -1,7 +1,13 @@
+use Rattle.std.proofs.Common.{subst}
+use Rattle.std.specs.Prelude.{IfErr, IfOk}
+use Rattle.gl_findings.specs.Reports.{IsReportListing}
+use Rattle.gl_live.specs.Faults.{IsLiveFault}
 use Rattle.gl_live.proofs.live.report_settled.Goals as goal
 
-pub returns-in-Ok-clause-report : goal.returns-in-Ok-clause-report
-returns-in-Ok-clause-report g c receipts sent is tables = c.in-Ok.ensures.recorded receipts sent is tables
+pub returns-clause-report : goal.returns-clause-report
+returns-clause-report g c = λ receipts sent is tables.
+    subst (λ pairs. IfOk c.report_over.result (λ report. IsReportListing c.args.listing c.args.query.now pairs c.args.settled report)) (c.in-Ok.ensures.recorded receipts sent is tables)
+    (subst (λ lists. IfOk c.report_over.result (λ report. IsReportListing c.args.listing c.args.query.now c.in-Ok.edges lists report)) c.lists.ensures.value c.report_over.ensures.report)
 
 pub returns-clause-fault : goal.returns-clause-fault
-returns-clause-fault g c = c.unreported.ensures _ c.in-Err.ensures.fault
+returns-clause-fault g c = subst (λ lists. IfErr c.report_over.result (IsLiveFault lists)) c.lists.ensures.value c.report_over.ensures.fault

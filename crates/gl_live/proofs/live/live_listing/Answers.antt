@@ -3,7 +3,7 @@ use Rattle.std.proofs.lemmas.List.{length-map}
 use Rattle.gl_segments.specs.Orders.{lists_of}
 use Rattle.gl_live.specs.bodies.Seats.{gathered_from}
 use Rattle.gl_live.proofs.Leaving.{are_receipts}
-use Rattle.gl_live.proofs.live.live_report.Goals as goal
+use Rattle.gl_live.proofs.live.live_listing.Goals as goal
 
 pub returns-in-Ok-run_session-clause-report : goal.returns-in-Ok-run_session-clause-report
 returns-in-Ok-run_session-clause-report g c =

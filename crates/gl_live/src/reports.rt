@@ -1,0 +1,48 @@
+//! Reports over edges, by the order of lists.
+ghost use Rattle.std.specs.Prelude.{◌≡◌, ◌≤◌, ℕ, List, Some, length, slice_get, IfOk, IfErr};
+ghost use Rattle.gl_event.specs.Bounds.{greatest};
+ghost use Rattle.gl_event.specs.Lawful.{IsLawful};
+ghost use Rattle.gl_event.specs.declared.events.Event.{Event};
+ghost use Rattle.gl_segments.specs.Orders.{lists_of};
+ghost use Rattle.gl_findings.specs.Reports.{IsReportListing};
+ghost use Rattle.gl_live.specs.Faults.{IsLiveFault};
+
+use crate::faults::{LiveFault, unordered};
+use gl_cycles::Report;
+use gl_edges::EdgeList;
+use gl_event::Event;
+use gl_filters::Query;
+use gl_findings::{Listing, listing_by_parallel};
+use gl_segments::Order;
+use std::alloc::Global;
+use std::thread::Threads;
+
+/// The report over these edges, by the order of the segments of these lists, that lists cycles or
+/// findings. Whichever edges they are, they keep their order. The search is on several threads, which
+/// changes nothing of the report.
+///
+/// Err where a segment of the lists is before itself, and where memory was refused.
+pub fn report_over(
+    rt: &(impl Threads + Sync),
+    alloc: Global,
+    listing: Listing,
+    edges: EdgeList,
+    lists: &[Vec<Event>],
+    query: &Query,
+) -> Result<Report, LiveFault>
+    requires few { length lists.now ≤ 1024 }
+    requires lawful { (thread : ℕ) (es : List Event)
+        → slice_get (lists_of lists.now) thread ≡ Some es → IsLawful greatest thread es }
+    ensures report { IfOk result
+        (λ report. IsReportListing listing query.now edges (lists_of lists.now) report) }
+    ensures fault { IfErr result (IsLiveFault (lists_of lists.now)) }
+{
+    let order = match Order::of(alloc, lists) {
+        Ok(order) => order,
+        Err(fault) => return Err(unordered(fault)),
+    };
+    let Ok(report) = listing_by_parallel(rt, alloc, listing, edges, &order, query) else {
+        return Err(LiveFault::Memory);
+    };
+    Ok(report)
+}
