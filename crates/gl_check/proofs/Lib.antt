@@ -1,3 +1,4 @@
+pub mod Ascending
 pub mod Faulty
 pub mod Finding
 pub mod Flat
@@ -6,4 +7,6 @@ pub mod Printed
 pub mod Rising
 pub mod Shapes
 pub mod Tables
+pub mod Telling
 pub mod Truth
+pub mod Turns

@@ -1,5 +1,5 @@
 -- JSON of the shape of a report is what is printed of the report that it lists.
-use Rattle.std.proofs.Common.{◌≡◌, ℕ, ◌^◌, Bool, true, false, cond, ◌&&◌, List, [], ◌∷◌, map, Option, option_map, Some, None, refl, sym, ap, subst, ◌∙◌}
+use Rattle.std.proofs.Common.{◌≡◌, ℕ, ◌^◌, Bool, true, false, cond, ◌&&◌, List, [], ◌∷◌, map, Some, None, refl, sym, ap, subst, ◌∙◌}
 use Rattle.std.specs.Prelude.{codes, is_some, option_and_then, unwrap_or}
 use Rattle.std.specs.List.{list_all}
 use Rattle.std.specs.Str.{bytes_eq}
@@ -11,7 +11,7 @@ use Rattle.serde_json.specs.View.{items_of}
 use Rattle.gl_filters.specs.declared.query.Mode.TheVariants.{Basic, Guarded, Full}
 use Rattle.gl_report.specs.Tree.{mode_word, positions_tree, trim_tree}
 use Rattle.gl_check.specs.Shape.{has_fields, have_fields, is_below, is_of, items_in, items_under, listed, mode_said, mode_under, number_of, number_under, order_of, report_fields, trim_in}
-use Rattle.gl_check.specs.declared.fields.Format.TheVariants.{One, Two}
+use Rattle.gl_check.specs.declared.fields.Format.TheVariants.{One, Two, Three}
 use Rattle.gl_check.specs.declared.fields.Kind.{Kind}
 use Rattle.gl_check.specs.declared.fields.Kind.TheVariants.{Number, Exactly, Word, Flag, Array, Trim}
 
@@ -197,3 +197,42 @@ rebuilt_two (object ms) is =
     let at_b = b.is ∙ ap (member (codes "edges") b.value) at_c in
     let form : object ms ≡ eight a.value b.value c.value d.value e.value f.value g.value h.value = ap object (a.is ∙ ap (member (codes "cycles") a.value) at_b) in
     subst RebuiltTwo (sym form) (rebuilt_eight a.value b.value c.value d.value e.value f.value g.value h.value a.fits b.fits c.fits d.fits e.fits f.fits g.fits h.fits)
+
+-- the object with these seven values
+abbrev pub seven : Data → Data → Data → Data → Data → Data → Data → Data
+seven a b c d e f g =
+    object (member (codes "edges") a (member (codes "findings") b (member (codes "format") c (member (codes "len") d (member (codes "max") e (member (codes "mode") f (member (codes "more") g no_members)))))))
+
+-- an object with the keys of a report of format 3, by what stands under them
+abbrev RebuiltThree : Data → Type 0
+RebuiltThree d =
+    d ≡ seven (array (items_of (items_under (codes "edges") d))) (array (items_of (items_under (codes "findings") d))) (number (unsigned 3)) (number (unsigned (number_under (codes "len") d)))
+    (number (unsigned (number_under (codes "max") d))) (string (mode_word (mode_under d))) (boolean (more_under d))
+
+rebuilt_seven : (a b c d e f g : Data) → is_of Array a ≡ true → is_of Array b ≡ true → is_of (Exactly 3) c ≡ true → is_of Number d ≡ true → is_of Number e ≡ true → is_of Word f ≡ true → is_of Flag g ≡ true
+    → RebuiltThree (seven a b c d e f g)
+rebuilt_seven a b c d e f g one two three four five six_ last =
+    λ i. seven (array_is a one i) (array_is b two i) (exactly_is 3 c three i) (number_is (2 ^ 32) d four i) (number_is (2 ^ 32) e five i) (word_is f six_ i) (flag_is g last i)
+
+pub rebuilt_three : (d : Data) → has_fields (report_fields Three) d ≡ true → RebuiltThree d
+rebuilt_three null is = absurd (false≢true is)
+rebuilt_three (boolean b) is = absurd (false≢true is)
+rebuilt_three (number n) is = absurd (false≢true is)
+rebuilt_three (string s) is = absurd (false≢true is)
+rebuilt_three (array ds) is = absurd (false≢true is)
+rebuilt_three (object ms) is =
+    let a = filled (report_fields Three) ms is in
+    let b = a.others in
+    let c = b.others in
+    let d = c.others in
+    let e = d.others in
+    let f = e.others in
+    let g = f.others in
+    let at_g = g.is ∙ ap (member (codes "more") g.value) g.others in
+    let at_f = f.is ∙ ap (member (codes "mode") f.value) at_g in
+    let at_e = e.is ∙ ap (member (codes "max") e.value) at_f in
+    let at_d = d.is ∙ ap (member (codes "len") d.value) at_e in
+    let at_c = c.is ∙ ap (member (codes "format") c.value) at_d in
+    let at_b = b.is ∙ ap (member (codes "findings") b.value) at_c in
+    let form : object ms ≡ seven a.value b.value c.value d.value e.value f.value g.value = ap object (a.is ∙ ap (member (codes "edges") a.value) at_b) in
+    subst RebuiltThree (sym form) (rebuilt_seven a.value b.value c.value d.value e.value f.value g.value a.fits b.fits c.fits d.fits e.fits f.fits g.fits)

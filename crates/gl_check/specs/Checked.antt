@@ -1,8 +1,5 @@
 -- What it means that a report is accepted, and each reason why one is not.
-use Rattle.std.specs.Prelude.{◌≡◌, ◌≤◌, ℕ, Bool, true, false, List, length, map, Some, None, is_some, codes, All, IfSome, IsUtf8}
-use Rattle.std.specs.Cmp.Lexicographic.{slice_cmp}
-use Rattle.std.specs.List.Sorted.{IsStrictlySortedBy}
-use Rattle.std.specs.Ordering.{nat_cmp}
+use Rattle.std.specs.Prelude.{◌≡◌, ◌≢◌, ◌≤◌, ℕ, Bool, true, false, List, length, map, Some, None, is_some, codes, All, IfSome, IsUtf8}
 use Rattle.serde_json.specs.Data.{Data}
 use Rattle.serde_json.specs.Read.{read}
 use Rattle.gl_event.specs.declared.events.Event.{Event}
@@ -14,19 +11,22 @@ use Rattle.gl_segments.specs.Segments.{IsConsistent, IsLeastInRing}
 use Rattle.gl_edges.specs.Edges.{edges}
 use Rattle.gl_edges.specs.declared.edge.Edge.{Edge}
 use Rattle.gl_edges.specs.declared.edge.Sample.{Sample}
-use Rattle.gl_filters.specs.Asked.{Asked, first_out_of_range}
+use Rattle.gl_filters.specs.Asked.{first_out_of_range}
 use Rattle.gl_filters.specs.Picked.{edges_of_table}
 use Rattle.gl_cycles.specs.Laws.{IsCycleAt}
 use Rattle.gl_cycles.specs.Trims.{IsRemovalFault, IsWholeRemoval}
 use Rattle.gl_cycles.specs.declared.found.Report.{Report}
+use Rattle.gl_findings.specs.declared.listing.Listing.{Listing}
 use Rattle.gl_report.specs.Exclusive.{ListsExclusive}
+use Rattle.gl_report.specs.Findings.{findings_tree}
 use Rattle.gl_report.specs.Tree.{edge_tree, report_tree}
 use Rattle.gl_report.specs.TreeV1.{report_tree_v1}
 use Rattle.gl_check.specs.Cycles.{AreCyclesOf, IsFirstFault}
 use Rattle.gl_check.specs.Edges.{IsFirstDifference}
-use Rattle.gl_check.specs.Shape.{asked_in, cycles_in, format_in, is_report, items_under, trim_in}
+use Rattle.gl_check.specs.Shape.{asked_in, cycles_in, format_in, is_report, items_under, listing_of, trim_in}
+use Rattle.gl_check.specs.Signatures.{Ascend}
 use Rattle.gl_check.specs.declared.fields.Format.{Format}
-use Rattle.gl_check.specs.declared.fields.Format.TheVariants.{One, Two}
+use Rattle.gl_check.specs.declared.fields.Format.TheVariants.{One, Two, Three}
 use Rattle.gl_check.specs.declared.reports.Checked.{Checked}
 use Rattle.gl_check.specs.declared.faults.CheckFault.{CheckFault}
 use Rattle.gl_check.specs.declared.faults.CheckFault.TheVariants.{Json, Shape, Inconsistent, Table, Edge as AnEdge, Verdict, Order, Trim, Memory}
@@ -39,14 +39,16 @@ Reads json said = IsUtf8 json × (read json ≡ Some said)
 abbrev pub printed : Format → NameLists → Report → Data
 printed One names report = report_tree_v1 names report
 printed Two names report = report_tree names report
+printed Three names report = findings_tree names report.query report.edges report.found
 
--- what a format has to leave out isn't there: format 1 shows no modes, so that its edges are of exclusive locks, and no trim order
+-- what a format has to leave out isn't there: format 1 shows no modes, so that its edges are of exclusive locks, and formats 1 and 3 show no trim order
 abbrev pub Shows : Format → Report → Type 0
 Shows One report = ListsExclusive report × (report.trim ≡ None)
 Shows Two report = Unit {0}
+Shows Three report = report.trim ≡ None
 
--- a report over the trace's own edges: each listed cycle is one of them that was asked for, and they ascend
-pub record IsTrueReport (trace : Trace) (before : Segment → Segment → Bool) (report : Report) : Type 0 where
+-- a report over the trace's own edges: each listed cycle is one of them that was asked for, and they ascend. Where findings are listed, each is shown by such a cycle
+pub record IsTrueReport (trace : Trace) (listing : Listing) (before : Segment → Segment → Bool) (report : Report) : Type 0 where
   -- its edges are those of the trace's lists, with their samples
   pub own_edges : report.edges ≡ edges trace.lists
   -- what was asked is in its ranges, and no more cycles are listed
@@ -54,8 +56,8 @@ pub record IsTrueReport (trace : Trace) (before : Segment → Segment → Bool) 
   pub few : length report.found.cycles ≤ report.query.max
   -- each is a cycle of the mode and of at most the length asked for
   pub cycles : All (IsCycleAt before report.query.mode report.query.len (edges_of_table report.edges)) report.found.cycles
-  -- each cycle is above the one before it
-  pub ascend : IsStrictlySortedBy (slice_cmp nat_cmp) report.found.cycles
+  -- each cycle, or each finding, is above the one before it
+  pub ascend : Ascend listing report.edges report.found.cycles
   -- its trim order, if it has one, takes away each edge
   pub trim : IfSome report.trim (IsWholeRemoval before report.query.mode (edges_of_table report.edges))
 
@@ -70,18 +72,24 @@ pub record IsChecked (trace : Trace) (json : List ℕ) (checked : Checked) : Typ
   pub format : Format
   pub prints : Reads json (printed format trace.names report)
   pub shows : Shows format report
-  pub is_true : IsTrueReport trace before report
-  -- what is answered: how many cycles are listed, and whether a trim order is there
+  pub is_true : IsTrueReport trace (listing_of format) before report
+  -- what is answered: what is listed, by how many cycles, and whether a trim order is there
+  pub lists : checked.listing ≡ listing_of format
   pub counted : checked.cycles ≡ length report.found.cycles
   pub trimmed : checked.acyclic ≡ is_some report.trim
   -- then the trace has no cycle of the mode, of whatever length
   pub none_of_any_length : checked.acyclic ≡ true → (len : ℕ) (positions : List ℕ) → ¬ IsCycleAt before report.query.mode len (edges_of_table (edges trace.lists)) positions
 
+-- the format shows a table of all edges
+abbrev pub ShowsTable : Format → Type 0
+ShowsTable format = format ≢ One
+
 module _ (names : NameLists) (table : List (Edge × Sample)) (before : Segment → Segment → Bool) (said : Data) where
-  -- the table that is printed, which format 2 has, is this one
+  -- the table that is printed, which formats 2 and 3 have, is this one
   abbrev pub HasTable : Format → Type 0
   HasTable One = Unit {0}
   HasTable Two = items_under (codes "edges") said ≡ map (edge_tree names) table
+  HasTable Three = items_under (codes "edges") said ≡ map (edge_tree names) table
 
   -- the listed cycles are cycles that were asked for, at these positions, and ascend
   abbrev pub AreListedAt : List (List ℕ) → Type 0
@@ -109,7 +117,7 @@ module _ (names : NameLists) (table : List (Edge × Sample)) (before : Segment �
 
   -- this is the first thing said that is false
   abbrev pub IsFirstFalse : CheckFault → Type 0
-  IsFirstFalse (Table k) = (format_in said ≡ Two) × IsFirstDifference (items_under (codes "edges") said) (map (edge_tree names) table) k
+  IsFirstFalse (Table k) = ShowsTable (format_in said) × IsFirstDifference (items_under (codes "edges") said) (map (edge_tree names) table) k
   IsFirstFalse (AnEdge i k) = IsCyclesFault (AnEdge i k)
   IsFirstFalse (Verdict i verdict) = IsCyclesFault (Verdict i verdict)
   IsFirstFalse (Order i) = IsCyclesFault (Order i)

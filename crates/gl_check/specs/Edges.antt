@@ -8,7 +8,7 @@ use Rattle.gl_edges.specs.declared.edge.Sample.{Sample}
 use Rattle.gl_report.specs.Exclusive.{is_exclusive}
 use Rattle.gl_report.specs.TreeV1.{edge_tree_v1}
 use Rattle.gl_check.specs.declared.fields.Format.{Format}
-use Rattle.gl_check.specs.declared.fields.Format.TheVariants.{One, Two}
+use Rattle.gl_check.specs.declared.fields.Format.TheVariants.{One, Two, Three}
 
 -- the JSON is that of this edge with its sample, in format 1
 abbrev pub IsPrintOf : NameLists → Data → Edge × Sample → Type 0
@@ -24,10 +24,11 @@ pub record IsEdgeAt (names : NameLists) (table : List (Edge × Sample)) (d : Dat
 abbrev pub IsNoEdge : NameLists → List (Edge × Sample) → Data → Type 0
 IsNoEdge names table d = (position : ℕ) → ¬ IsEdgeAt names table d position
 
--- the JSON names the edge at this position: in format 1 it is that of the edge, in format 2 the position
+-- the JSON names the edge at this position: in format 1 it is that of the edge, in the others the position
 abbrev pub IsNamed : Format → NameLists → List (Edge × Sample) → Data → ℕ → Type 0
 IsNamed One names table d position = IsEdgeAt names table d position
 IsNamed Two names table d position = (d ≡ number (unsigned position)) × (position < length table)
+IsNamed Three names table d position = (d ≡ number (unsigned position)) × (position < length table)
 
 -- these name the edges at these positions
 abbrev pub AreNamed : Format → NameLists → List (Edge × Sample) → List Data → List ℕ → Type 0

@@ -5,12 +5,14 @@ use Rattle.std.specs.Str.{bytes_eq}
 use Rattle.serde_json.specs.Data.{Data, null, boolean, number, string, array, object, Items, no_items, item, Members, no_members, member}
 use Rattle.serde_json.specs.Find.{get, as_bool, as_number, as_u64, as_str, as_array, as_object}
 use Rattle.gl_check.specs.declared.fields.Format.{Format}
-use Rattle.gl_check.specs.declared.fields.Format.TheVariants.{One, Two}
+use Rattle.gl_check.specs.declared.fields.Format.TheVariants.{One, Two, Three}
 use Rattle.gl_check.specs.declared.fields.Kind.{Kind}
 use Rattle.gl_check.specs.declared.fields.Kind.TheVariants.{Number, Exactly, Name, Names, Letter, Letters, Word, Flag, Array, Trim}
 use Rattle.gl_filters.specs.Asked.{Asked, first_out_of_range}
 use Rattle.gl_filters.specs.declared.query.Mode.{Mode}
 use Rattle.gl_filters.specs.declared.query.Mode.TheVariants.{Basic, Guarded, Full}
+use Rattle.gl_findings.specs.declared.listing.Listing.{Listing}
+use Rattle.gl_findings.specs.declared.listing.Listing.TheVariants.{Cycles, Findings}
 
 -- the items of an array, one after the other
 abbrev pub listed : Items → List Data
@@ -85,7 +87,7 @@ edge_fields_v1 =
     (codes "first", Number) ∷ (codes "guards", Names) ∷ (codes "held", Name) ∷ (codes "held_at", Name) ∷ (codes "place", Number) ∷ (codes "second", Number)
     ∷ (codes "thread", Name) ∷ (codes "wanted", Name) ∷ (codes "wanted_at", Name) ∷ []
 
--- the keys of an edge of format 2
+-- the keys of an edge of formats 2 and 3
 abbrev pub edge_fields : List (List ℕ × Kind)
 edge_fields =
     (codes "first", Number) ∷ (codes "guard_modes", Letters) ∷ (codes "guards", Names) ∷ (codes "held", Name) ∷ (codes "held_at", Name) ∷ (codes "held_mode", Letter)
@@ -98,6 +100,9 @@ report_fields One =
 report_fields Two =
     (codes "cycles", Array) ∷ (codes "edges", Array) ∷ (codes "format", Exactly 2) ∷ (codes "len", Number) ∷ (codes "max", Number) ∷ (codes "mode", Word)
     ∷ (codes "more", Flag) ∷ (codes "trim", Trim) ∷ []
+report_fields Three =
+    (codes "edges", Array) ∷ (codes "findings", Array) ∷ (codes "format", Exactly 3) ∷ (codes "len", Number) ∷ (codes "max", Number) ∷ (codes "mode", Word)
+    ∷ (codes "more", Flag) ∷ []
 
 -- the whole number under a key
 abbrev pub number_under : List ℕ → Data → ℕ
@@ -111,17 +116,29 @@ mode_under d = unwrap_or (option_and_then mode_said (option_and_then as_str (get
 abbrev pub asked_in : Data → Asked
 asked_in d = record { mode = mode_under d; len = number_under (codes "len") d; max = number_under (codes "max") d }
 
--- the format that it says it has, where it is 1 or 2
+-- the format that it says it has, where it is 1, 2 or 3
 abbrev pub format_in : Data → Format
-format_in d = if number_under (codes "format") d == 1 then One else Two
+format_in d = if number_under (codes "format") d == 1 then One else (if number_under (codes "format") d == 3 then Three else Two)
+
+-- what is listed in a format
+abbrev pub listing_of : Format → Listing
+listing_of One = Cycles
+listing_of Two = Cycles
+listing_of Three = Findings
 
 -- what stands in the array under a key
 abbrev pub items_under : List ℕ → Data → List Data
 items_under key d = unwrap_or (option_map items_in (get key d)) []
 
--- the cycles, each with what it lists
+-- what is listed: cycles, and for each finding the cycle that shows it
+abbrev pub listings_in : Format → Data → List Data
+listings_in One d = items_under (codes "cycles") d
+listings_in Two d = items_under (codes "cycles") d
+listings_in Three d = items_under (codes "findings") d
+
+-- the listed cycles, each with what it lists
 abbrev pub cycles_in : Data → List (List Data)
-cycles_in d = map items_in (items_under (codes "cycles") d)
+cycles_in d = map items_in (listings_in (format_in d) d)
 
 -- the numbers that a value lists, where it is an array
 abbrev pub order_of : Data → Option (List ℕ)
@@ -131,24 +148,25 @@ order_of d = option_map (λ ds. map number_of (listed ds)) (as_array d)
 abbrev pub trim_in : Data → Option (List ℕ)
 trim_in d = option_and_then order_of (get (codes "trim") d)
 
--- an edge of format 2, with a mode for each guard
+-- an edge of formats 2 and 3, with a mode for each guard
 abbrev pub is_edge : Data → Bool
 is_edge d = has_fields edge_fields d && (length (items_under (codes "guard_modes") d) == length (items_under (codes "guards") d))
 
--- what names an edge in a cycle: in format 1 the edge itself, in format 2 its position among so many
+-- what names an edge in a cycle: in format 1 the edge itself, in the others its position among so many
 abbrev pub is_member : Format → ℕ → Data → Bool
 is_member One size d = has_fields edge_fields_v1 d
 is_member Two size d = is_below size d
+is_member Three size d = is_below size d
 
 -- an array of these
 abbrev pub is_listing : Format → ℕ → Data → Bool
 is_listing format size d = is_some (as_array d) && list_all (is_member format size) (items_in d)
 
--- a report: the keys and their kinds, what was asked in its ranges, no more cycles than asked for, edges (in format 2), and cycles of them
+-- a report: the keys and their kinds, what was asked in its ranges, no more cycles than asked for, edges (in formats 2 and 3), and cycles of them
 unfoldable pub is_report : Data → Bool
 is_report d =
     has_fields (report_fields (format_in d)) d
     && (is_none (first_out_of_range (asked_in d))
-    && (nat_le (length (items_under (codes "cycles") d)) (asked_in d).max
+    && (nat_le (length (listings_in (format_in d) d)) (asked_in d).max
     && (list_all is_edge (items_under (codes "edges") d)
-    && list_all (is_listing (format_in d) (length (items_under (codes "edges") d))) (items_under (codes "cycles") d))))
+    && list_all (is_listing (format_in d) (length (items_under (codes "edges") d))) (listings_in (format_in d) d))))

@@ -1,24 +1,28 @@
 //! What a report says.
-ghost use Rattle.std.specs.Prelude.{◌≡◌, false, true, None, codes, is_none, length, map, option_map, ◌≤◌, IfOk, MatchOption};
+ghost use Rattle.std.specs.Prelude.{◌≡◌, false, true, None, is_none, length, map, option_map, ◌≤◌, IfOk, MatchOption};
 ghost use Rattle.serde_json.specs.View.{view};
 ghost use Rattle.gl_filters.specs.Asked.{first_out_of_range};
-ghost use Rattle.gl_check.specs.Shape.{asked_in, format_in, is_report, items_under, mode_under, number_of, order_of, trim_in};
+ghost use Rattle.gl_check.specs.Shape.{asked_in, format_in, is_report, listings_in, mode_under, number_of, order_of, trim_in};
 
 use crate::fields::{
-    Format, are_edges, are_listings, has_report_fields, items_under, mode_said, number_of,
-    number_under,
+    Format, are_edges, are_listings, has_report_fields, items_under, listings_in, mode_said,
+    number_of, number_under,
 };
 use gl_event::Memory;
 use gl_filters::{Mode, Query};
 use serde_json::Value;
 use std::alloc::Global;
 
-/// The format that a report says it has, where it is 1 or 2.
+/// The format that a report says it has, where it is 1, 2 or 3.
 pub(crate) fn format_in(value: &Value) -> Format
     ensures { result ≡ format_in (view value.now) }
 {
-    if number_under(value, "format") == 1 {
+    let number = number_under(value, "format");
+    if number == 1 {
         return Format::One;
+    }
+    if number == 3 {
+        return Format::Three;
     }
     Format::Two
 }
@@ -52,14 +56,14 @@ fn query_in(value: &Value) -> Option<Query>
 pub(crate) fn asked_of(value: &Value) -> Option<Query>
     ensures { MatchOption result (is_report (view value.now) ≡ false)
         (λ query. (is_report (view value.now) ≡ true) × (query ≡ asked_in (view value.now))
-        × (length (items_under (codes "cycles") (view value.now)) ≤ 100000)) }
+        × (length (listings_in (format_in (view value.now)) (view value.now)) ≤ 100000)) }
 {
     let format = format_in(value);
     if !has_report_fields(format, value) {
         return None;
     }
     let query = query_in(value)?;
-    let cycles = items_under(value, "cycles");
+    let cycles = listings_in(format, value);
     let edges = items_under(value, "edges");
     if cycles.len() > query.max() as usize || !are_edges(edges) {
         return None;

@@ -1,21 +1,20 @@
 //! Listed cycles: which edges they name, and whether they are cycles that were asked for.
-ghost use Rattle.std.specs.Prelude.{◌≡◌, ◌<◌, true, map, length, ℕ, ◌⊎◌, All, IfOk, IfErr};
+ghost use Rattle.std.specs.Prelude.{◌≡◌, true, map, length, ℕ, ◌⊎◌, List, IfOk, IfErr};
 ghost use Rattle.std.specs.Bool.{Decides};
 ghost use Rattle.std.specs.List.{list_all};
-ghost use Rattle.std.specs.List.Sorted.{IsStrictlySortedBy};
-ghost use Rattle.std.specs.Cmp.Lexicographic.{slice_cmp};
-ghost use Rattle.std.specs.Ordering.{nat_cmp};
 ghost use Rattle.serde_json.specs.View.{view};
 ghost use Rattle.gl_segments.specs.Clocks.{is_before};
-ghost use Rattle.gl_check.specs.Cycles.{AreCyclesOf, IsAbove, IsCycleOf, IsFaultOf, IsFirstFault, IsFirstStrange};
+ghost use Rattle.gl_check.specs.Cycles.{AreCyclesOf, IsAboveLast, IsCycleOf, IsFaultOf, IsFirstFault, IsFirstStrange};
 ghost use Rattle.gl_check.specs.Edges.{AreNamed};
-ghost use Rattle.gl_check.specs.Shape.{is_listing, is_member, items_in};
+ghost use Rattle.gl_check.specs.Shape.{is_listing, is_member, items_in, listing_of};
+ghost use Rattle.gl_check.specs.Signatures.{AreClassesFor, compared_by};
 ghost use Rattle.gl_check.specs.declared.faults.CheckFault.TheVariants.{Memory};
 ghost use Rattle.gl_check.specs.declared.fields.Format.TheVariants.{One};
 
 use crate::edges::position_of;
 use crate::faults::CheckFault;
-use crate::fields::{Format, items_in};
+use crate::fields::{Format, items_in, listing_of};
+use crate::signatures::compared_by;
 use gl_edges::{Edge, EdgeList, Sample};
 use gl_filters::{Query, Verdict, judge};
 use gl_segments::Order;
@@ -51,12 +50,12 @@ fn positions_of(
     Ok(positions)
 }
 
-// Whether the positions are above those found last.
-fn is_above(found: &[Vec<usize>], positions: &[usize]) -> bool
-    ensures { Decides result (IsAbove (map (λ v. v.items) found.now) positions.now) }
+// Whether the numbers are above those of the last list.
+fn is_above(lists: &[Vec<usize>], numbers: &[usize]) -> bool
+    ensures { Decides result (IsAboveLast (map (λ v. v.items) lists.now) numbers.now) }
 {
-    match found.last() {
-        Some(last) => last.as_slice().cmp(positions) == Ordering::Less,
+    match lists.last() {
+        Some(last) => last.as_slice().cmp(numbers) == Ordering::Less,
         None => true,
     }
 }
@@ -73,11 +72,11 @@ pub(crate) struct Known<'a> {
 }
 
 impl Known<'_> {
-    // The positions of the edges of the cycle that comes after those found.
+    // The positions of the edges of a cycle, which has this number.
     fn check_cycle(
         &self,
         alloc: Global,
-        found: &[Vec<usize>],
+        number: usize,
         edges: &[Value],
     ) -> Result<Vec<usize>, CheckFault>
         requires { list_all (is_member self.now.format (length self.now.edges.now))
@@ -85,14 +84,11 @@ impl Known<'_> {
         ensures cycle { IfOk result
             (λ positions. IsCycleOf self.now.format self.now.names.now self.now.edges.now
             (is_before self.now.order.now) self.now.query (map view edges.now) positions.items) }
-        ensures above { IfOk result
-            (λ positions. IsAbove (map (λ v. v.items) found.now) positions.items) }
         ensures fault { IfErr result
-            (λ fault. IsFaultOf self.now.format self.now.names.now self.now.edges.now
-            (is_before self.now.order.now) self.now.query (length found.now)
-            (map (λ v. v.items) found.now) (map view edges.now) fault) }
+            (λ fault. (found : List (List ℕ))
+            → IsFaultOf self.now.format self.now.names.now self.now.edges.now
+            (is_before self.now.order.now) self.now.query number found (map view edges.now) fault) }
     {
-        let number = found.len();
         let positions = positions_of(
             alloc,
             self.format,
@@ -102,39 +98,76 @@ impl Known<'_> {
             edges,
         )?;
         match judge(&self.query, self.order, self.edges, positions.as_slice()) {
-            Verdict::Valid => {}
-            verdict => return Err(CheckFault::Verdict(number, verdict)),
+            Verdict::Valid => Ok(positions),
+            verdict => Err(CheckFault::Verdict(number, verdict)),
         }
-        if !is_above(found, positions.as_slice()) {
-            return Err(CheckFault::Order(number));
-        }
-        Ok(positions)
     }
 
-    /// The positions of the edges of each listed cycle.
+    // What the cycle is compared by that comes after those which these are compared by.
+    fn check_next(
+        &self,
+        alloc: Global,
+        classes: &[usize],
+        lists: &[Vec<usize>],
+        edges: &[Value],
+    ) -> Result<Vec<usize>, CheckFault>
+        requires classes { AreClassesFor (listing_of self.now.format) self.now.edges.now
+            classes.now }
+        requires members { list_all (is_member self.now.format (length self.now.edges.now))
+            (map view edges.now) ≡ true }
+        ensures cycle { IfOk result
+            (λ numbers. (positions : List ℕ)
+            × IsCycleOf self.now.format self.now.names.now self.now.edges.now
+            (is_before self.now.order.now) self.now.query (map view edges.now) positions
+            × (numbers.items
+            ≡ compared_by (listing_of self.now.format) self.now.edges.now positions)) }
+        ensures above { IfOk result
+            (λ numbers. IsAboveLast (map (λ v. v.items) lists.now) numbers.items) }
+        ensures fault { IfErr result
+            (λ fault. (found : List (List ℕ))
+            → map (compared_by (listing_of self.now.format) self.now.edges.now) found
+            ≡ map (λ v. v.items) lists.now
+            → IsFaultOf self.now.format self.now.names.now self.now.edges.now
+            (is_before self.now.order.now) self.now.query (length lists.now) found
+            (map view edges.now) fault) }
+    {
+        let number = lists.len();
+        let positions = self.check_cycle(alloc, number, edges)?;
+        let numbers = compared_by(alloc, listing_of(self.format), classes, positions)?;
+        if !is_above(lists, numbers.as_slice()) {
+            return Err(CheckFault::Order(number));
+        }
+        Ok(numbers)
+    }
+
+    /// Looks at each listed cycle, and at whether they ascend. How many they are.
     pub(crate) fn check_cycles(
         &self,
         alloc: Global,
+        classes: &[usize],
         cycles: &[Value],
-    ) -> Result<Vec<Vec<usize>>, CheckFault>
-        requires { list_all (is_listing self.now.format (length self.now.edges.now))
+    ) -> Result<usize, CheckFault>
+        requires classes { AreClassesFor (listing_of self.now.format) self.now.edges.now
+            classes.now }
+        requires listings { list_all (is_listing self.now.format (length self.now.edges.now))
             (map view cycles.now) ≡ true }
         ensures cycles { IfOk result
-            (λ found. AreCyclesOf self.now.format self.now.names.now self.now.edges.now
+            (λ count. (found : List (List ℕ))
+            × AreCyclesOf self.now.format self.now.names.now self.now.edges.now
             (is_before self.now.order.now) self.now.query
-            (map (λ cycle. items_in (view cycle)) cycles.now) (map (λ v. v.items) found.items)) }
+            (map (λ cycle. items_in (view cycle)) cycles.now) found × (count ≡ length found)) }
         ensures fault { IfErr result
             (λ fault. (fault ≡ Memory)
             ⊎ IsFirstFault self.now.format self.now.names.now self.now.edges.now
             (is_before self.now.order.now) self.now.query
             (map (λ cycle. items_in (view cycle)) cycles.now) fault) }
     {
-        let mut found = Vec::new(alloc);
+        let mut lists = Vec::new(alloc);
         for i in 0..cycles.len() {
             let edges = items_in(&cycles[i]);
-            let positions = self.check_cycle(alloc, found.as_slice(), edges)?;
-            found.push(positions)?;
+            let numbers = self.check_next(alloc, classes, lists.as_slice(), edges)?;
+            lists.push(numbers)?;
         }
-        Ok(found)
+        Ok(lists.len())
     }
 }

@@ -125,11 +125,11 @@ pub(crate) fn position_of(
 {
     match format {
         Format::One => first_position(alloc, names, table, value),
-        Format::Two => Ok(Some(number_of(value) as usize)),
+        Format::Two | Format::Three => Ok(Some(number_of(value) as usize)),
     }
 }
 
-// Whether the JSON is that of this edge with its sample, in format 2.
+// Whether the JSON is that of this edge with its sample, in formats 2 and 3.
 fn is_entry(
     alloc: Global,
     names: &Names,

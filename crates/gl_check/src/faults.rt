@@ -8,7 +8,7 @@ use std::error::Error;
 use std::fmt;
 
 /// Why a report isn't accepted. Cycles, their edges, and the entries of the table and of the trim order
-/// count from 0.
+/// count from 0. In format 3 a cycle is one that shows a finding.
 #[derive(Drop, Debug)]
 pub enum CheckFault {
     /// It is no JSON.
@@ -20,14 +20,14 @@ pub enum CheckFault {
     /// A segment of the trace is before itself: this is the least one, by thread and index, and a ring
     /// of segments that begins with it, each one step from the one before and the first from the last.
     Inconsistent { at: Segment, ring: Vec<Segment> },
-    /// This is the first position at which the table, which format 2 has, isn't that of the trace's
-    /// edges: another edge stands there, or another sample, or a further one, or none.
+    /// This is the first position at which the table, which formats 2 and 3 have, isn't that of the
+    /// trace's edges: another edge stands there, or another sample, or a further one, or none.
     Table(usize),
     /// This edge of this cycle, in format 1, is none of the trace, or has another sample.
     Edge(usize, usize),
     /// This cycle is none that was asked for, and why.
     Verdict(usize, Verdict),
-    /// This cycle isn't above the one before it.
+    /// This cycle isn't above the one before it, or its finding isn't above the one before it.
     Order(usize),
     /// This is the first place at which the trim order is wrong: there stands a position beyond the
     /// table, one that stood there before, or one of an edge that has both a follower and a leader

@@ -4,9 +4,10 @@ ghost use Rattle.std.specs.List.{list_all};
 ghost use Rattle.serde_json.specs.Find.{as_str};
 ghost use Rattle.serde_json.specs.View.{view, members_view};
 ghost use Rattle.gl_check.specs.declared.fields.Kind.{Kind};
-ghost use Rattle.gl_check.specs.Shape.{edge_fields, edge_fields_v1, has_fields, have_fields, is_below, is_edge, is_letter, is_listing, is_member, is_of, items_in, items_under, mode_said, number_of, number_under, report_fields};
+ghost use Rattle.gl_check.specs.Shape.{edge_fields, edge_fields_v1, has_fields, have_fields, is_below, is_edge, is_letter, is_listing, is_member, is_of, items_in, items_under, listing_of, listings_in, mode_said, number_of, number_under, report_fields};
 
 use gl_filters::Mode;
+use gl_findings::Listing;
 use serde_json::{Map, Value};
 use std::collections::btree_map::Iter;
 
@@ -17,6 +18,18 @@ pub(crate) enum Format {
     One,
     /// A table of all edges, with modes; cycles as arrays of positions in it, and a trim order.
     Two,
+    /// A table of all edges, with modes; findings as arrays of positions in it.
+    Three,
+}
+
+/// What is listed in a format.
+pub(crate) fn listing_of(format: Format) -> Listing
+    ensures { result ≡ listing_of format }
+{
+    match format {
+        Format::One | Format::Two => Listing::Cycles,
+        Format::Three => Listing::Findings,
+    }
 }
 
 /// What stands under a key.
@@ -61,6 +74,16 @@ pub(crate) fn items_under<'a>(value: &'a Value, key: &str) -> &'a [Value]
     match value.get(key) {
         Some(items) => items_in(items),
         None => &[],
+    }
+}
+
+/// What is listed: cycles, or for each finding the cycle that shows it.
+pub(crate) fn listings_in(format: Format, value: &Value) -> &[Value]
+    ensures { map view result.now ≡ listings_in format (view value.now) }
+{
+    match format {
+        Format::One | Format::Two => items_under(value, "cycles"),
+        Format::Three => items_under(value, "findings"),
     }
 }
 
@@ -247,6 +270,16 @@ const REPORT_FIELDS: [(&str, Kind); 8] = [
     ("trim", Kind::Trim),
 ];
 
+const REPORT_FIELDS_V3: [(&str, Kind); 7] = [
+    ("edges", Kind::Array),
+    ("findings", Kind::Array),
+    ("format", Kind::Exactly(3)),
+    ("len", Kind::Number),
+    ("max", Kind::Number),
+    ("mode", Kind::Word),
+    ("more", Kind::Flag),
+];
+
 /// Whether the value has the keys of a report of the format.
 pub(crate) fn has_report_fields(format: Format, value: &Value) -> bool
     ensures { result ≡ has_fields (report_fields format) (view value.now) }
@@ -254,10 +287,11 @@ pub(crate) fn has_report_fields(format: Format, value: &Value) -> bool
     match format {
         Format::One => has_fields(value, &REPORT_FIELDS_V1),
         Format::Two => has_fields(value, &REPORT_FIELDS),
+        Format::Three => has_fields(value, &REPORT_FIELDS_V3),
     }
 }
 
-// Whether the value is an edge of format 2.
+// Whether the value is an edge of formats 2 and 3.
 fn is_edge(value: &Value) -> bool
     ensures { result ≡ is_edge (view value.now) }
 {
@@ -265,7 +299,7 @@ fn is_edge(value: &Value) -> bool
         && items_under(value, "guard_modes").len() == items_under(value, "guards").len()
 }
 
-/// Whether these are edges of format 2.
+/// Whether these are edges of formats 2 and 3.
 pub(crate) fn are_edges(values: &[Value]) -> bool
     ensures { result ≡ list_all is_edge (map view values.now) }
 {
@@ -277,14 +311,14 @@ pub(crate) fn are_edges(values: &[Value]) -> bool
     true
 }
 
-// Whether the value names an edge in a cycle: in format 1 it is the edge, in format 2 its position
+// Whether the value names an edge in a cycle: in format 1 it is the edge, in the others its position
 // among so many.
 fn is_member(format: Format, size: usize, value: &Value) -> bool
     ensures { result ≡ is_member format size (view value.now) }
 {
     match format {
         Format::One => has_fields(value, &EDGE_FIELDS_V1),
-        Format::Two => is_below(size as u64, value),
+        Format::Two | Format::Three => is_below(size as u64, value),
     }
 }
 

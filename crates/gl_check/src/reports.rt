@@ -1,13 +1,14 @@
 //! Checks of reports.
-ghost use Rattle.std.specs.Prelude.{◌≡◌, ◌≤◌, ◌⊎◌, ℕ, true, List, None, Some, codes, is_some, length, slice_get, IfOk, IfErr, IsUtf8};
+ghost use Rattle.std.specs.Prelude.{◌≡◌, ◌≤◌, ◌⊎◌, ℕ, true, List, None, Some, is_some, length, slice_get, IfOk, IfErr, IsUtf8};
 ghost use Rattle.serde_json.specs.Read.{read};
 ghost use Rattle.serde_json.specs.View.{view};
 ghost use Rattle.gl_event.specs.Bounds.{greatest};
 ghost use Rattle.gl_event.specs.Lawful.{IsLawful};
 ghost use Rattle.gl_event.specs.declared.events.Event.{Event};
 ghost use Rattle.gl_segments.specs.Orders.{IsFaultOf};
+ghost use Rattle.gl_check.specs.Faults.{listing_word};
 ghost use Rattle.gl_check.specs.Checked.{HoldsOf, IsChecked, IsCheckFault, IsFalseOf, IsOrderFault, Reads};
-ghost use Rattle.gl_check.specs.Shape.{asked_in, is_report, items_under, trim_in};
+ghost use Rattle.gl_check.specs.Shape.{asked_in, format_in, is_report, listing_of, listings_in, trim_in};
 ghost use Rattle.gl_check.specs.declared.faults.CheckFault.TheVariants.{Json, Memory};
 
 use crate::claims::{asked_of, format_in};
@@ -16,6 +17,7 @@ use crate::faults::CheckFault;
 use gl_edges::edges_of;
 use gl_event::Event;
 use gl_filters::Query;
+use gl_findings::Listing;
 use gl_segments::{Order, OrderFault};
 use gl_std::Trace;
 use serde_json::Value;
@@ -25,10 +27,22 @@ use std::fmt;
 /// What was found of a report that is accepted.
 #[derive(Clone, Copy, Debug, PartialEq, Eq, Hash)]
 pub struct Checked {
-    /// How many cycles it lists.
+    /// What it lists.
+    pub listing: Listing,
+    /// How many cycles it lists; of findings each is shown by one.
     pub cycles: u32,
     /// Whether it has a trim order. Then the trace has no cycle of the mode, of whatever length.
     pub acyclic: bool,
+}
+
+// The word for what is listed.
+fn word_of(listing: Listing) -> &'static str
+    ensures { result.now ≡ listing_word listing }
+{
+    match listing {
+        Listing::Cycles => "cycles",
+        Listing::Findings => "findings",
+    }
 }
 
 impl fmt::Display for Checked {
@@ -38,10 +52,11 @@ impl fmt::Display for Checked {
     ghost output = { λ checked. Some (checked_text checked) };
 
     fn fmt<W: fmt::Write>(&self, f: &mut fmt::Formatter<W>) -> fmt::Result {
+        let word = word_of(self.listing);
         if self.acyclic {
-            return write!(f, "ok, cycles: {}, none of any length", self.cycles);
+            return write!(f, "ok, {}: {}, none of any length", word, self.cycles);
         }
-        write!(f, "ok, cycles: {}", self.cycles)
+        write!(f, "ok, {}: {}", word, self.cycles)
     }
 }
 
@@ -84,9 +99,10 @@ fn checked_of(
         → IsLawful greatest thread es }
     requires shaped { is_report (view value.now) ≡ true }
     requires query { query ≡ asked_in (view value.now) }
-    requires cycles { length (items_under (codes "cycles") (view value.now)) ≤ 100000 }
+    requires cycles { length (listings_in (format_in (view value.now)) (view value.now)) ≤ 100000 }
     ensures ok { IfOk result
         (λ checked. (found : List (List ℕ)) × HoldsOf trace.now (view value.now) found
+        × (checked.listing ≡ listing_of (format_in (view value.now)))
         × (checked.cycles ≡ length found)
         × (checked.acyclic ≡ is_some (trim_in (view value.now)))) }
     ensures fault { IfErr result
@@ -108,7 +124,7 @@ fn checked_of(
     known.check(alloc, value)
 }
 
-/// Whether a report can be believed, whoever made it: the bytes are JSON of format 1 or 2, and what
+/// Whether a report can be believed, whoever made it: the bytes are JSON of format 1, 2 or 3, and what
 /// they say holds of the trace.
 ///
 /// A report that is accepted is, but for spaces and the order of keys, what is printed of a report over
@@ -118,12 +134,18 @@ fn checked_of(
 /// whether there are more cycles than those of a list. Format 1 shows no lock modes; an edge in it
 /// stands for one whose locks are all held and wanted exclusively.
 ///
+/// Format 3 lists findings: each is shown by such a cycle, and the list ascends by the signatures of the
+/// findings, each told from where it begins least, so that no finding is told twice. What is not checked
+/// is whether there are more findings, and whether a finding has a cycle before the one that shows it.
+///
 /// Err with the first fault, in the order of [`CheckFault`]: all of one kind are looked for before
 /// those of the next, but edge, verdict and order for each cycle in turn.
 ///
 /// Beside the order and the edges of the trace, format 2 takes the print of each edge, once, and for
 /// each edge of the trim order a look at the edges that hold the lock which it wants and at those that
-/// want the lock which it holds. Format 1 takes a look at each edge of the trace for each listed one.
+/// want the lock which it holds. Format 3 takes the print of each edge and two look-ups of its places,
+/// once, and for each finding as many turns of its signature as its cycle has edges, each copied and
+/// compared. Format 1 takes a look at each edge of the trace for each listed one.
 pub fn check(alloc: Global, trace: &Trace, json: &[u8]) -> Result<Checked, CheckFault>
     requires few { length trace.now.lists ≤ 1024 }
     requires lawful { (thread : ℕ) (es : List Event) → slice_get trace.now.lists thread ≡ Some es

@@ -5,18 +5,18 @@ ghost use Rattle.gl_cycles.specs.Trims.{IsRemovalFault, IsWholeRemoval};
 ghost use Rattle.gl_filters.specs.Picked.{edges_of_table};
 ghost use Rattle.gl_report.specs.Tree.{edge_tree};
 ghost use Rattle.gl_segments.specs.Clocks.{is_before};
-ghost use Rattle.gl_check.specs.Checked.{HasTable, Holds, IsFirstFalse};
+ghost use Rattle.gl_check.specs.Checked.{HasTable, Holds, IsFirstFalse, ShowsTable};
 ghost use Rattle.gl_check.specs.Edges.{IsFirstDifference};
-ghost use Rattle.gl_check.specs.Shape.{asked_in, format_in, is_report, items_under, trim_in};
+ghost use Rattle.gl_check.specs.Shape.{asked_in, format_in, is_report, items_under, listing_of, listings_in, trim_in};
 ghost use Rattle.gl_check.specs.declared.faults.CheckFault.TheVariants.{Memory};
-ghost use Rattle.gl_check.specs.declared.fields.Format.TheVariants.{Two};
 
 use crate::claims::trim_in;
 use crate::cycles::Known;
 use crate::edges::check_table;
 use crate::faults::CheckFault;
-use crate::fields::{Format, items_under};
+use crate::fields::{Format, items_under, listing_of, listings_in};
 use crate::reports::Checked;
+use crate::signatures::classes_for;
 use gl_cycles::removal_fault;
 use serde_json::Value;
 use std::alloc::Global;
@@ -31,13 +31,13 @@ impl Known<'_> {
             (view value.now) (format_in (view value.now))) }
         ensures fault { IfErr result
             (λ fault. (fault ≡ Memory)
-            ⊎ ((k : ℕ) × (fault ≡ CheckFault.Table k) × (format_in (view value.now) ≡ Two)
+            ⊎ ((k : ℕ) × (fault ≡ CheckFault.Table k) × ShowsTable (format_in (view value.now))
             × IsFirstDifference (items_under (codes "edges") (view value.now))
             (map (edge_tree self.now.names.now) self.now.edges.now) k)) }
     {
         match self.format {
             Format::One => Ok(()),
-            Format::Two => {
+            Format::Two | Format::Three => {
                 let entries = items_under(value, "edges");
                 check_table(alloc, self.names, self.edges.entries(), entries)
             }
@@ -74,21 +74,26 @@ impl Known<'_> {
         requires shaped { is_report (view value.now) ≡ true }
         requires format { self.now.format ≡ format_in (view value.now) }
         requires query { self.now.query ≡ asked_in (view value.now) }
-        requires few { length (items_under (codes "cycles") (view value.now)) ≤ 100000 }
+        requires few { length (listings_in (format_in (view value.now)) (view value.now)) ≤ 100000 }
         ensures ok { IfOk result
             (λ checked. (found : List (List ℕ))
             × Holds self.now.names.now self.now.edges.now (is_before self.now.order.now)
-            (view value.now) found × (checked.cycles ≡ length found)
+            (view value.now) found × (checked.listing ≡ listing_of (format_in (view value.now)))
+            × (checked.cycles ≡ length found)
             × (checked.acyclic ≡ is_some (trim_in (view value.now)))) }
         ensures fault { IfErr result
             (IsFirstFalse self.now.names.now self.now.edges.now (is_before self.now.order.now)
             (view value.now)) }
     {
         self.check_edges(alloc, value)?;
-        let found = self.check_cycles(alloc, items_under(value, "cycles"))?;
+        let listing = listing_of(self.format);
+        let classes = classes_for(alloc, listing, self.edges.entries())?;
+        let cycles = listings_in(self.format, value);
+        let count = self.check_cycles(alloc, classes.as_slice(), cycles)?;
         let acyclic = self.check_trim(alloc, value)?;
         Ok(Checked {
-            cycles: found.len() as u32,
+            listing,
+            cycles: count as u32,
             acyclic,
         })
     }

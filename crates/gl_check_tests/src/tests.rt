@@ -2,9 +2,11 @@
 use crate::traces::trace_of;
 use gl_check::{CheckFault, Checked, check};
 use gl_filters::Verdict;
+use gl_findings::Listing;
 use std::alloc::Global;
 use std::test::Fail;
 
+mod findings;
 mod tables;
 
 // Two threads that acquire two locks in opposite order.
@@ -27,6 +29,7 @@ fn checked_line(rt: HostRuntime) -> Result<(), Fail> {
         matches!(
             accepted,
             Ok(Checked {
+                listing: Listing::Cycles,
                 cycles: 1,
                 acyclic: false
             })
@@ -104,6 +107,7 @@ fn empty_report(rt: HostRuntime) -> Result<(), Fail> {
         matches!(
             accepted,
             Ok(Checked {
+                listing: Listing::Cycles,
                 cycles: 0,
                 acyclic: false
             })

@@ -3,6 +3,7 @@ use super::LINES;
 use crate::traces::trace_of;
 use gl_check::{CheckFault, Checked, check};
 use gl_filters::Verdict;
+use gl_findings::Listing;
 use std::alloc::Global;
 use std::test::Fail;
 
@@ -87,6 +88,7 @@ fn self_contained_line(rt: HostRuntime) -> Result<(), Fail> {
         matches!(
             accepted,
             Ok(Checked {
+                listing: Listing::Cycles,
                 cycles: 1,
                 acyclic: false
             })
@@ -134,6 +136,7 @@ fn trim_order(rt: HostRuntime) -> Result<(), Fail> {
         matches!(
             least_first,
             Ok(Checked {
+                listing: Listing::Cycles,
                 cycles: 0,
                 acyclic: true
             })
@@ -144,6 +147,7 @@ fn trim_order(rt: HostRuntime) -> Result<(), Fail> {
         matches!(
             other_order,
             Ok(Checked {
+                listing: Listing::Cycles,
                 cycles: 0,
                 acyclic: true
             })
@@ -154,6 +158,7 @@ fn trim_order(rt: HostRuntime) -> Result<(), Fail> {
         matches!(
             none,
             Ok(Checked {
+                listing: Listing::Cycles,
                 cycles: 0,
                 acyclic: false
             })
@@ -190,6 +195,7 @@ fn no_edges(rt: HostRuntime) -> Result<(), Fail> {
         matches!(
             accepted,
             Ok(Checked {
+                listing: Listing::Cycles,
                 cycles: 0,
                 acyclic: true
             })
