@@ -10,13 +10,12 @@ use Rattle.gl_std.specs.declared.faults.ReadFault.{ReadFault}
 use Rattle.gl_std.specs.declared.trace.Trace.{Trace}
 use Rattle.gl_segments.specs.Segments.{Before, IsLeastInRing, IsRing}
 use Rattle.gl_filters.specs.Asked.{Asked}
-use Rattle.gl_cycles.specs.Reports.{IsGoodlockReport}
-use Rattle.gl_edges.specs.declared.edge.Edge.{Edge}
-use Rattle.gl_edges.specs.declared.edge.Sample.{Sample}
-use Rattle.gl_cycles.specs.declared.found.Found.{Found}
+use Rattle.gl_edges.specs.Edges.{edges}
 use Rattle.gl_cycles.specs.declared.found.Report.{Report}
-use Rattle.gl_options.specs.declared.form.Form.{Form}
-use Rattle.gl_commands.specs.Answer.{Answer, IsAnswerUnder, IsLeastBeforeItself, IsPlainAnswer, finding, outcome_of_found, printed_findings, report_of}
+use Rattle.gl_findings.specs.Reports.{IsReportListing}
+use Rattle.gl_findings.specs.declared.listing.Listing.{Listing}
+use Rattle.gl_findings.specs.declared.listing.Listing.TheVariants as lists
+use Rattle.gl_commands.specs.Answer.{Answer, IsAnswerUnder, IsLeastBeforeItself, IsPlainAnswer, report_of}
 use Rattle.gl_commands.specs.Answer.Answer.{Prints, Refusal}
 use Rattle.gl_commands.specs.Answer.IsAnswerUnder.{bad_line, no_order, ordered}
 use Rattle.gl_commands.specs.Answer.IsPlainAnswer.{bad_line as plain_fault}
@@ -26,7 +25,7 @@ use Rattle.gl_commands.specs.bodies.Halves.{EndsWith, HasHeardAll}
 use Rattle.gl_commands.specs.Ending.HasEndedUnder.{ended_so}
 use Rattle.gl_commands.specs.Ending.HasEndedLive.{confirmed, unconfirmed}
 use Rattle.gl_commands.specs.Ending.HasEndedStreamed.{confirmed as as_any}
-use Rattle.gl_commands.specs.bodies.Stops.{EndsUnwritten, HasAnswer, IfRefused, IfStopped, IsFaultIn, IsFoundOf, IsLoopOf, IsReportOf, SaysWhyNoReport}
+use Rattle.gl_commands.specs.bodies.Stops.{EndsUnwritten, HasAnswer, IfRefused, IfStopped, IsFaultIn, IsLoopOf, IsReportOf, SaysWhyNoReport}
 use Rattle.gl_commands.specs.declared.answer.Printed.{Printed}
 use Rattle.gl_commands.specs.declared.ended.Ended.{Ended}
 use Rattle.gl_commands.specs.declared.ended.Ended.TheVariants as variant
@@ -75,34 +74,24 @@ pub no_trace : (printed : Trace → Answer) (read : Result Trace ReadFault) (lin
 no_trace printed read line fault text is = subst (λ l. IsPlainAnswer printed text (Refusal l)) (sym fault.said) (plain_fault fault.number fault.kind (is ∙ fault.first))
 
 -- what is printed of a trace and its report
-pub with_report : (limits : Bounds) (printed : (Segment → Segment → Bool) → Trace → Answer) (from : Report → Answer) (asked : Asked) (read : Result Trace ReadFault) (trace : Trace) (report : Report)
-    → IsReportOf asked read trace report → ((before : Segment → Segment → Bool) → printed before trace ≡ from (report_of asked before trace))
+pub with_report : (limits : Bounds) (printed : (Segment → Segment → Bool) → Trace → Answer) (from : Report → Answer) (listing : Listing) (asked : Asked) (read : Result Trace ReadFault) (trace : Trace) (report : Report)
+    → IsReportOf listing asked read trace report → ((before : Segment → Segment → Bool) → printed before trace ≡ from (report_of listing asked before trace))
     → (text : List ℕ) → trace_of limits text ≡ read → IsAnswerUnder limits printed text (from report)
-with_report limits printed from asked read trace report of same text is =
+with_report limits printed from listing asked read trace report of same text is =
     subst (IsAnswerUnder limits printed text) (same of.before ∙ ap from (sym of.is_report)) (ordered trace of.before (is ∙ of.is_read) of.consistent of.decides)
 
--- what is printed of a trace's findings
-pub with_findings : (limits : Bounds) (asked : Asked) (form : Form) (read : Result Trace ReadFault) (trace : Trace) (table : List (Edge × Sample)) (found : Found)
-    → IsFoundOf asked read trace table found → (text : List ℕ) → trace_of limits text ≡ read
-    → IsAnswerUnder limits (finding asked form) text (Prints (printed_findings form trace.names asked table found) (outcome_of_found found))
-with_findings limits asked form read trace table found of text is =
-    subst (IsAnswerUnder limits (finding asked form) text)
-    (λ i. Prints (printed_findings form trace.names asked (sym of.are_edges i) (sym of.are_found i)) (outcome_of_found (sym of.are_found i)))
-    (ordered trace of.before (is ∙ of.is_read) of.consistent of.decides)
-
--- an answer that is refused, where that says which segment of the trace that was read is before itself
-pub refused_loop : (limits : Bounds) (printed : (Segment → Segment → Bool) → Trace → Answer) (read : Result Trace ReadFault) (trace : Trace) (answer : Result Printed Ended) → read ≡ Ok trace
-    → IfErr answer (λ ended. IfRefused ended (IsLoopOf trace)) → IfErr answer (λ ended. IfRefused ended (λ line. (text : List ℕ) → trace_of limits text ≡ read → IsAnswerUnder limits printed text (Refusal line)))
-refused_loop limits printed read trace (Ok p) was said = tt
-refused_loop limits printed read trace (Err ended) was said =
-    refused_then ended (IsLoopOf trace) (λ line. (text : List ℕ) → trace_of limits text ≡ read → IsAnswerUnder limits printed text (Refusal line)) (λ line loop. no_report limits printed read line (inr (trace, was, loop))) said
+-- the report that a session gave
+of_session : (listing : Listing) (asked : Asked) (read : Result Trace ReadFault) (trace : Trace) (report : Report)
+    → read ≡ Ok trace → IsReportListing listing asked (edges trace.lists) trace.lists report → IsReportOf listing asked read trace report
+of_session lists.Cycles asked read trace report was of = record { is_read = was; before = of.before; consistent = of.consistent; decides = of.decides; is_report = of.is }
+of_session lists.Findings asked read trace report was of = record { is_read = was; before = of.before; consistent = of.consistent; decides = of.decides; is_report = of.is }
 
 -- where a session gave the report
-pub with_session : (limits : Bounds) (printed : (Segment → Segment → Bool) → Trace → Answer) (from : Report → Answer) (asked : Asked) (read : Result Trace ReadFault) (trace : Trace) (report : Report)
-    → read ≡ Ok trace → IsGoodlockReport asked trace.lists report → ((before : Segment → Segment → Bool) → printed before trace ≡ from (report_of asked before trace))
+pub with_session : (limits : Bounds) (printed : (Segment → Segment → Bool) → Trace → Answer) (from : Report → Answer) (listing : Listing) (asked : Asked) (read : Result Trace ReadFault) (trace : Trace) (report : Report)
+    → read ≡ Ok trace → IsReportListing listing asked (edges trace.lists) trace.lists report → ((before : Segment → Segment → Bool) → printed before trace ≡ from (report_of listing asked before trace))
     → (text : List ℕ) → trace_of limits text ≡ read → IsAnswerUnder limits printed text (from report)
-with_session limits printed from asked read trace report was of =
-    with_report limits printed from asked read trace report (record { is_read = was; before = of.before; consistent = of.consistent; decides = of.decides; is_report = of.is })
+with_session limits printed from listing asked read trace report was of =
+    with_report limits printed from listing asked read trace report (of_session listing asked read trace report was of)
 
 -- a ring leads from its first segment back to it
 before_itself : (lists : List (List Event)) (ring : List Segment) (at : Segment) → slice_get ring 0 ≡ Some at → IsRing lists ring → Before lists at at

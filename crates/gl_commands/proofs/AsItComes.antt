@@ -18,6 +18,7 @@ use Rattle.gl_std.specs.declared.faults.StdKind.{StdKind}
 use Rattle.gl_std.specs.declared.trace.Trace.{Trace}
 use Rattle.gl_filters.specs.Asked.{Asked}
 use Rattle.gl_cycles.specs.declared.found.Report.{Report}
+use Rattle.gl_findings.specs.declared.listing.Listing.{Listing}
 use Rattle.gl_live.specs.Streamed.{Becomes}
 use Rattle.gl_commands.specs.Answer.{Answer, IsAnswerUnder, outcome_of, prediction, printed_report}
 use Rattle.gl_commands.specs.Answer.Answer.{Prints, Refusal}
@@ -72,19 +73,19 @@ abbrev pub AreNames : Stream → NameLists → Type 0
 AreNames items names = (limits : Bounds) (turns : ℕ) (input : Use) (text : List ℕ) (told : Trace) → CanBeNamed items → HasTold limits turns input items text told → names ≡ told.names
 
 -- the report is printed
-pub printed_whole : (asked : Asked) (form : Form) (limits : Bounds) (turns : ℕ) (input : Use) (items : Stream) (report : Report) (names : NameLists) (answer : Result Printed Ended)
-    → AreNames items names → IfOk answer (λ p. Prints p.text.items p.outcome ≡ Prints (printed_report form names report) (outcome_of report))
-    → Becomes asked limits turns input items (Ok report) → IfOk answer (λ p. HasAnswer (IsAnswerUnder limits (prediction asked form)) turns input (Prints p.text.items p.outcome))
-printed_whole asked form limits turns input items report names answer named is became =
+pub printed_whole : (listing : Listing) (asked : Asked) (form : Form) (limits : Bounds) (turns : ℕ) (input : Use) (items : Stream) (report : Report) (names : NameLists) (answer : Result Printed Ended)
+    → AreNames items names → IfOk answer (λ p. Prints p.text.items p.outcome ≡ Prints (printed_report listing form names report) (outcome_of report))
+    → Becomes listing asked limits turns input items (Ok report) → IfOk answer (λ p. HasAnswer (IsAnswerUnder limits (prediction listing asked form)) turns input (Prints p.text.items p.outcome))
+printed_whole listing asked form limits turns input items report names answer named is became =
     let told = became.told in
     let whole = whole_at_end limits turns input items became.text told became.tells became.reports.0 in
     let names_are : names ≡ told.names = named limits turns input became.text told whole.named became.tells in
-    printed_as answer (HasAnswer (IsAnswerUnder limits (prediction asked form)) turns input) (Prints (printed_report form names report) (outcome_of report)) is
+    printed_as answer (HasAnswer (IsAnswerUnder limits (prediction listing asked form)) turns input) (Prints (printed_report listing form names report) (outcome_of report)) is
     (record {
       text = became.text;
       whole = whole.read;
-      is = subst (λ n. IsAnswerUnder limits (prediction asked form) became.text (Prints (printed_report form n report) (outcome_of report))) (sym names_are)
-          (with_session limits (prediction asked form) (λ r. Prints (printed_report form told.names r) (outcome_of r)) asked (Ok told) told report refl became.reports.1 (λ before. refl) became.text whole.trace);
+      is = subst (λ n. IsAnswerUnder limits (prediction listing asked form) became.text (Prints (printed_report listing form n report) (outcome_of report))) (sym names_are)
+          (with_session limits (prediction listing asked form) (λ r. Prints (printed_report listing form told.names r) (outcome_of r)) listing asked (Ok told) told report refl became.reports.1 (λ before. refl) became.text whole.trace);
     })
 
 -- a segment is before itself

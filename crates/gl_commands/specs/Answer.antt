@@ -1,5 +1,5 @@
 -- What is answered to a text: what a command prints of its trace, or why it prints nothing.
-use Rattle.std.specs.Prelude.{◌≡◌, ◌++◌, ℕ, Bool, List, Ok, Err, length, take, nat_lt, if◌then◌else◌, codes}
+use Rattle.std.specs.Prelude.{◌≡◌, ◌++◌, ℕ, Bool, List, Ok, Err, length, nat_lt, if◌then◌else◌, codes}
 use Rattle.serde_json.specs.Written.{compact_text}
 use Rattle.gl_event.specs.Bounds.{Bounds, greatest}
 use Rattle.gl_event.specs.declared.events.Event.{Event}
@@ -11,15 +11,13 @@ use Rattle.gl_std.specs.declared.faults.StdKind.{StdKind}
 use Rattle.gl_std.specs.declared.faults.ReadFault.TheVariants.{Line}
 use Rattle.gl_std.specs.declared.trace.Trace.{Trace}
 use Rattle.gl_edges.specs.Edges.{edges}
-use Rattle.gl_edges.specs.declared.edge.Edge.{Edge}
-use Rattle.gl_edges.specs.declared.edge.Sample.{Sample}
 use Rattle.gl_segments.specs.Laws.{DecidesBefore}
 use Rattle.gl_segments.specs.Segments.{Before, IsBelow, IsConsistent}
 use Rattle.gl_filters.specs.Asked.{Asked}
-use Rattle.gl_cycles.specs.Reports.{report_by}
-use Rattle.gl_cycles.specs.declared.found.Found.{Found}
 use Rattle.gl_cycles.specs.declared.found.Report.{Report}
-use Rattle.gl_findings.specs.Findings.{findings}
+use Rattle.gl_findings.specs.Reports.{listing_by}
+use Rattle.gl_findings.specs.declared.listing.Listing.{Listing}
+use Rattle.gl_findings.specs.declared.listing.Listing.TheVariants as lists
 use Rattle.gl_report.specs.Counts.{stats_of, stats_text}
 use Rattle.gl_report.specs.Findings.{findings_tree}
 use Rattle.gl_report.specs.Text.{findings_text, report_text}
@@ -42,49 +40,30 @@ pub record IsLeastBeforeItself (lists : List (List Event)) (at : Segment) : Type
 
 -- ---- what is printed of a trace, by a test of which segment is before which
 
--- the report of a trace: the one over the edges of its lists
-abbrev pub report_of : Asked → (Segment → Segment → Bool) → Trace → Report
-report_of asked before trace = report_by asked before (edges trace.lists)
+-- the report of a trace that lists cycles, or findings: the one over the edges of its lists
+abbrev pub report_of : Listing → Asked → (Segment → Segment → Bool) → Trace → Report
+report_of listing asked before trace = listing_by listing asked before (edges trace.lists)
 
--- a report in the form that is asked for
-abbrev pub printed_report : Form → NameLists → Report → List ℕ
-printed_report Text names report = report_text names report.edges report.found.cycles report.found.more
-printed_report Json names report = compact_text (report_tree names report) ++ codes "\n"
+-- a report that lists cycles, or findings, in the form that is asked for
+abbrev pub printed_report : Listing → Form → NameLists → Report → List ℕ
+printed_report lists.Cycles Text names report = report_text names report.edges report.found.cycles report.found.more
+printed_report lists.Cycles Json names report = compact_text (report_tree names report) ++ codes "\n"
+printed_report lists.Findings Text names report = findings_text names report.edges report.found.cycles report.found.more
+printed_report lists.Findings Json names report = compact_text (findings_tree names report.query report.edges report.found) ++ codes "\n"
 
--- whether a cycle is listed
-abbrev pub outcome_of_found : Found → Outcome
-outcome_of_found found = if nat_lt 0 (length found.cycles) then Cycles else Clean
-
--- whether a report lists a cycle
+-- whether a report lists a cycle, or a finding
 abbrev pub outcome_of : Report → Outcome
-outcome_of report = outcome_of_found report.found
+outcome_of report = if nat_lt 0 (length report.found.cycles) then Cycles else Clean
 
--- the first findings of a trace that are asked for, each with the cycle that shows it, and whether there are more
-abbrev pub findings_of : Asked → (Segment → Segment → Bool) → Trace → Found
-findings_of asked before trace =
-    let all = findings before asked.mode asked.len (edges trace.lists) in
-    record { cycles = take asked.max all; more = nat_lt asked.max (length all) }
+-- `predict` prints the report that lists cycles, and `predict --findings` the one that lists findings
+abbrev pub prediction : Listing → Asked → Form → (Segment → Segment → Bool) → Trace → Answer
+prediction listing asked form before trace =
+    let report = report_of listing asked before trace in
+    Prints (printed_report listing form trace.names report) (outcome_of report)
 
--- findings in the form that is asked for
-abbrev pub printed_findings : Form → NameLists → Asked → List (Edge × Sample) → Found → List ℕ
-printed_findings Text names asked table found = findings_text names table found.cycles found.more
-printed_findings Json names asked table found = compact_text (findings_tree names asked table found) ++ codes "\n"
-
--- `predict` prints the report
-abbrev pub prediction : Asked → Form → (Segment → Segment → Bool) → Trace → Answer
-prediction asked form before trace =
-    let report = report_of asked before trace in
-    Prints (printed_report form trace.names report) (outcome_of report)
-
--- `predict --findings` prints the findings
-abbrev pub finding : Asked → Form → (Segment → Segment → Bool) → Trace → Answer
-finding asked form before trace =
-    let found = findings_of asked before trace in
-    Prints (printed_findings form trace.names asked (edges trace.lists) found) (outcome_of_found found)
-
--- `stats` prints the counts of the trace and of the report
+-- `stats` prints the counts of the trace and of the report that lists cycles
 abbrev pub counts : Asked → (Segment → Segment → Bool) → Trace → Answer
-counts asked before trace = Prints (stats_text (stats_of trace (report_of asked before trace))) Done
+counts asked before trace = Prints (stats_text (stats_of trace (report_of lists.Cycles asked before trace))) Done
 
 -- `replay` prints the trace as a text, and needs no order of segments
 abbrev pub replay : Trace → Answer

@@ -7,19 +7,21 @@ ghost use Rattle.gl_event.specs.Bounds.{greatest};
 ghost use Rattle.gl_std.specs.Trace.{trace_of, IsTraceOver};
 ghost use Rattle.gl_segments.specs.Clocks.{is_before, OrdersBy};
 ghost use Rattle.gl_segments.specs.Segments.{IsConsistent};
+ghost use Rattle.gl_findings.specs.declared.listing.Listing.TheVariants.{Cycles, Findings};
 ghost use Rattle.gl_report.specs.Counts.{stats_of, stats_text};
-ghost use Rattle.gl_commands.specs.Answer.{IsAnswer, IsPlainAnswer, counts, outcome_of, outcome_of_found, prediction, printed_report, replay, report_of};
+ghost use Rattle.gl_commands.specs.Answer.{IsAnswer, IsPlainAnswer, counts, outcome_of, prediction, printed_report, replay, report_of};
 ghost use Rattle.gl_commands.specs.Answer.Answer.{Prints, Refusal};
 ghost use Rattle.gl_commands.specs.bodies.Stops.{IfRefused, IsFaultIn, IsLoopOf, IsReportOf, SaysWhyNoReport};
 
 use crate::ended::{Ended, Outcome};
 use crate::refusal_lines::{fault_line, inconsistent_line};
-use gl_cycles::{Found, Report, report_by_parallel};
+use gl_cycles::Report;
 use gl_edges::edges_of;
 use gl_event::{Limits, MAX_EVENTS, MAX_NAMES, MAX_RING, MAX_THREADS, Memory};
 use gl_filters::Query;
+use gl_findings::{Listing, listing_by_parallel};
 use gl_options::Form;
-use gl_report::{Stats, json_text, stats_text, text};
+use gl_report::{Stats, findings_json_text, findings_text, json_text, stats_text, text};
 use gl_segments::{Order, OrderFault};
 use gl_std::{Names, ReadFault, Trace, write_trace};
 use std::alloc::Global;
@@ -83,18 +85,51 @@ pub(crate) fn order_or_line(alloc: Global, trace: &Trace) -> Result<Order, Ended
     }
 }
 
-/// The report in this form.
-pub(crate) fn print(
+// A report that lists cycles, in this form.
+fn print_cycles(
     alloc: Global,
     form: Form,
     names: &Names,
     report: &Report,
 ) -> Result<Vec<u8>, Memory>
-    ensures { IfOk result (λ t. t.items ≡ printed_report form names.now report.now) }
+    ensures { IfOk result (λ t. t.items ≡ printed_report Cycles form names.now report.now) }
 {
     match form {
         Form::Text => text(alloc, names, report),
         Form::Json => json_text(alloc, names, report),
+    }
+}
+
+// A report that lists findings, in this form.
+fn print_findings(
+    alloc: Global,
+    form: Form,
+    names: &Names,
+    report: &Report,
+) -> Result<Vec<u8>, Memory>
+    ensures { IfOk result (λ t. t.items ≡ printed_report Findings form names.now report.now) }
+{
+    match form {
+        Form::Text => findings_text(alloc, names, &report.edges, &report.found),
+        Form::Json => {
+            findings_json_text(alloc, names, &report.query, &report.edges, &report.found)
+        }
+    }
+}
+
+// A report that lists cycles, or findings, in this form.
+fn print(
+    alloc: Global,
+    listing: Listing,
+    form: Form,
+    names: &Names,
+    report: &Report,
+) -> Result<Vec<u8>, Memory>
+    ensures { IfOk result (λ t. t.items ≡ printed_report listing form names.now report.now) }
+{
+    match listing {
+        Listing::Cycles => print_cycles(alloc, form, names, report),
+        Listing::Findings => print_findings(alloc, form, names, report),
     }
 }
 
@@ -104,13 +139,15 @@ fn report_by(
     alloc: Global,
     trace: &Trace,
     order: &Order,
+    listing: Listing,
     query: &Query,
 ) -> Result<Report, Memory>
     requires { IsTraceOver greatest trace.now }
-    ensures { IfOk result (λ r. r ≡ report_of query.now (is_before order.now) trace.now) }
+    ensures { IfOk result
+        (λ r. r ≡ report_of listing query.now (is_before order.now) trace.now) }
 {
     let edges = edges_of(alloc, trace.lists.as_slice())?;
-    report_by_parallel(rt, alloc, edges, order, query)
+    listing_by_parallel(rt, alloc, listing, edges, order, query)
 }
 
 // The report of a trace, or the line that says which segment is before itself.
@@ -118,14 +155,15 @@ fn report_or_line(
     rt: &(impl Threads + Sync),
     alloc: Global,
     trace: &Trace,
+    listing: Listing,
     query: &Query,
 ) -> Result<Report, Ended>
     requires { IsTraceOver greatest trace.now }
-    ensures report { IfOk result (λ r. IsReportOf query.now (Ok trace.now) trace.now r) }
+    ensures report { IfOk result (λ r. IsReportOf listing query.now (Ok trace.now) trace.now r) }
     ensures refused { IfErr result (λ ended. IfRefused ended (IsLoopOf trace.now)) }
 {
     let order = order_or_line(alloc, trace)?;
-    let report = report_by(rt, alloc, trace, &order, query)?;
+    let report = report_by(rt, alloc, trace, &order, listing, query)?;
     Ok(report)
 }
 
@@ -134,15 +172,16 @@ fn trace_and_report(
     rt: &(impl Threads + Sync),
     alloc: Global,
     read: Result<Trace, ReadFault>,
+    listing: Listing,
     query: &Query,
 ) -> Result<Reported, Ended>
     requires { IfOk read (IsTraceOver greatest) }
-    ensures report { IfOk result (λ r. IsReportOf query.now read r.trace r.report) }
+    ensures report { IfOk result (λ r. IsReportOf listing query.now read r.trace r.report) }
     ensures over { IfOk result (λ r. IsTraceOver greatest r.trace) }
     ensures refused { IfErr result (λ ended. IfRefused ended (SaysWhyNoReport read)) }
 {
     let trace = trace_or_line(alloc, read)?;
-    match report_or_line(rt, alloc, &trace, query) {
+    match report_or_line(rt, alloc, &trace, listing, query) {
         Ok(report) => Ok(Reported { trace, report }),
         Err(ended) => {
             drop(trace);
@@ -151,59 +190,55 @@ fn trace_and_report(
     }
 }
 
-/// Whether a cycle is listed.
-pub(crate) fn outcome_of_found(found: &Found) -> Outcome
-    ensures { result ≡ outcome_of_found found.now }
+// Whether a report lists a cycle, or a finding.
+fn outcome_of(report: &Report) -> Outcome
+    ensures { result ≡ outcome_of report.now }
 {
-    if found.cycles.as_slice().is_empty() {
+    if report.found.cycles.as_slice().is_empty() {
         return Outcome::Clean;
     }
     Outcome::Cycles
 }
 
-/// Whether a report lists a cycle.
-pub(crate) fn outcome_of(report: &Report) -> Outcome
-    ensures { result ≡ outcome_of report.now }
-{
-    outcome_of_found(&report.found)
-}
-
-/// What is printed of a report in this form, where these are the names.
+/// What is printed of a report that lists cycles, or findings, in this form, where these are the names.
 pub(crate) fn printed_in(
     alloc: Global,
+    listing: Listing,
     form: Form,
     names: &Names,
     report: &Report,
 ) -> Result<Printed, Ended>
     ensures printed { IfOk result
         (λ p. Prints p.text.items p.outcome
-        ≡ Prints (printed_report form names.now report.now) (outcome_of report.now)) }
+        ≡ Prints (printed_report listing form names.now report.now) (outcome_of report.now)) }
     ensures memory { IfErr result (λ ended. ended ≡ Ended.Memory) }
 {
     let outcome = outcome_of(report);
-    let text = print(alloc, form, names, report)?;
+    let text = print(alloc, listing, form, names, report)?;
     Ok(Printed { text, outcome })
 }
 
-/// The report of the texts that have this trace or first fault, in this form, or why they have none.
+/// The report of the texts that have this trace or first fault, which lists cycles, or findings, in this form,
+/// or why they have none.
 pub(crate) fn predicted(
     rt: &(impl Threads + Sync),
     alloc: Global,
     read: Result<Trace, ReadFault>,
+    listing: Listing,
     query: &Query,
     form: Form,
 ) -> Result<Printed, Ended>
     requires { IfOk read (IsTraceOver greatest) }
     ensures printed { IfOk result
         (λ p. (text : List ℕ) → trace_of greatest text ≡ read
-        → IsAnswer (prediction query.now form) text (Prints p.text.items p.outcome)) }
+        → IsAnswer (prediction listing query.now form) text (Prints p.text.items p.outcome)) }
     ensures refused { IfErr result
         (λ ended. IfRefused ended
         (λ line. (text : List ℕ) → trace_of greatest text ≡ read
-        → IsAnswer (prediction query.now form) text (Refusal line))) }
+        → IsAnswer (prediction listing query.now form) text (Refusal line))) }
 {
-    let Reported { trace, report } = trace_and_report(rt, alloc, read, query)?;
-    let answer = printed_in(alloc, form, &trace.names, &report);
+    let Reported { trace, report } = trace_and_report(rt, alloc, read, listing, query)?;
+    let answer = printed_in(alloc, listing, form, &trace.names, &report);
     drop(report);
     drop(trace);
     answer
@@ -241,7 +276,7 @@ pub(crate) fn counted(
         (λ line. (text : List ℕ) → trace_of greatest text ≡ read
         → IsAnswer (counts query.now) text (Refusal line))) }
 {
-    let Reported { trace, report } = trace_and_report(rt, alloc, read, query)?;
+    let Reported { trace, report } = trace_and_report(rt, alloc, read, Listing::Cycles, query)?;
     let answer = printed_counts(alloc, &trace, &report);
     drop(report);
     drop(trace);

@@ -7,7 +7,8 @@ ghost use Rattle.gl_event.specs.Bounds.{greatest};
 ghost use Rattle.gl_std.specs.Lines.{ended_lines};
 ghost use Rattle.gl_std.specs.Trace.{trace_of, IsTraceOver};
 ghost use Rattle.gl_options.specs.Sessions.{AreOfSession, CanRun};
-ghost use Rattle.gl_commands.specs.Answer.{IsAnswer, IsPlainAnswer, counts, finding, prediction, replay};
+ghost use Rattle.gl_commands.specs.Answer.{IsAnswer, IsPlainAnswer, counts, prediction, replay};
+ghost use Rattle.gl_findings.specs.declared.listing.Listing.TheVariants.{Cycles, Findings};
 ghost use Rattle.gl_commands.specs.Checking.{HasChecked};
 ghost use Rattle.gl_io.specs.Uses.{used};
 ghost use Rattle.gl_commands.specs.Ending.{EndsEarlyAs, HasEnded, HasEndedEarly};
@@ -19,9 +20,9 @@ use crate::answer::{Printed, counted, greatest_limits, predicted, replayed, trac
 use crate::checking::{checked, end_cut};
 use crate::ended::{Ended, Outcome};
 use crate::recorded::recorded;
-use crate::searched::searched;
 use crate::streamed::streamed;
 use gl_filters::Query;
+use gl_findings::Listing;
 use gl_io::{Sink, Source, WriteFault, read_whole, write_out};
 use gl_options::{Command, Form, LiveOptions};
 use gl_shards::{Gate, Open};
@@ -111,6 +112,31 @@ fn end<O: Sink>(output: &mut O, answered: Result<Printed, Ended>) -> Ended
     }
 }
 
+// Reads a trace, predicts its deadlocks and writes the report that lists cycles, or findings.
+fn predict_listing<R: AllocGlobal + Threads + Sync, I: Source, O: Sink>(
+    rt: &R,
+    input: &mut I,
+    output: &mut O,
+    turns: u64,
+    seed: Seed,
+    listing: Listing,
+    query: &Query,
+    form: Form,
+) -> Ended
+    requires readable { I.failed input.old ≡ false }
+    requires writable { O.failed output.old ≡ false }
+    requires few_turns { turns ≤ 2 ^ 40 }
+    ensures { HasEnded (IsAnswer (prediction listing query.now form)) turns
+        (used (I.remaining input.old) (I.remaining input.new) (I.failed input.new))
+        (used (O.contents output.old) (O.contents output.new) (O.failed output.new)) result }
+{
+    let alloc = rt.alloc();
+    match hear(alloc, input, turns, seed) {
+        Ok(read) => end(output, predicted(rt, alloc, read, listing, query, form)),
+        Err(ended) => ended,
+    }
+}
+
 /// Reads a trace, predicts its deadlocks and writes the report in the form asked for.
 ///
 /// The input is read to its end, in at most `turns` reads, before anything else; its text isn't kept.
@@ -130,15 +156,11 @@ pub fn predict<R: AllocGlobal + Threads + Sync, I: Source, O: Sink>(
     requires readable { I.failed input.old ≡ false }
     requires writable { O.failed output.old ≡ false }
     requires few_turns { turns ≤ 2 ^ 40 }
-    ensures { HasEnded (IsAnswer (prediction query.now form)) turns
+    ensures { HasEnded (IsAnswer (prediction Cycles query.now form)) turns
         (used (I.remaining input.old) (I.remaining input.new) (I.failed input.new))
         (used (O.contents output.old) (O.contents output.new) (O.failed output.new)) result }
 {
-    let alloc = rt.alloc();
-    match hear(alloc, input, turns, seed) {
-        Ok(read) => end(output, predicted(rt, alloc, read, query, form)),
-        Err(ended) => ended,
-    }
+    predict_listing(rt, input, output, turns, seed, Listing::Cycles, query, form)
 }
 
 /// Reads a trace, predicts its deadlocks and writes the findings in the form asked for: each signature of the
@@ -157,22 +179,28 @@ pub fn predict_findings<R: AllocGlobal + Threads + Sync, I: Source, O: Sink>(
     requires readable { I.failed input.old ≡ false }
     requires writable { O.failed output.old ≡ false }
     requires few_turns { turns ≤ 2 ^ 40 }
-    ensures { HasEnded (IsAnswer (finding query.now form)) turns
+    ensures { HasEnded (IsAnswer (prediction Findings query.now form)) turns
         (used (I.remaining input.old) (I.remaining input.new) (I.failed input.new))
         (used (O.contents output.old) (O.contents output.new) (O.failed output.new)) result }
 {
-    let alloc = rt.alloc();
-    match hear(alloc, input, turns, seed) {
-        Ok(read) => end(output, searched(rt, alloc, read, query, form)),
-        Err(ended) => ended,
-    }
+    predict_listing(
+        rt,
+        input,
+        output,
+        turns,
+        seed,
+        Listing::Findings,
+        query,
+        form,
+    )
 }
 
 /// Reads a trace, records it again in running threads, and writes the report of what was recorded, in
 /// the form asked for.
 ///
 /// **Unless it answers [`Ended::Memory`] or [`Ended::Unconfirmed`], it ends as [`predict`] does and writes
-/// the same bytes**, whatever the threads' timing. Each thread of the trace has a lane of its own; lane `t`
+/// the same bytes**, or with [`LiveOptions::findings`] as [`predict_findings`] does, whatever the threads'
+/// timing. Each thread of the trace has a lane of its own; lane `t`
 /// is recorded by recorder thread `t` modulo their number, event after event; the collector runs in the
 /// calling thread, and a worker keeps the edges of each shard. A trace without threads opens no session.
 /// The input is read whole before a thread is started, and no thread records before all were.

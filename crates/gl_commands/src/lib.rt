@@ -20,7 +20,6 @@ mod laws;
 mod limits;
 mod recorded;
 mod refusal_lines;
-mod searched;
 mod streamed;
 
 pub use commands::{

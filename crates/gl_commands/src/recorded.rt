@@ -1,24 +1,37 @@
 //! What is answered to a text by a session that records its trace again.
 ghost use Rattle.std.specs.Prelude.{◌≡◌, ℕ, Ok, List, IfOk, IfErr};
 ghost use Rattle.gl_event.specs.Bounds.{greatest};
-ghost use Rattle.gl_cycles.specs.Reports.{IsGoodlockReport};
+ghost use Rattle.gl_edges.specs.Edges.{edges};
+ghost use Rattle.gl_findings.specs.Reports.{IsReportListing};
 ghost use Rattle.gl_std.specs.Trace.{trace_of, IsTraceOver};
 ghost use Rattle.gl_options.specs.Sessions.{AreOfSession};
-ghost use Rattle.gl_commands.specs.Answer.{IsAnswer, prediction};
+ghost use Rattle.gl_commands.specs.Answer.{IsAnswer};
 ghost use Rattle.gl_commands.specs.Answer.Answer.{Prints, Refusal};
+ghost use Rattle.gl_commands.specs.Sessions.{listing_of, session_prediction};
 ghost use Rattle.gl_commands.specs.bodies.Stops.{IfStopped, IsLoopOf};
 
 use crate::answer::{Printed, printed_in, trace_or_line};
 use crate::ended::Ended;
 use crate::refusal_lines::inconsistent_line;
 use gl_cycles::Report;
-use gl_live::{LiveFault, SessionOptions, live_report};
+use gl_findings::Listing;
+use gl_live::{LiveFault, SessionOptions, live_listing};
 use gl_options::LiveOptions;
 use gl_shards::Gate;
 use gl_std::{ReadFault, Trace};
 use std::alloc::Global;
 use std::sync::Wait;
 use std::thread::Threads;
+
+/// What the options ask to be listed.
+pub(crate) fn listing_of(options: &LiveOptions) -> Listing
+    ensures { result ≡ listing_of options.now }
+{
+    if options.findings {
+        return Listing::Findings;
+    }
+    Listing::Cycles
+}
 
 // The report of a trace by a session, or why there is none.
 fn session_report<R: Threads + Wait + Sync, G: Gate + Sync>(
@@ -31,7 +44,8 @@ fn session_report<R: Threads + Wait + Sync, G: Gate + Sync>(
     requires trace { IsTraceOver greatest trace.now }
     requires session { AreOfSession options.now }
     ensures report { IfOk result
-        (λ report. IsGoodlockReport options.now.query trace.now.lists report) }
+        (λ report. IsReportListing (listing_of options.now) options.now.query
+        (edges trace.now.lists) trace.now.lists report) }
     ensures refused { IfErr result (λ ended. IfStopped ended (IsLoopOf trace.now)) }
 {
     let LiveOptions {
@@ -46,7 +60,16 @@ fn session_report<R: Threads + Wait + Sync, G: Gate + Sync>(
         shards,
         ring,
     };
-    match live_report(rt, alloc, trace.lists.as_slice(), &session, &query, gate) {
+    let listing = listing_of(options);
+    match live_listing(
+        rt,
+        alloc,
+        trace.lists.as_slice(),
+        &session,
+        listing,
+        &query,
+        gate,
+    ) {
         Ok(report) => Ok(report),
         Err(LiveFault::Inconsistent { at, ring: _ring }) => {
             let line = inconsistent_line(alloc, &trace.names, at)?;
@@ -69,15 +92,16 @@ fn session_answer<R: Threads + Wait + Sync, G: Gate + Sync>(
     requires session { AreOfSession options.now }
     ensures printed { IfOk result
         (λ p. (text : List ℕ) → trace_of greatest text ≡ Ok trace.now
-        → IsAnswer (prediction options.now.query options.now.form) text
+        → IsAnswer (session_prediction options.now) text
         (Prints p.text.items p.outcome)) }
     ensures refused { IfErr result
         (λ ended. IfStopped ended
         (λ line. (text : List ℕ) → trace_of greatest text ≡ Ok trace.now
-        → IsAnswer (prediction options.now.query options.now.form) text (Refusal line))) }
+        → IsAnswer (session_prediction options.now) text (Refusal line))) }
 {
     let report = session_report(rt, alloc, trace, options, gate)?;
-    let answer = printed_in(alloc, options.form, &trace.names, &report);
+    let listing = listing_of(options);
+    let answer = printed_in(alloc, listing, options.form, &trace.names, &report);
     drop(report);
     answer
 }
@@ -95,12 +119,12 @@ pub(crate) fn recorded<R: Threads + Wait + Sync, G: Gate + Sync>(
     requires session { AreOfSession options.now }
     ensures printed { IfOk result
         (λ p. (text : List ℕ) → trace_of greatest text ≡ read
-        → IsAnswer (prediction options.now.query options.now.form) text
+        → IsAnswer (session_prediction options.now) text
         (Prints p.text.items p.outcome)) }
     ensures refused { IfErr result
         (λ ended. IfStopped ended
         (λ line. (text : List ℕ) → trace_of greatest text ≡ read
-        → IsAnswer (prediction options.now.query options.now.form) text (Refusal line))) }
+        → IsAnswer (session_prediction options.now) text (Refusal line))) }
 {
     let trace = trace_or_line(alloc, read)?;
     let answer = session_answer(rt, alloc, &trace, options, gate);

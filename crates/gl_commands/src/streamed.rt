@@ -6,19 +6,21 @@ ghost use Rattle.gl_live.specs.Streamed.{Becomes, FailsInTime};
 ghost use Rattle.gl_live.specs.declared.faults.LiveFault.TheVariants.{Inconsistent};
 ghost use Rattle.gl_live.specs.declared.faults.StreamFault.TheVariants.{Session};
 ghost use Rattle.gl_options.specs.Sessions.{AreOfSession, with_threads};
-ghost use Rattle.gl_commands.specs.Answer.{IsAnswerUnder, prediction};
+ghost use Rattle.gl_commands.specs.Answer.{IsAnswerUnder};
 ghost use Rattle.gl_commands.specs.Answer.Answer.{Prints};
 ghost use Rattle.gl_io.specs.Uses.{Use, used};
 ghost use Rattle.gl_commands.specs.RefusalLines.{inconsistent_line};
+ghost use Rattle.gl_commands.specs.Sessions.{listing_of, session_prediction};
 ghost use Rattle.gl_commands.specs.bodies.Stops.{EndsUnwritten, HasAnswer, IfRefused, IsEndOfText};
 
 use crate::answer::{Printed, printed_in};
 use crate::ended::Ended;
+use crate::recorded::listing_of;
 use crate::refusal_lines::{fault_line, inconsistent_line};
 use gl_cycles::Report;
 use gl_event::{Limits, MAX_EVENTS, MAX_NAMES, MAX_RING, Segment};
 use gl_io::Source;
-use gl_live::{LiveFault, StreamFault, StreamOptions, stream_report};
+use gl_live::{LiveFault, StreamFault, StreamOptions, stream_listing};
 use gl_options::LiveOptions;
 use gl_shards::Gate;
 use gl_std::{Items, LinesFault, Names, Seed};
@@ -60,15 +62,15 @@ fn printed_of(
     items: Items,
 ) -> Result<Printed, Ended>
     ensures printed { (limits : Bounds) (turns : ℕ) (input : Use)
-        → Becomes options.now.query limits turns input items (Ok report)
+        → Becomes (listing_of options.now) options.now.query limits turns input items (Ok report)
         → IfOk result
         (λ p. HasAnswer
-        (IsAnswerUnder limits (prediction options.now.query options.now.form)) turns input
+        (IsAnswerUnder limits (session_prediction options.now)) turns input
         (Prints p.text.items p.outcome)) }
     ensures memory { IfErr result (λ ended. ended ≡ Ended.Memory) }
 {
     let (names, _skipped, _stray) = items.parts();
-    let answer = printed_in(alloc, options.form, &names, &report);
+    let answer = printed_in(alloc, listing_of(options), options.form, &names, &report);
     drop(names);
     drop(report);
     answer
@@ -93,9 +95,10 @@ fn end_of_loop(
     items: Items,
 ) -> Ended
     ensures { (limits : Bounds) (turns : ℕ) (input : Use)
-        → Becomes options.now.query limits turns input items (Err (Session (Inconsistent at ring)))
+        → Becomes (listing_of options.now) options.now.query limits turns input items
+        (Err (Session (Inconsistent at ring)))
         → EndsUnwritten limits
-        (IsAnswerUnder limits (prediction options.now.query options.now.form)) turns input result }
+        (IsAnswerUnder limits (session_prediction options.now)) turns input result }
 {
     let (names, _skipped, _stray) = items.parts();
     let ended = end_at(alloc, &names, at);
@@ -112,10 +115,10 @@ fn end_without_report(
     items: Items,
 ) -> Ended
     ensures { (limits : Bounds) (turns : ℕ) (input : Use)
-        → Becomes options.now.query limits turns input items (Err fault)
+        → Becomes (listing_of options.now) options.now.query limits turns input items (Err fault)
         → FailsInTime {Y = Report} input.before input.after items (Err fault)
         → EndsUnwritten limits
-        (IsAnswerUnder limits (prediction options.now.query options.now.form)) turns input result }
+        (IsAnswerUnder limits (session_prediction options.now)) turns input result }
 {
     match fault {
         StreamFault::Text(fault) => {
@@ -144,17 +147,17 @@ fn answered(
     items: Items,
 ) -> Result<Printed, Ended>
     ensures printed { (limits : Bounds) (turns : ℕ) (input : Use)
-        → Becomes options.now.query limits turns input items reported
+        → Becomes (listing_of options.now) options.now.query limits turns input items reported
         → IfOk result
         (λ p. HasAnswer
-        (IsAnswerUnder limits (prediction options.now.query options.now.form)) turns input
+        (IsAnswerUnder limits (session_prediction options.now)) turns input
         (Prints p.text.items p.outcome)) }
     ensures stopped { (limits : Bounds) (turns : ℕ) (input : Use)
-        → Becomes options.now.query limits turns input items reported
+        → Becomes (listing_of options.now) options.now.query limits turns input items reported
         → FailsInTime input.before input.after items reported
         → IfErr result
         (EndsUnwritten limits
-        (IsAnswerUnder limits (prediction options.now.query options.now.form)) turns input) }
+        (IsAnswerUnder limits (session_prediction options.now)) turns input) }
 {
     match reported {
         Ok(report) => printed_of(alloc, options, report, items),
@@ -181,22 +184,32 @@ pub(crate) fn streamed<R: AllocGlobal + Threads + Wait + Sync, I: Source, G: Gat
     ensures printed { IfOk result
         (λ p. HasAnswer
         (IsAnswerUnder (with_threads options.now.threads)
-        (prediction options.now.query options.now.form)) turns
+        (session_prediction options.now)) turns
         (used (I.remaining input.old) (I.remaining input.new) (I.failed input.new))
         (Prints p.text.items p.outcome)) }
     ensures stopped { IfErr result
         (EndsUnwritten (with_threads options.now.threads)
         (IsAnswerUnder (with_threads options.now.threads)
-        (prediction options.now.query options.now.form)) turns
+        (session_prediction options.now)) turns
         (used (I.remaining input.old) (I.remaining input.new) (I.failed input.new))) }
 {
     let alloc = rt.alloc();
     let items = Items::new(alloc, &limits_of(options.threads), turns, seed)?;
+    let listing = listing_of(options);
     let session = StreamOptions {
         threads: options.threads,
         shards: options.shards,
         ring: options.ring,
     };
-    let (reported, items) = stream_report(rt, alloc, items, input, &session, &options.query, gate);
+    let (reported, items) = stream_listing(
+        rt,
+        alloc,
+        items,
+        input,
+        &session,
+        listing,
+        &options.query,
+        gate,
+    );
     answered(alloc, options, reported, items)
 }

@@ -71,13 +71,17 @@ stream_rule = flag_rule (codes "stream")
 abbrev pub query_app : Text → App
 query_app name = with_rule (with_rule (with_rule (new_app name) mode_rule) len_rule) max_rule
 
--- the command that predicts, with the form of its report, and with whether it lists findings
+-- and with the form of its report, and with whether it lists findings
+abbrev pub report_app : Text → App
+report_app name = with_rule (with_rule (query_app name) json_rule) findings_rule
+
+-- the command that predicts
 abbrev pub predict : App
-predict = with_rule (with_rule (query_app (codes "predict")) json_rule) findings_rule
+predict = report_app (codes "predict")
 
 -- the command of a session that reads first, with the numbers of its recorder threads, of its shards, and of the notes in a ring
 abbrev pub session_app : App
-session_app = with_rule (with_rule (with_rule (with_rule (query_app (codes "live")) json_rule) recorders_rule) shards_rule) ring_rule
+session_app = with_rule (with_rule (with_rule (report_app (codes "live")) recorders_rule) shards_rule) ring_rule
 
 -- the command that predicts by a session, with whether it records as the text comes, and then how many threads this may name
 abbrev pub live : App
@@ -145,6 +149,7 @@ pub record IsFlagIn (rows : List Row) (id : Text) (is_given : Bool) : Type 0 whe
 
 -- the options' values are these of a session, each number within its range
 pub record AsksForSession (rows : List Row) (options : LiveOptions) : Type 0 where
+  pub findings : IsFlagIn rows (codes "findings") options.findings
   pub recorders : IsNumberIn rows (codes "recorders") 16 options.recorders
   pub shards : IsNumberIn rows (codes "shards") 16 options.shards
   pub ring : IsNumberIn rows (codes "ring") 65536 options.ring

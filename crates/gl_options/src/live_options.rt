@@ -1,11 +1,11 @@
 //! What a session is run with, and how the words of the command line ask for it.
 ghost use Rattle.std.specs.Prelude.{◌≡◌, ◌<◌, ◌≤◌, ◌^◌, ℕ, false, None, codes, IfOk, IfSome};
-ghost use Rattle.clap.specs.Words.{app_of, found_of, rows_of, rule_of, with_rule};
+ghost use Rattle.clap.specs.Words.{app_of, found_of, rows_of, rule_of};
 ghost use Rattle.clap.specs.declared.builder.command.Command.TheViews.{out-Command as fields_of};
-ghost use Rattle.gl_options.specs.Options.{live, query_app, session_app, json_rule, recorders_rule, shards_rule, ring_rule, stream_rule, threads_rule, IsCommand, IsNumberIn};
+ghost use Rattle.gl_options.specs.Options.{live, session_app, recorders_rule, shards_rule, ring_rule, stream_rule, threads_rule, IsCommand, IsNumberIn};
 
 use crate::form::Form;
-use crate::options::{Command, flag_in, form_in, json_option, number_at, query_command, query_in};
+use crate::options::{Command, flag_in, form_in, number_at, query_in, report_command};
 use clap::{Arg, ArgAction, ArgMatches, value_parser};
 use gl_filters::Query;
 use std::alloc::{AllocError, Global};
@@ -17,6 +17,9 @@ pub struct LiveOptions {
     pub query: Query,
     /// The form of the report.
     pub form: Form,
+    /// Whether findings are listed, in place of cycles: those that were made at the same pairs of source places
+    /// are one.
+    pub findings: bool,
     /// How many threads record, 1 to 16. The trace's thread `t` is recorded by thread `t` modulo this
     /// number.
     pub recorders: u32,
@@ -99,24 +102,13 @@ fn threads_option<'a>(alloc: Global) -> Arg<'a>
         .help("How many threads a trace may name with --stream, 1 to 1024")
 }
 
-// A command that reports, with the number of its recorder threads.
-fn recording_command<'a>(alloc: Global) -> Result<clap::Command<'a>, AllocError>
-    ensures shape { IfOk result
-        (λ c. app_of c
-        ≡ with_rule (with_rule (query_app (codes "live")) json_rule) recorders_rule) }
-    ensures local { IfOk result (λ c. (fields_of c).has_globals ≡ false) }
-{
-    query_command(alloc, "live")?
-        .arg(json_option(alloc))?
-        .arg(recorders_option(alloc))
-}
-
-// A command that reports by a session of these workers and rings.
+// A command that reports by a session of these recorder threads, workers and rings.
 fn session_command<'a>(alloc: Global) -> Result<clap::Command<'a>, AllocError>
     ensures shape { IfOk result (λ c. app_of c ≡ session_app) }
     ensures local { IfOk result (λ c. (fields_of c).has_globals ≡ false) }
 {
-    recording_command(alloc)?
+    report_command(alloc, "live")?
+        .arg(recorders_option(alloc))?
         .arg(shards_option(alloc))?
         .arg(ring_option(alloc))
 }
@@ -164,6 +156,7 @@ pub(crate) fn live_in(options: &ArgMatches<'_>) -> Option<Command>
     Some(Command::Live(LiveOptions {
         query,
         form: form_in(options),
+        findings: flag_in(options, "findings"),
         recorders,
         shards,
         ring,

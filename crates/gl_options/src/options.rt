@@ -4,7 +4,7 @@ ghost use Rattle.clap.specs.declared.error.kind.ErrorKind.TheVariants.{InvalidVa
 ghost use Rattle.clap.specs.Words.{app_of, first_of, found_of, kind_of, rows_of, rule_of, subcommand_rows_of, with_subcommand};
 ghost use Rattle.clap.specs.declared.builder.command.Command.TheViews.{out-Command as fields_of};
 ghost use Rattle.gl_filters.specs.Asked.{Asked};
-ghost use Rattle.gl_options.specs.Options.{goodlock, program, predict, live, stats, replay, check, query_app, mode_rule, len_rule, max_rule, json_rule, findings_rule};
+ghost use Rattle.gl_options.specs.Options.{goodlock, program, predict, live, stats, replay, check, query_app, report_app, mode_rule, len_rule, max_rule, json_rule, findings_rule};
 ghost use Rattle.gl_options.specs.Options.{Asks, AsksIn, IsCommand, IsEntered, IsFlagIn, IsFormIn, IsNumberAt, IsUsageFor, IsUsageOf, mode_named};
 
 use crate::form::Form;
@@ -97,8 +97,8 @@ fn max_option<'a>(alloc: Global) -> Arg<'a>
         .help("The most cycles that are listed, 1 to 100000")
 }
 
-/// The form of the report.
-pub(crate) fn json_option<'a>(alloc: Global) -> Arg<'a>
+// The form of the report.
+fn json_option<'a>(alloc: Global) -> Arg<'a>
     ensures rule { rule_of result ≡ json_rule }
     ensures local { result.global ≡ false }
 {
@@ -119,11 +119,8 @@ fn findings_option<'a>(alloc: Global) -> Arg<'a>
         .help("Lists each finding once: cycles made at the same places are one")
 }
 
-/// A command of this name with the options of a query.
-pub(crate) fn query_command<'a>(
-    alloc: Global,
-    name: &'a str,
-) -> Result<clap::Command<'a>, AllocError>
+// A command of this name with the options of a query.
+fn query_command<'a>(alloc: Global, name: &'a str) -> Result<clap::Command<'a>, AllocError>
     ensures shape { IfOk result (λ c. app_of c ≡ query_app name.entry.now) }
     ensures local { IfOk result (λ c. (fields_of c).has_globals ≡ false) }
 {
@@ -133,18 +130,30 @@ pub(crate) fn query_command<'a>(
         .arg(max_option(alloc))
 }
 
+/// A command of this name that reports, with the options of a query, the form of the report and what it lists.
+pub(crate) fn report_command<'a>(
+    alloc: Global,
+    name: &'a str,
+) -> Result<clap::Command<'a>, AllocError>
+    ensures shape { IfOk result (λ c. app_of c ≡ report_app name.entry.now) }
+    ensures local { IfOk result (λ c. (fields_of c).has_globals ≡ false) }
+{
+    query_command(alloc, name)?
+        .arg(json_option(alloc))?
+        .arg(findings_option(alloc))
+}
+
 // The command that predicts.
 fn predict_command<'a>(alloc: Global) -> Result<clap::Command<'a>, AllocError>
     ensures shape { IfOk result (λ c. app_of c ≡ predict) }
     ensures local { IfOk result (λ c. (fields_of c).has_globals ≡ false) }
 {
-    query_command(alloc, "predict")?
+    let command = report_command(alloc, "predict")?
         .about("Reads a trace from standard input and prints the deadlocks that it predicts")
         .after_help(
             "Examples:\n  goodlock predict < trace.std\n  goodlock predict --mode guarded --len 3 --json < trace.std",
-        )
-        .arg(json_option(alloc))?
-        .arg(findings_option(alloc))
+        );
+    Ok(command)
 }
 
 // The command that counts.
@@ -387,12 +396,12 @@ fn command_in(matches: &ArgMatches<'_>) -> Option<Command>
 ///
 /// The words are `goodlock predict`, `goodlock live` or `goodlock stats`, then any of `--mode` with
 /// `basic`, `guarded` or `full` (the default), `--len` with a number from 2 to 16 (4), and `--max` with
-/// one from 1 to 100,000 (1,000), of `predict` and `live` also `--json`, of `predict` `--findings`, and of
-/// `live` `--recorders` and `--shards` with numbers from 1 to 16 (4 each), `--ring` with one from 1 to
-/// 65,536 (256), `--stream`, and `--threads` with a number from 1 to 1,024 (64), each once at the most; or
-/// `goodlock replay` or `goodlock check`. `--help`, of the program or of a command, and `--version` ask for
-/// a text. With `--findings`, `predict` asks for findings in place of cycles: cycles that were made at the
-/// same pairs of source places are one finding.
+/// one from 1 to 100,000 (1,000), of `predict` and `live` also `--json` and `--findings`, and of `live`
+/// `--recorders` and `--shards` with numbers from 1 to 16 (4 each), `--ring` with one from 1 to 65,536 (256),
+/// `--stream`, and `--threads` with a number from 1 to 1,024 (64), each once at the most; or `goodlock replay`
+/// or `goodlock check`. `--help`, of the program or of a command, and `--version` ask for a text. With
+/// `--findings`, `predict` and `live` ask for findings in place of cycles: cycles that were made at the same
+/// pairs of source places are one finding.
 pub fn parse<'a, S: AsStr>(alloc: Global, words: &'a [S]) -> Result<Command, Usage>
     ensures asks { IfOk result (Asks (map S.text words.entry.now)) }
     ensures usage { IfErr result (IsUsageOf (map S.text words.entry.now)) }

@@ -6,11 +6,12 @@ ghost use Rattle.gl_options.specs.declared.form.Form.TheVariants.{Text};
 use gl_filters::Query;
 use gl_options::{Form, LiveOptions};
 
-/// A session that predicts by this query, in lines of text: 4 recorders, 4 shards, rings of 256.
+/// A session that predicts cycles by this query, in lines of text: 4 recorders, 4 shards, rings of 256.
 pub fn default_session(query: Query) -> LiveOptions
     ensures session { AreOfSession result }
     ensures query { result.query ≡ query }
     ensures form { result.form ≡ Text }
+    ensures findings { result.findings ≡ false }
     ensures recorders { result.recorders ≡ 4 }
     ensures shards { result.shards ≡ 4 }
     ensures ring { result.ring ≡ 256 }
@@ -20,6 +21,7 @@ pub fn default_session(query: Query) -> LiveOptions
     LiveOptions {
         query,
         form: Form::Text,
+        findings: false,
         recorders: 4,
         shards: 4,
         ring: 256,

@@ -71,7 +71,9 @@ fn findings_usage_faults(rt: HostRuntime) {
     let words = ["goodlock", "predict", "--json", "--json"];
     expect_usage(&rt, &words, false);
     expect_usage(&rt, &["goodlock", "predict", "--findings=yes"], false);
-    expect_usage(&rt, &["goodlock", "live", "--findings"], false);
+    let words = ["goodlock", "live", "--findings", "--findings"];
+    expect_usage(&rt, &words, false);
+    expect_usage(&rt, &["goodlock", "live", "--findings=yes"], false);
     expect_usage(&rt, &["goodlock", "stats", "--findings"], false);
 }
 
@@ -135,6 +137,24 @@ fn live_words(rt: HostRuntime) -> Result<(), Fail> {
         ring: 65_536,
         ..default_session(query(Mode::Basic, 16, 1)?)
     };
+    expect_command(&rt, &words, &Command::Live(options));
+    Ok(())
+}
+
+#[test]
+fn live_findings_words(rt: HostRuntime) -> Result<(), Fail> {
+    let options = LiveOptions {
+        findings: true,
+        ..default_session(full()?)
+    };
+    let words = ["goodlock", "live", "--findings"];
+    expect_command(&rt, &words, &Command::Live(options));
+    let options = LiveOptions {
+        form: Form::Json,
+        stream: true,
+        ..options
+    };
+    let words = ["goodlock", "live", "--stream", "--findings", "--json"];
     expect_command(&rt, &words, &Command::Live(options));
     Ok(())
 }

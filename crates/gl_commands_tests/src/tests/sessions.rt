@@ -31,6 +31,7 @@ pub(super) fn session(query: Query, recorders: u32, shards: u32, ring: u32) -> L
     LiveOptions {
         query,
         form: Form::Text,
+        findings: false,
         recorders,
         shards,
         ring,

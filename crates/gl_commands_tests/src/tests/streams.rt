@@ -26,6 +26,7 @@ fn streaming(threads: u32) -> Result<LiveOptions, Fail>
     Ok(LiveOptions {
         query: full()?,
         form: Form::Text,
+        findings: false,
         recorders: 4,
         shards: 2,
         ring: 1,

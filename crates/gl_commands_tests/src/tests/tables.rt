@@ -346,6 +346,21 @@ fn live_into_writers(rt: HostRuntime) -> Result<(), Fail> {
     expect_writers(&rt, &Command::Live(session(full()?, 2, 2, 1)))
 }
 
+// A session that lists findings.
+fn listing_findings() -> Result<LiveOptions, Fail>
+    ensures { IfOk result AreOfSession }
+{
+    Ok(LiveOptions {
+        findings: true,
+        ..session(full()?, 2, 2, 1)
+    })
+}
+
+#[test]
+fn live_findings_from_readers(rt: HostRuntime) -> Result<(), Fail> {
+    expect_readers(&rt, &Command::Live(listing_findings()?))
+}
+
 // A session over a text as it comes.
 fn streaming() -> Result<LiveOptions, Fail>
     ensures { IfOk result AreOfSession }
@@ -360,6 +375,15 @@ fn streaming() -> Result<LiveOptions, Fail>
 #[test]
 fn stream_from_readers(rt: HostRuntime) -> Result<(), Fail> {
     expect_readers(&rt, &Command::Live(streaming()?))
+}
+
+#[test]
+fn stream_findings_from_readers(rt: HostRuntime) -> Result<(), Fail> {
+    let options = LiveOptions {
+        findings: true,
+        ..streaming()?
+    };
+    expect_readers(&rt, &Command::Live(options))
 }
 
 #[test]

@@ -11,19 +11,19 @@ use Rattle.gl_commands.proofs.answer.predicted.Goals as goal
 pub returns-in_err-trace-clause-refused : goal.returns-in_err-trace-clause-refused
 returns-in_err-trace-clause-refused g c =
     let p = err_from_is_err_and c.from_residual.result c.from_residual.ensures.1 in
-    let asked = prediction c.args.query.now c.args.form in
+    let asked = prediction c.args.listing c.args.query.now c.args.form in
     rw (p.1, p.2) (refused_then c.in_err-trace.field-0.0 (SaysWhyNoReport c.args.read) (λ line. (text : List ℕ) → trace_of greatest text ≡ c.args.read → IsAnswer asked text (Refusal line))
     (no_report greatest asked c.args.read) c.in_err-trace.ensures.refused)
 
 pub returns-clause-printed : goal.returns-clause-printed
 returns-clause-printed g c =
-    let asked = prediction c.args.query.now c.args.form in
+    let asked = prediction c.args.listing c.args.query.now c.args.form in
     let both = c.in_ok-trace.field-0 in
-    let from = Prints (printed_report c.args.form both.trace.names both.report) (outcome_of both.report) in
+    let from = Prints (printed_report c.args.listing c.args.form both.trace.names both.report) (outcome_of both.report) in
     printed_as c.printed_in-answer.result (λ answer. (text : List ℕ) → trace_of greatest text ≡ c.args.read → IsAnswer asked text answer) from c.printed_in-answer.ensures.printed
-    (with_report greatest asked (λ report. Prints (printed_report c.args.form both.trace.names report) (outcome_of report)) c.args.query.now c.args.read both.trace both.report c.in_ok-trace.ensures.report (λ before. refl))
+    (with_report greatest asked (λ report. Prints (printed_report c.args.listing c.args.form both.trace.names report) (outcome_of report)) c.args.listing c.args.query.now c.args.read both.trace both.report c.in_ok-trace.ensures.report (λ before. refl))
 
 pub returns-clause-refused : goal.returns-clause-refused
 returns-clause-refused g c =
-    let asked = prediction c.args.query.now c.args.form in
+    let asked = prediction c.args.listing c.args.query.now c.args.form in
     memory_alone c.printed_in-answer.result (λ ended. IfRefused ended (λ line. (text : List ℕ) → trace_of greatest text ≡ c.args.read → IsAnswer asked text (Refusal line))) c.printed_in-answer.ensures.memory tt

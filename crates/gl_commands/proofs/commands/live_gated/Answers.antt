@@ -1,7 +1,8 @@
 use Rattle.std.proofs.Common.{sym, ◌∙◌}
 use Rattle.std.proofs.KnownBytes.{Keeps-refl}
 use Rattle.std.proofs.lemmas.Bool.{false≢true}
-use Rattle.gl_commands.specs.Answer.{IsAnswer, IsAnswerUnder, prediction}
+use Rattle.gl_commands.specs.Answer.{IsAnswer, IsAnswerUnder}
+use Rattle.gl_commands.specs.Sessions.{session_prediction}
 use Rattle.gl_commands.specs.Ending.HasEndedUnder.{early}
 use Rattle.gl_commands.specs.Ending.HasEndedLive.{confirmed}
 use Rattle.gl_options.specs.Sessions.{with_threads}
@@ -13,13 +14,13 @@ returns-then-options g c =
     let limits = with_threads c.args.options.now.threads in
     record {
       read_first = λ off. absurd (false≢true (sym off ∙ c.if-options.true));
-      as_it_comes = λ _. ends_streamed limits (IsAnswerUnder limits (prediction c.args.options.now.query c.args.options.now.form)) _ _ c.streamed.result _ c.end.result c.streamed.ensures.printed c.streamed.ensures.stopped c.end.ensures;
+      as_it_comes = λ _. ends_streamed limits (IsAnswerUnder limits (session_prediction c.args.options.now)) _ _ c.streamed.result _ c.end.result c.streamed.ensures.printed c.streamed.ensures.stopped c.end.ensures;
     }
 
 pub returns-in-Ok : goal.returns-in-Ok
 returns-in-Ok g c =
     record {
-      read_first = λ _. ends_live (IsAnswer (prediction c.args.options.now.query c.args.options.now.form)) _ _ c.in-Ok.read c.recorded.result _ c.end-in-Ok.result c.in-Ok.ensures.heard c.recorded.ensures.printed c.recorded.ensures.refused c.end-in-Ok.ensures;
+      read_first = λ _. ends_live (IsAnswer (session_prediction c.args.options.now)) _ _ c.in-Ok.read c.recorded.result _ c.end-in-Ok.result c.in-Ok.ensures.heard c.recorded.ensures.printed c.recorded.ensures.refused c.end-in-Ok.ensures;
       as_it_comes = λ on. absurd (false≢true (sym c.if-options.false ∙ on));
     }
 

@@ -1,8 +1,10 @@
-use Rattle.std.proofs.Common.{◌≡◌, Ok, List, ℕ, inr, refl}
+use Rattle.std.proofs.Common.{◌≡◌, Ok, List, ℕ, inr, refl, subst}
+use Rattle.std.specs.Prelude.{IfOk}
 use Rattle.std.proofs.lemmas.Result.{err_from_is_err_and}
 use Rattle.gl_event.specs.Bounds.{greatest}
 use Rattle.gl_std.specs.Trace.{trace_of}
-use Rattle.gl_commands.specs.Answer.{IsAnswer, outcome_of, prediction, printed_report}
+use Rattle.gl_commands.specs.Answer.{IsAnswer, outcome_of, printed_report}
+use Rattle.gl_commands.specs.Sessions.{listing_of, session_prediction}
 use Rattle.gl_commands.specs.Answer.Answer.{Prints, Refusal}
 use Rattle.gl_commands.specs.bodies.Stops.{IfStopped, IsLoopOf}
 use Rattle.gl_commands.proofs.Answering.{memory_alone, no_report, printed_as, stopped_then, with_session}
@@ -11,22 +13,24 @@ use Rattle.gl_commands.proofs.recorded.session_answer.Goals as goal
 pub returns-in_err-report-clause-refused : goal.returns-in_err-report-clause-refused
 returns-in_err-report-clause-refused g c =
     let p = err_from_is_err_and c.from_residual.result c.from_residual.ensures.1 in
-    let asked = prediction c.args.options.now.query c.args.options.now.form in
+    let asked = session_prediction c.args.options.now in
     let trace = c.args.trace.now in
     rw (p.1, p.2) (stopped_then c.in_err-report.field-0.0 (IsLoopOf trace) (λ line. (text : List ℕ) → trace_of greatest text ≡ Ok trace → IsAnswer asked text (Refusal line))
     (λ line loop. no_report greatest asked (Ok trace) line (inr (trace, refl, loop))) c.in_err-report.ensures.refused)
 
 pub returns-clause-printed : goal.returns-clause-printed
 returns-clause-printed g c =
+    let listing = listing_of c.args.options.now in
     let query = c.args.options.now.query in
     let form = c.args.options.now.form in
-    let asked = prediction query form in
+    let asked = session_prediction c.args.options.now in
     let trace = c.args.trace.now in
     let report = c.in_ok-report.report in
-    printed_as c.printed_in-answer.result (λ answer. (text : List ℕ) → trace_of greatest text ≡ Ok trace → IsAnswer asked text answer) (Prints (printed_report form trace.names report) (outcome_of report)) c.printed_in-answer.ensures.printed
-    (with_session greatest asked (λ r. Prints (printed_report form trace.names r) (outcome_of r)) query (Ok trace) trace report refl c.in_ok-report.ensures.report (λ before. refl))
+    let is = subst (λ l. IfOk c.printed_in-answer.result (λ p. Prints p.text.items p.outcome ≡ Prints (printed_report l form trace.names report) (outcome_of report))) c.listing_of-listing.ensures c.printed_in-answer.ensures.printed in
+    printed_as c.printed_in-answer.result (λ answer. (text : List ℕ) → trace_of greatest text ≡ Ok trace → IsAnswer asked text answer) (Prints (printed_report listing form trace.names report) (outcome_of report)) is
+    (with_session greatest asked (λ r. Prints (printed_report listing form trace.names r) (outcome_of r)) listing query (Ok trace) trace report refl c.in_ok-report.ensures.report (λ before. refl))
 
 pub returns-clause-refused : goal.returns-clause-refused
 returns-clause-refused g c =
-    let asked = prediction c.args.options.now.query c.args.options.now.form in
+    let asked = session_prediction c.args.options.now in
     memory_alone c.printed_in-answer.result (λ ended. IfStopped ended (λ line. (text : List ℕ) → trace_of greatest text ≡ Ok c.args.trace.now → IsAnswer asked text (Refusal line))) c.printed_in-answer.ensures.memory tt

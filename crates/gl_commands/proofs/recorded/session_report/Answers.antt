@@ -1,5 +1,6 @@
 use Rattle.std.proofs.Common.{subst}
-use Rattle.gl_cycles.specs.Reports.{IsGoodlockReport}
+use Rattle.gl_edges.specs.Edges.{edges}
+use Rattle.gl_findings.specs.Reports.{IsReportListing}
 use Rattle.gl_segments.specs.Segments.{IsLeastInRing}
 use Rattle.gl_commands.proofs.Answering.{least_of_ring}
 use Rattle.gl_commands.proofs.recorded.session_report.Goals as goal
@@ -14,4 +15,7 @@ returns-in_ok-line-in-Err-Inconsistent-clause-refused g c =
     }
 
 pub returns-in-Ok-clause-report : goal.returns-in-Ok-clause-report
-returns-in-Ok-clause-report g c = subst (λ lists. IsGoodlockReport c.args.options.now.query lists c.in-Ok.report) c.as_slice.ensures c.in-Ok.ensures.report
+returns-in-Ok-clause-report g c =
+    let asked = c.args.options.now.query in
+    let said = subst (λ lists. IsReportListing c.listing_of-listing.result asked (edges lists) lists c.in-Ok.report) c.as_slice.ensures c.in-Ok.ensures.report in
+    subst (λ listing. IsReportListing listing asked (edges c.args.trace.now.lists) c.args.trace.now.lists c.in-Ok.report) c.listing_of-listing.ensures said

@@ -8,11 +8,12 @@ use std::test::Fail;
 const NO_LAST_LOCATION: &[u8] =
     b"cycle 1: 2 edges\n  T0 holds a since 1 wants b at 2\n  T1 holds b since 5 wants a at \ncycles: 1\n";
 
+// Each edge is the only one made at its places: one thread, and its two locks.
 const FINDING: &[u8] =
-    b"finding 1: 2 edges\n  T0 holds a since 1 wants b at 2\n  T1 holds b since 5 wants a at 6\nfindings: 1\n";
+    b"finding 1: 2 edges\n  T0 holds a since 1 wants b at 2\n    threads: 1, locks: 2\n  T1 holds b since 5 wants a at 6\n    threads: 1, locks: 2\nfindings: 1\n";
 
 const FINDING_WITHOUT_LAST_LOCATION: &[u8] =
-    b"finding 1: 2 edges\n  T0 holds a since 1 wants b at 2\n  T1 holds b since 5 wants a at \nfindings: 1\n";
+    b"finding 1: 2 edges\n  T0 holds a since 1 wants b at 2\n    threads: 1, locks: 2\n  T1 holds b since 5 wants a at \n    threads: 1, locks: 2\nfindings: 1\n";
 
 // What a command writes, what it says on standard error, and its status.
 #[derive(Drop)]
@@ -104,7 +105,13 @@ fn judged(alloc: Global, count: usize) -> Result<Wanted, Fail> {
 // What the command answers to this front of the trace, of which no line is at fault.
 pub(super) fn answered(alloc: Global, command: &Command, trace: &[u8]) -> Result<Wanted, Fail> {
     match command {
-        Command::Predict { .. } | Command::Live(_) => reported(alloc, trace.len()),
+        Command::Predict { .. } => reported(alloc, trace.len()),
+        Command::Live(options) => {
+            if options.findings {
+                return found(alloc, trace.len());
+            }
+            reported(alloc, trace.len())
+        }
         Command::Findings { .. } => found(alloc, trace.len()),
         Command::Stats { .. } => counted(alloc, trace.len()),
         Command::Replay => replayed(alloc, trace),

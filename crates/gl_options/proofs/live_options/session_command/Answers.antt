@@ -1,13 +1,13 @@
 use Rattle.std.proofs.lemmas.Result.{err_from_is_err_and}
 use Rattle.gl_options.proofs.live_options.session_command.Goals as goal
 
-pub returns-in_err-recording_command-clause-shape : goal.returns-in_err-recording_command-clause-shape
-returns-in_err-recording_command-clause-shape c =
+pub returns-in_err-report_command-clause-shape : goal.returns-in_err-report_command-clause-shape
+returns-in_err-report_command-clause-shape c =
     let p = err_from_is_err_and c.from_residual.result c.from_residual.ensures.1 in
     rw p.1 tt
 
-pub returns-in_err-recording_command-clause-local : goal.returns-in_err-recording_command-clause-local
-returns-in_err-recording_command-clause-local c =
+pub returns-in_err-report_command-clause-local : goal.returns-in_err-report_command-clause-local
+returns-in_err-report_command-clause-local c =
     let p = err_from_is_err_and c.from_residual.result c.from_residual.ensures.1 in
     rw p.1 tt
 
@@ -19,4 +19,14 @@ returns-in_err-arg-clause-shape c =
 pub returns-in_err-arg-clause-local : goal.returns-in_err-arg-clause-local
 returns-in_err-arg-clause-local c =
     let p = err_from_is_err_and c.from_residual-in_err-arg.result c.from_residual-in_err-arg.ensures.1 in
+    rw p.1 tt
+
+pub returns-in_err-arg-2-clause-shape : goal.returns-in_err-arg-2-clause-shape
+returns-in_err-arg-2-clause-shape c =
+    let p = err_from_is_err_and c.from_residual-in_err-arg-2.result c.from_residual-in_err-arg-2.ensures.1 in
+    rw p.1 tt
+
+pub returns-in_err-arg-2-clause-local : goal.returns-in_err-arg-2-clause-local
+returns-in_err-arg-2-clause-local c =
+    let p = err_from_is_err_and c.from_residual-in_err-arg-2.result c.from_residual-in_err-arg-2.ensures.1 in
     rw p.1 tt

@@ -1,5 +1,5 @@
 use Rattle.std.proofs.lemmas.Result.{err_from_is_err_and}
-use Rattle.gl_options.proofs.live_options.recording_command.Goals as goal
+use Rattle.gl_options.proofs.options.report_command.Goals as goal
 
 pub returns-in_err-query_command-clause-shape : goal.returns-in_err-query_command-clause-shape
 returns-in_err-query_command-clause-shape c =
