@@ -3,13 +3,14 @@
 
     check.py < INPUT
 
-The bytes before the input's first LF are a report, as `predict --json` prints it (format 1 or 2); the bytes after it are
-the trace. Prints `ok, cycles: N` or, where the report shows that there is no cycle of any length in its mode,
-`ok, cycles: 0, none of any length`, with status 0; else what is wrong on standard error, with status 2.
+The bytes before the input's first LF are a report, as `predict --json` prints it (format 1 or 2; with `--findings` format 3);
+the bytes after it are the trace. Prints `ok, cycles: N` or, where the report shows that there is no cycle of any length in its
+mode, `ok, cycles: 0, none of any length`, or for format 3 `ok, findings: N`, with status 0; else what is wrong on standard
+error, with status 2.
 
 It is written from docs/RULES.md and the formats, and shares nothing with goodlock nor with reference.py. Who has made the
 report isn't trusted: the edges are the trace's own, and each listed cycle is judged anew. That the list is complete
-isn't checked, nor `more`.
+isn't checked, nor `more`, nor that a finding is shown by its first cycle.
 """
 
 import json
@@ -358,16 +359,29 @@ FORMATS = {
         "cycles": lambda value: is_array(value, lambda cycle: is_array(cycle, is_number)),
         "trim": lambda value: value is None or is_array(value, is_number),
     },
+    3: ASKED
+    | {
+        "format": is_number,
+        "edges": lambda value: is_array(value, is_full_edge),
+        "findings": lambda value: is_array(value, lambda cycle: is_array(cycle, is_number)),
+    },
 }
 
 
+def listed_as(report):
+    """What a report of this format lists."""
+    return "findings" if report["format"] == 3 else "cycles"
+
+
 def has_shape(report):
-    if not isinstance(report, dict) or not is_number(report.get("format"), 1, 2):
+    if not isinstance(report, dict) or not is_number(report.get("format"), 1, 3):
         return False
-    if not has_keys(report, FORMATS[report["format"]]) or len(report["cycles"]) > report["max"]:
+    if not has_keys(report, FORMATS[report["format"]]):
         return False
-    count = len(report["edges"]) if report["format"] == 2 else 0
-    return report["format"] == 1 or all(at < count for cycle in report["cycles"] for at in cycle)
+    listed = report[listed_as(report)]
+    if len(listed) > report["max"]:
+        return False
+    return report["format"] == 1 or all(at < len(report["edges"]) for cycle in listed for at in cycle)
 
 
 def escaped(name):
@@ -389,7 +403,7 @@ def printed(trace, edge, report_format):
         "wanted": escaped(trace.lock_names[edge.wanted]),
         "wanted_at": escaped(wanted_at),
     }
-    if report_format == 2:
+    if report_format != 1:
         shown["guard_modes"] = [LETTERS[mode] for _, mode in edge.guards]
         shown["held_mode"], shown["wanted_mode"] = LETTERS[edge.held_mode], LETTERS[edge.wanted_mode]
     return shown
@@ -410,10 +424,25 @@ def check_table(trace, claimed):
             raise Fault("Table", at)
 
 
-def check_cycles(trace, order, report, position_of):
-    """Each cycle is one of the mode and length, and they ascend."""
+def told_signature(classes, positions):
+    """The classes of these edges, told from where round the cycle they read least."""
+    least = told = [classes[position] for position in positions]
+    for _ in positions:
+        told = told[1:] + told[:1]
+        least = min(least, told)
+    return least
+
+
+def classes_of(trace):
+    """For each edge the first one that has the same pair of places."""
+    firsts = {}
+    return [firsts.setdefault(trace.samples[edge][1:], at) for at, edge in enumerate(trace.edges)]
+
+
+def check_cycles(trace, order, report, position_of, told_by=lambda positions: positions):
+    """Each cycle is one of the mode and length, and they ascend by what each is told by."""
     before = None
-    for at, cycle in enumerate(report["cycles"]):
+    for at, cycle in enumerate(report[listed_as(report)]):
         positions = []
         for k, shown in enumerate(cycle):
             positions.append(position_of(shown))
@@ -423,9 +452,10 @@ def check_cycles(trace, order, report, position_of):
         found = verdict(report["mode"], report["len"], order, edges)
         if found is not None:
             raise Fault("Verdict", at, found)
-        if before is not None and not before < positions:
+        told = told_by(positions)
+        if before is not None and not before < told:
             raise Fault("Order", at)
-        before = positions
+        before = told
 
 
 def check_trim(trace, order, mode, removed):
@@ -450,7 +480,7 @@ def check_trim(trace, order, mode, removed):
 
 
 def check(text, trace_text):
-    """How many cycles are listed, and whether there is none of any length; or a Fault."""
+    """How many cycles or findings are listed, whether there is no cycle of any length, and which of both are listed; or a Fault."""
     trace = Trace(trace_text)
     report = read_json(text)
     if not has_shape(report):
@@ -461,7 +491,12 @@ def check(text, trace_text):
         check_cycles(trace, order, report, lambda position: position)
         if report["trim"] is not None:
             check_trim(trace, order, report["mode"], report["trim"])
-        return len(report["cycles"]), report["trim"] is not None
+        return len(report["cycles"]), report["trim"] is not None, "cycles"
+    if report["format"] == 3:
+        check_table(trace, report["edges"])
+        classes = classes_of(trace)
+        check_cycles(trace, order, report, lambda position: position, lambda cycle: told_signature(classes, cycle))
+        return len(report["findings"]), False, "findings"
     # An edge of format 1 says nothing of modes: it stands for one whose modes are all exclusive.
     known = {
         json.dumps(printed(trace, edge, 1), sort_keys=True): at
@@ -469,17 +504,17 @@ def check(text, trace_text):
         if is_exclusive(edge)
     }
     check_cycles(trace, order, report, lambda shown: known.get(json.dumps(shown, sort_keys=True)))
-    return len(report["cycles"]), False
+    return len(report["cycles"]), False, "cycles"
 
 
 def answer(text):
     """Standard output, standard error and status for an input: a report's line and a trace."""
     report, _, trace = text.partition(b"\n")
     try:
-        cycles, is_acyclic = check(report, trace)
+        count, is_acyclic, word = check(report, trace)
     except Fault as fault:
         return b"", fault.line(), 2
-    return f"ok, cycles: {cycles}{', none of any length' if is_acyclic else ''}\n".encode(), b"", 0
+    return f"ok, {word}: {count}{', none of any length' if is_acyclic else ''}\n".encode(), b"", 0
 
 
 def main():

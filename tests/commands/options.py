@@ -62,13 +62,15 @@ def threads_of_sessions(program):
     program.expect("predict starts no thread for sixteen edges", program.counts("predict", trace)[0] == 0)
     for recorders in (1, 2, 5, 16):
         for shards in (1, 3, 16):
-            words = f"live --recorders {recorders} --shards {shards}"
-            got = program.counts(words, trace)[0]
-            program.expect(f"{words}: {recorders + shards} threads, not {got}", got == recorders + shards)
+            for listed in ("", " --findings"):
+                words = f"live{listed} --recorders {recorders} --shards {shards}"
+                got = program.counts(words, trace)[0]
+                program.expect(f"{words}: {recorders + shards} threads, not {got}", got == recorders + shards)
     for shards in (1, 3, 16):
-        words = f"live --stream --shards {shards}"
-        got = program.counts(words, trace)[0]
-        program.expect(f"{words}: {1 + shards} threads, not {got}", got == 1 + shards)
+        for listed in ("", " --findings"):
+            words = f"live --stream{listed} --shards {shards}"
+            got = program.counts(words, trace)[0]
+            program.expect(f"{words}: {1 + shards} threads, not {got}", got == 1 + shards)
     program.expect("live: 4 recorders and 4 shards", program.counts("live", trace)[0] == 8)
 
 
@@ -79,7 +81,7 @@ def room_of(program, words, few, many, trace=trace_of(2)):
 
 def rings_of_sessions(program):
     """Each lane has room for as many notes as the ring has, each feed for as many edges, and no more than twice that."""
-    for form in ("live", "live --stream --threads 2"):
+    for form in ("live", "live --findings", "live --stream --threads 2", "live --stream --findings --threads 2"):
         for few, many in ((1, 1024), (1024, 65536)):
             got = room_of(program, form + " --shards 1 --ring {}", few, many)
             least = (many - few) * (2 * NOTE + EDGE)

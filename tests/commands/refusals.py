@@ -3,7 +3,8 @@
 
     refusals.py [--commands LIST] PROGRAM
 
-LIST has commands with commas between them ("predict, predict --json"); the table below knows some more. The answer
+LIST has commands with commas between them ("predict, predict --json"); the table below knows some more, and `check of findings`
+is `check` of a report of findings. The answer
 must be the one of an undisturbed run, which is written by hand, or what the disturbance asks for. A preload
 library, which gcc builds in a temporary folder, does the refusing (tests/commands/refuse.c). As many commands and traces as
 there are processors are tried side by side. The last line is `N passed, N failed`.
@@ -85,6 +86,13 @@ CHECKS = {
     "join_loop": LOOP,
     "bad line": BAD_LINE,
 }
+FINDING_CHECKS = {
+    "opposite_order": (b"ok, findings: 1\n", b"", 0),
+    "joined_before": (b"ok, findings: 0\n", b"", 0),
+    "first_of_two_cycles": (b"ok, findings: 2\n", b"", 0),
+    "join_loop": LOOP,
+    "bad line": BAD_LINE,
+}
 # These traces stand thread by thread already.
 LISTS = {name: (text, b"", 0) for name, text in TRACES.items()} | {"bad line": BAD_LINE}
 
@@ -99,18 +107,28 @@ ANSWERS = {
     "live --json": OBJECTS,
     "live --stream": TEXTS,
     "live --stream --json": OBJECTS,
+    "live --findings": FINDINGS,
+    "live --findings --json": FINDING_OBJECTS,
+    "live --stream --findings": FINDINGS,
+    "live --stream --findings --json": FINDING_OBJECTS,
     "check": CHECKS,
+    "check of findings": FINDING_CHECKS,
 }
+# What `check` reads before the trace; where there is no report, one of no edges.
+REPORTS = {"check": (OBJECTS, worked_traces.NONE_JSON),
+           "check of findings": (FINDING_OBJECTS, worked_traces.findings_json([], []))}  # fmt: skip
 
 # Words that are answered without any input, and the status; what they print is theirs. By the command that knows them.
 USAGE = {
     "predict": {"--help": 0, "--version": 0, "predict --help": 0, "": 2, "predict --len 17": 2, "predict --mode Full": 2},
     "predict --findings": {
         "predict --findings=yes": 2, "predict --findings --findings": 2, "predict --findings --max 0": 2,
-        "predict --findings --stream": 2, "stats --findings": 2, "live --findings": 2, "replay --findings": 2,
+        "predict --findings --stream": 2, "stats --findings": 2, "replay --findings": 2, "check --findings": 2,
     },
     "stats": {"stats --json": 2},
     "live": {"live --help": 0, "live --ring 0": 2, "live --ring 65537": 2, "live --shards 0": 2, "live --recorders 17": 2},
+    "live --findings": {"live --findings=yes": 2, "live --findings --findings": 2, "live --findings --max 0": 2},
+    "live --stream --findings": {"live --stream --findings --findings": 2, "live --stream --findings --threads 0": 2},
     "live --stream": {
         "live --stream --threads 0": 2, "live --threads 1025": 2, "live --stream=yes": 2, "live --stream --stream": 2,
         "predict --stream": 2, "predict --threads 2": 2,
@@ -126,7 +144,7 @@ SHARDS = 4  # unless --shards is given
 def swept(words, name):
     """The words to which memory and threads are refused. A session's are close; with its own 64 lanes, each of which
     takes memory, a stream is tried once."""
-    close = CLOSE.get(words.removesuffix(" --json"))
+    close = CLOSE.get(words.removesuffix(" --json").removesuffix(" --findings"))
     if close is None:
         return [words]
     return [f"{words} {close}", *[words] * (name == "opposite_order" and words in CLOSE)]
@@ -134,10 +152,15 @@ def swept(words, name):
 
 def text_of(words, name):
     """What the command reads for the trace of this name."""
-    if words != "check":
+    if words not in REPORTS:
         return TRACES[name]
-    report = worked_traces.in_format(OBJECTS[name])[0] or worked_traces.in_format(worked_traces.NONE_JSON)[0]
-    return report + TRACES[name]
+    by_name, of_nothing = REPORTS[words]
+    return (worked_traces.in_format(by_name[name])[0] or worked_traces.in_format(of_nothing)[0]) + TRACES[name]
+
+
+def given(words):
+    """The words that the program gets."""
+    return words.removesuffix(" of findings").split()
 
 
 # --- Disturbed runs -------------------------------------------------------------------------------------
@@ -163,7 +186,7 @@ class Runner:
             settings["REFUSE_SHORT"] = "1"
         try:
             done = subprocess.run(
-                [self.program, *words.split()], input=text, capture_output=True, timeout=20,
+                [self.program, *given(words)], input=text, capture_output=True, timeout=20,
                 env=os.environ | settings, pass_fds=[writing],
             )  # fmt: skip
             answer = done.stdout, done.stderr, done.returncode
@@ -243,7 +266,7 @@ class Tests:
             count = 0
             for number, run in self.runner.sweep(words, text, "read", how, is_short):
                 read = text[: number - 1] if is_short else text if number > 1 else b""
-                is_told = ample == BAD_LINE and read.count(b"\n") >= (3 if words == "check" else 2)
+                is_told = ample == BAD_LINE and read.count(b"\n") >= (3 if words in REPORTS else 2)
                 right = ample if is_told else READ_FAILED
                 self.check(f"{words}, {name}, read {how}{' short' * is_short} call {number}", [right], run)
                 is_input = set(run.refused) == {"0"}
@@ -300,7 +323,7 @@ class Tests:
         def run(command='exec "$@"', **streams):
             """A shell runs the program, to close its descriptors."""
             streams = {"stdin": subprocess.PIPE, "stdout": subprocess.PIPE, "stderr": subprocess.PIPE} | streams
-            child = subprocess.Popen(["sh", "-c", command, "sh", self.runner.program, *words.split()], **streams)
+            child = subprocess.Popen(["sh", "-c", command, "sh", self.runner.program, *given(words)], **streams)
             out, err = child.communicate(text if streams["stdin"] == subprocess.PIPE else None, timeout=20)
             return Run((out or b"", err or b"", child.returncode), "")
 

@@ -3,8 +3,8 @@
 
     sessions.py [--cases N] [--seed S] [--jobs N] [--only K] PROGRAM
 
-Each session has a random trace, rings of 1 to 256 events, 1 to 16 recorders and 1 to 16 shards. Half of them are
-with `--stream`; some of these get their trace piece by piece, or a limit of threads. The bytes on standard output and
+Each session has a random trace, rings of 1 to 256 events, 1 to 16 recorders and 1 to 16 shards; some list findings. Half of them
+are with `--stream`; some of these get their trace piece by piece, or a limit of threads. The bytes on standard output and
 standard error and the status are predict's, and on short traces the reference's; the reference's alone where the limit
 may be less than the trace's threads. --jobs (4) sessions run at once, so that threads are often stopped in mid-course;
 every eighth session runs on one core. Before them come streams whose input stays open: what is done meanwhile is seen
@@ -36,6 +36,7 @@ def words_of(random_, is_short):
     """A query, a session's options, and whether these let a trace have few threads alone."""
     query = ["--mode", random_.choice(["basic", "guarded", "full"]), "--len", random_.choice([2, 3, 4, 16])]
     query += ["--max", random_.choice([1, 3, 1000]), *["--json"] * (random_.random() < 0.3)]
+    query += ["--findings"] * (random_.random() < 0.4)
     ring = random_.choice([1, 1, 2, 3, random_.randint(1, 256), 256])
     session = ["--recorders", random_.randint(1, 16), "--shards", random_.randint(1, 16), "--ring", ring]
     is_limited = False
@@ -138,6 +139,11 @@ LONG = worked_traces.lines(*worked_traces.OPPOSITE[:4]) * 3000 + OPPOSITE
 REFUSED = {
     "a bad line": (
         [],
+        worked_traces.lines(*worked_traces.OPPOSITE[:2]) + b"T0|rel(a|3\n",
+        worked_traces.refused(3, "bad operand"),
+    ),
+    "a bad line, findings": (
+        ["--findings"],
         worked_traces.lines(*worked_traces.OPPOSITE[:2]) + b"T0|rel(a|3\n",
         worked_traces.refused(3, "bad operand"),
     ),

@@ -5,8 +5,8 @@
 
 Standard output, standard error and exit status must be equal byte for byte. Further arguments go to the
 program. `--mode`, `--len` and `--max` tell the reference another query than the stage's. `--commands`, as
-"predict, predict --json, predict --findings, stats, replay, live, live --stream", also runs the program with these words and without
-the further arguments: on the worked traces of each, and on each random one with one of them, with options of its
+"predict, predict --json, predict --findings, stats, replay, live, live --stream, live --findings", also runs the program with these
+words and without the further arguments: on the worked traces of each, and on each random one with one of them, with options of its
 own. A difference is shrunk by leaving out lines and written into a file; `--only K` runs case K of the seed
 alone. The last line is `N passed, N failed`, with one for each answer.
 """

@@ -7,8 +7,8 @@ cached or searched cleverly, so it is for small traces only.
     reference.py [predict|live|stats|replay] [--stage first|full] [--mode M] [--len L] [--max N] [--findings] [--json]
         [--format 1|2] [--skip-forks] < trace.std
 
-The command is predict unless it is given; `--findings` is for predict, and lists findings in place of cycles; `--json` is
-for predict and live, and `--format` says which form of JSON (2; findings have a form of their own, 3).
+The command is predict unless it is given; `--findings` and `--json` are for predict and live: findings are listed in place of
+cycles, and `--format` says which form of JSON (2; findings have a form of their own, 3).
 Stage `first` is mode basic, length 2, and forks and joins are skipped like any other operation; stage `full` (the
 default) is mode full, length 4. Both list at most 1,000 cycles.
 """
@@ -335,6 +335,14 @@ def findings_of(samples, cycles):
     return [cycle for _, cycle in sorted(firsts)]
 
 
+def counts_of(samples, edge):
+    """Of all edges that were made at this one's pair of places: how many threads made them, and how many locks they hold
+    or want."""
+    alike = [other for other in samples if samples[other][1:] == samples[edge][1:]]
+    locks = [other.held for other in alike] + [other.wanted for other in alike]
+    return len({other.thread for other in alike}), len(set(locks))
+
+
 # --- Trimming ---------------------------------------------------------------------------------------
 
 
@@ -396,6 +404,8 @@ def as_text(trace, report, query):
             _, held_location, wanted_location = report.edges[edge]
             names = (threads[edge.thread], locks[edge.held], held_location, locks[edge.wanted], wanted_location)
             text += b"  %s holds %s since %s wants %s at %s\n" % names
+            if query.findings:
+                text += b"    threads: %d, locks: %d\n" % counts_of(report.edges, edge)
     more = b" (more)" if report.more else b""
     return text + b"%ss: %d%s\n" % (word, len(report.cycles), more)
 
@@ -521,7 +531,7 @@ def main():
         options.length or stage.length,
         options.most or stage.most,
         stage.with_forks and not options.skip_forks,
-        findings=options.findings and options.command == "predict",
+        findings=options.findings and options.command in ("predict", "live"),
     )
     output, errors, status = answer(
         options.command, sys.stdin.buffer.read(), query, options.format if options.json else None

@@ -5,7 +5,7 @@
 
 Each output is that of `goodlock predict`, unless the text before it names other words, as `goodlock stats`, `--findings` or
 `--len 5`. The program gets these words; further arguments in place of `predict`. `goodlock check` reads the sample's report
-as JSON before the sample, and tests/checker/check.py answers too. The last line is `N passed, N failed`, with one for each answer
+as JSON before the sample, of findings where `--findings` is named, and tests/checker/check.py answers too. The last line is `N passed, N failed`, with one for each answer
 that was compared.
 """
 
@@ -48,7 +48,9 @@ def main():
             words = [*command, *(word for option in options for word in option.split())]
             read = text
             if command == ["check"]:
-                read = compare.by_reference(["predict", "--json"], text)[0] + text
+                words = command
+                asked = ["predict", "--json", *(word for word in options if word == "--findings")]
+                read = compare.by_reference(asked, text)[0] + text
                 answers = [("checker", check.answer(read))]
             else:
                 answers = [("reference", compare.by_reference(words, text))]

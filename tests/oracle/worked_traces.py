@@ -26,8 +26,8 @@ MANY_OPPOSITE = [
 ]
 
 
-def cycle(number, *edges, word="cycle"):
-    text = f"{word} {number}: {len(edges)} edges\n"
+def cycle(number, *edges):
+    text = f"cycle {number}: {len(edges)} edges\n"
     for edge in edges:
         text += "  {} holds {} since {} wants {} at {}\n".format(*edge.split(" "))
     return text.encode()
@@ -44,9 +44,17 @@ def two_edges(*cycles):
 
 
 def findings(*shown, more=""):
-    """The answer that lists these findings, each with the edges of the cycle that shows it."""
-    text = b"".join(cycle(number, *edges, word="finding") for number, edges in enumerate(shown, 1))
-    return text + f"findings: {len(shown)}{more}\n".encode(), b"", 1 if shown else 0
+    """The answer that lists these findings, each with the edges of the cycle that shows it. Behind an edge stand how many
+    threads and how many locks its pair of places has; where nothing does, one thread and two locks."""
+    text = ""
+    for number, edges in enumerate(shown, 1):
+        text += f"finding {number}: {len(edges)} edges\n"
+        for edge_ in edges:
+            thread, held, held_at, wanted, wanted_at, *counted = edge_.split(" ")
+            threads, locks = counted or ("1", "2")
+            text += f"  {thread} holds {held} since {held_at} wants {wanted} at {wanted_at}\n"
+            text += f"    threads: {threads}, locks: {locks}\n"
+    return f"{text}findings: {len(shown)}{more}\n".encode(), b"", 1 if shown else 0
 
 
 def worked_of_lock_modes():
@@ -381,17 +389,18 @@ TWO_FAULTS_EDGES = [
     edge("U0", "b", "E", "a", "F", 1), edge("U0", "d", "G", "c", "H", 5),
     edge("U1", "b", "E", "a", "F", 1), edge("U1", "d", "G", "c", "H", 5),
 ]  # fmt: skip
-FIRST_FAULT, SECOND_FAULT = ("T0 a A b B", "U0 b E a F"), ("T0 c C d D", "U0 d G c H")
+FIRST_FAULT, SECOND_FAULT = ("T0 a A b B 2 2", "U0 b E a F 2 2"), ("T0 c C d D 2 2", "U0 d G c H 2 2")
 
 
 def worked_of_findings():
     """Name, command, text, answer by hand."""
     one = findings(("T0 a 1 b 2", "T1 b 5 a 6"))
     philosophers = sections(*[f"P{i} s{i} L s{(i + 1) % 5} R" for i in range(5)])
-    ring_of_five = findings(tuple(f"P{i} s{i} L s{(i + 1) % 5} R" for i in range(5)))
+    ring_of_five = findings(tuple(f"P{i} s{i} L s{(i + 1) % 5} R 5 5" for i in range(5)))
     # The classes are 1, 2, 3 and, by T0's edge, 0; the cycles' signatures 1 3 and 2 0, which is told as 0 2.
     crossed = ("T1 a U b V", "T1 c P d Q", "T2 b W a X", "T2 d R c S")
     first, second = ("T1 a U b V", "T2 b W a X"), ("T1 c P d Q", "T2 d R c S")
+    second_with_another = ("T1 c P d Q", "T2 d R c S 2 4")
     # T0's and T1's sections are below a gate, T2's isn't.
     gated = lines("T0 acq g @G", "T0 acq a @P", "T0 acq b @Q", "T1 acq g @G", "T1 acq b @R", "T1 acq a @S")
     gated += sections("T2 a P b Q")
@@ -403,13 +412,16 @@ def worked_of_findings():
     other_turn = sections("T6 g A h A2", "T7 h C i C2", "T8 i B g B2")
     unclosed = lines("T0 acq a @1") + b"T0|rel(a|2\n" + lines("T0 acq b @3")
     loop = lines("T0 join T1 @1", "T1 join T0 @2")
+    in_two_pieces = findings(("T0 a P b Q 3 2", "U0 b R a S 3 2"))
+    by_one_place = ("T0 a P b Q 4 3", "T3 b P a Q 4 3"), ("T0 a P b Q 4 3", "T1 b P c Q 4 3", "T2 c P a Q 4 3")
+    turned, other_turned = ("T0 a A b A2", "T1 b B c B2", "T2 c C a C2"), ("T6 g A h A2", "T7 h C i C2", "T8 i B g B2")
     listed = "predict --findings"
     return [
         ("empty_input", listed, b"", findings()),
         ("opposite_order", listed, lines(*OPPOSITE), one),
         ("one thread alone", listed, sections("T0 a 1 b 2", "T0 b 3 a 4"), findings()),
-        ("many threads in two pieces of code", listed, TWO_PIECES, findings(("T0 a P b Q", "U0 b R a S"))),
-        ("many threads, one of them listed", f"{listed} --max 1", TWO_PIECES, findings(("T0 a P b Q", "U0 b R a S"))),
+        ("many threads in two pieces of code", listed, TWO_PIECES, in_two_pieces),
+        ("many threads, one of them listed", f"{listed} --max 1", TWO_PIECES, in_two_pieces),
         ("two faults", listed, TWO_FAULTS, findings(FIRST_FAULT, SECOND_FAULT)),
         ("two faults, both listed", f"{listed} --max 2", TWO_FAULTS, findings(FIRST_FAULT, SECOND_FAULT)),
         ("two faults, more", f"{listed} --max 1", TWO_FAULTS, findings(FIRST_FAULT, more=" (more)")),
@@ -429,7 +441,8 @@ def worked_of_findings():
         ("both places changed round", listed, sections("T0 a P b Q", "T1 a Q b P", "T2 b R a S"),
          findings(("T0 a P b Q", "T2 b R a S"), ("T1 a Q b P", "T2 b R a S"))),
         ("places without a name", listed, sections("T0 a  b ", "T1 b  a ", "T2 a  b "),
-         (b"finding 1: 2 edges\n  T0 holds a since  wants b at \n  T1 holds b since  wants a at \nfindings: 1\n", b"", 1)),
+         (b"finding 1: 2 edges\n  T0 holds a since  wants b at \n    threads: 3, locks: 2\n"
+          b"  T1 holds b since  wants a at \n    threads: 3, locks: 2\nfindings: 1\n", b"", 1)),
         # Rings that one place makes: the signatures 0 0, 0 0 0 and so on.
         ("a ring by one place", f"{listed} --len 5", philosophers, ring_of_five),
         ("a ring by one place, too long", listed, philosophers, findings()),
@@ -437,13 +450,13 @@ def worked_of_findings():
             "a front before what goes on from it",
             listed,
             sections("T0 a P b Q", "T1 b P c Q", "T2 c P a Q", "T3 b P a Q"),
-            findings(("T0 a P b Q", "T3 b P a Q"), ("T0 a P b Q", "T1 b P c Q", "T2 c P a Q")),
+            findings(*by_one_place),
         ),
         (
             "a front, of which alone there is more",
             f"{listed} --max 1",
             sections("T0 a P b Q", "T1 b P c Q", "T2 c P a Q", "T3 b P a Q"),
-            findings(("T0 a P b Q", "T3 b P a Q"), more=" (more)"),
+            findings(by_one_place[0], more=" (more)"),
         ),
         (
             "a longer one before a shorter one",
@@ -454,33 +467,46 @@ def worked_of_findings():
         ("a pair within another pair's classes", listed, sections("T0 a A b B", "T0 c C d D", "T1 d G c H", "T2 b E a F"),
          findings(("T0 a A b B", "T2 b E a F"), ("T0 c C d D", "T1 d G c H"))),
         # A signature is told from where it is least, though the cycle begins at its least thread.
-        ("told from elsewhere", listed, sections("T0 x R y S", *crossed), findings(second, first)),
+        ("told from elsewhere", listed, sections("T0 x R y S", *crossed),
+         findings(second_with_another, first)),
         ("told from elsewhere, more", f"{listed} --max 1", sections("T0 x R y S", *crossed),
-         findings(second, more=" (more)")),
+         findings(second_with_another, more=" (more)")),
         ("without the edge that gives the class", listed, sections(*crossed), findings(first, second)),
         ("a pair told from the other place", listed, sections("T0 a P b Q", "T1 b R a S", "T2 c R d S", "T3 d P c Q"),
-         findings(("T0 a P b Q", "T1 b R a S"))),
-        ("a ring told from another place", listed, turns, findings(("T0 a A b A2", "T1 b B c B2", "T2 c C a C2"))),
+         findings(("T0 a P b Q 2 4", "T1 b R a S 2 4"))),
+        ("a ring told from another place", listed, turns,
+         findings(tuple(f"{edge_} 2 4" for edge_ in turned))),
         (
             "a ring the other way round",
             listed,
             turns + other_turn,
-            findings(("T0 a A b A2", "T1 b B c B2", "T2 c C a C2"), ("T6 g A h A2", "T7 h C i C2", "T8 i B g B2")),
+            findings(*[tuple(f"{edge_} 3 6" for edge_ in ring) for ring in (turned, other_turned)]),
         ),
         ("rings of up to two", f"{listed} --len 2", turns + other_turn, findings()),
         # Which cycles there are is the mode's to say, and so which one shows a finding.
-        ("a gate lock", listed, gated, findings(("T1 b R a S", "T2 a P b Q"))),
-        ("a gate lock, guarded", f"{listed} --mode guarded", gated, findings(("T1 b R a S", "T2 a P b Q"))),
-        ("a gate lock, basic", f"{listed} --mode basic", gated, findings(("T0 a P b Q", "T1 b R a S"))),
+        ("a gate lock", listed, gated, findings(("T1 b R a S", "T2 a P b Q 2 2"))),
+        ("a gate lock, guarded", f"{listed} --mode guarded", gated, findings(("T1 b R a S", "T2 a P b Q 2 2"))),
+        ("a gate lock, basic", f"{listed} --mode basic", gated, findings(("T0 a P b Q 2 2", "T1 b R a S"))),
         ("gate_lock", listed, lines(*GATE), findings()),
-        ("fork order", listed, forked, findings(("M a P b Q", "U b R a S"))),
-        ("fork order, guarded", f"{listed} --mode guarded", forked, findings(("M a P b Q", "T b R a S"))),
+        ("fork order", listed, forked, findings(("M a P b Q", "U b R a S 2 2"))),
+        ("fork order, guarded", f"{listed} --mode guarded", forked, findings(("M a P b Q", "T b R a S 2 2"))),
         ("joined_before", listed, lines("M fork T0 @1", "M join T0 @2", "M fork T1 @3", *OPPOSITE), findings()),
         # An edge that is made at several places is of the first one's class.
         ("an edge made again elsewhere", listed, sections("T0 a P b Q", "T0 a V b W", "T1 b R a S"),
          findings(("T0 a P b Q", "T1 b R a S"))),
         ("an edge of another thread elsewhere", listed, sections("T0 a P b Q", "T0 a V b W", "T1 b R a S", "T2 a V b W"),
          findings(("T0 a P b Q", "T1 b R a S"), ("T1 b R a S", "T2 a V b W"))),
+        # What is counted are all edges of a pair of places, in cycles or not; a lock once, held or wanted, and no guard.
+        ("one thread, many locks", listed, sections("T0 a P b Q", "T0 c P d Q", "T0 e P b Q", "T1 b R a S"),
+         findings(("T0 a P b Q 1 5", "T1 b R a S"))),
+        ("many threads, one lock in common", listed, sections(*[f"T{i} a P b{i} Q" for i in range(4)], "U b0 R a S"),
+         findings(("T0 a P b0 Q 4 5", "U b0 R a S"))),
+        ("one lock, held by some and wanted by others", listed, sections("T0 a P b Q", "T1 c P a Q", "T2 b R a S"),
+         findings(("T0 a P b Q 2 3", "T2 b R a S"))),
+        ("other modes at the same places", listed, sections("T0 a P b Q", "T1 b R a S")
+         + lines("T2 racq c @P", "T2 racq d @Q"), findings(("T0 a P b Q 2 4", "T1 b R a S"))),
+        ("an edge made again elsewhere, counted once", listed,
+         sections("T0 a P b Q", "T2 c V d W", "T2 c P d Q", "T1 b R a S"), findings(("T0 a P b Q", "T1 b R a S"))),
         ("readers", listed, lines("T0 racq a @P", "T0 acq b @Q", "T1 acq b @R", "T1 racq a @S"), findings()),
         ("an unclosed operand", listed, unclosed, refused(2, "bad operand")),
         ("join_loop", listed, loop, (b"", b"goodlock: inconsistent: T0.1 precedes itself\n", 2)),
@@ -493,6 +519,23 @@ def worked_of_findings():
          findings_json(TWO_FAULTS_EDGES, [[0, 4]], 1, "true")),
         ("an unclosed operand", f"{listed} --json", unclosed, refused(2, "bad operand")),
     ]  # fmt: skip
+
+
+def worked_of_live_findings():
+    """The same of both forms of live: what they list is what predict lists."""
+    shown = worked_of_findings()
+    for form in ("live", "live --stream"):
+        yield from ((name, words.replace("predict", form, 1), text, by_hand) for name, words, text, by_hand in shown)
+    two = findings(FIRST_FAULT, SECOND_FAULT)
+    one = findings(FIRST_FAULT, more=" (more)")
+    yield "two faults", "live --findings --recorders 2 --shards 3 --ring 1", TWO_FAULTS, two
+    yield "two faults, more", "live --findings --recorders 1 --max 1 --shards 16", TWO_FAULTS, one
+    yield "threads of no stream", "live --findings --threads 1", TWO_FAULTS, two
+    yield "two faults", "live --stream --findings --shards 3 --ring 1 --threads 4", TWO_FAULTS, two
+    yield "two faults, more", "live --stream --findings --max 1 --threads 1024", TWO_FAULTS, one
+    yield "one_thread_too_few", "live --stream --findings --threads 1", lines(*OPPOSITE), refused(5, "too many threads")
+    bad = TWO_FAULTS + b"T0|acq|7"
+    yield "findings before a bad line", "live --stream --findings", bad, refused(33, "bad operand")
 
 
 def worked_of_commands():
@@ -574,4 +617,5 @@ def worked_of_commands():
         ("an unclosed operand", "replay", unclosed, refused(2, "bad operand")),
         ("fork_join_fork", "replay", fork_loop, (fork_loop, b"", 0)),
         *worked_of_findings(),
+        *worked_of_live_findings(),
     ]

@@ -22,7 +22,7 @@ _goodlock() {
     fi
     case ${COMP_WORDS[1]} in
         predict) _goodlock_words "$query --json --findings" ;;
-        live) _goodlock_words "$query --json --recorders --shards --ring --stream --threads" ;;
+        live) _goodlock_words "$query --json --findings --recorders --shards --ring --stream --threads" ;;
         stats) _goodlock_words "$query" ;;
         replay | check) _goodlock_words "--help" ;;
     esac

@@ -12,7 +12,7 @@ complete -c goodlock -n '__fish_seen_subcommand_from predict live stats' -x -l m
 complete -c goodlock -n '__fish_seen_subcommand_from predict live stats' -x -l len -d 'The most edges of a cycle'
 complete -c goodlock -n '__fish_seen_subcommand_from predict live stats' -x -l max -d 'The most cycles that are listed'
 complete -c goodlock -n '__fish_seen_subcommand_from predict live' -l json -d 'The report as JSON'
-complete -c goodlock -n '__fish_seen_subcommand_from predict' -l findings -d 'Each finding once'
+complete -c goodlock -n '__fish_seen_subcommand_from predict live' -l findings -d 'Each finding once'
 complete -c goodlock -n '__fish_seen_subcommand_from live' -x -l recorders -d 'Threads that record'
 complete -c goodlock -n '__fish_seen_subcommand_from live' -x -l shards -d 'Workers that keep edges'
 complete -c goodlock -n '__fish_seen_subcommand_from live' -x -l ring -d 'Notes that a lane holds'
