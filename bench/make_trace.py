@@ -54,28 +54,33 @@ KNOTS = {
     # A few threads that run all pieces again in each segment, but are fewer than the pieces.
     "few-threads": dict(threads=3, sections=4, segments=100),
 }
-# After recorded servers: a few pieces of code, run on many locks.
+# After recorded servers: a few pieces of code, run on many locks. The locks are those of a trace as long as the recorded cache
+# server's; one of another length has more or fewer of them, so that about as many edges come to each event and each lock.
+RECORDED = 445_000
 SERVERS = {
-    # A cache: workers hold the lock of an item and take that of a class, of a slab or of the statistics inside; a maintainer
-    # goes the other way round, all under a lock of its own.
-    "item-locks": dict(threads=10, locks=380, sections=45, classes=9, events_a_section=200, tried=0.0),
+    # A cache: workers hold the lock of an item and take inside what its size and the statistics need; a maintainer and a
+    # crawler, each under a lock of its own, go from the queues of a size to the items.
+    "item-locks": dict(threads=10, locks=378, sections=15, events_a_section=250, tried=0.0),
     # The same with the maintainer's own lock held for thousands of events in one piece; it only tries the items.
-    "long-sections": dict(threads=10, locks=380, sections=45, classes=9, events_a_section=4_000, tried=1.0),
-    # A thread for each connection, forked and joined as they come and go, and a table of locks, taken in any order with
-    # tries for most of those that aren't the first.
-    "connections": dict(threads=1_000, locks=2_000, sections=12, tried=0.75),
-    # Many threads run one of two pieces of code, on all locks: millions of cycles of one mistake.
-    "shared-code": dict(threads=1_000, locks=50),
+    "long-sections": dict(threads=10, locks=378, sections=15, events_a_section=4_000, tried=1.0),
+    # A thread for each connection, forked and joined as they come and go, which holds a lock of its own as long as it is
+    # there and takes locks of a table inside, in any order.
+    "connections": dict(threads=1_000, locks=1_000, sections=12, segments=9),
+    # Threads that take locks of one table, in any order and up to four at a time, most of the later ones by tries.
+    "lock-table": dict(threads=16, locks=1_480, sections=12, tried=0.8),
 }
+# Many threads run one of two pieces of code, on all locks: millions of cycles of one mistake.
+FINDINGS = {"shared-code": dict(threads=1_000, locks=50)}
 NAMES = {"colliding-names": dict(locks=100_000), "ordinary-names": dict(locks=100_000)}
 GENERAL = dict(
     threads=8, locks=16, depth=2, sections=20, disorder=0.1, is_ring=False, locations=500, name_length=0,
     waves=0, rejoins=0, others=0.3, strays=0.0005, shared=0,
-    segments=1, gates=1, classes=1, events_a_section=0, tried=0.0,
+    segments=1, gates=1, events_a_section=0, tried=0.0,
 )  # fmt: skip
 
 PACKAGE = "org.example.server.storage.internal.cache.partition.segment.writer."
 FILES = ["Pool", "Cache", "Session", "Queue", "Router", "Index", "Journal", "Worker"]
+AGES = ["hot", "warm", "cold"]
 OTHERS = ["r({})", "w({})", "begin", "end", "notify({})"]
 
 
@@ -240,103 +245,157 @@ def few_threads(options):
 
 
 class Server:
-    """The threads of a server: calls are lines of one thread, whose places are those of its pieces of code."""
+    """The threads of a server: a piece is lines of one thread that no other thread comes between, and leaves held at
+    most what no other thread takes. Its places are those of the code that it runs."""
 
     def __init__(self, options):
         self.random = random.Random(options.seed)
         self.options = options
         self.items = [f"0x55d0{1040 * i:08x}" for i in range(options.locks)]
-        self.classes = [f"class[{i}].lock" for i in range(options.sections)]
-        self.slabs = [f"slab[{i}].lock" for i in range(options.sections // 3)]
+        self.parts = max(1, round(options.events / RECORDED))  # of a cache, each with items and sizes of its own
+        sizes = range(options.sections * self.parts)
+        self.queues = {age: [f"{age}[{i}].lock" for i in sizes] for age in AGES}
+        self.stored = {age: [[] for _ in sizes] for age in AGES}  # the items of each queue
 
-    def later(self):
-        """The word for a lock that isn't the first of its piece."""
-        return "tacq" if self.random.random() < self.options.tried else "acq"
-
-    def inside(self, thread, file, *locks, word="acq", body=()):
-        """The thread takes the first lock by `acq` and each further one by the word, does what stands in the body, and
-        releases them innermost first."""
+    def inside(self, thread, file, *locks, body=(), tried=0.0):
+        """The thread takes these locks one inside the other, does what stands in the body, and releases them innermost
+        first. Of all but the first lock this share is tried."""
         for place, lock in enumerate(locks, 100):
-            yield f"{thread}|{'acq' if place == 100 else word}({lock})|{file}.c:{place}"
+            is_tried = place > 100 and self.random.random() < tried
+            yield f"{thread}|{'tryacq' if is_tried else 'acq'}({lock})|{file}.c:{place}"
         yield from body
-        for place, lock in reversed([*enumerate(locks, 100)]):
-            yield f"{thread}|rel({lock})|{file}.c:{place + 100}"
+        for place, lock in reversed([*enumerate(locks, 200)]):
+            yield f"{thread}|rel({lock})|{file}.c:{place}"
 
     def item(self):
-        """An item, with one of the few classes and one of the few slabs that it has in its life."""
-        number = self.random.randrange(len(self.items))
-        of_class, of_slab = ((number * 7 + self.random.randrange(most)) for most in (self.options.classes, 2))
-        return self.items[number], self.classes[of_class % len(self.classes)], self.slabs[of_slab % len(self.slabs)]
+        """An item, and two of the sizes that it has in its life. Each size is four fifths as likely as the one before it."""
+        number, last = self.random.randrange(len(self.items)), self.options.sections - 1
+        first = number % self.parts * self.options.sections
+        sizes = [first + min(int(self.random.expovariate(0.22)), last) for _ in range(2)]
+        return self.items[number], *sizes
+
+    def store(self, thread):
+        """An item is stored: the queue of what it was before, that of new items, and three counters are needed inside."""
+        item, old, new = self.item()
+        before = self.queues[self.random.choice(["hot", "hot", "warm", *["cold"] * 5])][old]
+        self.stored["hot"][new].append(item)
+        files = ["state", "unlink", "free", "link", "hash"]
+        needed = ["state_lock", before, "stats_lock", self.queues["hot"][new], "hash_lock"]
+        body = [line for file, lock in zip(files, needed) for line in self.inside(thread, file, lock)]
+        yield from self.inside(thread, "store", item, body=body)
 
     def request(self, thread):
-        """A worker's request: its own statistics, then an item with what its class, its slab and the statistics need."""
-        draw = self.random
-        item, its_class, its_slab = self.item()
-        yield from self.inside(thread, "thread", f"{thread}.stats")
-        work = draw.random()
-        if work < 0.35:
-            yield from self.inside(thread, "get", item)
-        elif work < 0.7:
-            inner = [
-                self.inside(thread, "unlink", its_class),
-                self.inside(thread, "free", its_slab),
-                self.inside(thread, "stats", "stats_lock"),
-            ]
-            yield from self.inside(thread, "store", item, body=[line for lines in inner for line in lines])
-        elif work < 0.85:
-            yield from self.inside(thread, "slabs", item, "slabs_lock")
+        """A worker's request: its own statistics over and over, the item alone, and in half of the requests a store."""
+        own = f"{thread}.stats"
+        for file in ("read", "parse", "answer", "write"):
+            yield from self.inside(thread, file, own)
+        yield from self.inside(thread, "find", self.item()[0])
+        if self.random.random() < 0.45:
+            yield from self.inside(thread, "new", own)
+            yield from self.store(thread)
         else:
-            yield from self.inside(thread, "stats", "stats_lock")
+            counted = self.inside(thread, "count", own) if self.random.random() < 0.2 else ()
+            yield from self.inside(thread, "get", self.item()[0], body=counted)
+            yield from self.inside(thread, "sent", own)
 
-    def upkeep(self):
-        """A turn of the maintainer: a class, then one of its items, then the item's slab."""
-        item, its_class, its_slab = self.item()
-        inside = [its_class, item, its_slab][: self.random.choice([1, 2, 2, 2, 3])]
-        yield from self.inside("maintainer", "lru", *inside, word=self.later())
+    def queue(self):
+        """An age and a size, with an item of that queue; nothing where there is none."""
+        age = self.random.choice(["hot", *AGES])
+        size = self.random.randrange(len(self.stored[age]))
+        stored = self.stored[age][size]
+        return age, size, self.random.choice(stored) if stored else None
+
+    def moved(self):
+        """The maintainer looks at a queue, and takes one of its items, which may move to the queue of another age."""
+        thread, (age, size, item) = "maintainer", self.queue()
+        queue, is_taken = self.queues[age][size], item is not None and self.random.random() < 0.65
+        yield from self.inside(thread, "look", queue)
+        lines = [*self.inside(thread, "move", queue, *[item] * is_taken, tried=self.options.tried)]
+        if not is_taken or self.random.random() >= 0.21:
+            yield from lines
+            return
+        take_queue, take_item, leave_item, leave_queue = lines
+        after = self.random.choice([later for later in ("warm", "cold") if later != age])
+        self.stored[after][size].append(item)
+        link = self.inside(thread, "link", self.queues[after][size])
+        yield from [take_queue, take_item, leave_queue, *link, leave_item]
+
+    def rebalanced(self):
+        """The maintainer takes an item, and inside the queues that it may be in."""
+        item, size, _ = self.item()
+        body = [line for age in ("hot", "warm") for line in self.inside("maintainer", age, self.queues[age][size])]
+        return self.inside("maintainer", "slabs", "rebalance_lock", item, body=body, tried=self.options.tried)
+
+    def crawled(self):
+        """The crawler takes, under its own two locks, an item of a queue, and inside the counters of all."""
+        age, size, item = self.queue()
+        if item is not None:
+            body = [*self.inside("crawler", "expire", "hash_lock"), *self.inside("crawler", "unlink", "stats_lock")]
+            body = self.inside("crawler", "crawl", self.queues[age][size], item, body=body, tried=self.options.tried)
+            yield from self.inside("crawler", "crawler", "crawler_lock", "crawler_stats", body=body)
+
+    def started(self, thread, *held):
+        """The crawler is started: all queues one by one under its lock, those of sizes that no item has too."""
+        queues = [f"{age}[{i}].lock" for age in AGES for i in range(17 * len(self.queues[age]) // 3)]
+        body = [line for lock in queues for line in self.inside(thread, "start", lock)]
+        yield from self.inside(thread, "crawler", *held, "crawler_lock", body=body)
+
+    def turn(self, length):
+        """The pieces of a section of the maintainer, of about so many events, and some of the crawler's among them."""
+        yield ["maintainer|acq(lru_maintainer_lock)|lru.c:50"]
+        while length > 0:
+            work = self.random.choices([self.moved, self.rebalanced, self.crawled], [190, 6, 3])[0]
+            piece = [*work()]
+            length -= len(piece)
+            yield piece
+        yield ["maintainer|rel(lru_maintainer_lock)|lru.c:80"]
 
     def cache(self):
-        """Requests of the workers and turns of the maintainer, whose own lock is held for a section of so many events."""
-        workers = [f"worker{i}" for i in range(self.options.threads - 1)]
+        """Requests of the workers, and among them sections of the maintainer."""
+        workers = [f"worker{i}" for i in range(self.options.threads - 2)]
         length = max(12, self.options.events_a_section)
-        left = self.options.events
+        first = [*self.started(workers[0]), *self.started("maintainer", "lru_maintainer_lock")]
+        left = self.options.events - len(first)
+        yield from first
         while left > 0:
-            turns = [line for _ in range(length // 5) for line in self.upkeep()]
-            own = [*self.inside("maintainer", "crawl", "lru_maintainer_lock", body=turns)]
-            requests = [self.request(self.random.choice(workers)) for _ in range(length // 5)]
-            share = len(own) // (len(requests) + 1) + 1
-            for at, request in enumerate(requests):
-                lines = [*own[at * share : (at + 1) * share], *request]
-                left -= len(lines)
-                yield from lines
-            left -= len(own[len(requests) * share :])
-            yield from own[len(requests) * share :]
+            requests = [[*self.request(self.random.choice(workers))] for _ in range(length // 16 + 1)]
+            pieces = [*self.turn(length)]
+            places = sorted(self.random.randrange(1, len(pieces)) for _ in requests)
+            for place, request in zip(reversed(places), requests):
+                pieces.insert(place, request)
+            for piece in pieces:
+                left -= len(piece)
+                yield from piece
 
-    def call(self, thread):
-        """A connection's call: a piece of code that takes up to three locks of the table, in any order."""
-        draw = self.random
-        piece = draw.randrange(self.options.sections)
-        locks = draw.sample(self.items, 1 + draw.choice([0, 0, 1, 1, 2]))
-        yield from self.inside(thread, f"piece{piece}", *locks, word=self.later())
+    def call(self, *further):
+        """A piece of code, and the locks of the table that it takes, in any order: one, and as many further ones as a draw
+        of these tells."""
+        locks = self.random.sample(self.items, min(len(self.items), 1 + self.random.choice(further)))
+        return f"piece{self.random.randrange(self.options.sections)}", *locks
 
     def connections(self):
-        """Connections of which at most 32 are there at once."""
+        """Connections of which at most 32 are there at once. Each has calls of its own, which it makes over and over."""
         names = [f"connection{i}" for i in range(self.options.threads - 1)]
-        length = max(1, self.options.events // len(names) // 4)
+        rounds = self.options.segments
+        calls = max(1, round(self.options.events / len(names) / rounds / 3.6))
         for at in range(0, len(names), 32):
-            there = names[at : at + 32]
+            there = {name: [self.call(0, 0, 1, 1, 2) for _ in range(calls)] for name in names[at : at + 32]}
             yield from (f"main|fork({name})|accept.c:50" for name in there)
-            for _ in range(length):
-                for name in there:
-                    yield from self.call(name)
+            yield from (f"{name}|acq({name}.lock)|serve.c:60" for name in there)
+            for number in [*range(calls)] * rounds:
+                for name, its_calls in there.items():
+                    yield from self.inside(name, *its_calls[number], tried=self.options.tried)
+            yield from (f"{name}|rel({name}.lock)|serve.c:70" for name in there)
             yield from (f"main|join({name})|accept.c:80" for name in there)
 
-
-def cache_server(options):
-    return Server(options).cache()
-
-
-def connections(options):
-    return Server(options).connections()
+    def table(self):
+        """Calls of threads that are there all the time."""
+        left = self.options.events
+        while left > 0:
+            thread = f"worker{self.random.randrange(self.options.threads)}"
+            lines = [*self.inside(thread, *self.call(0, 1, 1, 2, 3), tried=self.options.tried)]
+            left -= len(lines)
+            yield from lines
 
 
 def shared_code(options):
@@ -375,9 +434,10 @@ MADE_BY = {
     "alternating-gates": alternating_gates,
     "early-and-late": early_and_late,
     "few-threads": few_threads,
-    "item-locks": cache_server,
-    "long-sections": cache_server,
-    "connections": connections,
+    "item-locks": lambda options: Server(options).cache(),
+    "long-sections": lambda options: Server(options).cache(),
+    "connections": lambda options: Server(options).connections(),
+    "lock-table": lambda options: Server(options).table(),
     "shared-code": shared_code,
     "colliding-names": colliding_names,
     "ordinary-names": ordinary_names,
@@ -401,22 +461,22 @@ def main():
     parser.add_argument("--strays", type=float, help="share of blocks that release what isn't held")
     parser.add_argument("--waves", type=int, help="groups of threads, forked and joined one after the other")
     parser.add_argument("--rejoins", type=int, help="further joins of threads that have ended")
-    parser.add_argument("--segments", type=int, help="of a knot: how often a thread runs its piece")
+    parser.add_argument("--segments", type=int, help="how often a knot's thread runs its piece, a connection its calls")
     parser.add_argument("--gates", type=int, help="of a knot: gate locks, fewer than its pieces of code")
-    parser.add_argument("--classes", type=int, help="of a server: how many classes an item has in its life")
-    parser.add_argument("--events-a-section", type=int, help="of a server: how long its maintainer's own lock is held")
-    parser.add_argument("--tried", type=float, help="of a server: share of its later locks that are tried")
+    parser.add_argument("--events-a-section", type=int, help="of a cache: how long its maintainer's own lock is held")
+    parser.add_argument("--tried", type=float, help="of a server: share of the locks inside another that are tried")
     parser.add_argument("--crlf", action="store_true", help="lines end with CR LF")
     options = parser.parse_args()
-    for name, value in {**GENERAL, **{**SHAPES, **KNOTS, **SERVERS, **NAMES}[options.shape]}.items():
+    for name, value in {**GENERAL, **{**SHAPES, **KNOTS, **SERVERS, **FINDINGS, **NAMES}[options.shape]}.items():
         if getattr(options, name, None) is None:
-            setattr(options, name, value)
+            grows = name == "locks" and options.shape in SERVERS
+            setattr(options, name, max(4, round(value * options.events / RECORDED)) if grows else value)
     for name, least, most in [
-        ("events", 0, 10**9), ("threads", 2 if options.waves else 1, 1_024), ("locks", 1, 10**8), ("depth", 1, 64),
+        ("events", 0, 10**9), ("threads", 3 if options.shape in SERVERS else 2 if options.waves else 1, 1_024), ("locks", 1, 10**8), ("depth", 1, 64),
         ("sections", 1, 10**8), ("disorder", 0, 1), ("name_length", 0, 30_000), ("locations", 1, 10**8),
         ("others", 0, 0.95), ("strays", 0, 1), ("waves", 0, 1_023), ("rejoins", 0, 10**8),
         ("shared", 0, 1), ("segments", 1, 10**6), ("gates", 1, 60), ("events_a_section", 0, 10**6),
-        ("classes", 1, 10**6), ("tried", 0, 1),
+        ("tried", 0, 1),
     ]:  # fmt: skip
         if not least <= getattr(options, name) <= most:
             parser.error(f"--{name.replace('_', '-')} is from {least} to {most}")

@@ -17,7 +17,7 @@ here=$(cd "$(dirname "$0")" && pwd)
 top=$(dirname "$here")
 folder=${BENCH_DIR:-/tmp/goodlock-bench}
 events=${EVENTS:-1000000}
-shapes=${SHAPES-few-locks many-locks long-names deep-nesting many-cycles none readers forks item-locks long-sections connections}
+shapes=${SHAPES-few-locks many-locks long-names deep-nesting many-cycles none readers forks item-locks long-sections connections lock-table}
 files=${FILES-$(echo "$here"/traces/*.std.xz)}
 runs=${RUNS:-3}
 case ${STAGE:-full} in

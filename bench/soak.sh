@@ -7,6 +7,7 @@
 # without a file, once for each command.
 # EVENTS    about how many lines it has                     (10000000)
 # SHAPE     its shape, and further options of make_trace.py (many-locks)
+# QUERY     what each of them is asked, as "--findings"     (none)
 # OPTIONS   further words for live, as "--shards 8"         (none)
 #
 # A row for each command has the status, seconds of the clock (the making of the trace among them) and of the processor (the
@@ -72,10 +73,11 @@ fi
 echo "${SHAPE:-many-locks}: $(tr '\n' ' ' <"$work/stats.out")"
 printf '%-15s %6s %8s %10s %9s\n' command status clock processor memory
 {
-    row predict predict
-    # shellcheck disable=SC2086  # the options are words
-    row live live ${OPTIONS:-}
+    # shellcheck disable=SC2086  # the query and the options are words
+    row predict predict ${QUERY:-}
     # shellcheck disable=SC2086
-    row live-stream live --stream --threads 1024 ${OPTIONS:-}
+    row live live ${QUERY:-} ${OPTIONS:-}
+    # shellcheck disable=SC2086
+    row live-stream live --stream --threads 1024 ${QUERY:-} ${OPTIONS:-}
 } | tee "$work/rows"
 ! grep -q DIFFERS "$work/rows"

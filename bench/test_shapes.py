@@ -1,0 +1,202 @@
+"""The shapes that are made after recorded servers, and what describe.py tells of traces.
+
+    tests/by_pytest.py bench
+
+PROGRAM is goodlock's (the carried one): its `stats` says whether a trace is lawful, and counts it once more.
+"""
+
+import functools
+import os
+import pathlib
+import subprocess
+import sys
+
+import pytest
+
+BENCH = pathlib.Path(__file__).resolve().parent
+sys.path.insert(0, str(BENCH))
+
+import describe  # noqa: E402
+import make_trace  # noqa: E402
+
+PROGRAM = os.environ.get("PROGRAM", BENCH.parent / "prebuilt" / "goodlock")
+SERVER = BENCH / "traces" / "cache-server.std.xz"
+SHAPES = sorted(make_trace.SERVERS)
+SAMPLES = sorted({*(BENCH.parent / "samples").glob("*.std")} - {BENCH.parent / "samples" / "bad_line.std"})  # refused
+COUNTS = ("events", "threads", "locks", "segments", "edges")
+
+# T0 holds a and b when it tries c, which it holds too when it wants d. T1 asks for the same again, for which there is no
+# further edge, and then again in a new segment. The last two releases are stray, and T2 is no thread of the trace.
+BY_HAND = """\
+T0|acq(a)|p1
+T0|acq(b)|p2
+T0|tryacq(c)|p3
+T0|w(x)|p99
+T0|acq(d)|p4
+T0|rel(d)|p5
+T0|rel(c)|p5
+T0|rel(b)|p5
+T0|rel(a)|p5
+T1|racq(b)|p6
+T1|acq(a)|p7
+T1|rel(a)|p5
+T1|acq(a)|p8
+T1|rel(a)|p5
+T1|rrel(b)|p5
+T1|fork(T3)|p9
+T1|racq(b)|p6
+T1|acq(a)|p7
+T1|rel(a)|p5
+T1|rrel(b)|p5
+T2|rel(a)|p98
+T0|rel(a)|p97
+"""
+
+
+def made(shape, events, *options):
+    command = [sys.executable, BENCH / "make_trace.py", "--shape", shape, "--events", str(events), *options]
+    return subprocess.run(command, capture_output=True, text=True, check=True).stdout
+
+
+@functools.lru_cache(maxsize=None)
+def trace_of(shape, events=make_trace.RECORDED):
+    return made(shape, events)
+
+
+@functools.lru_cache(maxsize=None)
+def figures_of(shape, events=make_trace.RECORDED):
+    return figures_in(trace_of(shape, events))
+
+
+def figures_in(text):
+    return describe.Trace(text.splitlines()).figures()
+
+
+@pytest.fixture(scope="module")
+def recorded():
+    return describe.described(str(SERVER))
+
+
+def stats_of(text):
+    """What stats counts, by name; status 1 tells of cycles, and a greater one that the trace was refused."""
+    done = subprocess.run([PROGRAM, "stats"], input=text, capture_output=True, text=True)
+    assert done.returncode in (0, 1), done.stderr
+    return {name: int(count) for name, count in (line.split(": ") for line in done.stdout.splitlines())}
+
+
+def is_near(figure, other):
+    """Whether the figure is within a quarter of the other one."""
+    return 0.75 * other <= figure <= 1.25 * other
+
+
+def test_figures_by_hand():
+    figures = figures_in(BY_HAND)
+    assert [figures[name] for name in COUNTS] == [19, 3, 4, 4, 6]
+    assert figures["edges of an event"] == pytest.approx(6 / 19)
+    # a to b, a to d, b to d, c to d by T0; b to a twice by T1
+    assert figures["wanted of one held"] == pytest.approx((5 / 3, 2, 2))
+    assert figures["held of one wanted"] == pytest.approx((5 / 3, 3, 3))
+    # T0's a to b is followed by T1's two; each of those by T0's two that hold a
+    assert figures["followers of an edge"] == pytest.approx((1, 2, 2))
+    assert figures["guards of an edge"] == pytest.approx((12 / 6, 3, 3))
+    # d for 1 event, c for 3, b for 5, a for 7; b for 5, a inside for 1 twice; b for 3, a inside for 1
+    assert figures["held for, its thread's events"] == pytest.approx((27 / 9, 7, 7))
+    assert figures["tries of an acquire"] == pytest.approx(1 / 9)
+    assert figures["classes"] == 5
+
+
+def test_held_for_counts_what_others_do():
+    figures = figures_in("T0|acq(a)|1\nT1|acq(b)|1\nT1|rel(b)|1\nT0|rel(a)|1\n")
+    assert figures["held for, its thread's events"] == (1, 1, 1)
+    assert figures["held for, all events"] == (2, 3, 3)
+
+
+def test_a_lock_that_is_taken_again_is_held_until_it_is_free():
+    figures = figures_in("T0|acq(a)|1\nT0|acq(b)|1\nT0|acq(a)|1\nT0|rel(a)|1\nT0|acq(c)|1\nT0|rel(a)|1\n")
+    assert figures["edges"] == 3
+    assert figures["held for, all events"] == (5, 5, 5)
+
+
+def test_an_empty_trace_has_no_edges():
+    figures = figures_in("")
+    assert figures["edges of an event"] == 0 and figures["guards of an edge"] == (0, 0, 0)
+
+
+@pytest.mark.parametrize("path", SAMPLES, ids=lambda path: path.name)
+def test_counts_of_samples_are_those_of_stats(path):
+    counted = stats_of(path.read_text(encoding="latin-1"))
+    figures = describe.described(str(path))
+    assert [figures[name] for name in COUNTS] == [counted[name] for name in COUNTS]
+
+
+@pytest.mark.parametrize("shape", SHAPES)
+def test_shape_is_lawful(shape):
+    counted = stats_of(trace_of(shape))
+    assert counted["skipped"] == counted["stray"] == 0
+    assert is_near(counted["events"], make_trace.RECORDED)
+    assert [figures_of(shape)[name] for name in COUNTS] == [counted[name] for name in COUNTS]
+
+
+@pytest.mark.parametrize("shape", SHAPES)
+def test_each_lock_has_one_holder(shape):
+    holders = {}
+    for line in trace_of(shape).splitlines():
+        thread, call, _ = line.split("|")
+        word, _, lock = call.rstrip(")").partition("(")
+        if word in ("acq", "tryacq"):
+            assert lock not in holders, line
+            holders[lock] = thread
+        elif word == "rel":
+            assert holders.pop(lock) == thread, line
+    assert holders == {}
+
+
+@pytest.mark.parametrize("shape", SHAPES)
+def test_same_seed_same_trace(shape):
+    assert (
+        made(shape, 20_000, "--seed", "5") == made(shape, 20_000, "--seed", "5") != made(shape, 20_000, "--seed", "6")
+    )
+
+
+@pytest.mark.parametrize("shape", SHAPES)
+def test_edges_and_guards_are_those_of_the_recorded_server(recorded, shape):
+    figures = figures_of(shape)
+    assert is_near(figures["edges of an event"], recorded["edges of an event"])
+    assert is_near(figures["guards of an edge"][0], recorded["guards of an edge"][0])
+
+
+@pytest.mark.parametrize("name", ["wanted of one held", "held of one wanted", "followers of an edge"])
+def test_item_locks_have_the_degrees_of_the_recorded_server(recorded, name):
+    mean, nine_in_ten, most = figures_of("item-locks")[name]
+    assert is_near(mean, recorded[name][0])
+    assert is_near(nine_in_ten, recorded[name][1])
+    assert is_near(most, recorded[name][2])
+
+
+@pytest.mark.parametrize("shape", SHAPES)
+def test_edges_grow_with_events(shape):
+    figures, doubled = figures_of(shape), figures_of(shape, 2 * make_trace.RECORDED)
+    assert is_near(doubled["events"], 2 * figures["events"])
+    assert is_near(doubled["edges"], 2 * figures["edges"])
+
+
+def test_what_the_names_say():
+    items, sections, connections, table = (
+        figures_of(shape) for shape in ("item-locks", "long-sections", "connections", "lock-table")
+    )
+    assert items["tries of an acquire"] == connections["tries of an acquire"] == 0
+    assert items["held for, its thread's events"][2] < 1_000
+    assert sections["held for, its thread's events"][2] > 3_000
+    assert connections["threads"] == 1_000
+    assert connections["held for, all events"][2] > 10_000
+    assert table["tries of an acquire"] > 0.4
+
+
+def test_tries_are_asked_for_by_their_share():
+    tried = figures_in(made("item-locks", 20_000, "--tried", "1"))
+    assert tried["tries of an acquire"] > 0 == figures_of("item-locks")["tries of an acquire"]
+
+
+@pytest.mark.parametrize("shape", SHAPES)
+def test_few_locks_and_threads_are_enough(shape):
+    assert stats_of(made(shape, 2_000, "--locks", "1", "--threads", "3"))["stray"] == 0
