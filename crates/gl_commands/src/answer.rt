@@ -17,7 +17,7 @@ use crate::ended::{Ended, Outcome};
 use crate::refusal_lines::{fault_line, inconsistent_line};
 use gl_cycles::Report;
 use gl_edges::edges_of;
-use gl_event::{Limits, MAX_EVENTS, MAX_NAMES, MAX_RING, MAX_THREADS, Memory};
+use gl_event::Memory;
 use gl_filters::Query;
 use gl_findings::{Listing, listing_by_parallel};
 use gl_options::Form;
@@ -41,16 +41,6 @@ pub(crate) struct Printed {
 struct Reported {
     trace: Trace,
     report: Report,
-}
-
-/// The greatest limits.
-pub(crate) fn greatest_limits() -> Limits
-    ensures { result ≡ greatest }
-{
-    match Limits::new(MAX_THREADS, MAX_RING, MAX_EVENTS, MAX_NAMES) {
-        Ok(limits) => limits,
-        Err(_) => unreachable!(),
-    }
 }
 
 /// The trace that was read, or the line that says its first fault.

@@ -9,11 +9,11 @@ ghost use Rattle.gl_commands.specs.Ending.{EndsEarlyAs};
 ghost use Rattle.gl_commands.specs.bodies.Opinions.{SaysAccepted, SaysRefused};
 ghost use Rattle.gl_commands.specs.bodies.Stops.{IfRefused, IsFaultIn};
 
-use crate::answer::{Printed, greatest_limits, trace_or_line};
+use crate::answer::{Printed, trace_or_line};
 use crate::ended::{Ended, Outcome};
 use crate::refusal_lines::inconsistent_line;
 use gl_check::{CheckFault, Checked, check, split_input};
-use gl_event::Memory;
+use gl_event::{Limits, Memory};
 use gl_std::{Names, Seed, Trace, ended_lines, read_seeded};
 use std::alloc::Global;
 
@@ -47,7 +47,7 @@ fn text_trace(alloc: Global, text: &[u8], seed: Seed) -> Result<Trace, Ended>
     ensures refused { IfErr result
         (λ ended. IfRefused ended (IsFaultIn (trace_of greatest text.now))) }
 {
-    let read = read_seeded(alloc, text, &greatest_limits(), seed);
+    let read = read_seeded(alloc, text, &Limits::greatest(), seed);
     trace_or_line(alloc, read)
 }
 

@@ -16,11 +16,12 @@ ghost use Rattle.gl_commands.specs.bodies.Halves.{EndsWith, HasHeardAll, HasWrit
 ghost use Rattle.gl_commands.specs.Performed.{HasPerformed};
 ghost use Rattle.gl_commands.specs.Sessions.{HasEndedSession};
 
-use crate::answer::{Printed, counted, greatest_limits, predicted, replayed, trace_or_line};
+use crate::answer::{Printed, counted, predicted, replayed, trace_or_line};
 use crate::checking::{checked, end_cut};
 use crate::ended::{Ended, Outcome};
 use crate::recorded::recorded;
 use crate::streamed::streamed;
+use gl_event::Limits;
 use gl_filters::Query;
 use gl_findings::Listing;
 use gl_io::{Sink, Source, WriteFault, read_whole, write_out};
@@ -67,7 +68,7 @@ fn hear<I: Source>(
         (HasEndedEarly greatest turns
         (used (I.remaining input.old) (I.remaining input.new) (I.failed input.new))) }
 {
-    let Ok(heard) = read_source(alloc, input, turns, &greatest_limits(), seed) else {
+    let Ok(heard) = read_source(alloc, input, turns, &Limits::greatest(), seed) else {
         return Err(Ended::Memory);
     };
     if heard.is_whole {

@@ -1,8 +1,12 @@
 //! Why a session gives no report.
-ghost use Rattle.std.specs.Prelude.{List};
+ghost use Rattle.std.specs.Prelude.{◌≡◌, ◌≢◌, List};
 ghost use Rattle.gl_event.specs.declared.events.Event.{Event};
 ghost use Rattle.gl_segments.specs.Orders.{IsFaultOf};
+ghost use Rattle.gl_segments.specs.declared.faults.OrderFault.TheVariants.{Memory as NoOrder};
+ghost use Rattle.gl_engine.specs.declared.faults.SettleFault.TheVariants.{Memory as NotSettled};
 ghost use Rattle.gl_live.specs.Faults.{IsLiveFault};
+ghost use Rattle.gl_live.specs.declared.faults.LiveFault.TheVariants.{Memory, Unconfirmed};
+ghost use Rattle.gl_shards.specs.declared.worker.ServeFault.TheVariants.{Cut, Memory as NotServed};
 
 use gl_engine::SettleFault;
 use gl_event::Segment;
@@ -33,7 +37,8 @@ pub enum StreamFault {
 
 /// Why there is no report where the segments have no order.
 pub fn unordered(fault: OrderFault) -> LiveFault
-    ensures { (lists : List (List Event)) → IsFaultOf lists fault → IsLiveFault lists result }
+    ensures fault { (lists : List (List Event)) → IsFaultOf lists fault → IsLiveFault lists result }
+    ensures memory { fault ≡ NoOrder → result ≡ Memory }
 {
     match fault {
         OrderFault::Inconsistent { at, ring } => LiveFault::Inconsistent { at, ring },
@@ -43,7 +48,9 @@ pub fn unordered(fault: OrderFault) -> LiveFault
 
 /// Why nothing was settled.
 pub fn unsettled(fault: SettleFault) -> LiveFault
-    ensures { (lists : List (List Event)) → IsLiveFault lists result }
+    ensures fault { (lists : List (List Event)) → IsLiveFault lists result }
+    ensures memory { fault ≡ NotSettled → result ≡ Memory }
+    ensures others { fault ≢ NotSettled → result ≡ Unconfirmed }
 {
     match fault {
         SettleFault::Memory => LiveFault::Memory,
@@ -53,7 +60,9 @@ pub fn unsettled(fault: SettleFault) -> LiveFault
 
 /// Why a worker has no table.
 pub fn unserved(fault: ServeFault) -> LiveFault
-    ensures { (lists : List (List Event)) → IsLiveFault lists result }
+    ensures fault { (lists : List (List Event)) → IsLiveFault lists result }
+    ensures memory { fault ≡ NotServed → result ≡ Memory }
+    ensures cut { fault ≡ Cut → result ≡ Unconfirmed }
 {
     match fault {
         ServeFault::Memory => LiveFault::Memory,
