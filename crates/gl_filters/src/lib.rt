@@ -5,6 +5,7 @@ mod gate_locks;
 mod laws;
 mod pairs;
 mod query;
+mod steps;
 mod verdict;
 
 pub use laws::{
@@ -12,4 +13,5 @@ pub use laws::{
 };
 pub use pairs::{compatible, compatible_at, goes_with, kinds_go_together, leads_on, waits_for};
 pub use query::{BadQuery, MAX_CYCLES, MAX_LEN, Mode, Query, limits_in_numbers};
+pub use steps::Stop;
 pub use verdict::{Verdict, judge};

@@ -1,8 +1,9 @@
 //! The search of signatures: they grow class by class.
-ghost use Rattle.std.specs.Prelude.{◌≡◌, ◌+◌, ◌-◌, ◌<◌, ◌≤◌, [], ◌∷◌, ◌++◌, ℕ, length, map, take, false, IfOk, OnOk, All};
+ghost use Rattle.std.specs.Prelude.{◌≡◌, ◌+◌, ◌-◌, ◌<◌, ◌≤◌, [], ◌∷◌, ◌++◌, ℕ, length, map, take, false, IfErr, IfOk, IfSome, OnOk, All};
 ghost use Rattle.gl_segments.specs.Clocks.{is_before};
+ghost use Rattle.gl_filters.specs.declared.steps.Stop.TheVariants.{Memory};
 ghost use Rattle.gl_findings.specs.Findings.{findings};
-ghost use Rattle.gl_findings.specs.bodies.Finding.{IsReady, finding_of, block_of, below_of, first_from};
+ghost use Rattle.gl_findings.specs.bodies.Finding.{IsReady, IsUnbound, finding_of, block_of, below_of, first_from};
 ghost use Rattle.gl_findings.specs.bodies.Told.{AreGrounds};
 
 use crate::grounds::Grounds;
@@ -11,10 +12,10 @@ use crate::shown::first_with;
 use crate::turns::{begins_least, longer};
 use gl_edges::{Edge, EdgeList, Sample};
 use gl_event::Memory;
-use gl_filters::{Mode, Query};
+use gl_filters::{Mode, Query, Stop};
 use gl_segments::Order;
 use gl_walks::{Ground, Purpose, Walker};
-use std::alloc::Global;
+use std::alloc::{AllocError, Global};
 
 /// What a search looks at, and when it has enough.
 #[derive(Drop)]
@@ -37,13 +38,14 @@ pub(crate) struct Finder<'a> {
 }
 
 impl<'a> Finder<'a> {
-    /// The search for the findings of a query, up to one more than are listed.
+    /// The search for the findings of a query, up to one more than are listed, which may be bound to steps.
     pub(crate) fn of(
         alloc: Global,
         edges: &'a EdgeList,
         order: &'a Order,
         query: &Query,
         grounds: &'a Grounds,
+        is_bound: bool,
     ) -> Result<Finder<'a>, Memory>
         requires { AreGrounds (is_before order.now) query.now.mode query.now.len edges.now
             grounds.now }
@@ -53,6 +55,7 @@ impl<'a> Finder<'a> {
         ensures mode { IfOk result (λ finder. finder.mode ≡ query.now.mode) }
         ensures len { IfOk result (λ finder. finder.len ≡ query.now.len) }
         ensures cap { IfOk result (λ finder. finder.cap ≡ query.now.max + 1) }
+        ensures unbound { IfOk result (λ finder. is_bound ≡ false → IsUnbound finder) }
     {
         let table = edges.entries();
         let mode = query.mode();
@@ -71,8 +74,8 @@ impl<'a> Finder<'a> {
             classes,
             flags: grounds.models.as_slice(),
         };
-        let cycles = Walker::of(alloc, among_kept, Purpose::Cycle)?;
-        let fronts = Walker::of(alloc, among_models, Purpose::Front)?;
+        let cycles = Walker::of(alloc, among_kept, Purpose::Cycle, is_bound)?;
+        let fronts = Walker::of(alloc, among_models, Purpose::Front, is_bound)?;
         Ok(Finder {
             table,
             order,
@@ -88,18 +91,46 @@ impl<'a> Finder<'a> {
 }
 
 impl Finder<'_> {
+    // The first findings, up to the cap. None where so many steps don't suffice.
+    pub(crate) fn findings_within(
+        &self,
+        alloc: Global,
+        steps: usize,
+    ) -> Result<Option<Vec<Vec<usize>>>, Memory>
+        requires ready { IsReady self.now }
+        ensures { IfOk result
+            (λ found. IfSome found
+            (λ shown. map (λ cycle. cycle.items) shown.items
+            ≡ take self.now.cap
+            (findings (is_before self.now.order.now) self.now.mode self.now.len
+            self.now.table.now))) }
+    {
+        let mut steps = steps;
+        let mut found = Vec::new(alloc);
+        match self.grow_on(alloc, &[], 0, &mut steps, &mut found) {
+            Ok(()) => Ok(Some(found)),
+            Err(Stop::Spent) => Ok(None),
+            Err(Stop::Memory) => Err(AllocError),
+        }
+    }
+
     // The first findings, up to the cap.
     pub(crate) fn first_findings(&self, alloc: Global) -> Result<Vec<Vec<usize>>, Memory>
         requires ready { IsReady self.now }
+        requires unbound { IsUnbound self.now }
         ensures { IfOk result
             (λ found. map (λ cycle. cycle.items) found.items
             ≡ take self.now.cap
             (findings (is_before self.now.order.now) self.now.mode self.now.len
             self.now.table.now)) }
     {
+        let mut steps = 0;
         let mut found = Vec::new(alloc);
-        self.grow_on(alloc, &[], 0, &mut found)?;
-        Ok(found)
+        match self.grow_on(alloc, &[], 0, &mut steps, &mut found) {
+            Ok(()) => Ok(found),
+            Err(Stop::Memory) => Err(AllocError),
+            Err(Stop::Spent) => unreachable!(),
+        }
     }
 
     // The findings whose signature begins with a class, up to the cap.
@@ -110,6 +141,7 @@ impl Finder<'_> {
     ) -> Result<Vec<Vec<usize>>, Memory>
         requires there { class < length self.now.table.now }
         requires ready { IsReady self.now }
+        requires unbound { IsUnbound self.now }
         ensures { IfOk result
             (λ found. map (λ cycle. cycle.items) found.items ≡ first_from self.now class) }
     {
@@ -127,6 +159,7 @@ impl Finder<'_> {
     ) -> Result<(), Memory>
         requires there { class < length self.now.table.now }
         requires ready { IsReady self.now }
+        requires unbound { IsUnbound self.now }
         requires room { length found.old.items ≤ self.now.cap }
         ensures { OnOk result
             (map (λ cycle. cycle.items) found.new.items
@@ -134,7 +167,12 @@ impl Finder<'_> {
             (map (λ cycle. cycle.items) found.old.items ++ block_of self.now (self.now.len - 1)
             (class ∷ []))) }
     {
-        self.grow_by(alloc, &[], class, found)
+        let mut steps = 0;
+        match self.grow_by(alloc, &[], class, &mut steps, found) {
+            Ok(()) => Ok(()),
+            Err(Stop::Memory) => Err(AllocError),
+            Err(Stop::Spent) => unreachable!(),
+        }
     }
 
     // Adds the findings whose signature begins with this one, up to the cap.
@@ -143,27 +181,29 @@ impl Finder<'_> {
         &self,
         alloc: Global,
         signature: &[usize],
+        steps: &mut usize,
         found: &mut Vec<Vec<usize>>,
-    ) -> Result<(), Memory>
+    ) -> Result<(), Stop>
         requires some { 0 < length signature.now }
         requires short { length signature.now ≤ self.now.len }
         requires within { All (λ class. class < length self.now.table.now) signature.now }
         requires ready { IsReady self.now }
         requires room { length found.old.items ≤ self.now.cap }
-        ensures { OnOk result
+        ensures grown { OnOk result
             (map (λ cycle. cycle.items) found.new.items
             ≡ take self.now.cap
             (map (λ cycle. cycle.items) found.old.items ++ block_of self.now
             (self.now.len - length signature.now) signature.now)) }
+        ensures stopped { IfErr result (λ stop. IsUnbound self.now → stop ≡ Memory) }
     {
         if found.len() >= self.cap {
             return Ok(());
         }
-        self.add_shown(alloc, signature, found)?;
+        self.add_shown(alloc, signature, steps, found)?;
         if signature.len() == self.len {
             return Ok(());
         }
-        self.grow_on(alloc, signature, signature[0], found)
+        self.grow_on(alloc, signature, signature[0], steps, found)
     }
 
     // Adds the findings whose signature goes on from this one, up to the cap. No signature that goes on
@@ -174,8 +214,9 @@ impl Finder<'_> {
         alloc: Global,
         signature: &[usize],
         from: usize,
+        steps: &mut usize,
         found: &mut Vec<Vec<usize>>,
-    ) -> Result<(), Memory>
+    ) -> Result<(), Stop>
         requires short { length signature.now < self.now.len }
         requires within { All (λ class. class < length self.now.table.now) signature.now }
         requires reached { from ≤ length self.now.table.now }
@@ -184,15 +225,16 @@ impl Finder<'_> {
             ≡ [] }
         requires ready { IsReady self.now }
         requires room { length found.old.items ≤ self.now.cap }
-        ensures { OnOk result
+        ensures grown { OnOk result
             (map (λ cycle. cycle.items) found.new.items
             ≡ take self.now.cap
             (map (λ cycle. cycle.items) found.old.items ++ below_of self.now
             (self.now.len - length signature.now - 1) signature.now (length self.now.table.now))) }
+        ensures stopped { IfErr result (λ stop. IsUnbound self.now → stop ≡ Memory) }
     {
         let mut next = self.next[from];
         while next < self.table.len() {
-            self.grow_by(alloc, signature, next, found)?;
+            self.grow_by(alloc, signature, next, steps, found)?;
             next = self.next[next + 1];
         }
         Ok(())
@@ -205,40 +247,43 @@ impl Finder<'_> {
         alloc: Global,
         signature: &[usize],
         class: usize,
+        steps: &mut usize,
         found: &mut Vec<Vec<usize>>,
-    ) -> Result<(), Memory>
+    ) -> Result<(), Stop>
         requires short { length signature.now < self.now.len }
         requires within { All (λ class. class < length self.now.table.now) signature.now }
         requires there { class < length self.now.table.now }
         requires ready { IsReady self.now }
         requires room { length found.old.items ≤ self.now.cap }
-        ensures { OnOk result
+        ensures grown { OnOk result
             (map (λ cycle. cycle.items) found.new.items
             ≡ take self.now.cap
             (map (λ cycle. cycle.items) found.old.items ++ block_of self.now
             (self.now.len - length signature.now - 1) (signature.now ++ class ∷ []))) }
+        ensures stopped { IfErr result (λ stop. IsUnbound self.now → stop ≡ Memory) }
     {
         let longer = longer(signature, class);
-        if !self.may_begin(alloc, longer.as_slice())? {
+        if !self.may_begin(alloc, longer.as_slice(), steps)? {
             return Ok(());
         }
-        self.grow(alloc, longer.as_slice(), found)
+        self.grow(alloc, longer.as_slice(), steps, found)
     }
 
     // Whether a signature of a cycle may begin so: no thread would have to run two classes alone, and models show
     // a walk.
-    fn may_begin(&self, alloc: Global, front: &[usize]) -> Result<bool, Memory>
+    fn may_begin(&self, alloc: Global, front: &[usize], steps: &mut usize) -> Result<bool, Stop>
         requires some { 0 < length front.now }
         requires short { length front.now ≤ self.now.len }
         requires ready { IsReady self.now }
-        ensures { IfOk result
+        ensures none { IfOk result
             (λ may. may ≡ false
             → (n : ℕ) → block_of self.now n front.now ≡ []) }
+        ensures stopped { IfErr result (λ stop. IsUnbound self.now → stop ≡ Memory) }
     {
         if is_run_twice(self.runners, front) {
             return Ok(false);
         }
-        let walk = self.fronts.first(alloc, front)?;
+        let walk = self.fronts.first(alloc, front, steps)?;
         Ok(walk.is_some())
     }
 
@@ -247,14 +292,16 @@ impl Finder<'_> {
         &self,
         alloc: Global,
         signature: &[usize],
+        steps: &mut usize,
         found: &mut Vec<Vec<usize>>,
-    ) -> Result<(), Memory>
+    ) -> Result<(), Stop>
         requires some { 0 < length signature.now }
         requires short { length signature.now ≤ self.now.len }
         requires ready { IsReady self.now }
-        ensures { OnOk result
+        ensures grown { OnOk result
             (map (λ cycle. cycle.items) found.new.items
             ≡ map (λ cycle. cycle.items) found.old.items ++ finding_of self.now signature.now) }
+        ensures stopped { IfErr result (λ stop. IsUnbound self.now → stop ≡ Memory) }
     {
         if signature.len() < 2 {
             return Ok(());
@@ -262,9 +309,19 @@ impl Finder<'_> {
         if !begins_least(signature) {
             return Ok(());
         }
-        if let Some(cycle) = first_with(alloc, &self.cycles, self.len, signature)? {
-            found.push(cycle)?;
+        if let Some(cycle) = first_with(alloc, &self.cycles, self.len, signature, steps)? {
+            keep(found, cycle)?;
         }
         Ok(())
     }
+}
+
+// Adds the cycle that shows a finding.
+fn keep(found: &mut Vec<Vec<usize>>, cycle: Vec<usize>) -> Result<(), Memory>
+    ensures { OnOk result
+        (map (λ cycle. cycle.items) found.new.items
+        ≡ map (λ cycle. cycle.items) found.old.items ++ cycle.items ∷ []) }
+{
+    found.push(cycle)?;
+    Ok(())
 }

@@ -3,7 +3,7 @@ ghost use Rattle.std.specs.Prelude.{◌≡◌, ◌-◌, ◌<◌, ◌≤◌, ◌+
 ghost use Rattle.std.specs.List.{flat_map, range_with_len};
 ghost use Rattle.gl_segments.specs.Clocks.{is_before};
 ghost use Rattle.gl_findings.specs.Findings.{findings};
-ghost use Rattle.gl_findings.specs.bodies.Finding.{IsReady, first_of_root};
+ghost use Rattle.gl_findings.specs.bodies.Finding.{IsReady, IsUnbound, first_of_root};
 
 use crate::finder::Finder;
 use crate::pieces::add_pieces;
@@ -26,6 +26,7 @@ fn findings_of_roots(
     to: usize,
 ) -> Result<Vec<Vec<Vec<usize>>>, Memory>
     requires ready { IsReady finder.now }
+    requires unbound { IsUnbound finder.now }
     requires there { All (λ class. class < length finder.now.table.now) roots.now }
     requires within { to ≤ length roots.now }
     ensures { IfOk result
@@ -36,7 +37,7 @@ fn findings_of_roots(
         .into_par_iter()
         .map(
             |i: usize| -> Result<Vec<Vec<usize>>, Memory>
-                requires { IsReady finder.now
+                requires { IsReady finder.now × IsUnbound finder.now
                     × All (λ class. class < length finder.now.table.now) roots.now
                     × (i < length roots.now) }
                 ensures { IfOk result
@@ -60,6 +61,7 @@ fn add_roots(
     found: &mut Vec<Vec<usize>>,
 ) -> Result<(), Memory>
     requires ready { IsReady finder.now }
+    requires unbound { IsUnbound finder.now }
     requires there { All (λ class. class < length finder.now.table.now) roots.now }
     requires up { from ≤ to }
     requires within { to ≤ length roots.now }
@@ -90,6 +92,7 @@ fn add_alone(
     found: &mut Vec<Vec<usize>>,
 ) -> Result<(), Memory>
     requires ready { IsReady finder.now }
+    requires unbound { IsUnbound finder.now }
     requires there { All (λ class. class < length finder.now.table.now) roots.now }
     requires up { from ≤ to }
     requires within { to ≤ length roots.now }
@@ -124,6 +127,7 @@ fn findings_by_roots(
     roots: &[usize],
 ) -> Result<Vec<Vec<usize>>, Memory>
     requires ready { IsReady finder.now }
+    requires unbound { IsUnbound finder.now }
     requires there { All (λ class. class < length finder.now.table.now) roots.now }
     ensures { IfOk result
         (λ found. map (λ cycle. cycle.items) found.items
@@ -150,7 +154,8 @@ pub(crate) fn first_findings(
     alloc: Global,
     finder: &Finder<'_>,
 ) -> Result<Vec<Vec<usize>>, Memory>
-    requires { IsReady finder.now }
+    requires ready { IsReady finder.now }
+    requires unbound { IsUnbound finder.now }
     ensures { IfOk result
         (λ found. map (λ cycle. cycle.items) found.items
         ≡ take finder.now.cap

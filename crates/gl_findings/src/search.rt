@@ -1,18 +1,23 @@
 //! The search for findings.
-ghost use Rattle.std.specs.Prelude.{◌≡◌, ◌↔◌, ◌<◌, ◌+◌, ℕ, List, length, map, take, IfOk, IsTrue};
+ghost use Rattle.std.specs.Prelude.{◌≡◌, ◌↔◌, ◌<◌, ◌+◌, ℕ, List, length, map, take, IfOk, IfSome, IsTrue};
 ghost use Rattle.gl_segments.specs.Clocks.{is_before};
 ghost use Rattle.gl_findings.specs.Findings.{findings};
 
 use crate::finder::Finder;
 use crate::grounds::Grounds;
 use crate::parallel::first_findings;
-use gl_cycles::{Cycles, Found, edges_sought, edges_sought_parallel};
+use gl_cycles::{Cycles, Found, edges_on_loops, edges_sought, edges_sought_parallel};
 use gl_edges::EdgeList;
 use gl_event::Memory;
 use gl_filters::Query;
 use gl_segments::Order;
 use std::alloc::Global;
 use std::thread::Threads;
+
+// How many steps the first search has for each edge, and how many at least.
+const STEPS_OF_EDGE: usize = 64;
+
+const STEPS: usize = 10_000;
 
 // The first of these findings, and whether there are more.
 fn listed(findings: Vec<Vec<usize>>, max: usize) -> Found
@@ -32,13 +37,50 @@ fn listed(findings: Vec<Vec<usize>>, max: usize) -> Found
     }
 }
 
+// The findings that are listed, where a search among the edges that lie on loops finds them in a few steps for
+// each edge. None where it doesn't.
+fn found_soon(
+    alloc: Global,
+    edges: &EdgeList,
+    order: &Order,
+    query: &Query,
+) -> Result<Option<Found>, Memory>
+    ensures cycles { IfOk result
+        (λ soon. IfSome soon
+        (λ found. found.cycles
+        ≡ take query.now.max
+        (findings (is_before order.now) query.now.mode query.now.len edges.now))) }
+    ensures more { IfOk result
+        (λ soon. IfSome soon
+        (λ found. IsTrue found.more ↔
+        (query.now.max < length
+        (findings (is_before order.now) query.now.mode query.now.len edges.now)))) }
+{
+    let kept = edges_on_loops(alloc, edges.entries())?;
+    let grounds = Grounds::of(alloc, edges, kept)?;
+    let finder = Finder::of(alloc, edges, order, query, &grounds, true)?;
+    let steps = edges
+        .entries()
+        .len()
+        .saturating_mul(STEPS_OF_EDGE)
+        .max(STEPS);
+    match finder.findings_within(alloc, steps)? {
+        Some(findings) => Ok(Some(listed(findings, query.max() as usize))),
+        None => Ok(None),
+    }
+}
+
 /// The first findings of a query over these edges, in the order of their signatures, each shown by the
 /// first of its cycles, and whether there are more.
 ///
 /// Signatures grow class by class, among classes of edges that may be in a cycle. Of edges that are alike
 /// but for their threads and segments one is the model; where there is no walk through models of these
-/// classes, or one thread alone runs two of them, no cycle's signature begins so, and it grows no further. For each signature that begins where it
-/// is to be told from the first cycle is looked for, told from each of its places on.
+/// classes, or one thread alone runs two of them, no cycle's signature begins so, and it grows no further. For
+/// each signature that begins where it is to be told from the first cycle is looked for, told from each of its
+/// places on.
+///
+/// A search among all edges that lie on loops comes first, with a few steps for each edge. Where these don't
+/// suffice, what can be seen to be in no cycle is left out, and the search begins once more.
 ///
 /// There may be as many signatures as classes to the power of the greatest length of a cycle. Threads that
 /// run the same code add none.
@@ -59,9 +101,12 @@ pub fn findings(
         (query.now.max < length
         (findings (is_before order.now) query.now.mode query.now.len edges.now))) }
 {
+    if let Some(found) = found_soon(alloc, edges, order, query)? {
+        return Ok(found);
+    }
     let kept = edges_sought(alloc, edges, order, query)?;
     let grounds = Grounds::of(alloc, edges, kept)?;
-    let finder = Finder::of(alloc, edges, order, query, &grounds)?;
+    let finder = Finder::of(alloc, edges, order, query, &grounds, false)?;
     let found = finder.first_findings(alloc)?;
     Ok(listed(found, query.max() as usize))
 }
@@ -85,9 +130,12 @@ pub fn findings_parallel(
         (query.now.max < length
         (findings (is_before order.now) query.now.mode query.now.len edges.now))) }
 {
+    if let Some(found) = found_soon(alloc, edges, order, query)? {
+        return Ok(found);
+    }
     let kept = edges_sought_parallel(rt, alloc, edges, order, query)?;
     let grounds = Grounds::of(alloc, edges, kept)?;
-    let finder = Finder::of(alloc, edges, order, query, &grounds)?;
+    let finder = Finder::of(alloc, edges, order, query, &grounds, false)?;
     let found = first_findings(rt, alloc, &finder)?;
     Ok(listed(found, query.max() as usize))
 }

@@ -1,8 +1,9 @@
 //! The cycle by which a finding is shown.
-ghost use Rattle.std.specs.Prelude.{◌≡◌, ◌<◌, ◌≤◌, [], ◌∷◌, length, IfOk, MatchOption};
+ghost use Rattle.std.specs.Prelude.{◌≡◌, ◌<◌, ◌≤◌, [], ◌∷◌, false, length, IfErr, IfOk, MatchOption};
 ghost use Rattle.std.specs.Option.{option_map};
 ghost use Rattle.gl_segments.specs.Clocks.{is_before};
 ghost use Rattle.gl_filters.specs.Picked.{edges_of_table};
+ghost use Rattle.gl_filters.specs.declared.steps.Stop.TheVariants.{Memory};
 ghost use Rattle.gl_cycles.specs.OffCycles.{KeepsCycles};
 ghost use Rattle.gl_walks.specs.declared.purpose.Purpose.TheVariants.{Cycle};
 ghost use Rattle.gl_walks.specs.declared.walker.TheConstants.{LONGEST};
@@ -10,7 +11,7 @@ ghost use Rattle.gl_findings.specs.Findings.{classes_of, first_with};
 ghost use Rattle.gl_findings.specs.bodies.Lesser.{lesser};
 
 use crate::turns::turned;
-use gl_event::Memory;
+use gl_filters::Stop;
 use gl_walks::Walker;
 use std::alloc::Global;
 
@@ -32,13 +33,15 @@ fn lesser(one: Option<Vec<usize>>, other: Option<Vec<usize>>) -> Option<Vec<usiz
     }
 }
 
-/// The first cycle of a signature, of at most so many edges.
+/// The first cycle of a signature, of at most so many edges. Spent where the walker is bound to the steps and
+/// they don't suffice.
 pub(crate) fn first_with(
     alloc: Global,
     walker: &Walker<'_>,
     len: usize,
     signature: &[usize],
-) -> Result<Option<Vec<usize>>, Memory>
+    steps: &mut usize,
+) -> Result<Option<Vec<usize>>, Stop>
     requires cycles { walker.now.purpose ≡ Cycle }
     requires classes { walker.now.ground.classes.now ≡ classes_of walker.now.ground.table.now }
     requires kept { KeepsCycles (is_before walker.now.ground.order.now) walker.now.ground.mode len
@@ -46,16 +49,17 @@ pub(crate) fn first_with(
     requires some { 0 < length signature.now }
     requires short { length signature.now ≤ len }
     requires fits { len ≤ LONGEST }
-    ensures { IfOk result
+    ensures found { IfOk result
         (λ found. MatchOption found
         (first_with (is_before walker.now.ground.order.now) walker.now.ground.mode len
         walker.now.ground.table.now signature.now ≡ [])
         (λ cycle. first_with (is_before walker.now.ground.order.now) walker.now.ground.mode len
         walker.now.ground.table.now signature.now ≡ cycle.items ∷ [])) }
+    ensures stopped { IfErr result (λ stop. walker.now.is_bound ≡ false → stop ≡ Memory) }
 {
     let mut first = None;
     for k in 0..signature.len() {
-        let walk = walker.first(alloc, turned(signature, k).as_slice())?;
+        let walk = walker.first(alloc, turned(signature, k).as_slice(), steps)?;
         first = lesser(first, walk);
     }
     Ok(first)

@@ -1,10 +1,11 @@
 //! The search: paths of edges that may stand in a walk, grown in order of their positions.
-ghost use Rattle.std.specs.Prelude.{◌≡◌, ◌+◌, ◌<◌, ◌≤◌, [], ◌∷◌, ◌++◌, ℕ, Some, List, length, slice_get, IfOk, MatchOption, All};
+ghost use Rattle.std.specs.Prelude.{◌≡◌, ◌+◌, ◌<◌, ◌≤◌, [], ◌∷◌, ◌++◌, false, ℕ, Some, List, length, slice_get, IfErr, IfOk, MatchOption, All};
 ghost use Rattle.std.specs.List.{list_all};
 ghost use Rattle.gl_segments.specs.Clocks.{is_before};
 ghost use Rattle.gl_edges.specs.declared.edge.Edge.{Edge};
 ghost use Rattle.gl_filters.specs.Picked.{edges_of_table, picked};
 ghost use Rattle.gl_filters.specs.Test.{leads_back};
+ghost use Rattle.gl_filters.specs.declared.steps.Stop.TheVariants.{Memory};
 ghost use Rattle.gl_walks.specs.declared.walker.TheConstants.{LONGEST};
 ghost use Rattle.gl_walks.specs.bodies.Listing.{Key, IsNext};
 ghost use Rattle.gl_walks.specs.bodies.Fronts.{goes_by, stays_above, may_follow, may_end, sought_by, IsFront, NoneFrom, IsLeastFrom, key_after, key_behind, IsIndexed};
@@ -16,7 +17,7 @@ use crate::walker::{Ground, LONGEST};
 use arrayvec::ArrayVec;
 use gl_edges::Edge;
 use gl_event::Memory;
-use gl_filters::{goes_with, kinds_go_together, leads_on};
+use gl_filters::{Stop, goes_with, kinds_go_together, leads_on};
 use std::alloc::Global;
 
 /// What is looked at.
@@ -24,6 +25,8 @@ use std::alloc::Global;
 pub(crate) struct Search<'a> {
     pub(crate) area: Ground<'a>,
     pub(crate) purpose: Purpose,
+    // whether it ends where its steps are taken
+    pub(crate) is_bound: bool,
     // the flagged edges by their classes
     by_class: Chain,
     // and by the locks that they hold too
@@ -37,17 +40,20 @@ impl<'a> Search<'a> {
         alloc: Global,
         area: Ground<'a>,
         purpose: Purpose,
+        is_bound: bool,
     ) -> Result<Search<'a>, Memory>
         requires classes { length area.classes.now ≡ length area.table.now }
         requires flags { length area.flags.now ≡ length area.table.now }
         ensures area { IfOk result (λ search. search.area ≡ area.entry) }
         ensures purpose { IfOk result (λ search. search.purpose ≡ purpose) }
+        ensures bound { IfOk result (λ search. search.is_bound ≡ is_bound) }
     {
         let by_class = area.chain(alloc, Keyed::ByClass)?;
         let by_lock = area.chain(alloc, Keyed::ByLock)?;
         Ok(Search {
             area,
             purpose,
+            is_bound,
             by_class,
             by_lock,
         })
@@ -180,20 +186,36 @@ impl Search<'_> {
         self.by_lock.after(i)
     }
 
-    /// The first walk for a pattern.
+    // Takes one of the steps. Spent where none is left and the search is bound to them.
+    fn take_step(&self, steps: &mut usize) -> Result<(), Stop>
+        ensures stopped { IfErr result (λ stop. self.now.is_bound ≡ false → stop ≡ Memory) }
+    {
+        if *steps > 0 {
+            *steps -= 1;
+            return Ok(());
+        }
+        if self.is_bound {
+            return Err(Stop::Spent);
+        }
+        Ok(())
+    }
+
+    /// The first walk for a pattern. Each edge that may come next takes a step.
     pub(crate) fn first(
         &self,
         alloc: Global,
         pattern: &[usize],
-    ) -> Result<Option<Vec<usize>>, Memory>
+        steps: &mut usize,
+    ) -> Result<Option<Vec<usize>>, Stop>
         requires { length pattern.now ≤ LONGEST }
-        ensures { IfOk result
+        ensures found { IfOk result
             (λ found. MatchOption found
             (NoneFrom (sought_by self.now.area self.now.purpose pattern.now) [])
             (λ walk. IsLeastFrom (sought_by self.now.area self.now.purpose pattern.now) []
             walk.items)) }
+        ensures stopped { IfErr result (λ stop. self.now.is_bound ≡ false → stop ≡ Memory) }
     {
-        self.grow(alloc, pattern, &[])
+        self.grow(alloc, pattern, &[], steps)
     }
 
     // The first walk that begins with the path.
@@ -203,14 +225,16 @@ impl Search<'_> {
         alloc: Global,
         pattern: &[usize],
         path: &[usize],
-    ) -> Result<Option<Vec<usize>>, Memory>
+        steps: &mut usize,
+    ) -> Result<Option<Vec<usize>>, Stop>
         requires fits { length pattern.now ≤ LONGEST }
         requires front { IsFront (sought_by self.now.area self.now.purpose pattern.now) path.now }
-        ensures { IfOk result
+        ensures found { IfOk result
             (λ found. MatchOption found
             (NoneFrom (sought_by self.now.area self.now.purpose pattern.now) path.now)
             (λ walk. IsLeastFrom (sought_by self.now.area self.now.purpose pattern.now) path.now
             walk.items)) }
+        ensures stopped { IfErr result (λ stop. self.now.is_bound ≡ false → stop ≡ Memory) }
     {
         if path.len() == pattern.len() {
             if !self.may_end(path) {
@@ -224,7 +248,7 @@ impl Search<'_> {
         }
         let mut next = self.begin(pattern, path);
         while let Some(i) = next {
-            if let Some(walk) = self.grow_by(alloc, pattern, path, i)? {
+            if let Some(walk) = self.grow_by(alloc, pattern, path, i, steps)? {
                 return Ok(Some(walk));
             }
             next = self.after(path, i);
@@ -240,7 +264,8 @@ impl Search<'_> {
         pattern: &[usize],
         path: &[usize],
         next: usize,
-    ) -> Result<Option<Vec<usize>>, Memory>
+        steps: &mut usize,
+    ) -> Result<Option<Vec<usize>>, Stop>
         requires fits { length pattern.now ≤ LONGEST }
         requires short { length path.now < length pattern.now }
         requires front { IsFront (sought_by self.now.area self.now.purpose pattern.now) path.now }
@@ -248,18 +273,20 @@ impl Search<'_> {
         requires has { key_behind
             (sought_by self.now.area self.now.purpose pattern.now) path.now next
             ≡ Some (key_after (sought_by self.now.area self.now.purpose pattern.now) path.now) }
-        ensures { IfOk result
+        ensures found { IfOk result
             (λ found. MatchOption found
             (NoneFrom (sought_by self.now.area self.now.purpose pattern.now)
             (path.now ++ next ∷ []))
             (λ walk. IsLeastFrom (sought_by self.now.area self.now.purpose pattern.now)
             (path.now ++ next ∷ []) walk.items)) }
+        ensures stopped { IfErr result (λ stop. self.now.is_bound ≡ false → stop ≡ Memory) }
     {
+        self.take_step(steps)?;
         if !self.may_follow(path, next) {
             return Ok(None);
         }
         let longer = longer_path(path, next);
-        self.grow(alloc, pattern, longer.as_slice())
+        self.grow(alloc, pattern, longer.as_slice(), steps)
     }
 }
 

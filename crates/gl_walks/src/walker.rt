@@ -1,7 +1,8 @@
 //! The search for a walk through edges of given classes.
-ghost use Rattle.std.specs.Prelude.{◌≡◌, ◌<◌, ◌≤◌, length, IfOk, MatchOption};
+ghost use Rattle.std.specs.Prelude.{◌≡◌, ◌<◌, ◌≤◌, false, length, IfErr, IfOk, MatchOption};
 ghost use Rattle.gl_segments.specs.Clocks.{is_before};
 ghost use Rattle.gl_filters.specs.Picked.{edges_of_table};
+ghost use Rattle.gl_filters.specs.declared.steps.Stop.TheVariants.{Memory};
 ghost use Rattle.gl_walks.specs.declared.walker.TheConstants.{LONGEST};
 ghost use Rattle.gl_walks.specs.Walks.{NoWalk, IsFirstWalk};
 
@@ -9,7 +10,7 @@ use crate::purpose::Purpose;
 use crate::search::Search;
 use gl_edges::{Edge, Sample};
 use gl_event::Memory;
-use gl_filters::Mode;
+use gl_filters::{Mode, Stop};
 use gl_segments::Order;
 use std::alloc::Global;
 use std::marker::Model;
@@ -32,8 +33,8 @@ pub struct Ground<'a> {
     pub flags: &'a [bool],
 }
 
-/// Finds walks for a purpose through flagged edges of given classes. Contracts see the ground and the
-/// purpose.
+/// Finds walks for a purpose through flagged edges of given classes. Contracts see the ground, the
+/// purpose, and whether it is bound to steps.
 #[derive(Drop)]
 pub struct Walker<'a> {
     search: Search<'a>,
@@ -44,20 +45,27 @@ impl<'a> Model for Walker<'a> {
 
     ghost Value = { Walking };
 
-    ghost view = { λ w. walking w.search.area w.search.purpose };
+    ghost view = { λ w. walking w.search.area w.search.purpose w.search.is_bound };
 }
 
 impl<'a> Walker<'a> {
-    /// The walker through this ground for a purpose. Four look-ups for each flagged edge.
+    /// The walker through this ground for a purpose, which may be bound to the steps that each call is
+    /// given. Four look-ups for each flagged edge.
     ///
     /// Err where memory was refused.
-    pub fn of(alloc: Global, area: Ground<'a>, purpose: Purpose) -> Result<Walker<'a>, Memory>
+    pub fn of(
+        alloc: Global,
+        area: Ground<'a>,
+        purpose: Purpose,
+        is_bound: bool,
+    ) -> Result<Walker<'a>, Memory>
         requires classes { length area.classes.now ≡ length area.table.now }
         requires flags { length area.flags.now ≡ length area.table.now }
         ensures ground { IfOk result (λ walker. walker.ground ≡ area.entry) }
         ensures purpose { IfOk result (λ walker. walker.purpose ≡ purpose) }
+        ensures bound { IfOk result (λ walker. walker.is_bound ≡ is_bound) }
     {
-        let search = Search::of(alloc, area, purpose)?;
+        let search = Search::of(alloc, area, purpose, is_bound)?;
         Ok(Walker { search })
     }
 
@@ -66,13 +74,22 @@ impl<'a> Walker<'a> {
     ///
     /// A path grows by each edge that may come next, the first one first: a look-up for each, and a
     /// test against each edge of the path. So there may be as many paths as flagged edges of a class
-    /// that hold one lock, to the power of the pattern's length, before the first walk is found.
+    /// that hold one lock, to the power of the pattern's length, before the first walk is found. Each such
+    /// edge takes one of the steps, as long as there are any.
     ///
-    /// Err where memory was refused. It is asked only for the walk that was found.
-    pub fn first(&self, alloc: Global, pattern: &[usize]) -> Result<Option<Vec<usize>>, Memory>
+    /// # Errors
+    ///
+    /// [`Stop::Spent`] where no step is left and the walker is bound to them; [`Stop::Memory`] where memory
+    /// was refused, which is asked only for the walk that was found.
+    pub fn first(
+        &self,
+        alloc: Global,
+        pattern: &[usize],
+        steps: &mut usize,
+    ) -> Result<Option<Vec<usize>>, Stop>
         requires some { 0 < length pattern.now }
         requires fits { length pattern.now ≤ LONGEST }
-        ensures { IfOk result
+        ensures found { IfOk result
             (λ found. MatchOption found
             (NoWalk self.now.purpose (is_before self.now.ground.order.now) self.now.ground.mode
             (edges_of_table self.now.ground.table.now) self.now.ground.classes.now
@@ -80,7 +97,8 @@ impl<'a> Walker<'a> {
             (λ walk. IsFirstWalk self.now.purpose (is_before self.now.ground.order.now)
             self.now.ground.mode (edges_of_table self.now.ground.table.now)
             self.now.ground.classes.now self.now.ground.flags.now pattern.now walk.items)) }
+        ensures stopped { IfErr result (λ stop. self.now.is_bound ≡ false → stop ≡ Memory) }
     {
-        self.search.first(alloc, pattern)
+        self.search.first(alloc, pattern, steps)
     }
 }

@@ -1,5 +1,5 @@
 -- What a search of signatures is told, and what it finds.
-use Rattle.std.specs.Prelude.{◌≡◌, ℕ, ◌<◌, ◌≤◌, ◌-◌, List, [], ◌∷◌, length, take, get_or}
+use Rattle.std.specs.Prelude.{◌≡◌, ℕ, ◌<◌, ◌≤◌, ◌-◌, false, List, [], ◌∷◌, length, take, get_or}
 use Rattle.gl_segments.specs.Clocks.{is_before}
 use Rattle.gl_filters.specs.Picked.{edges_of_table}
 use Rattle.gl_cycles.specs.OffCycles.{KeepsCycles}
@@ -35,6 +35,10 @@ pub record IsReady (s : Finder) : Type 0 where
   pub next : IsNextClass (length s.table.now) (classes_of s.table.now) s.fronts.ground.flags.now s.next.now
   -- and each has the thread that runs it, where one alone does
   pub run : AreRunners (edges_of_table s.table.now) (classes_of s.table.now) s.cycles.ground.flags.now s.runners.now
+
+-- no walk ends before it is through
+abbrev pub IsUnbound : Finder → Type 0
+IsUnbound s = (s.cycles.is_bound ≡ false) × (s.fronts.is_bound ≡ false)
 
 -- the finding of a signature, where it has one
 abbrev pub finding_of : Finder → List ℕ → List (List ℕ)

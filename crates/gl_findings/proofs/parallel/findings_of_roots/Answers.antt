@@ -3,7 +3,7 @@ use Rattle.std.specs.Prelude.{All}
 use Rattle.rayon.specs.Numbers.{nat_range}
 use Rattle.rayon.proofs.ToStd.{nat_range-All}
 use Rattle.gl_cycles.proofs.Joining.{pieces_are, if_ok}
-use Rattle.gl_findings.specs.bodies.Finding.{IsReady, first_of_root}
+use Rattle.gl_findings.specs.bodies.Finding.{IsReady, IsUnbound, first_of_root}
 use Rattle.gl_findings.specs.declared.finder.Finder.{Finder}
 use Rattle.gl_findings.proofs.Dealt.{by_held}
 use Rattle.gl_findings.proofs.parallel.findings_of_roots.Goals as goal
@@ -13,7 +13,7 @@ pub collect-requires-clause-ready : goal.collect-requires-clause-ready
 collect-requires-clause-ready g c κs within =
     let ends = c.into_par_iter.ensures in
     let s = c.args.finder.now in
-    let inside = nat_range-All (λ i. IsReady s × All (λ class. class < length s.table.now) c.args.roots.now × (i < length c.args.roots.now)) c.args.from c.args.to (λ i low high. (c.requires.ready, c.requires.there, omega (arith, c.requires.within, high))) in
+    let inside = nat_range-All (λ i. IsReady s × IsUnbound s × All (λ class. class < length s.table.now) c.args.roots.now × (i < length c.args.roots.now)) c.args.from c.args.to (λ i low high. (c.requires.ready, c.requires.unbound, c.requires.there, omega (arith, c.requires.within, high))) in
     rw (c.with_min_len.ensures.base, c.map.ensures.base, c.map.ensures.f, ends.0, ends.1) (λ k d lt. (inside k d lt, λ y p. tt))
 
 -- what the closure holds

@@ -15,4 +15,4 @@ returns g c =
     IfOk-weaker c.findings_by_roots.result
     (λ found. map (λ cycle. cycle.items) found.items ≡ first c.deref.result.now)
     (λ found. map (λ cycle. cycle.items) found.items ≡ take s.cap (findings (is_before s.order.now) s.mode s.len s.table.now))
-    (λ found is. is ∙ ap first c.deref.ensures.value ∙ of_roots s c.requires c.in_ok-roots.roots.items (c.in_ok-roots.ensures.all (s.len - 1))) c.findings_by_roots.ensures
+    (λ found is. is ∙ ap first c.deref.ensures.value ∙ of_roots s c.requires.ready c.in_ok-roots.roots.items (c.in_ok-roots.ensures.all (s.len - 1))) c.findings_by_roots.ensures

@@ -10,14 +10,14 @@ loop-k-preserved c =
     let w = c.args.walker.now in
     let signature = c.args.signature.now in
     let pattern = c.as_slice.ensures.value ∙ c.turned.ensures in
-    let found = answer (is_before w.ground.order.now) w.ground.mode w.ground.table.now w.ground.flags.now signature w.purpose w.ground.classes.now (λ cycle. cycle.items) _ c.in_ok-walk.walk c.in_ok-walk.ensures in
+    let found = answer (is_before w.ground.order.now) w.ground.mode w.ground.table.now w.ground.flags.now signature w.purpose w.ground.classes.now (λ cycle. cycle.items) _ c.in_ok-walk.walk c.in_ok-walk.ensures.found in
     let more = best_more (is_before w.ground.order.now) w.ground.mode w.ground.table.now w.ground.flags.now signature w.purpose w.ground.classes.now c.loop-k.k
     (option_map (λ cycle. cycle.items) c.loop-k.first) (option_map (λ cycle. cycle.items) c.in_ok-walk.walk) c.loop-k.invariant
     (subst (λ p. IsAnswer (is_before w.ground.order.now) w.ground.mode w.ground.table.now w.ground.flags.now signature w.purpose w.ground.classes.now p (option_map (λ cycle. cycle.items) c.in_ok-walk.walk)) pattern found) in
     subst (IsBest (is_before w.ground.order.now) w.ground.mode w.ground.table.now w.ground.flags.now signature w.purpose w.ground.classes.now (c.loop-k.k + 1)) (sym c.lesser-first.ensures) more
 
-pub returns : goal.returns
-returns c =
+pub returns-clause-found : goal.returns-clause-found
+returns-clause-found c =
     let w = c.args.walker.now in
     let signature = c.args.signature.now in
     let all : c.loop-k.k ≡ length signature = omega arith in

@@ -7,11 +7,11 @@ use Rattle.gl_findings.proofs.Prepared.{begin, step, lower, alone, whole, later,
 use Rattle.gl_findings.proofs.finder.Finder.+grow.Goals as goal
 
 -- the signature may not be longer
-pub grow-returns-then-signature-self : goal.grow-returns-then-signature-self
-grow-returns-then-signature-self t c =
+pub grow-returns-then-signature-self-clause-grown : goal.grow-returns-then-signature-self-clause-grown
+grow-returns-then-signature-self-clause-grown t c =
     let s = c.args.self.now in
     alone s c.requires.ready c.args.signature.now _ _
-    (omega (arith, c.args.found.now.ok.0, c.len.ensures, length-map c.args.found.now.items (λ cycle. cycle.items))) (omega arith) c.in_ok-add_shown.ensures
+    (omega (arith, c.args.found.now.ok.0, c.len.ensures, length-map c.args.found.now.items (λ cycle. cycle.items))) (omega arith) c.in_ok-add_shown.ensures.grown
 
 pub grow-grow_on-requires : goal.grow-grow_on-requires
 grow-grow_on-requires t c =
@@ -30,18 +30,18 @@ grow-grow_on-requires t c =
             omega (arith, first),
             (
               (λ i below. lower s c.requires.ready (s.len - length signature - 1) signature i c.requires.some below),
-              (c.requires.ready, omega (arith, room, ap length c.in_ok-add_shown.ensures, length-map c.add_shown.new.found.items (λ cycle. cycle.items))),
+              (c.requires.ready, omega (arith, room, ap length c.in_ok-add_shown.ensures.grown, length-map c.add_shown.new.found.items (λ cycle. cycle.items))),
             ),
           ),
         ),
       ),
     )
 
-pub grow-returns : goal.grow-returns
-grow-returns t c =
+pub grow-returns-clause-grown : goal.grow-returns-clause-grown
+grow-returns-clause-grown t c =
     let s = c.args.self.now in
     let short = c.requires.short in
-    on_ok_weaker c.grow_on.result (λ grown. whole s c.requires.ready c.args.signature.now _ _ _ (omega arith) c.in_ok-add_shown.ensures grown) c.grow_on.ensures
+    on_ok_weaker c.grow_on.result (λ grown. whole s c.requires.ready c.args.signature.now _ _ _ (omega arith) c.in_ok-add_shown.ensures.grown grown) c.grow_on.ensures.grown
 
 -- before the first class
 pub grow_on-loop-next-init : goal.grow_on-loop-next-init
@@ -69,4 +69,4 @@ grow_on-loop-next-smaller t c =
 pub grow_on-loop-next-preserved : goal.grow_on-loop-next-preserved
 grow_on-loop-next-preserved t c =
     let s = c.args.self.now in
-    step s c.requires.ready (s.len - length c.args.signature.now - 1) c.args.signature.now _ _ _ c.loop-next.next _ c.loop-next.invariant c.in_ok-grow_by.ensures (next_at s c.requires.ready (c.loop-next.next + 1) (omega arith))
+    step s c.requires.ready (s.len - length c.args.signature.now - 1) c.args.signature.now _ _ _ c.loop-next.next _ c.loop-next.invariant c.in_ok-grow_by.ensures.grown (next_at s c.requires.ready (c.loop-next.next + 1) (omega arith))

@@ -3,10 +3,10 @@ use Rattle.gl_findings.proofs.Prepared.{none_below, none_run_twice, where_none}
 use Rattle.gl_findings.proofs.finder.Finder.may_begin.Goals as goal
 
 -- one thread alone would run two classes
-pub returns-then-is_run_twice : goal.returns-then-is_run_twice
-returns-then-is_run_twice c = λ not n. none_run_twice c.args.self.now c.requires.ready n c.args.front.now (c.if-is_run_twice.ensures refl)
+pub returns-then-is_run_twice-clause-none : goal.returns-then-is_run_twice-clause-none
+returns-then-is_run_twice-clause-none c = λ not n. none_run_twice c.args.self.now c.requires.ready n c.args.front.now (c.if-is_run_twice.ensures refl)
 
 -- models show no walk
-pub returns : goal.returns
-returns c = λ not n.
-    none_below c.args.self.now c.requires.ready n c.args.front.now (where_none c.in_ok-walk.walk _ _ c.in_ok-walk.ensures (sym c.is_some.ensures ∙ not))
+pub returns-clause-none : goal.returns-clause-none
+returns-clause-none c = λ not n.
+    none_below c.args.self.now c.requires.ready n c.args.front.now (where_none c.in_ok-walk.walk _ _ c.in_ok-walk.ensures.found (sym c.is_some.ensures ∙ not))

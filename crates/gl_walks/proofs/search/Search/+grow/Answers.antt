@@ -17,18 +17,18 @@ even : (search : Search) (pattern : List ℕ) → IsEven (sought search pattern)
 even search pattern = even_by search.area search.purpose pattern search.by_class search.by_lock search.indexed
 
 -- the path is as long as the pattern, but no walk
-pub grow-returns-then-not-may_end : goal.grow-returns-then-not-may_end
-grow-returns-then-not-may_end t c = whole_none (sought c.args.self.now c.args.pattern.now) c.args.path.now (omega (arith, c.requires.front.short)) (sym c.if-not-may_end.ensures)
+pub grow-returns-then-not-may_end-clause-found : goal.grow-returns-then-not-may_end-clause-found
+grow-returns-then-not-may_end-clause-found t c = whole_none (sought c.args.self.now c.args.pattern.now) c.args.path.now (omega (arith, c.requires.front.short)) (sym c.if-not-may_end.ensures)
 
 -- it is the walk
-pub grow-returns-then-path-pattern : goal.grow-returns-then-path-pattern
-grow-returns-then-path-pattern t c =
+pub grow-returns-then-path-pattern-clause-found : goal.grow-returns-then-path-pattern-clause-found
+grow-returns-then-path-pattern-clause-found t c =
     let s = sought c.args.self.now c.args.pattern.now in
     subst (IsLeastFrom s c.args.path.now) (sym c.in_ok-walk.ensures.items) (whole_walk s c.args.path.now (omega (arith, c.requires.front.short)) c.requires.front (sym c.if-not-may_end.ensures))
 
 -- the path is closed too early
-pub grow-returns-then-is_closed : goal.grow-returns-then-is_closed
-grow-returns-then-is_closed t c =
+pub grow-returns-then-is_closed-clause-found : goal.grow-returns-then-is_closed-clause-found
+grow-returns-then-is_closed-clause-found t c =
     none_closed (sought c.args.self.now c.args.pattern.now) (even c.args.self.now c.args.pattern.now) c.args.path.now (omega (arith, c.requires.front.short)) (sym c.if-is_closed.ensures)
 
 -- before the first edge
@@ -44,13 +44,13 @@ grow-grow_by-requires t c =
     )
 
 -- a walk was found
-pub grow-returns-in-Some-2 : goal.grow-returns-in-Some-2
-grow-returns-in-Some-2 t c =
+pub grow-returns-in-Some-2-clause-found : goal.grow-returns-in-Some-2-clause-found
+grow-returns-in-Some-2-clause-found t c =
     let s = sought c.args.self.now c.args.pattern.now in
     let path = c.args.path.now in
     let i = c.in-Some.i in
     least_here s (even c.args.self.now c.args.pattern.now) path i _ (omega (arith, c.requires.front.short)) (subst (HasPassed s path) c.in-Some.is c.loop-next.invariant)
-    (subst (λ o. MatchOption o (NoneFrom s (path ++ i ∷ [])) (λ walk. IsLeastFrom s (path ++ i ∷ []) walk.items)) c.in-Some-2.is c.in_ok-walk-2.ensures)
+    (subst (λ o. MatchOption o (NoneFrom s (path ++ i ∷ [])) (λ walk. IsLeastFrom s (path ++ i ∷ []) walk.items)) c.in-Some-2.is c.in_ok-walk-2.ensures.found)
 
 -- the edge is in the index
 pub grow-after-next-requires : goal.grow-after-next-requires
@@ -81,18 +81,18 @@ grow-loop-next-preserved t c =
     let i = c.in-Some.i in
     let has = c.loop-next.invariant.has i c.in-Some.is in
     passed_more s (even c.args.self.now c.args.pattern.now) path i _ c.requires.front (subst (HasPassed s path) c.in-Some.is c.loop-next.invariant)
-    (subst (λ o. MatchOption o (NoneFrom s (path ++ i ∷ [])) (λ walk. IsLeastFrom s (path ++ i ∷ []) walk.items)) c.in_default-2.is c.in_ok-walk-2.ensures)
+    (subst (λ o. MatchOption o (NoneFrom s (path ++ i ∷ [])) (λ walk. IsLeastFrom s (path ++ i ∷ []) walk.items)) c.in_default-2.is c.in_ok-walk-2.ensures.found)
     (c.after-next.ensures c.args.pattern.now (key_after s path) has.1)
 
 -- none goes on with any
-pub grow-returns : goal.grow-returns
-grow-returns t c =
+pub grow-returns-clause-found : goal.grow-returns-clause-found
+grow-returns-clause-found t c =
     let s = sought c.args.self.now c.args.pattern.now in
     passed_all s (even c.args.self.now c.args.pattern.now) c.args.path.now (subst (HasPassed s c.args.path.now) c.in_default.is c.loop-next.invariant) (omega (arith, c.requires.front.short))
 
 -- the edge may not follow
-pub grow_by-returns-then-not-may_follow : goal.grow_by-returns-then-not-may_follow
-grow_by-returns-then-not-may_follow t c =
+pub grow_by-returns-then-not-may_follow-clause-found : goal.grow_by-returns-then-not-may_follow-clause-found
+grow_by-returns-then-not-may_follow-clause-found t c =
     let s = sought c.args.self.now c.args.pattern.now in
     let here = element_at s.edges c.args.next (omega (arith, c.requires.there, length-map c.args.self.now.area.table.now (λ pair. pair.0))) in
     let stray = sym {b = may_follow s.purpose s.before s.mode (picked s.edges c.args.path.now) here.0} (c.if-not-may_follow.ensures here.0 here.1) in
