@@ -7,7 +7,7 @@ use Rattle.gl_std.specs.Names.{NameLists}
 use Rattle.gl_edges.specs.declared.edge.Edge.{Edge as AnyEdge}
 use Rattle.gl_edges.specs.declared.edge.Sample.{Sample}
 use Rattle.gl_filters.specs.Picked.{edges_of_table}
-use Rattle.gl_cycles.specs.Trims.{IsRemovalFault}
+use Rattle.gl_trims.specs.Trims.{IsRemovalFault}
 use Rattle.gl_check.specs.Checked.{AreListedAt, HasTable, IsCheckFault, IsFalseOf, IsFirstFalse, IsOrderFault, Reads}
 use Rattle.gl_check.specs.Cycles.{IsFirstFault}
 use Rattle.gl_check.specs.Shape.{asked_in, cycles_in, format_in, is_report, trim_in}

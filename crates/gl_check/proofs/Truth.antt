@@ -19,7 +19,7 @@ use Rattle.gl_filters.specs.Asked.{Asked, first_out_of_range}
 use Rattle.gl_filters.specs.Picked.{edges_of_table, picked}
 use Rattle.gl_cycles.proofs.Surviving.{none_if_all_go}
 use Rattle.gl_cycles.specs.Laws.{IsCycleAt}
-use Rattle.gl_cycles.specs.Trims.{IsWholeRemoval}
+use Rattle.gl_trims.specs.Trims.{IsWholeRemoval}
 use Rattle.gl_cycles.specs.declared.found.Report.{Report}
 use Rattle.gl_report.specs.Tree.{edge_tree, mode_word, positions_tree, report_tree, trim_tree}
 use Rattle.gl_report.specs.Exclusive.{is_exclusive}

@@ -6,7 +6,7 @@ use Rattle.std.proofs.lemmas.List.{take_more}
 use Rattle.std.proofs.lemmas.List.Elements.{filter_map-append}
 use Rattle.std.proofs.lemmas.List.Sums.{fold_push}
 use Rattle.std.proofs.lemmas.Option.{slice_get-get_or}
-use Rattle.gl_cycles.proofs.Lists.{range-more}
+use Rattle.gl_index.proofs.Lists.{range-more}
 use Rattle.gl_findings.specs.Findings.{turned}
 use Rattle.gl_check.specs.Signatures.{lesser}
 

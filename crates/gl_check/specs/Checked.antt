@@ -14,7 +14,7 @@ use Rattle.gl_edges.specs.declared.edge.Sample.{Sample}
 use Rattle.gl_filters.specs.Asked.{first_out_of_range}
 use Rattle.gl_filters.specs.Picked.{edges_of_table}
 use Rattle.gl_cycles.specs.Laws.{IsCycleAt}
-use Rattle.gl_cycles.specs.Trims.{IsRemovalFault, IsWholeRemoval}
+use Rattle.gl_trims.specs.Trims.{IsRemovalFault, IsWholeRemoval}
 use Rattle.gl_cycles.specs.declared.found.Report.{Report}
 use Rattle.gl_findings.specs.declared.listing.Listing.{Listing}
 use Rattle.gl_report.specs.Exclusive.{ListsExclusive}

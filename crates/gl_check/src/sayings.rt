@@ -1,7 +1,7 @@
 //! What a report says, held against its trace: the table, the cycles, the trim order.
 ghost use Rattle.std.specs.Prelude.{◌≡◌, ◌≤◌, ◌⊎◌, ℕ, List, Some, true, codes, is_some, length, map, IfErr, IfOk, IfSome};
 ghost use Rattle.serde_json.specs.View.{view};
-ghost use Rattle.gl_cycles.specs.Trims.{IsRemovalFault, IsWholeRemoval};
+ghost use Rattle.gl_trims.specs.Trims.{IsRemovalFault, IsWholeRemoval};
 ghost use Rattle.gl_filters.specs.Picked.{edges_of_table};
 ghost use Rattle.gl_report.specs.Tree.{edge_tree};
 ghost use Rattle.gl_segments.specs.Clocks.{is_before};

@@ -21,7 +21,8 @@ use Rattle.gl_filters.specs.declared.query.Mode.{Mode}
 use Rattle.gl_filters.specs.Picked.{picked}
 use Rattle.gl_cycles.specs.AllCycles.{all_cycles}
 use Rattle.gl_cycles.proofs.Ascending.{cycles_ascend}
-use Rattle.gl_cycles.proofs.Fronts.{element_at, picked-cons}
+use Rattle.gl_index.proofs.Lists.{element_at}
+use Rattle.gl_cycles.proofs.Fronts.{picked-cons}
 use Rattle.gl_cycles.proofs.Members.{there_is_cycle}
 
 module _ (edges : List Edge) (ascend : IsStrictlySortedBy edge_cmp edges) where

@@ -1,11 +1,11 @@
 -- The edges of a path by its positions.
-use Rattle.std.proofs.Common.{◌≡◌, ◌≢◌, ℕ, zero, suc, ◌+◌, ◌-◌, ◌<◌, Bool, true, false, ◌&&◌, leb, List, [], ◌∷◌, ◌++◌, length, take, drop, get_or, Some, refl, sym, ap, ◌∙◌, arith}
+use Rattle.std.proofs.Common.{◌≡◌, ◌≢◌, ℕ, suc, ◌+◌, ◌-◌, ◌<◌, Bool, true, false, ◌&&◌, leb, List, [], ◌∷◌, ◌++◌, length, take, drop, get_or, Some, refl, sym, ap, ◌∙◌, arith}
 use Rattle.std.specs.Prelude.{slice_get, All}
 use Rattle.std.specs.List.{list_all, cons_option}
 use Rattle.std.proofs.lemmas.Option.{slice_get-get_or, same_Some}
 use Rattle.std.proofs.lemmas.Bool.{and_from, and_left, and_right}
 use Rattle.std.proofs.lemmas.List.Folds.{list_all-append}
-use Rattle.std.proofs.lemmas.List.{length-map, take_more, get_or-map, take-append-drop}
+use Rattle.std.proofs.lemmas.List.{take_more, take-append-drop}
 use Rattle.gl_event.specs.declared.events.Segment.{Segment}
 use Rattle.gl_edges.specs.declared.edge.Edge.{Edge}
 use Rattle.gl_edges.specs.declared.edge.Sample.{Sample}
@@ -14,26 +14,13 @@ use Rattle.gl_filters.specs.Test.{leads_to, goes_with, can_follow, leads_back, l
 use Rattle.gl_filters.proofs.Cycling.{leads_not}
 use Rattle.gl_filters.proofs.Paths.{list_all_push, last_of_push}
 use Rattle.gl_filters.specs.Picked.{edges_of_table, picked}
+use Rattle.gl_index.proofs.Lists.{element_at}
+use Rattle.gl_index.proofs.Tables.{edge_at, AreWithin, within_edges}
 use Rattle.gl_cycles.proofs.Blocking.{picked-append, picked-push}
-
--- what a place of the table holds, without its sample
-pub edge_at : (table : List (Edge × Sample)) (i : ℕ) (d : Edge × Sample) → i < length table → slice_get (edges_of_table table) i ≡ Some (get_or table i d).0
-edge_at table i d within =
-    slice_get-get_or (edges_of_table table) i d.0 (omega (arith, length-map table (λ pair. pair.0), within)) ∙ ap Some (get_or-map (λ pair. pair.0) table i d d.0 within)
 
 -- the first position's edge comes first
 pub picked-cons : (edges : List Edge) (i : ℕ) (path : List ℕ) (e : Edge) → slice_get edges i ≡ Some e → picked edges (i ∷ path) ≡ e ∷ picked edges path
 picked-cons edges i path e at = ap (λ o. cons_option o (picked edges path)) at
-
--- each position of the path is one of the edges'
-abbrev pub AreWithin : List Edge → List ℕ → Type 0
-AreWithin edges path = All (λ i. i < length edges) path
-
--- a place within a list has an element
-pub element_at : {X : Type 0} (xs : List X) (k : ℕ) → k < length xs → (x : X) × (slice_get xs k ≡ Some x)
-element_at [] k within = absurd (omega arith)
-element_at (x ∷ xs) zero within = (x, refl)
-element_at (x ∷ xs) (suc k) within = element_at xs k (omega arith)
 
 -- as many edges as positions
 pub length-picked : (edges : List Edge) (path : List ℕ) → AreWithin edges path → length (picked edges path) ≡ length path
@@ -106,21 +93,18 @@ pub picked-more : (edges : List Edge) (path : List ℕ) (k : ℕ) (e : Edge) →
 picked-more edges path k e within at = ap (picked edges) (take_more path k 0 within) ∙ picked-push edges (take k path) (get_or path k 0) e at
 
 module _ (table : List (Edge × Sample)) (path : List ℕ) (within : All (λ i. i < length table) path) where
-  pub within_edges : AreWithin (edges_of_table table) path
-  within_edges k d lt = let w = within k d lt in omega (arith, length-map table (λ pair. pair.0))
-
   -- what stands at a position of the path
   at_path : (k : ℕ) (d : Edge × Sample) → k < length path → slice_get (edges_of_table table) (get_or path k 0) ≡ Some (get_or table (get_or path k 0) d).0
   at_path k d lt = edge_at table (get_or path k 0) d (within k 0 lt)
 
   pub closed_by_table : (first last : Edge × Sample) → 0 < length path
       → leads_back (picked (edges_of_table table) path) ≡ leads_to (get_or table (get_or path (length path - 1) 0) last).0 (get_or table (get_or path 0 0) first).0
-  closed_by_table first last some = leads_back-picked (edges_of_table table) path _ _ within_edges some (at_path 0 first some) (at_path (length path - 1) last (omega arith))
+  closed_by_table first last some = leads_back-picked (edges_of_table table) path _ _ (within_edges table path within) some (at_path 0 first some) (at_path (length path - 1) last (omega arith))
 
   pub follow_by_table : (before : Segment → Segment → Bool) (mode : Mode) (f : Edge) (first last : Edge × Sample) → 0 < length path
       → can_follow before mode (picked (edges_of_table table) path) f
       ≡ (leads_to (get_or table (get_or path (length path - 1) 0) last).0 f && (list_all (λ d. goes_with before mode d f) (picked (edges_of_table table) path) && leb (get_or table (get_or path 0 0) first).0.thread f.thread))
-  follow_by_table before mode f first last some = can_follow-picked before mode (edges_of_table table) path _ _ f within_edges some (at_path 0 first some) (at_path (length path - 1) last (omega arith))
+  follow_by_table before mode f first last some = can_follow-picked before mode (edges_of_table table) path _ _ f (within_edges table path within) some (at_path 0 first some) (at_path (length path - 1) last (omega arith))
 
   pub more_by_table : (k : ℕ) (d : Edge × Sample) → k < length path → picked (edges_of_table table) (take (k + 1) path) ≡ picked (edges_of_table table) (take k path) ++ (get_or table (get_or path k 0) d).0 ∷ []
   more_by_table k d lt = picked-more (edges_of_table table) path k _ lt (at_path k d lt)
@@ -137,11 +121,11 @@ module _ (table : List (Edge × Sample)) (path : List ℕ) (within : All (λ i. 
 
   -- the lock that the last edge of the path wants
   pub wanted_by_table : (d : Edge × Sample) → 0 < length path → (get_or table (get_or path (length path - 1) 0) d).0.wanted ≡ wanted_after (picked (edges_of_table table) path)
-  wanted_by_table d some = wanted_last (edges_of_table table) path _ within_edges some (at_path (length path - 1) d (omega arith))
+  wanted_by_table d some = wanted_last (edges_of_table table) path _ (within_edges table path within) some (at_path (length path - 1) d (omega arith))
 
   -- the lock that its first one holds
   pub held_by_table : (d : Edge × Sample) → 0 < length path → (get_or table (get_or path 0 0) d).0.held ≡ held_first (picked (edges_of_table table) path)
   held_by_table d some = first_held (edges_of_table table) path _ some (at_path 0 d some)
 
   pub some_picked : 0 < length path → 0 < length (picked (edges_of_table table) path)
-  some_picked some = let l = length-picked (edges_of_table table) path within_edges in omega arith
+  some_picked some = let l = length-picked (edges_of_table table) path (within_edges table path within) in omega arith

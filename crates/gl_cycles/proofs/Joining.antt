@@ -1,9 +1,9 @@
 -- What is found root by root, joined.
 use Rattle.std.proofs.Common.{◌≡◌, ℕ, zero, suc, ◌+◌, ◌-◌, ◌<◌, ◌≤◌, List, [], ◌∷◌, ◌++◌, length, map, take, refl, sym, ap, ◌∙◌, arith}
-use Rattle.std.specs.Prelude.{All, IfOk, MatchResult}
+use Rattle.std.specs.Prelude.{IfOk}
 use Rattle.std.specs.List.{flat_map, range_with_len, AllZip}
 use Rattle.std.specs.declared.result.Result.{Result}
-use Rattle.std.specs.declared.result.Result.TheVariants.{Ok, Err}
+use Rattle.std.specs.declared.result.Result.TheVariants.{Ok}
 use Rattle.std.proofs.lemmas.List.{take-take, length-map, append_assoc, append-nil}
 use Rattle.std.proofs.lemmas.Grind.{flat_map-append}
 use Rattle.gl_segments.specs.Clocks.{is_before}
@@ -55,22 +55,6 @@ pieces_are E view first [] [] all = refl
 pieces_are E view first [] (y ∷ ys) all = absurd all
 pieces_are E view first (x ∷ roots) [] all = absurd all
 pieces_are E view first (x ∷ roots) (y ∷ ys) all = (λ i. all.0 i ∷ pieces_are E view first roots ys all.1 i)
-
--- what holds of each answer that is one holds of each piece
-pub all_pieces : {V : Type 0} (E : Type 0) (P : V → Type 0) (roots : List ℕ) (ys : List V) → AllZip (λ (root : ℕ) (r : Result V E). IfOk r P) roots (map Ok ys) → All P ys
-all_pieces E P [] [] all = λ i d below. absurd (omega (arith, below))
-all_pieces E P [] (y ∷ ys) all = absurd all
-all_pieces E P (x ∷ roots) [] all = absurd all
-all_pieces E P (x ∷ roots) (y ∷ ys) all = by (all_pieces E P roots ys all.1)
-  where
-    by : All P ys → All P (y ∷ ys)
-    by rest zero d below = all.0
-    by rest (suc i) d below = rest i d (omega (arith, below))
-
--- of an answer that is one
-pub if_ok : {V E : Type 0} (r : Result V E) (P R : V → Type 0) (Q : E → Type 0) → MatchResult r P Q → ((v : V) → P v → R v) → IfOk r R
-if_ok (Ok v) P R Q is then = then v is
-if_ok (Err e) P R Q is then = tt
 
 -- what a run of numbers gives, and a run after it
 flat-runs : {Y : Type 0} (f : ℕ → List Y) (a n m : ℕ) → flat_map f (range_with_len a n) ++ flat_map f (range_with_len (a + n) m) ≡ flat_map f (range_with_len a (n + m))

@@ -1,5 +1,3 @@
-pub mod Accepting
-pub mod Listed
 pub mod Lists
 pub mod Blocking
 pub mod Fronts
@@ -10,12 +8,6 @@ pub mod ByEdges
 pub mod Uniqueness
 pub mod Level
 pub mod Off
-pub mod Back
-pub mod Watching
-pub mod Beside
-pub mod ByKinds
-pub mod Closing
-pub mod Removing
 pub mod Whole
 pub mod Staged
 pub mod Surviving

@@ -1,13 +1,10 @@
 -- Lists of positions: filters and maps over joined lists, and the numbers below a bound one after the other.
-use Rattle.std.proofs.Common.{◌≡◌, ℕ, zero, suc, ◌+◌, ◌-◌, ◌<◌, ◌≤◌, Bool, true, false, cond, List, [], ◌∷◌, ◌++◌, length, map, filter, take, refl, sym, ap, ◌∙◌, arith}
+use Rattle.std.proofs.Common.{◌≡◌, ℕ, zero, suc, ◌+◌, ◌-◌, ◌<◌, ◌≤◌, Bool, false, List, [], ◌∷◌, ◌++◌, length, map, filter, take, refl, sym, ap, ◌∙◌, arith}
 use Rattle.std.specs.List.{flat_map, range_with_len}
 use Rattle.std.proofs.lemmas.List.{append_assoc, append-nil, map-append, take-append-le, take_all}
 use Rattle.std.proofs.lemmas.Grind.{flat_map-append}
+use Rattle.gl_index.proofs.Lists.{filter-append, range-more}
 use Rattle.gl_cycles.specs.bodies.Blocks.{upto}
-
-pub filter-append : {X : Type 0} (p : X → Bool) (xs ys : List X) → filter p (xs ++ ys) ≡ filter p xs ++ filter p ys
-filter-append p [] ys = refl
-filter-append p (x ∷ xs) ys = elim (p x) as (λ b. cond b (x ∷ filter p (xs ++ ys)) (filter p (xs ++ ys)) ≡ cond b (x ∷ filter p xs) (filter p xs) ++ filter p ys) [ true ↦ ap (λ l. x ∷ l) (filter-append p xs ys) | false ↦ filter-append p xs ys ]
 
 pub filter-flat_map : {X Y : Type 0} (p : Y → Bool) (f : X → List Y) (xs : List X) → filter p (flat_map f xs) ≡ flat_map (λ x. filter p (f x)) xs
 filter-flat_map p f [] = refl
@@ -34,13 +31,6 @@ map-nothing (l ∷ ls) = ap (λ x. l ∷ x) (map-nothing ls)
 pub filter-none : (p : List ℕ → Bool) (front : List ℕ) (ls : List (List ℕ)) → ((rest : List ℕ) → p (front ++ rest) ≡ false) → filter p (map (λ rest. front ++ rest) ls) ≡ []
 filter-none p front [] none = refl
 filter-none p front (l ∷ ls) none = rw (none l) (filter-none p front ls none)
-
-pub range-more : (a n : ℕ) → range_with_len a (n + 1) ≡ range_with_len a n ++ (a + n) ∷ []
-range-more a zero = let e : a ≡ a + 0 = omega arith in ap (λ k. k ∷ []) e
-range-more a (suc n) =
-    let long : suc n + 1 ≡ suc (n + 1) = omega arith in
-    let e : a + 1 + n ≡ a + suc n = omega arith in
-    ap (range_with_len a) long ∙ ap (λ l. a ∷ l) (range-more (a + 1) n ∙ ap (λ k. range_with_len (a + 1) n ++ k ∷ []) e)
 
 -- one number more
 pub upto-more : (f : ℕ → List (List ℕ)) (n : ℕ) → upto f (n + 1) ≡ upto f n ++ f n

@@ -9,14 +9,13 @@ use Rattle.gl_edges.specs.declared.edge.Edge.{Edge}
 use Rattle.gl_edges.proofs.Membership.{contains_here, contains_later}
 use Rattle.gl_filters.specs.declared.query.Mode.{Mode}
 use Rattle.gl_filters.specs.Test.{is_cycle}
-use Rattle.gl_filters.proofs.Cycling.{cycle_from_test, test_from_cycle}
+use Rattle.gl_filters.proofs.Cycling.{cycle_from_test}
 use Rattle.gl_filters.specs.Picked.{picked}
 use Rattle.gl_cycles.specs.AllCycles.{lists_below}
 use Rattle.gl_cycles.specs.bodies.Blocks.{block}
-use Rattle.gl_cycles.specs.bodies.Loops.{KeepsLoops}
-use Rattle.gl_cycles.specs.bodies.OffCycles.{IsOffCycles, KeepsCycles}
+use Rattle.gl_pruning.specs.OffCycles.{IsOffCycles}
 use Rattle.gl_cycles.proofs.Blocking.{picked-append, picked-push}
-use Rattle.gl_cycles.proofs.Level.{picked_among, loop_from_cycle}
+use Rattle.gl_cycles.proofs.Level.{picked_among}
 use Rattle.gl_cycles.proofs.Members.{lists_from}
 
 -- nothing passes where none of the lists that begin so does
@@ -53,11 +52,3 @@ module _ (before : Segment → Segment → Bool) (mode : Mode) (edges : List Edg
       by rest below true is =
           absurd (off (picked edges ((front ++ i ∷ []) ++ rest)) (picked_among edges ((front ++ i ∷ []) ++ rest)) (cycle_from_test before mode len (picked edges ((front ++ i ∷ []) ++ rest)) (fits rest below) is) (among rest))
       by rest below false is = is
-
-  -- an edge that lies on no loop is in no cycle
-  pub loops_keep : (kept : List Bool) → KeepsLoops edges kept → KeepsCycles before mode len edges kept
-  loops_keep kept keeps = record {
-    long = keeps.long;
-    left_out = λ i e at out cycle among is in_it.
-        keeps.left_out i e at out cycle (loop_from_cycle before mode edges cycle among (test_from_cycle before mode len cycle is)) in_it;
-  }

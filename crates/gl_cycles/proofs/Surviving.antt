@@ -13,10 +13,12 @@ use Rattle.gl_filters.proofs.Round.{compatible_round}
 use Rattle.gl_filters.specs.Picked.{picked}
 use Rattle.gl_cycles.specs.AllCycles.{all_cycles}
 use Rattle.gl_cycles.specs.Laws.{IsCycleAt}
-use Rattle.gl_cycles.specs.Trims.{HasBeside, IsRemovalOrder, IsTrimOrder, IsWholeRemoval}
-use Rattle.gl_cycles.specs.declared.trims.Side.{Side}
-use Rattle.gl_cycles.specs.declared.trims.Side.TheVariants.{Follower, Leader}
-use Rattle.gl_cycles.proofs.Fronts.{element_at, length-picked, picked-cons, AreWithin}
+use Rattle.gl_trims.specs.Trims.{HasBeside, IsRemovalOrder, IsTrimOrder, IsWholeRemoval}
+use Rattle.gl_index.specs.declared.sides.Side.{Side}
+use Rattle.gl_index.specs.declared.sides.Side.TheVariants.{Follower, Leader}
+use Rattle.gl_index.proofs.Lists.{element_at}
+use Rattle.gl_cycles.proofs.Fronts.{length-picked, picked-cons}
+use Rattle.gl_index.proofs.Tables.{AreWithin}
 use Rattle.gl_cycles.proofs.Members.{there_is_cycle}
 
 -- what is in a list with one element more

@@ -11,13 +11,13 @@ use Rattle.gl_edges.proofs.Membership.{any_from_contains, contains_from_any, con
 use Rattle.gl_filters.specs.declared.query.Mode.{Mode}
 use Rattle.gl_filters.specs.Picked.{picked}
 use Rattle.gl_cycles.specs.AllCycles.{all_cycles}
-use Rattle.gl_cycles.specs.Trims.{is_beside, HasBeside, IsStuck, IsFirstStuck, IsTrimOrder, IsTrimmed, others, is_alone, is_stuck, removals, whole_trim}
-use Rattle.gl_cycles.specs.declared.trims.Side.{Side}
-use Rattle.gl_cycles.specs.bodies.Trimming.{AreFlagsOf}
+use Rattle.gl_trims.specs.Trims.{is_beside, HasBeside, IsStuck, IsFirstStuck, IsTrimOrder, IsTrimmed, others, is_alone, is_stuck, removals, whole_trim}
+use Rattle.gl_index.specs.declared.sides.Side.{Side}
+use Rattle.gl_trims.specs.bodies.Trimming.{AreFlagsOf}
 use Rattle.gl_cycles.proofs.Members.{filter_has, filter_from, there_is_cycle}
-use Rattle.gl_cycles.proofs.Removing.{flags_none, flags_more, left, fewer, none_set, unflagged, order_push}
+use Rattle.gl_trims.proofs.Removing.{flags_none, flags_more, left, fewer, none_set, unflagged, order_push}
 use Rattle.gl_cycles.proofs.Surviving.{cycles_survive, cycle_has_some}
-use Rattle.gl_cycles.specs.declared.trims.Side.TheVariants.{Follower, Leader}
+use Rattle.gl_index.specs.declared.sides.Side.TheVariants.{Follower, Leader}
 
 -- the first number of a range that passes
 first_in : (p : ℕ → Bool) (a n i : ℕ) → a ≤ i → i < a + n → p i ≡ true → ((j : ℕ) → j < i → p j ≡ false) → take 1 (filter p (range_with_len a n)) ≡ i ∷ []

@@ -1,5 +1,5 @@
 -- What holds of all cycles over a list of edges.
-use Rattle.std.specs.Prelude.{ℕ, ◌<◌, ◌≤◌, Bool, List, length, All}
+use Rattle.std.specs.Prelude.{ℕ, ◌<◌, Bool, List, length, All}
 use Rattle.gl_event.specs.declared.events.Segment.{Segment}
 use Rattle.gl_edges.specs.declared.edge.Edge.{Edge}
 use Rattle.gl_filters.specs.declared.query.Mode.{Mode}
@@ -12,7 +12,3 @@ pub record IsCycleAt (before : Segment → Segment → Bool) (mode : Mode) (len 
   pub within : All (λ i. i < length edges) positions
   -- and these are a cycle
   pub cycle : IsCycle before mode len (picked edges positions)
-
--- ranks of locks that never fall along an edge: a certificate that an edge along which the rank rises is in no cycle
-abbrev pub IsNeverFalling : (ℕ → ℕ) → List Edge → Type 0
-IsNeverFalling rank edges = All (λ e. rank e.held ≤ rank e.wanted) edges

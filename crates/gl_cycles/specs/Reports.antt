@@ -10,7 +10,7 @@ use Rattle.gl_edges.specs.declared.edge.Sample.{Sample}
 use Rattle.gl_filters.specs.Asked.{Asked}
 use Rattle.gl_filters.specs.Picked.{edges_of_table}
 use Rattle.gl_cycles.specs.AllCycles.{all_cycles}
-use Rattle.gl_cycles.specs.Trims.{whole_trim}
+use Rattle.gl_trims.specs.Trims.{whole_trim}
 use Rattle.gl_cycles.specs.declared.found.Report.{Report}
 use Rattle.gl_cycles.specs.declared.found.ReportFault.{ReportFault}
 use Rattle.gl_cycles.specs.declared.found.ReportFault.TheVariants.{Inconsistent, Memory}

@@ -1,20 +1,14 @@
-//! The search on several threads.
-ghost use Rattle.std.specs.Prelude.{◌≡◌, ◌↔◌, ◌-◌, ◌<◌, ◌≤◌, ◌++◌, false, length, map, take, IfOk, OnOk, IsTrue};
+//! The last round of a search, on several threads.
+ghost use Rattle.std.specs.Prelude.{◌≡◌, ◌-◌, ◌<◌, ◌≤◌, ◌++◌, false, length, map, take, IfOk, OnOk};
 ghost use Rattle.std.specs.List.{flat_map, range_with_len};
 ghost use Rattle.gl_segments.specs.Clocks.{is_before};
 ghost use Rattle.gl_filters.specs.Picked.{edges_of_table};
 ghost use Rattle.gl_cycles.specs.AllCycles.{all_cycles};
 ghost use Rattle.gl_cycles.specs.bodies.Searching.{IsReady, HasFound, first_from, sought_by};
 
-use crate::found::Found;
-use crate::neighbours::Sought;
-use crate::paths::{Searcher, listed};
+use crate::paths::Searcher;
 use crate::pieces::add_cycles;
-use crate::stages::first_cycles_parallel;
-use gl_edges::EdgeList;
 use gl_event::Memory;
-use gl_filters::Query;
-use gl_segments::Order;
 use rayon::prelude::*;
 use std::alloc::Global;
 use std::thread::Threads;
@@ -172,37 +166,4 @@ pub(crate) fn first_cycles(
         done = end;
     }
     Ok(found)
-}
-
-/// The same as [`search`](crate::search), on several threads. The steps that a search takes before
-/// more edges are left out are taken in one thread. What leaves out edges deals them out to parts, each
-/// of which leaves out some of its own. At last each edge from the one on where the search stands is
-/// the first of paths, and the edges are dealt out in runs: the first few to one thread, and then each
-/// time as many as were dealt out before, in pieces of one length. The search ends after the run in
-/// which one cycle more than are listed was found. Each run goes to its end, so that what is found and
-/// in which order doesn't depend on the threads.
-///
-/// Err where memory was refused.
-pub fn search_parallel(
-    rt: &(impl Threads + Sync),
-    alloc: Global,
-    edges: &EdgeList,
-    order: &Order,
-    query: &Query,
-) -> Result<Found, Memory>
-    ensures cycles { IfOk result
-        (λ found. found.cycles
-        ≡ take query.now.max
-        (all_cycles (is_before order.now) query.now.mode query.now.len
-        (edges_of_table edges.now))) }
-    ensures more { IfOk result
-        (λ found. IsTrue found.more ↔
-        (query.now.max < length
-        (all_cycles (is_before order.now) query.now.mode query.now.len
-        (edges_of_table edges.now)))) }
-{
-    let sought = Sought::of(edges, order, query);
-    let max = query.max() as usize;
-    let cycles = first_cycles_parallel(rt, alloc, &sought, max + 1)?;
-    Ok(listed(cycles, max))
 }

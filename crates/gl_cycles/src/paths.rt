@@ -1,31 +1,25 @@
-//! The search for cycles: paths of edges that lead on from each other, grown from each edge.
-ghost use Rattle.std.specs.Prelude.{◌≡◌, ◌+◌, ◌-◌, ◌<◌, ◌≤◌, [], ◌∷◌, ◌++◌, ◌↔◌, true, false, ℕ, List, Some, length, map, take, slice_get, nat_le, if◌then◌else◌, IsTrue, IfOk, IfErr, IfSome, OnOk, All};
-ghost use Rattle.gl_cycles.specs.declared.paths.TheConstants.{PATH};
+//! Paths of edges that lead on from each other, grown from each edge.
+ghost use Rattle.std.specs.Prelude.{◌≡◌, ◌+◌, ◌-◌, ◌<◌, ◌≤◌, [], ◌∷◌, ◌++◌, true, false, Some, length, map, take, slice_get, nat_le, if◌then◌else◌, IfOk, IfErr, IfSome, OnOk, All};
+ghost use Rattle.gl_pruning.specs.declared.lengths.TheConstants.{PATH};
 ghost use Rattle.gl_segments.specs.Clocks.{is_before};
 ghost use Rattle.std.specs.List.{list_all};
 ghost use Rattle.gl_filters.specs.Test.{can_follow, goes_with, leads_back, is_path};
 ghost use Rattle.gl_filters.specs.Picked.{edges_of_table, picked};
 ghost use Rattle.gl_cycles.specs.AllCycles.{all_cycles};
 ghost use Rattle.gl_cycles.specs.bodies.Blocks.{block};
-ghost use Rattle.gl_cycles.specs.bodies.OffCycles.{KeepsSought};
+ghost use Rattle.gl_pruning.specs.Sought.{KeepsSought};
 ghost use Rattle.gl_cycles.specs.bodies.Searching.{IsReady, HasFound, first_from, sought_by};
-ghost use Rattle.gl_cycles.specs.declared.steps.Stop.TheVariants.{Memory};
+ghost use Rattle.gl_filters.specs.declared.steps.Stop.TheVariants.{Memory};
 ghost use Rattle.gl_edges.specs.declared.edge.Edge.{Edge};
 
-use crate::followers::Followers;
-use crate::found::{Cycles, Found};
-use crate::neighbours::Sought;
 use crate::pieces::add_cycles;
-use crate::steps::Stop;
-use arrayvec::ArrayVec;
-use gl_edges::{Edge, EdgeList, Sample};
+use gl_edges::{Edge, Sample};
 use gl_event::Memory;
-use gl_filters::{Mode, Query, goes_with, leads_on};
+use gl_filters::{Mode, Stop, goes_with, leads_on};
+use gl_index::Followers;
+use gl_pruning::{Sought, longer_path};
 use gl_segments::Order;
 use std::alloc::{AllocError, Global};
-
-// How many edges a path may have.
-pub(crate) const PATH: usize = 16;
 
 // What a search looks at, and when it has enough.
 #[derive(Drop)]
@@ -429,19 +423,6 @@ impl Searcher<'_> {
     }
 }
 
-// The path with one more edge.
-pub(crate) fn longer_path(path: &[usize], next: usize) -> ArrayVec<usize, PATH>
-    requires { length path.now < PATH }
-    ensures { result.items ≡ path.now ++ next ∷ [] }
-{
-    let mut longer = ArrayVec::new();
-    for &i in path {
-        longer.push(i);
-    }
-    longer.push(next);
-    longer
-}
-
 // Adds a closed path, which is a cycle if it has two edges or more.
 fn keep_closed(alloc: Global, path: &[usize], found: &mut Vec<Vec<usize>>) -> Result<(), Memory>
     ensures { OnOk result
@@ -455,62 +436,4 @@ fn keep_closed(alloc: Global, path: &[usize], found: &mut Vec<Vec<usize>>) -> Re
     let cycle = Vec::from_slice(alloc, path)?;
     found.push(cycle)?;
     Ok(())
-}
-
-// The first of these cycles, and whether there are more.
-pub(crate) fn listed(cycles: Vec<Vec<usize>>, max: usize) -> Found
-    ensures cycles { (all : List (List ℕ))
-        → map (λ cycle. cycle.items) cycles.items ≡ take (max + 1) all
-        → result.cycles ≡ take max all }
-    ensures more { (all : List (List ℕ))
-        → map (λ cycle. cycle.items) cycles.items ≡ take (max + 1) all
-        → IsTrue result.more ↔ (max < length all) }
-{
-    let mut cycles = cycles;
-    let more = cycles.len() > max;
-    cycles.truncate(max);
-    Found {
-        cycles: Cycles::from_vec(cycles),
-        more,
-    }
-}
-
-/// The first cycles of a query over these edges, in the order of their edges, and whether there are
-/// more. Each edge in turn is the first of paths, which grow by every edge that may follow. The search
-/// ends where one cycle more than are listed was found.
-///
-/// Edges that are in no cycle are left out: before the search those that lie on no loop of the
-/// lock-order graph, and others only where the search takes long. Where it has taken some steps for
-/// each edge and isn't through, those are left out that are seen to be in no cycle by their kind, by
-/// having no way back (no walk of edges which go with them from the lock that they want to the one
-/// that they hold), by their kind and thread, and by their segments. Then the search goes on at the
-/// edge where it stood, with more steps to take, and so on in turn.
-///
-/// To find the edges on loops takes some look-ups for each edge. To leave out others takes no more
-/// steps than some for each that the search took before, but in the last round as many as each reason
-/// takes at most. There may be as many paths as the edges that stay to the power of the greatest length
-/// of a cycle less one.
-///
-/// Err where memory was refused.
-pub fn search(
-    alloc: Global,
-    edges: &EdgeList,
-    order: &Order,
-    query: &Query,
-) -> Result<Found, Memory>
-    ensures cycles { IfOk result
-        (λ found. found.cycles
-        ≡ take query.now.max
-        (all_cycles (is_before order.now) query.now.mode query.now.len
-        (edges_of_table edges.now))) }
-    ensures more { IfOk result
-        (λ found. IsTrue found.more ↔
-        (query.now.max < length
-        (all_cycles (is_before order.now) query.now.mode query.now.len
-        (edges_of_table edges.now)))) }
-{
-    let sought = Sought::of(edges, order, query);
-    let max = query.max() as usize;
-    let cycles = sought.first_cycles(alloc, max + 1)?;
-    Ok(listed(cycles, max))
 }

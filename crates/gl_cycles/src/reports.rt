@@ -8,16 +8,15 @@ ghost use Rattle.gl_segments.specs.Orders.{lists_of, IsFaultOf};
 ghost use Rattle.gl_filters.specs.Picked.{edges_of_table};
 ghost use Rattle.gl_cycles.specs.AllCycles.{all_cycles};
 ghost use Rattle.gl_cycles.specs.Reports.{IsReport, IsReportFault, report_by};
-ghost use Rattle.gl_cycles.specs.Trims.{whole_trim};
+ghost use Rattle.gl_trims.specs.Trims.{whole_trim};
 
 use crate::found::{Found, Report, ReportFault, TrimOrder};
-use crate::parallel::search_parallel;
-use crate::paths::search;
-use crate::trims::trim;
+use crate::searches::{search, search_parallel};
 use gl_edges::EdgeList;
 use gl_event::{Event, Memory};
 use gl_filters::Query;
 use gl_segments::{Order, OrderFault};
+use gl_trims::trim;
 use std::alloc::Global;
 use std::thread::Threads;
 

@@ -11,8 +11,8 @@ use Rattle.std.proofs.lemmas.List.Sums.{fails_before_first, passes_at_first}
 use Rattle.std.proofs.lemmas.Option.{get_or_from_slice_get, slice_get-get_or}
 use Rattle.gl_edges.specs.declared.edge.Edge.{Edge}
 use Rattle.gl_edges.specs.declared.edge.Sample.{Sample}
-use Rattle.gl_cycles.proofs.Fronts.{element_at}
-use Rattle.gl_cycles.proofs.Listed.{tells_locks}
+use Rattle.gl_index.proofs.Lists.{element_at}
+use Rattle.gl_index.proofs.Listed.{tells_locks}
 use Rattle.gl_findings.specs.Counts.{counts_of}
 use Rattle.gl_findings.specs.Findings.{same_places, class_of, classes_of}
 use Rattle.gl_findings.specs.bodies.Classing.{are_places, places_of}

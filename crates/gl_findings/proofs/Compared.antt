@@ -9,7 +9,7 @@ use Rattle.std.specs.declared.cmp.Ordering.TheVariants.{Less, Equal, Greater}
 use Rattle.std.proofs.lemmas.Bool.{and_from, false≢true}
 use Rattle.gl_edges.proofs.Membership.{contains_range}
 use Rattle.gl_filters.proofs.Paths.{list_all_push}
-use Rattle.gl_cycles.proofs.Lists.{range-more}
+use Rattle.gl_index.proofs.Lists.{range-more}
 use Rattle.gl_findings.proofs.Below.{not_all}
 
 pub above : (o : Ordering) → is_gt o ≡ true → is_le o ≡ false

@@ -16,9 +16,9 @@ use Rattle.gl_filters.specs.Cycle.{IsCycle}
 use Rattle.gl_filters.specs.Picked.{edges_of_table, picked}
 use Rattle.gl_cycles.specs.AllCycles.{all_cycles}
 use Rattle.gl_cycles.specs.Laws.{IsCycleAt}
-use Rattle.gl_cycles.specs.OffCycles.{KeepsCycles}
+use Rattle.gl_pruning.specs.OffCycles.{KeepsCycles}
 use Rattle.gl_cycles.proofs.Blocking.{picked-append}
-use Rattle.gl_cycles.proofs.Fronts.{element_at}
+use Rattle.gl_index.proofs.Lists.{element_at}
 use Rattle.gl_cycles.proofs.Level.{picked_among}
 use Rattle.gl_cycles.proofs.Members.{there_is_cycle}
 use Rattle.gl_walks.specs.declared.purpose.Purpose.TheVariants.{Front}

@@ -10,7 +10,7 @@ use Rattle.std.proofs.lemmas.List.Sums.{fails_before_first, position_or_len_is}
 use Rattle.std.proofs.lemmas.Option.{get_or_from_slice_get, slice_get_within}
 use Rattle.gl_edges.specs.declared.edge.Edge.{Edge}
 use Rattle.gl_edges.specs.declared.edge.Sample.{Sample}
-use Rattle.gl_cycles.proofs.Listed.{tells_locks}
+use Rattle.gl_index.proofs.Listed.{tells_locks}
 use Rattle.gl_findings.specs.Findings.{class_of}
 use Rattle.gl_findings.specs.bodies.Classing.{AreFirsts, are_places, places_of}
 

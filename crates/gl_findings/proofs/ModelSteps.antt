@@ -7,8 +7,7 @@ use Rattle.std.proofs.lemmas.Option.{slice_get_within}
 use Rattle.gl_edges.specs.declared.edge.Edge.{Edge}
 use Rattle.gl_edges.specs.declared.edge.Sample.{Sample}
 use Rattle.gl_filters.specs.Picked.{edges_of_table}
-use Rattle.gl_cycles.proofs.Fronts.{element_at}
-use Rattle.gl_cycles.proofs.Beside.{set_here}
+use Rattle.gl_index.proofs.Lists.{element_at, set_here}
 use Rattle.gl_findings.specs.bodies.Grounds.{AreAlike, AreModels, HasModel}
 
 -- an edge that is alike and of the same class is a model once it is flagged

@@ -4,7 +4,7 @@ use Rattle.std.specs.Prelude.{slice_get}
 use Rattle.std.proofs.lemmas.Bool.{cases_eq, true≢false}
 use Rattle.std.proofs.lemmas.List.{length-set, length-replicate, get_or-replicate}
 use Rattle.std.proofs.lemmas.Option.{get_or_from_slice_get, slice_get_within, same_Some}
-use Rattle.gl_cycles.proofs.Beside.{set_here, set_elsewhere}
+use Rattle.gl_index.proofs.Lists.{set_here, set_elsewhere}
 use Rattle.gl_findings.specs.bodies.Classing.{AreFlaggedBefore, AreNextFrom}
 use Rattle.gl_findings.specs.bodies.Grounds.{IsNextClass}
 

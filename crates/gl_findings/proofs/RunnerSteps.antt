@@ -5,7 +5,7 @@ use Rattle.std.proofs.lemmas.Bool.{cases_eq, cases_lt}
 use Rattle.std.proofs.lemmas.List.{length-set}
 use Rattle.std.proofs.lemmas.Option.{slice_get_within}
 use Rattle.gl_edges.specs.declared.edge.Edge.{Edge}
-use Rattle.gl_cycles.proofs.Beside.{set_here, set_elsewhere}
+use Rattle.gl_index.proofs.Lists.{set_here, set_elsewhere}
 use Rattle.gl_findings.specs.bodies.Running.{AreRunners, AreRunnersBefore, IsRunBy}
 use Rattle.gl_findings.specs.declared.runners.Runner.{Runner}
 

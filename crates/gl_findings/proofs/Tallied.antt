@@ -8,8 +8,8 @@ use Rattle.std.proofs.lemmas.List.Folds.{list_any-append}
 use Rattle.std.proofs.lemmas.List.Sums.{count_by-le-length, length-filter}
 use Rattle.std.proofs.lemmas.Map.Made.{distinct_count-le}
 use Rattle.std.proofs.lemmas.Option.{same_Some, slice_get_within}
-use Rattle.gl_cycles.proofs.Beside.{set_here, set_elsewhere}
-use Rattle.gl_cycles.proofs.Listed.{tells_lock, tells_locks}
+use Rattle.gl_index.proofs.Lists.{set_here, set_elsewhere}
+use Rattle.gl_index.proofs.Listed.{tells_lock, tells_locks}
 use Rattle.gl_findings.specs.bodies.Classing.{are_places}
 use Rattle.gl_findings.specs.bodies.Tallies.{IsTally, numbers_of}
 

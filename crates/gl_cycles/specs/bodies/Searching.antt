@@ -3,11 +3,11 @@ use Rattle.std.specs.Prelude.{◌≡◌, ℕ, ◌≤◌, ◌-◌, List, [], ◌�
 use Rattle.gl_segments.specs.Clocks.{is_before}
 use Rattle.gl_filters.specs.Picked.{edges_of_table}
 use Rattle.gl_cycles.specs.bodies.Blocks.{block, blocks_below}
-use Rattle.gl_cycles.specs.bodies.Followers.{IsIndexOf}
-use Rattle.gl_cycles.specs.bodies.OffCycles.{KeepsCycles}
-use Rattle.gl_cycles.specs.declared.neighbours.Sought.{Sought}
+use Rattle.gl_index.specs.Indexes.{IsIndexOf}
+use Rattle.gl_pruning.specs.OffCycles.{KeepsCycles}
+use Rattle.gl_pruning.specs.declared.sought.Sought.{Sought}
 use Rattle.gl_cycles.specs.declared.paths.Searcher.{Searcher}
-use Rattle.gl_cycles.specs.declared.paths.TheConstants.{PATH}
+use Rattle.gl_pruning.specs.declared.lengths.TheConstants.{PATH}
 
 -- the search can begin
 pub record IsReady (s : Searcher) : Type 0 where

@@ -2,7 +2,7 @@
 use Rattle.std.specs.Prelude.{◌≡◌, ℕ, ◌<◌, ◌≤◌, ◌-◌, false, List, [], ◌∷◌, length, take, get_or}
 use Rattle.gl_segments.specs.Clocks.{is_before}
 use Rattle.gl_filters.specs.Picked.{edges_of_table}
-use Rattle.gl_cycles.specs.OffCycles.{KeepsCycles}
+use Rattle.gl_pruning.specs.OffCycles.{KeepsCycles}
 use Rattle.gl_walks.specs.declared.purpose.Purpose.{Purpose}
 use Rattle.gl_walks.specs.declared.purpose.Purpose.TheVariants.{Cycle, Front}
 use Rattle.gl_walks.specs.declared.walker.TheConstants.{LONGEST}

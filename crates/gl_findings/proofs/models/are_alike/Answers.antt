@@ -1,7 +1,7 @@
 use Rattle.std.proofs.Common.{sym, ◌∙◌}
 use Rattle.std.proofs.lemmas.Bool.{eqb-true}
 use Rattle.gl_edges.proofs.Orders.{modes_same, guards_same}
-use Rattle.gl_cycles.proofs.ByKinds.{from_not}
+use Rattle.gl_pruning.proofs.ByKinds.{from_not}
 use Rattle.gl_findings.proofs.models.are_alike.Goals as goal
 
 pub returns : goal.returns

@@ -1,8 +1,8 @@
 use Rattle.std.proofs.Common.{subst}
 use Rattle.gl_segments.specs.Clocks.{is_before}
 use Rattle.gl_filters.specs.Picked.{edges_of_table}
-use Rattle.gl_cycles.specs.Loops.{KeepsLoops}
-use Rattle.gl_cycles.proofs.Off.{loops_keep}
+use Rattle.gl_pruning.specs.Loops.{KeepsLoops}
+use Rattle.gl_pruning.proofs.Off.{loops_keep}
 use Rattle.gl_findings.proofs.search.found_soon.Goals as goal
 
 -- what lies on no loop is in no cycle

@@ -8,8 +8,11 @@ use Rattle.gl_cycles.specs.declared.paths.Searcher.{Searcher}
 use Rattle.gl_segments.specs.Clocks.{is_before}
 use Rattle.gl_edges.specs.declared.edge.Edge.{Edge}
 use Rattle.gl_filters.specs.Picked.{edges_of_table, picked}
-use Rattle.gl_cycles.specs.bodies.Followers.{IsNextWith, held_lock, both_locks}
-use Rattle.gl_cycles.proofs.Fronts.{element_at, within_edges, wanted_after, wanted_last, held_first, wanted_by_table, held_by_table, some_picked}
+use Rattle.gl_index.specs.Listed.{IsNextWith}
+use Rattle.gl_index.specs.Indexes.{held_lock, both_locks}
+use Rattle.gl_index.proofs.Lists.{element_at}
+use Rattle.gl_index.proofs.Tables.{within_edges}
+use Rattle.gl_cycles.proofs.Fronts.{wanted_after, wanted_last, held_first, wanted_by_table, held_by_table, some_picked}
 use Rattle.gl_cycles.specs.bodies.Searching.{IsReady}
 use Rattle.gl_cycles.proofs.Off.{block-off}
 use Rattle.gl_cycles.proofs.Growing.{HasGrown, OthersAreStray, LeftOutAreStray, other_lock, other_locks, grow_begin, grow_step, grow_end, grow_short, grow_closed, grown_room, goes_on, grow_stray, joined_path}

@@ -2,7 +2,7 @@ use Rattle.std.proofs.Common.{◌+◌, ◌-◌, ◌*◌, length, map}
 use Rattle.std.specs.Prelude.{unwrap_or}
 use Rattle.gl_segments.specs.Clocks.{is_before}
 use Rattle.gl_filters.specs.Picked.{edges_of_table, picked}
-use Rattle.gl_cycles.specs.bodies.Followers.{held_lock, both_locks}
+use Rattle.gl_index.specs.Indexes.{held_lock, both_locks}
 use Rattle.gl_cycles.proofs.Fronts.{wanted_after, held_first}
 use Rattle.gl_cycles.proofs.Growing.{HasGrown}
 use Rattle.gl_cycles.proofs.paths.Searcher.+grow.Given as goal

@@ -1,7 +1,0 @@
-use Rattle.std.proofs.Common.{[], sym, subst, ◌∙◌}
-use Rattle.gl_cycles.specs.bodies.Followers.{IsNextWith}
-use Rattle.gl_cycles.specs.bodies.Trimming.{lock_towards}
-use Rattle.gl_cycles.proofs.chains.Chain.begin.Goals as goal
-
-pub returns : goal.returns
-returns c = λ edges side are. subst (IsNextWith (lock_towards side) edges [] c.args.lock 0) (sym (c.copied.ensures ∙ c.get.ensures.value)) (are.begins c.args.lock)

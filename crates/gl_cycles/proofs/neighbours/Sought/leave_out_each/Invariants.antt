@@ -1,8 +1,0 @@
-use Rattle.gl_segments.specs.Clocks.{is_before}
-use Rattle.gl_filters.specs.Picked.{edges_of_table}
-use Rattle.gl_cycles.specs.bodies.OffCycles.{KeepsCycles}
-use Rattle.gl_cycles.proofs.neighbours.Sought.leave_out_each.Given as goal
-
--- so far only edges that are in no cycle are left out
-abbrev pub invariant-loop-x : goal.invariant-loop-x
-invariant-loop-x l = KeepsCycles (is_before l.self.order.now) l.self.mode l.self.len (edges_of_table l.self.table.now) l.kept.items

@@ -1,6 +1,0 @@
-use Rattle.std.proofs.Common.{◌≡◌, [], map, replicate}
-use Rattle.gl_cycles.proofs.watchers.Watchers.none.Given as goal
-
--- an empty list for each place so far
-abbrev pub invariant-loop : goal.invariant-loop
-invariant-loop l = map (λ list. list.items) l.lists.items ≡ replicate l.counter []

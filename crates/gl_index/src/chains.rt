@@ -1,0 +1,71 @@
+//! An index of edges by one of their locks.
+ghost use Rattle.std.specs.Prelude.{◌≡◌, ◌+◌, ◌<◌, ℕ, List, [], length, slice_get, vec_len, Some, IfOk, OnOk};
+ghost use Rattle.gl_filters.specs.Picked.{edges_of_table};
+ghost use Rattle.gl_index.specs.Listed.{IsNextWith};
+ghost use Rattle.gl_index.specs.Indexes.{AreChained};
+ghost use Rattle.gl_index.specs.Sides.{lock_towards};
+ghost use Rattle.gl_edges.specs.declared.edge.Edge.{Edge};
+ghost use Rattle.gl_index.specs.declared.sides.Side.{Side};
+
+use crate::sides::Side;
+use gl_edges::{Edge, Sample};
+use gl_event::{LockId, Memory};
+use std::alloc::Global;
+use std::collections::HashMap;
+
+/// Leads from a lock through the positions of the edges that have it on one side, ascending.
+#[derive(Drop)]
+pub struct Chain {
+    /// The first position of each lock.
+    pub first: HashMap<LockId, usize>,
+    /// For each position the next one with the same lock.
+    pub next: Vec<Option<usize>>,
+}
+
+impl Chain {
+    /// The index of the edges of a table by their locks on a side. Two look-ups for each edge.
+    ///
+    /// Err where memory was refused.
+    pub fn of(alloc: Global, table: &[(Edge, Sample)], side: Side) -> Result<Chain, Memory>
+        ensures { IfOk result (λ chain. AreChained side (edges_of_table table.now) 0 chain) }
+    {
+        let mut chain = Chain {
+            first: HashMap::new(alloc),
+            next: vec![in alloc; None; table.len()]?,
+        };
+        for i in (0..table.len()).rev() {
+            chain.put(i, side.lock_of(&table[i].0))?;
+        }
+        Ok(chain)
+    }
+
+    // Puts the edge at a position before those that are in the index.
+    fn put(&mut self, i: usize, lock: LockId) -> Result<(), Memory>
+        requires { i < vec_len self.old.next }
+        ensures { (edges : List Edge) (side : Side) (e : Edge)
+            → AreChained side edges (i + 1) self.old → slice_get edges i ≡ Some e
+            → lock_towards side e ≡ lock → OnOk result (AreChained side edges i self.new) }
+    {
+        self.next[i] = self.first.get(&lock).copied();
+        self.first.insert(lock, i)?;
+        Ok(())
+    }
+
+    /// The first position of a lock.
+    pub fn begin(&self, lock: LockId) -> Option<usize>
+        ensures { (edges : List Edge) (side : Side) → AreChained side edges 0 self.now
+            → IsNextWith (lock_towards side) edges [] lock 0 result }
+    {
+        self.first.get(&lock).copied()
+    }
+
+    /// The position after `i` of the next edge with the lock of the edge at `i`.
+    pub fn after(&self, i: usize) -> Option<usize>
+        requires { i < vec_len self.now.next }
+        ensures { (edges : List Edge) (side : Side) (e : Edge) → AreChained side edges 0 self.now
+            → slice_get edges i ≡ Some e
+            → IsNextWith (lock_towards side) edges [] (lock_towards side e) (i + 1) result }
+    {
+        self.next[i]
+    }
+}

@@ -1,0 +1,21 @@
+//! Indexes of edges by their locks.
+//!
+//! Edges that may stand next to each other in a cycle share a lock: the one wants it, and the other
+//! holds it. An index leads from a lock through the positions of such edges, ascending, and looks at no
+//! other edge. [`Chain`] leads through the edges that have a lock on one [`Side`]. [`Followers`] leads
+//! from an edge through those that may follow it, and [`Closers`] through those that lead from one lock
+//! to another; both pass over edges that are left out.
+//!
+//! What an index says is said of every list of edges that it is the index of: the next position with a
+//! key, with no edge between that has this key and is kept.
+#![tactic(auto)]
+
+mod chains;
+mod closers;
+mod followers;
+mod sides;
+
+pub use chains::Chain;
+pub use closers::Closers;
+pub use followers::Followers;
+pub use sides::Side;

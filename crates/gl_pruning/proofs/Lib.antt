@@ -1,0 +1,6 @@
+pub mod Level
+pub mod Off
+pub mod Answered
+pub mod Back
+pub mod ByKinds
+pub mod Closing

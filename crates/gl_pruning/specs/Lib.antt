@@ -1,0 +1,4 @@
+pub mod Loops
+pub mod OffCycles
+pub mod Sought
+pub mod bodies

@@ -1,0 +1,6 @@
+-- The words of loops and private functions. No public contract cites them.
+pub mod Gaps
+pub mod Kinds
+pub mod Loops
+pub mod Ranks
+pub mod Walks

@@ -1,0 +1,39 @@
+//! Pruning: which edges a search for cycles may leave out.
+//!
+//! An edge may be left out where it is in no cycle. Some edges lie on no loop of the lock-order graph,
+//! which is seen by ranks of locks that fall along no edge: round a loop they stay the same. Others have
+//! no way back: from the lock that such an edge wants no walk of edges that go with it leads to the lock
+//! that it holds. And where edges are alike, no round of kinds may go on from theirs. How ranks, ways and
+//! kinds are found is not proved; what is found is checked.
+//!
+//! [`edges_sought`] leaves out all that is seen to be in no cycle. A search for which that is too dear at
+//! first takes a [`Sought`] and leaves out edges [on its way](Sought::leave_out_in_turn), with as much
+//! effort as it likes. In which order edges are left out, and why, is said here for both, for one thread
+//! and for many.
+#![tactic(auto)]
+
+mod candidates;
+mod components;
+mod dead_ends;
+mod grains;
+mod kinds;
+mod lengths;
+mod loops;
+mod models;
+mod narrowing;
+mod no_way;
+mod numbers;
+mod parts;
+mod prints;
+mod ranks;
+mod reasons;
+mod rests;
+mod rounds;
+mod sought;
+mod ways;
+
+pub use candidates::{edges_sought, edges_sought_parallel};
+pub use lengths::{PATH, longer_path};
+pub use loops::edges_on_loops;
+pub use reasons::{ALL_EFFORT, leave_out_in_turn_parallel};
+pub use sought::Sought;

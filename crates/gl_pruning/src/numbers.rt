@@ -1,0 +1,82 @@
+//! Numbers of locks, and distances between them.
+ghost use Rattle.std.specs.Prelude.{◌≡◌, map, IfOk};
+ghost use Rattle.gl_filters.specs.Picked.{edges_of_table};
+ghost use Rattle.gl_pruning.specs.bodies.Walks.{number_in, ends_in, AreEnds};
+
+use gl_edges::{Edge, Sample};
+use gl_event::{LockId, Memory};
+use std::alloc::Global;
+use std::collections::HashMap;
+
+/// A number for each lock of a table, from 0 in order of first mention.
+#[derive(Drop)]
+pub(crate) struct Numbers {
+    // locks that aren't there have number 0
+    pub(crate) by_lock: HashMap<LockId, usize>,
+}
+
+/// The numbers of the locks that an edge holds and wants.
+#[derive(Clone, Copy, Debug)]
+pub(crate) struct Ends {
+    pub(crate) held: usize,
+    pub(crate) wanted: usize,
+}
+
+impl Numbers {
+    /// The numbers of the locks of a table. Two look-ups for each edge, and two for each lock.
+    pub(crate) fn of(alloc: Global, table: &[(Edge, Sample)]) -> Result<Numbers, Memory> {
+        let mut by_lock = HashMap::new(alloc);
+        for (edge, _) in table {
+            add(&mut by_lock, edge.held)?;
+            add(&mut by_lock, edge.wanted)?;
+        }
+        Ok(Numbers { by_lock })
+    }
+
+    /// How many locks have a number.
+    pub(crate) fn count(&self) -> usize {
+        self.by_lock.len()
+    }
+
+    // The number of a lock.
+    fn number(&self, lock: LockId) -> usize
+        ensures { result ≡ number_in self.now lock }
+    {
+        self.by_lock.get(&lock).copied().unwrap_or(0)
+    }
+
+    // The numbers of the locks of an edge.
+    fn ends(&self, edge: &Edge) -> Ends
+        ensures { result ≡ ends_in (number_in self.now) edge.now }
+    {
+        Ends {
+            held: self.number(edge.held),
+            wanted: self.number(edge.wanted),
+        }
+    }
+
+    /// The numbers of the locks of each edge of a table.
+    pub(crate) fn of_edges(
+        &self,
+        alloc: Global,
+        table: &[(Edge, Sample)],
+    ) -> Result<Vec<Ends>, Memory>
+        ensures { IfOk result
+            (λ ends. AreEnds (number_in self.now) (edges_of_table table.now) ends.items) }
+    {
+        let mut ends = Vec::with_capacity(alloc, table.len())?;
+        for i in 0..table.len() {
+            ends.push(self.ends(&table[i].0))?;
+        }
+        Ok(ends)
+    }
+}
+
+// Gives a lock the next number, where it has none.
+fn add(numbers: &mut HashMap<LockId, usize>, lock: LockId) -> Result<(), Memory> {
+    if numbers.get(&lock).is_none() {
+        let number = numbers.len();
+        numbers.insert(lock, number)?;
+    }
+    Ok(())
+}

@@ -1,0 +1,100 @@
+//! Why edges are left out, and in which order.
+//!
+//! The edges that lie on no loop are the first, since they are soon found. The others are left out for
+//! one reason after the other, the cheaper ones first: by kind, since there may be many edges of each
+//! kind; those that have no way back; by kind and thread; and single ones by their segments.
+ghost use Rattle.std.specs.Prelude.{IfOk, OnOk};
+ghost use Rattle.gl_pruning.specs.Sought.{KeepsSought};
+
+use crate::grains::Grain;
+use crate::loops::edges_on_loops;
+use crate::narrowing::{Reason, leave_out_parallel};
+use crate::parts::Part;
+use crate::sought::Sought;
+use gl_event::Memory;
+use std::alloc::Global;
+use std::thread::Threads;
+
+/// All the effort that a reason makes at most.
+pub const ALL_EFFORT: usize = usize::MAX;
+
+// Why edges are left out, in this order.
+fn reasons() -> [Reason; 4] {
+    [
+        Reason::Alike(Grain::ByKind),
+        Reason::NoWay,
+        Reason::Alike(Grain::ByThread),
+        Reason::Alike(Grain::BySegment),
+    ]
+}
+
+impl Sought<'_> {
+    /// Which edges lie on a loop, as far as ranks of locks tell: for each a flag.
+    ///
+    /// Err where memory was refused.
+    pub fn on_loops(&self, alloc: Global) -> Result<Vec<bool>, Memory>
+        ensures { IfOk result (λ kept. KeepsSought self.now kept.items) }
+    {
+        let kept = edges_on_loops(alloc, self.table)?;
+        Ok(kept)
+    }
+
+    /// Leaves out edges for all reasons, with so much effort for each.
+    ///
+    /// Err where memory was refused.
+    pub fn leave_out_in_turn(
+        &self,
+        alloc: Global,
+        effort: usize,
+        kept: &mut Vec<bool>,
+    ) -> Result<(), Memory>
+        requires { KeepsSought self.now kept.old.items }
+        ensures { OnOk result (KeepsSought self.now kept.new.items) }
+    {
+        for reason in reasons() {
+            self.leave_out(alloc, reason, Part::whole().within(effort), kept)?;
+        }
+        Ok(())
+    }
+
+    /// Which edges may be in a cycle, as far as all reasons tell: for each a flag.
+    pub(crate) fn kept_edges(&self, alloc: Global) -> Result<Vec<bool>, Memory>
+        ensures { IfOk result (λ kept. KeepsSought self.now kept.items) }
+    {
+        let mut kept = self.on_loops(alloc)?;
+        self.leave_out_in_turn(alloc, ALL_EFFORT, &mut kept)?;
+        Ok(kept)
+    }
+}
+
+/// The same as [`Sought::leave_out_in_turn`], on several threads.
+///
+/// Err where memory was refused.
+pub fn leave_out_in_turn_parallel(
+    rt: &(impl Threads + Sync),
+    alloc: Global,
+    sought: &Sought<'_>,
+    effort: usize,
+    kept: &mut Vec<bool>,
+) -> Result<(), Memory>
+    requires kept { KeepsSought sought.now kept.old.items }
+    ensures { OnOk result (KeepsSought sought.now kept.new.items) }
+{
+    for reason in reasons() {
+        leave_out_parallel(rt, alloc, sought, reason, effort, kept)?;
+    }
+    Ok(())
+}
+
+/// The same as [`Sought::kept_edges`], on several threads.
+pub(crate) fn kept_edges_parallel(
+    rt: &(impl Threads + Sync),
+    alloc: Global,
+    sought: &Sought<'_>,
+) -> Result<Vec<bool>, Memory>
+    ensures { IfOk result (λ kept. KeepsSought sought.now kept.items) }
+{
+    let mut kept = sought.on_loops(alloc)?;
+    leave_out_in_turn_parallel(rt, alloc, sought, ALL_EFFORT, &mut kept)?;
+    Ok(kept)
+}

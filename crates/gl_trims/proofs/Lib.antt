@@ -1,0 +1,4 @@
+pub mod Accepting
+pub mod Watching
+pub mod Beside
+pub mod Removing

@@ -1,0 +1,108 @@
+-- What trimming knows as it goes: flags of the edges that are gone, and for each edge where one stands that may come beside it.
+use Rattle.std.specs.Prelude.{◌≡◌, ℕ, ◌<◌, Bool, true, false, List, [], ◌∷◌, ◌++◌, length, set, get_or, slice_get, unwrap_or, Option, Some, None, IfSome, Contains, ◌==◌}
+use Rattle.std.specs.BTreeSet.{BTreeSet, contains}
+use Rattle.std.specs.List.{list_any}
+use Rattle.std.specs.Ordering.{nat_cmp}
+use Rattle.gl_event.specs.declared.events.Segment.{Segment}
+use Rattle.gl_edges.specs.declared.edge.Edge.{Edge}
+use Rattle.gl_filters.specs.declared.query.Mode.{Mode}
+use Rattle.gl_index.specs.Indexes.{AreChained}
+use Rattle.gl_index.specs.Sides.{opposite, lock_towards}
+use Rattle.gl_trims.specs.Trims.{is_beside, HasBeside, IsStuck, IsTrimOrder}
+use Rattle.gl_trims.specs.declared.trims.Hints.{Hints}
+use Rattle.gl_index.specs.declared.sides.Side.{Side}
+use Rattle.gl_index.specs.declared.sides.Side.TheVariants.{Follower, Leader}
+use Rattle.gl_trims.specs.declared.trims.Sides.{Sides}
+
+-- the flag at this position is set
+abbrev pub IsFlagged : List Bool → ℕ → Type 0
+IsFlagged gone i = slice_get gone i ≡ Some true
+
+-- the flags are set at these positions
+pub record AreFlagsOf (size : ℕ) (gone : List Bool) (removed : List ℕ) : Type 0 where
+  pub long : length gone ≡ size
+  pub flags : (i : ℕ) → i < size → slice_get gone i ≡ Some (list_any (λ k. k == i) removed)
+
+-- one more watches a place, if there is one
+abbrev pub watched_at : Option ℕ → ℕ → List (List ℕ) → List (List ℕ)
+watched_at None watcher watchers = watchers
+watched_at (Some place) watcher watchers = set watchers place (get_or watchers place [] ++ watcher ∷ [])
+
+-- nobody watches this place any more
+pub record IsWoken (place : ℕ) (old new : Hints) : Type 0 where
+  pub chain : new.chain ≡ old.chain
+  pub places : new.places.items ≡ old.places.items
+  pub watchers : new.watchers ≡ set old.watchers place []
+
+-- the places on this side
+abbrev pub places_of : Side → Sides → List (Option ℕ)
+places_of Follower sides = sides.followers.places.items
+places_of Leader sides = sides.leaders.places.items
+
+module _ (gone : List Bool) where
+  -- the edge at i has a place, and that edge is left
+  pub record IsPlaced (places : List (Option ℕ)) (i : ℕ) : Type 0 where
+    pub place : ℕ
+    pub is : slice_get places i ≡ Some (Some place)
+    pub is_left : slice_get gone place ≡ Some false
+
+  -- each edge that has one still does
+  abbrev pub KeepPlaced : List (Option ℕ) → List (Option ℕ) → Type 0
+  KeepPlaced old new = (i : ℕ) → IsPlaced old i → IsPlaced new i
+
+  -- each edge that is left has one on both sides, or waits to be looked at
+  pub record AreAwake (size : ℕ) (sides : Sides) (waiting : BTreeSet ℕ) : Type 0 where
+    pub within : (i : ℕ) → contains nat_cmp waiting i ≡ true → i < size
+    pub placed : (i : ℕ) (side : Side) → i < size → slice_get gone i ≡ Some false → contains nat_cmp waiting i ≡ false → IsPlaced (places_of side sides) i
+
+module _ (before : Segment → Segment → Bool) (mode : Mode) (edges : List Edge) (gone : List Bool) where
+  module _ (side : Side) where
+    -- no edge below a place is left that may come beside the edge at i
+    abbrev pub NoneBeside : ℕ → ℕ → Type 0
+    NoneBeside i to =
+        (q : ℕ) (e f : Edge) → q < to → slice_get edges i ≡ Some e → slice_get edges q ≡ Some f → slice_get gone q ≡ Some false → is_beside before mode side e f ≡ false
+
+    -- no edge before this place is left that may come beside the edge at i; the one there shares a lock with it
+    pub record IsStart (i : ℕ) (place : Option ℕ) : Type 0 where
+      pub passed : NoneBeside i (unwrap_or place (length edges))
+      pub shares : IfSome place (λ p. (p < length edges) × ((e f : Edge) → slice_get edges i ≡ Some e → slice_get edges p ≡ Some f → lock_towards (opposite side) f ≡ lock_towards side e))
+
+    -- and the one there may come beside it, or might have before it was gone
+    pub record IsHint (i : ℕ) (place : Option ℕ) : Type 0 where
+      pub passed : NoneBeside i (unwrap_or place (length edges))
+      pub fits : IfSome place (λ p. (p < length edges) × ((e f : Edge) → slice_get edges i ≡ Some e → slice_get edges p ≡ Some f → is_beside before mode side e f ≡ true))
+
+    -- each of the first n edges has one, and watches it as long as it is left
+    pub record AreHints (n : ℕ) (hints : Hints) : Type 0 where
+      pub long : length hints.places.items ≡ length edges
+      pub as_long : length hints.watchers ≡ length edges
+      pub chain : AreChained (opposite side) edges 0 hints.chain
+      pub each : (i : ℕ) (place : Option ℕ) → i < n → slice_get hints.places.items i ≡ Some place → IsHint i place
+      pub watched : (i p : ℕ) → i < n → slice_get hints.places.items i ≡ Some (Some p) → slice_get gone p ≡ Some false → Contains (get_or hints.watchers p []) i
+      pub within : (p i : ℕ) → Contains (get_or hints.watchers p []) i → i < length edges
+
+    -- whether an edge is left that may come beside the edge at i
+    pub record HasBesideAt (i : ℕ) (places : List (Option ℕ)) (has : Bool) : Type 0 where
+      pub some : has ≡ true → IsPlaced gone places i
+      pub none : has ≡ false → (e : Edge) → slice_get edges i ≡ Some e → ¬ HasBeside before mode edges (IsFlagged gone) side e
+
+  -- on both sides
+  pub record AreBothHints (n : ℕ) (sides : Sides) : Type 0 where
+    pub followers : AreHints Follower n sides.followers
+    pub leaders : AreHints Leader n sides.leaders
+
+  -- whether the edge at i is stuck
+  pub record TellsStuck (sides : Sides) (i : ℕ) (stuck : Bool) : Type 0 where
+    pub yes : stuck ≡ true → IsStuck before mode edges (IsFlagged gone) i
+    pub no : stuck ≡ false → slice_get gone i ≡ Some false → (side : Side) → IsPlaced gone (places_of side sides) i
+
+  -- each edge below a position that isn't gone has a follower and a leader left
+  abbrev pub AreSettled : ℕ → Type 0
+  AreSettled n = (j : ℕ) (e : Edge) (side : Side) → j < n → slice_get edges j ≡ Some e → slice_get gone j ≡ Some false → HasBeside before mode edges (IsFlagged gone) side e
+
+-- what is known where these of the edges were taken away
+pub record AreTaken (before : Segment → Segment → Bool) (mode : Mode) (edges : List Edge) (size : ℕ) (gone : List Bool) (sides : Sides) (waiting : BTreeSet ℕ) (removed : List ℕ) : Type 0 where
+  pub flags : AreFlagsOf (length edges) gone removed
+  pub hints : AreBothHints before mode edges gone size sides
+  pub awake : AreAwake gone size sides waiting
+  pub in_order : IsTrimOrder before mode edges removed

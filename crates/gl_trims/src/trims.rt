@@ -1,0 +1,388 @@
+//! Trimming: edges that nothing may follow in a cycle, or that may follow nothing, go one by one.
+ghost use Rattle.std.specs.Prelude.{◌≡◌, ◌+◌, ◌<◌, ◌||◌, ℕ, true, false, List, [], Some, length, set, get_or, slice_get, nat_lt, ◌==◌, IfOk, IfSome, OnOk, MatchOption, vec_len};
+ghost use Rattle.std.specs.BTreeSet.{contains};
+ghost use Rattle.std.specs.List.{list_any};
+ghost use Rattle.std.specs.Ordering.{nat_cmp};
+ghost use Rattle.gl_segments.specs.Clocks.{is_before};
+ghost use Rattle.gl_filters.specs.Picked.{edges_of_table};
+ghost use Rattle.gl_trims.specs.Trims.{is_beside, IsFirstStuck, IsTrimmed, others};
+ghost use Rattle.gl_index.specs.declared.sides.Side.{Side};
+ghost use Rattle.gl_edges.specs.declared.edge.Edge.{Edge};
+ghost use Rattle.gl_trims.specs.bodies.Trimming.{IsFlagged, IsStart, IsHint, AreHints, AreBothHints, HasBesideAt, TellsStuck, KeepPlaced, AreSettled, AreFlagsOf, AreAwake, AreTaken, IsWoken, places_of, watched_at};
+ghost use Rattle.gl_index.specs.Indexes.{AreChained};
+ghost use Rattle.gl_index.specs.Sides.{opposite};
+
+use crate::watchers::Watchers;
+use gl_edges::{Edge, EdgeList, Sample};
+use gl_event::Memory;
+use gl_filters::{Mode, compatible};
+use gl_index::{Chain, Side};
+use gl_segments::Order;
+use std::alloc::Global;
+use std::collections::BTreeSet;
+
+/// What trimming leaves of a list of edges, and what it takes away, by their positions.
+#[derive(Drop, Debug)]
+pub struct Trimmed {
+    /// The edges that stay, ascending.
+    pub kept: Vec<usize>,
+    /// The edges that go, in the order in which they went.
+    pub removed: Vec<usize>,
+}
+
+// For each edge a place before which no edge is left that may come beside it on one side.
+#[derive(Drop)]
+pub(crate) struct Hints {
+    // leads through the edges that share a lock
+    pub(crate) chain: Chain,
+    // for each position its place, where there is one
+    pub(crate) places: Vec<Option<usize>>,
+    // for each place that is left the positions of which it is the place
+    pub(crate) watchers: Watchers,
+}
+
+impl Hints {
+    // The edge at a position has this place from now on, and watches it.
+    fn put(&mut self, i: usize, place: Option<usize>) -> Result<(), Memory>
+        requires here { i < vec_len self.old.places }
+        requires there { IfSome place (λ p. p < length self.old.watchers) }
+        ensures chain { OnOk result (self.new.chain ≡ self.old.chain) }
+        ensures places { OnOk result (self.new.places.items ≡ set self.old.places.items i place) }
+        ensures watchers { OnOk result (self.new.watchers ≡ watched_at place i self.old.watchers) }
+    {
+        self.places[i] = place;
+        match place {
+            Some(place) => self.watchers.add(place, i),
+            None => Ok(()),
+        }
+    }
+}
+
+// The hints on both sides.
+#[derive(Drop)]
+pub(crate) struct Sides {
+    pub(crate) followers: Hints,
+    pub(crate) leaders: Hints,
+}
+
+// What is trimmed.
+#[derive(Clone, Copy)]
+pub(crate) struct Trimming<'a> {
+    pub(crate) table: &'a [(Edge, Sample)],
+    pub(crate) order: &'a Order,
+    pub(crate) mode: Mode,
+}
+
+impl Trimming<'_> {
+    // Whether the edge at the second position may come beside the one at the first.
+    fn fits(&self, side: Side, i: usize, other: usize) -> bool
+        requires here { i < length self.now.table.now }
+        requires there { other < length self.now.table.now }
+        ensures { (e f : Edge) → slice_get (edges_of_table self.now.table.now) i ≡ Some e
+            → slice_get (edges_of_table self.now.table.now) other ≡ Some f
+            → result ≡ is_beside (is_before self.now.order.now) self.now.mode side e f }
+    {
+        let edge = &self.table[i].0;
+        let beside = &self.table[other].0;
+        match side {
+            Side::Follower => compatible(self.mode, self.order, edge, beside),
+            Side::Leader => compatible(self.mode, self.order, beside, edge),
+        }
+    }
+
+    // The first place from this one on of an edge that isn't gone and may come beside the edge at a
+    // position.
+    pub(crate) fn next_beside(
+        &self,
+        gone: &[bool],
+        chain: &Chain,
+        side: Side,
+        i: usize,
+        from: Option<usize>,
+    ) -> Option<usize>
+        requires here { i < length self.now.table.now }
+        requires flags { length gone.now ≡ length self.now.table.now }
+        requires chain { AreChained (opposite side)
+            (edges_of_table self.now.table.now) 0 chain.now }
+        requires start { IsStart (is_before self.now.order.now) self.now.mode
+            (edges_of_table self.now.table.now) gone.now side i from }
+        ensures hint { IsHint (is_before self.now.order.now) self.now.mode
+            (edges_of_table self.now.table.now) gone.now side i result }
+        ensures left { IfSome result (λ place. slice_get gone.now place ≡ Some false) }
+    {
+        let mut next = from;
+        while let Some(place) = next {
+            if !gone[place] && self.fits(side, i, place) {
+                return Some(place);
+            }
+            next = chain.after(place);
+        }
+        None
+    }
+
+    // Notes where an edge is that may come beside the one at a position, which has no place yet.
+    fn find(&self, gone: &[bool], hints: &mut Hints, side: Side, i: usize) -> Result<(), Memory>
+        requires here { i < length self.now.table.now }
+        requires flags { length gone.now ≡ length self.now.table.now }
+        requires hints { AreHints (is_before self.now.order.now) self.now.mode
+            (edges_of_table self.now.table.now) gone.now side i hints.old }
+        ensures { OnOk result
+            (AreHints (is_before self.now.order.now) self.now.mode
+            (edges_of_table self.now.table.now) gone.now side (i + 1) hints.new) }
+    {
+        let first = hints.chain.begin(side.lock_of(&self.table[i].0));
+        let place = self.next_beside(gone, &hints.chain, side, i, first);
+        hints.put(i, place)
+    }
+
+    // For each edge the first place of one that may come beside it.
+    fn hints(&self, alloc: Global, gone: &[bool], side: Side) -> Result<Hints, Memory>
+        requires flags { length gone.now ≡ length self.now.table.now }
+        ensures { IfOk result
+            (λ hints. AreHints (is_before self.now.order.now) self.now.mode
+            (edges_of_table self.now.table.now) gone.now side (length self.now.table.now) hints) }
+    {
+        let mut hints = Hints {
+            chain: Chain::of(alloc, self.table, side.opposite())?,
+            places: vec![in alloc; None; self.table.len()]?,
+            watchers: Watchers::none(alloc, self.table.len())?,
+        };
+        for i in 0..self.table.len() {
+            self.find(gone, &mut hints, side, i)?;
+        }
+        Ok(hints)
+    }
+
+    // The hints on both sides.
+    fn both_hints(&self, alloc: Global, gone: &[bool]) -> Result<Sides, Memory>
+        requires flags { length gone.now ≡ length self.now.table.now }
+        ensures { IfOk result
+            (λ sides. AreBothHints (is_before self.now.order.now) self.now.mode
+            (edges_of_table self.now.table.now) gone.now (length self.now.table.now) sides) }
+    {
+        let followers = self.hints(alloc, gone, Side::Follower)?;
+        let leaders = self.hints(alloc, gone, Side::Leader)?;
+        Ok(Sides { followers, leaders })
+    }
+
+    // Whether an edge is left that may come beside the one at a position. Then one is its place.
+    fn has_beside(
+        &self,
+        gone: &[bool],
+        hints: &mut Hints,
+        side: Side,
+        i: usize,
+    ) -> Result<bool, Memory>
+        requires here { i < length self.now.table.now }
+        requires flags { length gone.now ≡ length self.now.table.now }
+        requires hints { AreHints (is_before self.now.order.now) self.now.mode
+            (edges_of_table self.now.table.now) gone.now side
+            (length self.now.table.now) hints.old }
+        ensures hints { OnOk result
+            (AreHints (is_before self.now.order.now) self.now.mode
+            (edges_of_table self.now.table.now) gone.now side
+            (length self.now.table.now) hints.new) }
+        ensures kept { OnOk result
+            (KeepPlaced gone.now hints.old.places.items hints.new.places.items) }
+        ensures tells { IfOk result
+            (λ has. HasBesideAt (is_before self.now.order.now) self.now.mode
+            (edges_of_table self.now.table.now) gone.now side i hints.new.places.items has) }
+    {
+        let Some(place) = hints.places[i] else {
+            return Ok(false);
+        };
+        if !gone[place] {
+            return Ok(true);
+        }
+        let from = hints.chain.after(place);
+        let next = self.next_beside(gone, &hints.chain, side, i, from);
+        hints.put(i, next)?;
+        Ok(next.is_some())
+    }
+
+    // Whether the edge at a position is left, and no follower of it, or no leader.
+    fn is_stuck(&self, gone: &[bool], sides: &mut Sides, i: usize) -> Result<bool, Memory>
+        requires here { i < length self.now.table.now }
+        requires flags { length gone.now ≡ length self.now.table.now }
+        requires hints { AreBothHints (is_before self.now.order.now) self.now.mode
+            (edges_of_table self.now.table.now) gone.now (length self.now.table.now) sides.old }
+        ensures hints { OnOk result
+            (AreBothHints (is_before self.now.order.now) self.now.mode
+            (edges_of_table self.now.table.now) gone.now (length self.now.table.now) sides.new) }
+        ensures kept { OnOk result
+            ((side : Side)
+            → KeepPlaced gone.now (places_of side sides.old) (places_of side sides.new)) }
+        ensures tells { IfOk result
+            (λ stuck. TellsStuck (is_before self.now.order.now) self.now.mode
+            (edges_of_table self.now.table.now) gone.now sides.new i stuck) }
+    {
+        if gone[i] {
+            return Ok(false);
+        }
+        if !self.has_beside(gone, &mut sides.followers, Side::Follower, i)? {
+            return Ok(true);
+        }
+        let has_leader = self.has_beside(gone, &mut sides.leaders, Side::Leader, i)?;
+        Ok(!has_leader)
+    }
+
+    // The first edge that isn't gone and has no follower left, or no leader. It still waits.
+    fn first_stuck(
+        &self,
+        gone: &[bool],
+        sides: &mut Sides,
+        waiting: &mut BTreeSet<usize>,
+    ) -> Result<Option<usize>, Memory>
+        requires flags { length gone.now ≡ length self.now.table.now }
+        requires hints { AreBothHints (is_before self.now.order.now) self.now.mode
+            (edges_of_table self.now.table.now) gone.now (length self.now.table.now) sides.old }
+        requires awake { AreAwake gone.now (length self.now.table.now) sides.old waiting.old }
+        ensures hints { OnOk result
+            (AreBothHints (is_before self.now.order.now) self.now.mode
+            (edges_of_table self.now.table.now) gone.now (length self.now.table.now) sides.new) }
+        ensures awake { OnOk result
+            (AreAwake gone.now (length self.now.table.now) sides.new waiting.new) }
+        ensures found { IfOk result
+            (λ found. MatchOption found
+            (AreSettled (is_before self.now.order.now) self.now.mode
+            (edges_of_table self.now.table.now) gone.now (length self.now.table.now))
+            (λ i. IsFirstStuck (is_before self.now.order.now) self.now.mode
+            (edges_of_table self.now.table.now) (IsFlagged gone.now) i)) }
+    {
+        while let Some(i) = waiting.first().copied() {
+            if self.is_stuck(gone, sides, i)? {
+                return Ok(Some(i));
+            }
+            waiting.remove(&i);
+        }
+        Ok(None)
+    }
+
+    // All edges wait to be looked at.
+    fn all_wait(&self, alloc: Global) -> Result<BTreeSet<usize>, Memory>
+        ensures { IfOk result
+            (λ waiting. (i : ℕ)
+            → contains nat_cmp waiting i ≡ nat_lt i (length self.now.table.now)) }
+    {
+        let mut waiting = BTreeSet::new(alloc);
+        for i in 0..self.table.len() {
+            waiting.insert(i)?;
+        }
+        Ok(waiting)
+    }
+
+    // Takes away the first edge that is stuck.
+    fn take_away(
+        &self,
+        alloc: Global,
+        gone: &mut Vec<bool>,
+        sides: &mut Sides,
+        waiting: &mut BTreeSet<usize>,
+        removed: &mut Vec<usize>,
+        i: usize,
+    ) -> Result<(), Memory>
+        requires first { IsFirstStuck (is_before self.now.order.now) self.now.mode
+            (edges_of_table self.now.table.now) (IsFlagged gone.old.items) i }
+        requires taken { AreTaken (is_before self.now.order.now) self.now.mode
+            (edges_of_table self.now.table.now)
+            (length self.now.table.now) gone.old.items sides.old waiting.old removed.old.items }
+        ensures flag { OnOk result (gone.new.items ≡ set gone.old.items i true) }
+        ensures taken { OnOk result
+            (AreTaken (is_before self.now.order.now) self.now.mode
+            (edges_of_table self.now.table.now)
+            (length self.now.table.now) gone.new.items sides.new waiting.new removed.new.items) }
+    {
+        gone[i] = true;
+        wake(alloc, sides, waiting, i)?;
+        removed.push(i)?;
+        Ok(())
+    }
+
+    // Takes away edges that are stuck, as long as there are any.
+    fn run(&self, alloc: Global) -> Result<Trimmed, Memory>
+        ensures { IfOk result
+            (λ trimmed. IsTrimmed (is_before self.now.order.now) self.now.mode
+            (edges_of_table self.now.table.now) trimmed.kept.items trimmed.removed.items) }
+    {
+        let mut gone = vec![in alloc; false; self.table.len()]?;
+        let mut sides = self.both_hints(alloc, &gone)?;
+        let mut waiting = self.all_wait(alloc)?;
+        let mut removed = Vec::new(alloc);
+        while let Some(i) = self.first_stuck(&gone, &mut sides, &mut waiting)? {
+            self.take_away(alloc, &mut gone, &mut sides, &mut waiting, &mut removed, i)?;
+        }
+        let kept = left_of(alloc, &gone)?;
+        Ok(Trimmed { kept, removed })
+    }
+}
+
+// These wait to be looked at again.
+fn all_of(waiting: &mut BTreeSet<usize>, watchers: &[usize]) -> Result<(), Memory>
+    ensures { OnOk result
+        ((i : ℕ) → contains nat_cmp waiting.new i
+        ≡ (contains nat_cmp waiting.old i || list_any (λ w. w == i) watchers.now)) }
+{
+    for i in 0..watchers.len() {
+        waiting.insert(watchers[i])?;
+    }
+    Ok(())
+}
+
+// Those that watch the edge at a position wait to be looked at again, as it goes.
+fn wake(
+    alloc: Global,
+    sides: &mut Sides,
+    waiting: &mut BTreeSet<usize>,
+    i: usize,
+) -> Result<(), Memory>
+    requires followers { i < length sides.old.followers.watchers }
+    requires leaders { i < length sides.old.leaders.watchers }
+    ensures followers { OnOk result (IsWoken i sides.old.followers sides.new.followers) }
+    ensures leaders { OnOk result (IsWoken i sides.old.leaders sides.new.leaders) }
+    ensures waiting { OnOk result
+        ((j : ℕ) → contains nat_cmp waiting.new j
+        ≡ ((contains nat_cmp waiting.old j || list_any (λ w. w == j)
+        (get_or sides.old.followers.watchers i [])) || list_any (λ w. w == j)
+        (get_or sides.old.leaders.watchers i []))) }
+{
+    let before = sides.followers.watchers.take(alloc, i);
+    all_of(waiting, &before)?;
+    let after = sides.leaders.watchers.take(alloc, i);
+    all_of(waiting, &after)
+}
+
+// The positions of flags that aren't set, ascending.
+fn left_of(alloc: Global, gone: &[bool]) -> Result<Vec<usize>, Memory>
+    ensures { (edges : List Edge) (removed : List ℕ) → AreFlagsOf (length edges) gone.now removed
+        → IfOk result (λ left. left.items ≡ others edges removed) }
+{
+    let mut left = Vec::new(alloc);
+    for i in 0..gone.len() {
+        if !gone[i] {
+            left.push(i)?;
+        }
+    }
+    Ok(left)
+}
+
+/// Trims a list of edges. As long as no edge that is left may follow some edge in a cycle of this
+/// mode, or that edge may follow none, the first such edge goes. What stays is kept: each of these
+/// edges has a follower and a leader among them, and each edge of a cycle is one of them.
+///
+/// Each edge is compared at most once with each edge that holds the lock which it wants, and with
+/// each that wants the lock which it holds. As an edge goes, only those are looked at again that had
+/// it as their follower or their leader.
+///
+/// Err where memory was refused.
+pub fn trim(alloc: Global, edges: &EdgeList, order: &Order, mode: Mode) -> Result<Trimmed, Memory>
+    ensures { IfOk result
+        (λ trimmed. IsTrimmed (is_before order.now) mode
+        (edges_of_table edges.now) trimmed.kept.items trimmed.removed.items) }
+{
+    let trimming = Trimming {
+        table: edges.entries(),
+        order,
+        mode,
+    };
+    trimming.run(alloc)
+}
