@@ -28,7 +28,7 @@ as_long f g xs ys same = sym (length-map xs f) ∙ ap length same ∙ length-map
 
 -- ---- receipts of what was gathered
 
-seating_same : (g : Gathering) (c : Collecting) → g.session ≡ c.session → g.limits ≡ c.limits → g.lanes ≡ lanes_of c → gathered_from g ≡ seating_of c
+pub seating_same : (g : Gathering) (c : Collecting) → g.session ≡ c.session → g.limits ≡ c.limits → g.lanes ≡ lanes_of c → gathered_from g ≡ seating_of c
 seating_same g c session limits lanes = λ i. (let x : Seating = record { session = session i; limits = limits i; lanes = lanes i } in x)
 
 pub receipts_gathered : (g : Gathering) (c : Collecting) (lists : List (List Event)) (receipts : List Closed) → g.session ≡ c.session → g.limits ≡ c.limits → g.lanes ≡ lanes_of c

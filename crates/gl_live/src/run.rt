@@ -1,21 +1,25 @@
 //! The run of a session: its threads are started, and joined when the collector is done.
-ghost use Rattle.std.specs.Prelude.{◌≡◌, List, length, IfOk, IfErr};
+ghost use Rattle.std.specs.Prelude.{◌≡◌, ◌≤◌, ◌+◌, ℕ, true, [], List, None, length, map, IfOk, IfErr};
 ghost use Rattle.std.specs.List.{All};
+ghost use Rattle.std.specs.Vec.{vec_len, vec_capacity};
 ghost use Rattle.gl_event.specs.declared.events.Event.{Event};
 ghost use Rattle.gl_segments.specs.Orders.{lists_of};
+ghost use Rattle.gl_engine.specs.Collecting.{Collecting};
 ghost use Rattle.gl_live.specs.Faults.{IsLiveFault};
+ghost use Rattle.gl_shards.specs.declared.shard.TheConstants.{MAX_SHARDS};
+ghost use Rattle.gl_live.specs.bodies.Desks.{IsDeskOf};
 ghost use Rattle.gl_live.specs.bodies.Ready.{IsReady};
 ghost use Rattle.gl_live.specs.bodies.Runs.{HasRun};
-ghost use Rattle.gl_live.specs.bodies.Seats.{gathered_from, IsReceiptOf};
+ghost use Rattle.gl_live.specs.bodies.Seats.{gathered_from, seating_of, IsReceiptOf};
 
 use crate::faults::LiveFault;
-use crate::recording::{join_recorders, start_recorders};
+use crate::recording::{Desk, Recording, join_recorders, start_recorders};
 use crate::session::Session;
 use crate::start::Start;
-use crate::working::{join_workers, start_workers};
-use gl_engine::{Gathered, Receipt};
+use crate::working::{Working, join_workers, start_workers};
+use gl_engine::{Collector, Gathered, Receipt};
 use gl_event::Event;
-use gl_shards::{Gate, Outlet, Served};
+use gl_shards::{Gate, Inlet, Outlet, Served};
 use std::alloc::Global;
 use std::sync::Wait;
 use std::thread;
@@ -34,6 +38,78 @@ fn call_off<R: Wait>(rt: &R, start: &Start, outlets: Vec<Outlet>) {
     start.call_off();
     for outlet in outlets {
         let _ = outlet.end(rt);
+    }
+}
+
+// Starts the workers and then the recorder threads, up to the first that can't be started. Whether all were.
+fn start_threads<'s, E, R: Threads + Wait + Sync, G: Gate + Sync>(
+    scope: &'s Scope<'s, E>,
+    rt: &'s R,
+    alloc: Global,
+    start: &'s Start,
+    lists: &'s [Vec<Event>],
+    gate: &'s G,
+    collector: &Collector,
+    desks: Vec<Desk>,
+    inlets: Vec<Inlet>,
+    workers: &mut Vec<Working>,
+    recorders: &mut Vec<Recording<'s>>,
+) -> bool
+    requires desks { All (IsDeskOf (seating_of collector.now)) desks.items }
+    requires fit { length inlets.items ≤ MAX_SHARDS }
+    requires none_works { workers.old.items ≡ [] }
+    requires work_room { vec_len workers.old + length inlets.items ≤ vec_capacity workers.old }
+    requires none_records { recorders.old.items ≡ [] }
+    requires record_room { vec_len recorders.old + length desks.items ≤ vec_capacity recorders.old }
+    ensures feeds { result ≡ true
+        → map (λ w. w.promise.0.value.feed) workers.new.items ≡ map (λ i. i.feed) inlets.items }
+    ensures lists { result ≡ true
+        → All (λ h. (h.promise.collector.value ≡ collector.now)
+        × (lists_of h.promise.lists.now ≡ lists_of lists.now)) recorders.new.items }
+{
+    if !start_workers(scope, rt, alloc, inlets, gate, workers) {
+        return false;
+    }
+    start_recorders(scope, rt, start, lists, collector, desks, recorders)
+}
+
+// Waits for all threads, and gives what they leave.
+fn join_threads<'s, R: Threads>(
+    rt: &R,
+    gathered: Gathered,
+    workers: Vec<Working>,
+    recorders: Vec<Recording<'s>>,
+    receipts: Vec<Receipt>,
+    served: Vec<Served>,
+) -> Result<Ran, LiveFault>
+    requires empty { served.items ≡ [] }
+    requires room { vec_len served + length workers.items ≤ vec_capacity served }
+    ensures run { (shards : ℕ) → length workers.items ≡ shards
+        → (gathered.fault ≡ None
+        → map (λ w. w.promise.0.value.feed) workers.items ≡ map (λ s. s.feed) gathered.sent)
+        → IfOk result (λ ran. HasRun shards ran.gathered ran.served.items) }
+    ensures threads { (threads : ℕ) → gathered.limits.threads ≡ threads
+        → IfOk result (λ ran. ran.gathered.limits.threads ≡ threads) }
+    ensures receipts { (c : Collecting) (lists : List (List Event))
+        → seating_of c ≡ gathered_from gathered
+        → All (λ h. (h.promise.collector.value ≡ c)
+        × (lists_of h.promise.lists.now ≡ lists)) recorders.entry.items
+        → receipts.items ≡ []
+        → IfOk result
+        (λ ran. All (IsReceiptOf (gathered_from ran.gathered) lists) ran.receipts.items) }
+    ensures fault { (all : List (List Event)) → IfErr result (IsLiveFault all) }
+{
+    let mut receipts = receipts;
+    let mut served = served;
+    let joined = join_recorders(rt, recorders, &mut receipts);
+    join_workers(rt, workers, &mut served);
+    match joined {
+        Ok(()) => Ok(Ran {
+            gathered,
+            receipts,
+            served,
+        }),
+        Err(_) => Err(LiveFault::Memory),
     }
 }
 
@@ -57,39 +133,39 @@ fn run_threads<'s, E, R: Threads + Wait + Sync, G: Gate + Sync>(
         (IsReceiptOf (gathered_from ran.gathered) (lists_of lists.now)) ran.receipts.items) }
     ensures fault { (all : List (List Event)) → IfErr result (IsLiveFault all) }
 {
+    let Ok(mut workers) = Vec::with_capacity(alloc, session.inlets.len()) else {
+        return Err(LiveFault::Memory);
+    };
+    let Ok(mut recorders) = Vec::with_capacity(alloc, session.desks.len()) else {
+        return Err(LiveFault::Memory);
+    };
     let Session {
         collector,
         desks,
         outlets,
         inlets,
-        mut receipts,
-        mut served,
+        receipts,
+        served,
     } = session;
-    let Ok(mut workers) = Vec::with_capacity(alloc, inlets.len()) else {
-        return Err(LiveFault::Memory);
-    };
-    let Ok(mut recorders) = Vec::with_capacity(alloc, desks.len()) else {
-        return Err(LiveFault::Memory);
-    };
-    if !start_workers(scope, rt, alloc, inlets, gate, &mut workers) {
-        call_off(rt, start, outlets);
-        return Err(LiveFault::Unconfirmed);
-    }
-    if !start_recorders(scope, rt, start, lists, &collector, desks, &mut recorders) {
+    if !start_threads(
+        scope,
+        rt,
+        alloc,
+        start,
+        lists,
+        gate,
+        &collector,
+        desks,
+        inlets,
+        &mut workers,
+        &mut recorders,
+    ) {
         call_off(rt, start, outlets);
         return Err(LiveFault::Unconfirmed);
     }
     start.begin();
     let gathered = collector.run(rt, outlets);
-    let Ok(()) = join_recorders(rt, recorders, &mut receipts) else {
-        return Err(LiveFault::Memory);
-    };
-    join_workers(rt, workers, &mut served);
-    Ok(Ran {
-        gathered,
-        receipts,
-        served,
-    })
+    join_threads(rt, gathered, workers, recorders, receipts, served)
 }
 
 /// Runs the session: each recorder thread records the lists of its lanes, each worker fills a table, and

@@ -1,5 +1,5 @@
 //! A session that is ready to run: recorders, collector and feeds, and room for all that it leaves.
-ghost use Rattle.std.specs.Prelude.{◌≡◌, ◌<◌, ◌≤◌, ◌+◌, [], map, length, IfOk};
+ghost use Rattle.std.specs.Prelude.{◌≡◌, ◌<◌, ◌≤◌, ◌+◌, [], map, length, IfOk, OnOk};
 ghost use Rattle.std.specs.List.{All};
 ghost use Rattle.std.specs.Vec.{vec_len, vec_capacity};
 ghost use Rattle.gl_event.specs.declared.limits.TheConstants.{MAX_EVENTS, MAX_THREADS, MAX_RING};
@@ -109,6 +109,27 @@ fn desks(alloc: Global, recorders: Vec<Recorder>, count: u32) -> Result<Vec<Desk
     Ok(desks)
 }
 
+// Adds a feed with this capacity.
+fn add_feed(
+    alloc: Global,
+    capacity: u32,
+    outlets: &mut Vec<Outlet>,
+    inlets: &mut Vec<Inlet>,
+) -> Result<(), Memory>
+    requires some { 1 ≤ capacity }
+    requires fit { capacity ≤ MAX_RING }
+    ensures count { OnOk result (length outlets.new.items ≡ length outlets.old.items + 1) }
+    ensures feeds { map (λ i. i.feed) inlets.old.items ≡ map (λ o. o.feed) outlets.old.items
+        → OnOk result (map (λ i. i.feed) inlets.new.items ≡ map (λ o. o.feed) outlets.new.items) }
+    ensures unsent { All (λ o. o.sent ≡ []) outlets.old.items
+        → OnOk result (All (λ o. o.sent ≡ []) outlets.new.items) }
+{
+    let (outlet, inlet) = feed(alloc, capacity)?;
+    outlets.push(outlet)?;
+    inlets.push(inlet)?;
+    Ok(())
+}
+
 /// So many feeds, with this capacity.
 pub fn feeds(alloc: Global, count: u32, capacity: u32) -> Result<(Vec<Outlet>, Vec<Inlet>), Memory>
     requires some { 1 ≤ capacity }
@@ -121,9 +142,7 @@ pub fn feeds(alloc: Global, count: u32, capacity: u32) -> Result<(Vec<Outlet>, V
     let mut outlets = Vec::with_capacity(alloc, count as usize)?;
     let mut inlets = Vec::with_capacity(alloc, count as usize)?;
     for _ in 0..count {
-        let (outlet, inlet) = feed(alloc, capacity)?;
-        outlets.push(outlet)?;
-        inlets.push(inlet)?;
+        add_feed(alloc, capacity, &mut outlets, &mut inlets)?;
     }
     Ok((outlets, inlets))
 }

@@ -1,5 +1,5 @@
 //! A session that records a text as it is read.
-ghost use Rattle.std.specs.Prelude.{◌≡◌, ◌<◌, ◌≤◌, ◌+◌, ℕ, true, false, [], List, Ok, Option, length, IfErr, IfOk, IfSome, OnOk};
+ghost use Rattle.std.specs.Prelude.{◌≡◌, ◌<◌, ◌≤◌, ◌+◌, ℕ, true, false, [], List, Ok, Option, length, map, IfErr, IfOk, IfSome, OnOk};
 ghost use Rattle.std.specs.List.{All};
 ghost use Rattle.std.specs.Vec.{vec_len, vec_capacity};
 ghost use Rattle.gl_event.specs.Bounds.{Bounds};
@@ -22,7 +22,7 @@ use crate::recording::close_wait;
 use crate::room::keep;
 use crate::run::Ran;
 use crate::session::{SESSION, feeds, session_limits};
-use crate::working::{join_workers, start_workers};
+use crate::working::{Working, join_workers, start_workers};
 use gl_engine::{Collector, Gathered, Receipt, Recorder, open};
 use gl_event::{Event, Memory};
 use gl_shards::{Gate, Inlet, Outlet, Served};
@@ -71,16 +71,18 @@ pub fn prepare_to_read(alloc: Global, options: &StreamOptions) -> Result<ReadSes
         (λ session. length session.recorders.items ≡ options.now.threads) }
     ensures shards { IfOk result (λ session. length session.outlets.items ≡ options.now.shards) }
 {
+    let receipts = Vec::with_capacity(alloc, options.threads as usize)?;
+    let served = Vec::with_capacity(alloc, options.shards as usize)?;
+    let (outlets, inlets) = feeds(alloc, options.shards, options.ring)?;
     let limits = session_limits(options.threads, options.ring);
     let (recorders, collector) = open(alloc, SESSION, &limits)?;
-    let (outlets, inlets) = feeds(alloc, options.shards, options.ring)?;
     Ok(ReadSession {
         collector,
         recorders,
         outlets,
         inlets,
-        receipts: Vec::with_capacity(alloc, options.threads as usize)?,
-        served: Vec::with_capacity(alloc, options.shards as usize)?,
+        receipts,
+        served,
     })
 }
 
@@ -251,6 +253,34 @@ fn gather<R: Wait>(rt: &R, collector: Collector, outlets: Vec<Outlet>) -> Gather
     collector.run(rt, outlets)
 }
 
+// Starts the workers, and then the collector's thread. None where one can't be started.
+fn start_collecting<'s, E, R: Threads + Wait + Sync, G: Gate + Sync>(
+    scope: &'s Scope<'s, E>,
+    rt: &'s R,
+    alloc: Global,
+    gate: &'s G,
+    collector: Collector,
+    outlets: Vec<Outlet>,
+    inlets: Vec<Inlet>,
+    workers: &mut Vec<Working>,
+) -> Option<Gathering>
+    requires some { 1 ≤ length outlets.items }
+    requires fit { length outlets.items ≤ MAX_SHARDS }
+    requires unsent { All (λ o. o.sent ≡ []) outlets.items }
+    requires feeds { map (λ i. i.feed) inlets.items ≡ map (λ o. o.feed) outlets.items }
+    requires empty { workers.old.items ≡ [] }
+    requires room { vec_len workers.old + length inlets.items ≤ vec_capacity workers.old }
+    ensures feeds { IfSome result
+        (λ h. map (λ w. w.promise.0.value.feed) workers.new.items ≡ map (λ i. i.feed) inlets.items) }
+    ensures collector { IfSome result (λ h. h.promise.collector.value ≡ collector) }
+    ensures outlets { IfSome result (λ h. h.promise.outlets.value.items ≡ outlets.items) }
+{
+    if !start_workers(scope, rt, alloc, inlets, gate, workers) {
+        return None;
+    }
+    start_collector(scope, rt, collector, outlets)
+}
+
 // Starts the workers and the collector, and then reads and records.
 fn record_text<'s, E, R: Threads + Wait + Sync, S: Source, G: Gate + Sync>(
     scope: &'s Scope<'s, E>,
@@ -279,6 +309,9 @@ fn record_text<'s, E, R: Threads + Wait + Sync, S: Source, G: Gate + Sync>(
     ensures done { OnOk result (IsDone items.new) }
     ensures in_time { FailsInTime (S.remaining input.old) (S.remaining input.new) items.new result }
 {
+    let Ok(mut workers) = Vec::with_capacity(alloc, session.inlets.len()) else {
+        return Err(StreamFault::Session(LiveFault::Memory));
+    };
     let ReadSession {
         collector,
         mut recorders,
@@ -287,13 +320,16 @@ fn record_text<'s, E, R: Threads + Wait + Sync, S: Source, G: Gate + Sync>(
         mut receipts,
         mut served,
     } = session;
-    let Ok(mut workers) = Vec::with_capacity(alloc, inlets.len()) else {
-        return Err(StreamFault::Session(LiveFault::Memory));
-    };
-    if !start_workers(scope, rt, alloc, inlets, gate, &mut workers) {
-        return Err(StreamFault::Session(LiveFault::Unconfirmed));
-    }
-    let Some(gathering) = start_collector(scope, rt, collector, outlets) else {
+    let Some(gathering) = start_collecting(
+        scope,
+        rt,
+        alloc,
+        gate,
+        collector,
+        outlets,
+        inlets,
+        &mut workers,
+    ) else {
         return Err(StreamFault::Session(LiveFault::Unconfirmed));
     };
     let read = record_items(rt, items, input, &mut recorders);

@@ -17,6 +17,7 @@
 //! others.
 #![tactic(auto)]
 
+mod building;
 mod form;
 mod live_options;
 mod options;

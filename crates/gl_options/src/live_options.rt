@@ -4,6 +4,7 @@ ghost use Rattle.clap.specs.Words.{app_of, found_of, rows_of, rule_of};
 ghost use Rattle.clap.specs.declared.builder.command.Command.TheViews.{out-Command as fields_of};
 ghost use Rattle.gl_options.specs.Options.{live, session_app, recorders_rule, shards_rule, ring_rule, stream_rule, threads_rule, IsCommand, IsNumberIn};
 
+use crate::building::{described, with_option};
 use crate::form::Form;
 use crate::options::{Command, flag_in, form_in, number_at, query_in, report_command};
 use clap::{Arg, ArgAction, ArgMatches, value_parser};
@@ -107,10 +108,10 @@ fn session_command<'a>(alloc: Global) -> Result<clap::Command<'a>, AllocError>
     ensures shape { IfOk result (λ c. app_of c ≡ session_app) }
     ensures local { IfOk result (λ c. (fields_of c).has_globals ≡ false) }
 {
-    report_command(alloc, "live")?
-        .arg(recorders_option(alloc))?
-        .arg(shards_option(alloc))?
-        .arg(ring_option(alloc))
+    let command = report_command(alloc, "live");
+    let command = with_option(command, recorders_option(alloc));
+    let command = with_option(command, shards_option(alloc));
+    with_option(command, ring_option(alloc))
 }
 
 /// The command that predicts by a session.
@@ -118,15 +119,13 @@ pub(crate) fn live_command<'a>(alloc: Global) -> Result<clap::Command<'a>, Alloc
     ensures shape { IfOk result (λ c. app_of c ≡ live) }
     ensures local { IfOk result (λ c. (fields_of c).has_globals ≡ false) }
 {
-    session_command(alloc)?
-        .about(
-            "Reads a trace from standard input, records it again in running threads and prints the deadlocks that it predicts",
-        )
-        .after_help(
-            "Examples:\n  goodlock live < trace.std\n  goodlock live --recorders 2 --shards 3 --ring 1 --json < trace.std\n  some-recorder | goodlock live --stream --threads 256",
-        )
-        .arg(stream_option(alloc))?
-        .arg(threads_option(alloc))
+    let command = described(
+        session_command(alloc),
+        "Reads a trace from standard input, records it again in running threads and prints the deadlocks that it predicts",
+        "Examples:\n  goodlock live < trace.std\n  goodlock live --recorders 2 --shards 3 --ring 1 --json < trace.std\n  some-recorder | goodlock live --stream --threads 256",
+    );
+    let command = with_option(command, stream_option(alloc));
+    with_option(command, threads_option(alloc))
 }
 
 // The number that was read for an option, where it is from 1 to the greatest.

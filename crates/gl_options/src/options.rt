@@ -7,6 +7,7 @@ ghost use Rattle.gl_filters.specs.Asked.{Asked};
 ghost use Rattle.gl_options.specs.Options.{goodlock, program, predict, live, stats, replay, check, query_app, report_app, mode_rule, len_rule, max_rule, json_rule, findings_rule};
 ghost use Rattle.gl_options.specs.Options.{Asks, AsksIn, IsCommand, IsEntered, IsFlagIn, IsFormIn, IsNumberAt, IsUsageFor, IsUsageOf, mode_named};
 
+use crate::building::{described, with_command, with_option};
 use crate::form::Form;
 use crate::live_options::{LiveOptions, live_command, live_in};
 use clap::error::ErrorKind;
@@ -124,10 +125,10 @@ fn query_command<'a>(alloc: Global, name: &'a str) -> Result<clap::Command<'a>, 
     ensures shape { IfOk result (λ c. app_of c ≡ query_app name.entry.now) }
     ensures local { IfOk result (λ c. (fields_of c).has_globals ≡ false) }
 {
-    clap::Command::new(alloc, name)
-        .arg(mode_option(alloc))?
-        .arg(len_option(alloc))?
-        .arg(max_option(alloc))
+    let command = Ok(clap::Command::new(alloc, name));
+    let command = with_option(command, mode_option(alloc));
+    let command = with_option(command, len_option(alloc));
+    with_option(command, max_option(alloc))
 }
 
 /// A command of this name that reports, with the options of a query, the form of the report and what it lists.
@@ -138,9 +139,9 @@ pub(crate) fn report_command<'a>(
     ensures shape { IfOk result (λ c. app_of c ≡ report_app name.entry.now) }
     ensures local { IfOk result (λ c. (fields_of c).has_globals ≡ false) }
 {
-    query_command(alloc, name)?
-        .arg(json_option(alloc))?
-        .arg(findings_option(alloc))
+    let command = query_command(alloc, name);
+    let command = with_option(command, json_option(alloc));
+    with_option(command, findings_option(alloc))
 }
 
 // The command that predicts.
@@ -148,12 +149,11 @@ fn predict_command<'a>(alloc: Global) -> Result<clap::Command<'a>, AllocError>
     ensures shape { IfOk result (λ c. app_of c ≡ predict) }
     ensures local { IfOk result (λ c. (fields_of c).has_globals ≡ false) }
 {
-    let command = report_command(alloc, "predict")?
-        .about("Reads a trace from standard input and prints the deadlocks that it predicts")
-        .after_help(
-            "Examples:\n  goodlock predict < trace.std\n  goodlock predict --mode guarded --len 3 --json < trace.std",
-        );
-    Ok(command)
+    described(
+        report_command(alloc, "predict"),
+        "Reads a trace from standard input and prints the deadlocks that it predicts",
+        "Examples:\n  goodlock predict < trace.std\n  goodlock predict --mode guarded --len 3 --json < trace.std",
+    )
 }
 
 // The command that counts.
@@ -161,14 +161,11 @@ fn stats_command<'a>(alloc: Global) -> Result<clap::Command<'a>, AllocError>
     ensures shape { IfOk result (λ c. app_of c ≡ stats) }
     ensures local { IfOk result (λ c. (fields_of c).has_globals ≡ false) }
 {
-    let command = query_command(alloc, "stats")?
-        .about(
-            "Reads a trace from standard input and counts its events, names, segments, edges and cycles",
-        )
-        .after_help(
-            "Examples:\n  goodlock stats < trace.std\n  goodlock stats --mode basic --max 100000 < trace.std",
-        );
-    Ok(command)
+    described(
+        query_command(alloc, "stats"),
+        "Reads a trace from standard input and counts its events, names, segments, edges and cycles",
+        "Examples:\n  goodlock stats < trace.std\n  goodlock stats --mode basic --max 100000 < trace.std",
+    )
 }
 
 // The command that writes the trace.
@@ -199,9 +196,9 @@ fn check_command<'a>(alloc: Global) -> clap::Command<'a>
         )
 }
 
-// The program with the command that predicts.
-fn predicting<'a>(alloc: Global) -> Result<clap::Command<'a>, AllocError>
-    ensures { IfOk result (λ c. app_of c ≡ with_subcommand program predict.top) }
+// The program without its commands.
+fn bare_program<'a>(alloc: Global) -> clap::Command<'a>
+    ensures { app_of result ≡ program }
 {
     clap::Command::new(alloc, "goodlock")
         .about("Predicts deadlocks from a trace of lock events")
@@ -211,43 +208,27 @@ fn predicting<'a>(alloc: Global) -> Result<clap::Command<'a>, AllocError>
         )
         .subcommand_required(true)
         .disable_help_subcommand(true)
-        .subcommand(predict_command(alloc)?)
 }
 
-// And with the one that runs a session.
-fn recording<'a>(alloc: Global) -> Result<clap::Command<'a>, AllocError>
-    ensures { IfOk result
-        (λ c. app_of c ≡ with_subcommand (with_subcommand program predict.top) live.top) }
-{
-    predicting(alloc)?.subcommand(live_command(alloc)?)
-}
-
-// And with the one that counts.
-fn counting<'a>(alloc: Global) -> Result<clap::Command<'a>, AllocError>
+// The program with the commands that report and the one that counts.
+fn reporting<'a>(alloc: Global) -> Result<clap::Command<'a>, AllocError>
     ensures { IfOk result
         (λ c. app_of c
         ≡ with_subcommand
         (with_subcommand (with_subcommand program predict.top) live.top) stats.top) }
 {
-    recording(alloc)?.subcommand(stats_command(alloc)?)
-}
-
-// And with the one that writes the trace.
-fn replaying<'a>(alloc: Global) -> Result<clap::Command<'a>, AllocError>
-    ensures { IfOk result
-        (λ c. app_of c
-        ≡ with_subcommand
-        (with_subcommand
-        (with_subcommand (with_subcommand program predict.top) live.top) stats.top) replay.top) }
-{
-    counting(alloc)?.subcommand(replay_command(alloc))
+    let command = Ok(bare_program(alloc));
+    let command = with_command(command, predict_command(alloc));
+    let command = with_command(command, live_command(alloc));
+    with_command(command, stats_command(alloc))
 }
 
 // The whole command line.
 fn command_line<'a>(alloc: Global) -> Result<clap::Command<'a>, AllocError>
     ensures { IfOk result (λ c. app_of c ≡ goodlock) }
 {
-    replaying(alloc)?.subcommand(check_command(alloc))
+    let command = with_command(reporting(alloc), Ok(replay_command(alloc)));
+    with_command(command, Ok(check_command(alloc)))
 }
 
 // The mode of this name.

@@ -4,14 +4,14 @@ ghost use Rattle.serde_json.specs.View.{view};
 ghost use Rattle.serde_json.specs.Written.{compact_text};
 ghost use Rattle.gl_report.specs.Findings.{findings_tree};
 
-use crate::tree::{cycle_values, edge_values, line_of};
-use crate::values::mode_name;
+use crate::answers::{put_edges, put_found, put_question};
+use crate::tree::line_of;
 use gl_cycles::Found;
 use gl_edges::EdgeList;
 use gl_event::Memory;
 use gl_filters::Query;
 use gl_std::Names;
-use serde_json::{Value, json};
+use serde_json::{Map, Value};
 use std::alloc::Global;
 
 /// Findings over these edges as a JSON value of format 3: what was asked, each edge once, for each finding the
@@ -28,20 +28,17 @@ pub fn findings_json(
     ensures { IfOk result
         (λ v. view v ≡ findings_tree names.now query.now edges.now found.now) }
 {
-    let shown = cycle_values(alloc, found.cycles.as_slice())?;
-    let edges = edge_values(alloc, names, edges.entries())?;
-    let mode = mode_name(query.mode());
-    let len = query.len();
-    let max = query.max();
-    json!(in alloc; {
-        "more": found.more,
-        "mode": mode,
-        "max": max,
-        "len": len,
-        "format": 3u32,
-        "findings": shown,
-        "edges": edges
-    })
+    let mut members = Map::new(alloc);
+    put_question(&mut members, alloc, 3, query)?;
+    put_edges(&mut members, alloc, names, edges.entries())?;
+    put_found(
+        &mut members,
+        alloc,
+        "findings",
+        found.cycles.as_slice(),
+        found.more,
+    )?;
+    Ok(Value::Object(members))
 }
 
 /// Findings as one line of compact JSON text, of format 3, ended by LF. Err where memory was refused.

@@ -1,6 +1,7 @@
 //! Printed reports: as text, and as JSON. And counts of traces and their reports.
 #![tactic(auto)]
 
+mod answers;
 mod counted;
 mod escapes;
 mod exclusive;

@@ -24,12 +24,12 @@ pub(crate) fn put_names(
         ≡ with_names names.now edge.now (members_view members.old.entries)) }
 {
     let guards = guards_value(alloc, names, &edge.guards)?;
-    let held = lock_value(alloc, names, edge.held)?;
-    let wanted = lock_value(alloc, names, edge.wanted)?;
-    let thread = thread_value(alloc, names, edge.thread)?;
     put(members, alloc, "guards", guards)?;
+    let held = lock_value(alloc, names, edge.held)?;
     put(members, alloc, "held", held)?;
+    let wanted = lock_value(alloc, names, edge.wanted)?;
     put(members, alloc, "wanted", wanted)?;
+    let thread = thread_value(alloc, names, edge.thread)?;
     put(members, alloc, "thread", thread)?;
     Ok(())
 }
@@ -46,9 +46,9 @@ pub(crate) fn put_locations(
         ≡ with_locations names.now sample.now (members_view members.old.entries)) }
 {
     let held_at = loc_value(alloc, names, sample.held_loc)?;
-    let wanted_at = loc_value(alloc, names, sample.wanted_loc)?;
     put(members, alloc, "held_at", held_at)?;
     put(members, alloc, "place", Value::from(sample.place))?;
+    let wanted_at = loc_value(alloc, names, sample.wanted_loc)?;
     put(members, alloc, "wanted_at", wanted_at)?;
     Ok(())
 }
@@ -79,10 +79,10 @@ pub(crate) fn put_modes(
         ≡ with_modes edge.now (members_view members.old.entries)) }
 {
     let guard_modes = guard_modes_value(alloc, &edge.guards)?;
-    let held_mode = lock_mode_value(alloc, edge.held_mode)?;
-    let wanted_mode = lock_mode_value(alloc, edge.wanted_mode)?;
     put(members, alloc, "guard_modes", guard_modes)?;
+    let held_mode = lock_mode_value(alloc, edge.held_mode)?;
     put(members, alloc, "held_mode", held_mode)?;
+    let wanted_mode = lock_mode_value(alloc, edge.wanted_mode)?;
     put(members, alloc, "wanted_mode", wanted_mode)?;
     Ok(())
 }

@@ -4,13 +4,14 @@ ghost use Rattle.serde_json.specs.View.{view};
 ghost use Rattle.serde_json.specs.Written.{compact_text, has_float};
 ghost use Rattle.gl_report.specs.Tree.{edge_tree, positions_tree, report_tree, trim_tree};
 
+use crate::answers::{put_edges, put_found, put_question};
 use crate::members::{put_locations, put_modes, put_names, put_segments};
-use crate::values::{mode_name, positions_value};
+use crate::values::positions_value;
 use gl_cycles::{Report, TrimOrder};
 use gl_edges::{Edge, Sample};
 use gl_event::Memory;
 use gl_std::Names;
-use serde_json::{Map, Value, json};
+use serde_json::{Map, Value, put};
 use std::alloc::Global;
 
 /// An edge as a JSON value of format 2, with where it was seen. Names are text, with odd bytes
@@ -102,22 +103,19 @@ fn trim_value(alloc: Global, trim: &Option<TrimOrder>) -> Result<Value, Memory>
 pub fn json(alloc: Global, names: &Names, report: &Report) -> Result<Value, Memory>
     ensures { IfOk result (λ v. view v ≡ report_tree names.now report.now) }
 {
-    let cycles = cycle_values(alloc, report.found.cycles.as_slice())?;
-    let edges = edge_values(alloc, names, report.edges.entries())?;
-    let mode = mode_name(report.query.mode());
-    let len = report.query.len();
-    let max = report.query.max();
+    let mut members = Map::new(alloc);
+    put_question(&mut members, alloc, 2, &report.query)?;
+    put_edges(&mut members, alloc, names, report.edges.entries())?;
+    put_found(
+        &mut members,
+        alloc,
+        "cycles",
+        report.found.cycles.as_slice(),
+        report.found.more,
+    )?;
     let trim = trim_value(alloc, &report.trim)?;
-    json!(in alloc; {
-        "trim": trim,
-        "more": report.found.more,
-        "mode": mode,
-        "max": max,
-        "len": len,
-        "format": 2u32,
-        "edges": edges,
-        "cycles": cycles
-    })
+    put(&mut members, alloc, "trim", trim)?;
+    Ok(Value::Object(members))
 }
 
 // A value without floats as one line of compact text, ended by LF.

@@ -7,13 +7,13 @@ ghost use Rattle.serde_json.specs.Written.{compact_text};
 ghost use Rattle.gl_report.specs.Exclusive.{ListsExclusive};
 ghost use Rattle.gl_report.specs.TreeV1.{cycle_tree_v1, edge_tree_v1, report_tree_v1};
 
+use crate::answers::put_question;
 use crate::members::{put_locations, put_names, put_segments};
-use crate::values::mode_name;
 use gl_cycles::Report;
 use gl_edges::{Edge, Sample};
 use gl_event::Memory;
 use gl_std::Names;
-use serde_json::{Map, Value, json};
+use serde_json::{Map, Value, put};
 use std::alloc::Global;
 
 /// An edge as a JSON value of format 1, with where it was seen. Names are text, with odd bytes
@@ -118,19 +118,13 @@ pub fn json_v1(alloc: Global, names: &Names, report: &Report) -> Result<Value, M
     requires exclusive { ListsExclusive report.now }
     ensures { IfOk result (λ v. view v ≡ report_tree_v1 names.now report.now) }
 {
+    let mut members = Map::new(alloc);
+    put_question(&mut members, alloc, 1, &report.query)?;
     let table = report.edges.entries();
     let cycles = cycle_values(alloc, names, table, report.found.cycles.as_slice())?;
-    let mode = mode_name(report.query.mode());
-    let len = report.query.len();
-    let max = report.query.max();
-    json!(in alloc; {
-        "more": report.found.more,
-        "mode": mode,
-        "max": max,
-        "len": len,
-        "format": 1u32,
-        "cycles": cycles
-    })
+    put(&mut members, alloc, "cycles", Value::from(cycles))?;
+    put(&mut members, alloc, "more", Value::from(report.found.more))?;
+    Ok(Value::Object(members))
 }
 
 /// The report as one line of compact JSON text, of format 1, ended by LF. It shows no lock modes, so

@@ -1,6 +1,6 @@
 //! Names, modes and positions as JSON values.
 ghost use Rattle.std.specs.Prelude.{◌≡◌, [], ◌∷◌, ◌++◌, map, IfOk, OnOk};
-ghost use Rattle.serde_json.specs.Data.{number, unsigned};
+ghost use Rattle.serde_json.specs.Data.{number, string, unsigned};
 ghost use Rattle.serde_json.specs.View.{view};
 ghost use Rattle.gl_report.specs.Tree.{guard_modes_tree, guards_tree, lock_mode_letter, lock_mode_tree, mode_word, name_tree, positions_tree};
 
@@ -151,8 +151,16 @@ pub(crate) fn positions_value(alloc: Global, positions: &[usize]) -> Result<Valu
     Ok(Value::from(values))
 }
 
-/// The word for a mode.
-pub(crate) fn mode_name(mode: Mode) -> &'static str
+/// The mode of a query.
+pub(crate) fn mode_value(alloc: Global, mode: Mode) -> Result<Value, Memory>
+    ensures { IfOk result (λ v. view v ≡ string (mode_word mode)) }
+{
+    let word = String::from_str(alloc, mode_name(mode))?;
+    Ok(Value::from(word))
+}
+
+// The word for a mode.
+fn mode_name(mode: Mode) -> &'static str
     ensures { result.now ≡ mode_word mode }
 {
     match mode {

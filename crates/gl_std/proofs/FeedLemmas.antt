@@ -331,9 +331,13 @@ stepped_here limits turns start now failed f text told r is =
 -- ---- the last line
 
 -- what is kept of a last line that is none
-pub none_kept : (kept unfinished : List ℕ) → kept ≡ take KEPT unfinished → kept ≡ [] → unfinished ≡ []
-none_kept kept [] is none = refl
-none_kept kept (b ∷ unfinished) is none = absurd (omega (arith, ap length (sym none ∙ is)))
+pub take_none : (n : ℕ) (xs : List ℕ) → 0 < n → take n xs ≡ [] → xs ≡ []
+take_none zero xs some none = absurd (omega (arith, some))
+take_none (suc n) [] some none = refl
+take_none (suc n) (b ∷ xs) some none = absurd (omega (arith, ap length none))
+
+none_kept : (kept unfinished : List ℕ) → kept ≡ take KEPT unfinished → kept ≡ [] → unfinished ≡ []
+none_kept kept unfinished is none = take_none KEPT unfinished (omega arith) (sym is ∙ none)
 
 pub whole_over : (f : Feed) (text : List ℕ) (told : Trace) → f.unfinished.items ≡ [] → IsOver f text told → trace_of f.judge.limits text ≡ Ok told
 whole_over f text told none over = told_whole f.judge.limits f.judge.line told over.unfinished text over.is (none_kept f.unfinished.items over.unfinished over.kept none)

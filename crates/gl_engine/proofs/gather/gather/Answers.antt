@@ -1,4 +1,5 @@
 use Rattle.std.proofs.Common.{rules, ◌∙◌}
+use Rattle.std.proofs.lemmas.Result.{err_from_is_err_and}
 use Rattle.gl_engine.proofs.Handing.{prefix_on}
 use Rattle.gl_engine.proofs.gather.gather.Goals as goal
 
@@ -38,3 +39,23 @@ loop-preserved g c = record {
   next = search rules;
   finite = search rules;
 }
+
+pub returns-in_err-ship-clause-keeps : goal.returns-in_err-ship-clause-keeps
+returns-in_err-ship-clause-keeps g c =
+    let p = err_from_is_err_and c.from_residual.result c.from_residual.ensures.1 in
+    rw p.1 tt
+
+pub returns-in_err-ship-clause-ended : goal.returns-in_err-ship-clause-ended
+returns-in_err-ship-clause-ended g c =
+    let p = err_from_is_err_and c.from_residual.result c.from_residual.ensures.1 in
+    rw p.1 tt
+
+pub returns-in_err-round-clause-keeps : goal.returns-in_err-round-clause-keeps
+returns-in_err-round-clause-keeps g c =
+    let p = err_from_is_err_and c.from_residual-in_err-round.result c.from_residual-in_err-round.ensures.1 in
+    rw p.1 tt
+
+pub returns-in_err-round-clause-ended : goal.returns-in_err-round-clause-ended
+returns-in_err-round-clause-ended g c =
+    let p = err_from_is_err_and c.from_residual-in_err-round.result c.from_residual-in_err-round.ensures.1 in
+    rw p.1 tt

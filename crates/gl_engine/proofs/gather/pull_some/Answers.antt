@@ -1,4 +1,5 @@
 use Rattle.std.proofs.Common.{◌∙◌}
+use Rattle.std.proofs.lemmas.Result.{err_from_is_err_and}
 use Rattle.gl_engine.proofs.Handing.{prefix_on}
 use Rattle.gl_engine.proofs.gather.pull_some.Goals as goal
 
@@ -43,3 +44,8 @@ returns-then-not-pulled-clause-lanes c = c.pull_at.ensures.lanes ∙ c.loop.inva
 
 pub returns-then-not-pulled-clause-grown : goal.returns-then-not-pulled-clause-grown
 returns-then-not-pulled-clause-grown c = prefix_on _ _ _ c.loop.invariant.grown c.pull_at.ensures.grown
+
+pub returns-in_err-pulled-clause-made : goal.returns-in_err-pulled-clause-made
+returns-in_err-pulled-clause-made c =
+    let p = err_from_is_err_and c.from_residual.result c.from_residual.ensures.1 in
+    rw p.1 tt

@@ -1,4 +1,5 @@
 use Rattle.std.proofs.Common.{◌∙◌}
+use Rattle.std.proofs.lemmas.Result.{err_from_is_err_and}
 use Rattle.gl_engine.proofs.Handing.{prefix_on}
 use Rattle.gl_engine.proofs.gather.round.Goals as goal
 
@@ -25,3 +26,8 @@ loop-number-preserved g c = record {
   feeds = c.turn.ensures.feeds ∙ c.loop-number.invariant.feeds;
   grown = prefix_on _ _ _ c.loop-number.invariant.grown c.turn.ensures.grown;
 }
+
+pub returns-in_err-pulled-clause-keeps : goal.returns-in_err-pulled-clause-keeps
+returns-in_err-pulled-clause-keeps g c =
+    let p = err_from_is_err_and c.from_residual.result c.from_residual.ensures.1 in
+    rw p.1 tt

@@ -1,4 +1,4 @@
-use Rattle.std.proofs.Common.{refl, sym, ap, ◌∙◌, length, arith}
+use Rattle.std.proofs.Common.{sym, ap, ◌∙◌, length, arith}
 use Rattle.gl_event.specs.Bounds.{Bounds}
 use Rattle.gl_io.specs.Uses.{used}
 use Rattle.gl_live.specs.bodies.Seats.{seating_of}
@@ -9,7 +9,7 @@ use Rattle.gl_live.proofs.streaming.record_text.Goals as goal
 
 pub join_workers-requires-clause-room : goal.join_workers-requires-clause-room
 join_workers-requires-clause-room g c =
-    omega (arith, c.requires.ready.served_room, as_long _ _ c.start_workers.new.workers.items c.args.session.inlets.items (c.if-not-start_workers.ensures.feeds refl))
+    omega (arith, c.requires.ready.served_room, as_long _ _ c.start_collecting.new.workers.items c.args.session.inlets.items c.in-Some.ensures.feeds)
 
 pub record_items-read-requires-clause-recording : goal.record_items-read-requires-clause-recording
 record_items-read-requires-clause-recording g c =
@@ -27,7 +27,7 @@ record_items-read-requires-clause-recording g c =
 
 pub returns-in-Ok-read-clause-run : goal.returns-in-Ok-read-clause-run
 returns-in-Ok-read-clause-run g c =
-    let feeds = c.join_workers.ensures.feeds ∙ c.if-not-start_workers.ensures.feeds refl ∙ c.requires.ready.feeds in
+    let feeds = c.join_workers.ensures.feeds ∙ c.in-Some.ensures.feeds ∙ c.requires.ready.feeds in
     let gathered = has_gathered _ _ _ _ c.join-gathered.result c.in-Some.ensures.collector c.in-Some.ensures.outlets c.join-gathered.ensures in record {
       shards_are = as_long _ _ c.join_workers.new.served.items c.args.session.outlets.items feeds;
       feeds = λ none. feeds ∙ sym (gathered.feeds none);

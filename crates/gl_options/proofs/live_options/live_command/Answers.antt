@@ -1,22 +1,9 @@
-use Rattle.std.proofs.lemmas.Result.{err_from_is_err_and}
+use Rattle.clap.specs.Words.{with_rule}
+use Rattle.gl_options.specs.Options.{session_app, stream_rule, threads_rule}
 use Rattle.gl_options.proofs.live_options.live_command.Goals as goal
 
-pub returns-in_err-session_command-clause-shape : goal.returns-in_err-session_command-clause-shape
-returns-in_err-session_command-clause-shape c =
-    let p = err_from_is_err_and c.from_residual.result c.from_residual.ensures.1 in
-    rw p.1 tt
+pub returns-clause-shape : goal.returns-clause-shape
+returns-clause-shape c = c.with_option.ensures.shape (with_rule session_app stream_rule) threads_rule (c.with_option-command.ensures.shape session_app stream_rule (c.described-command.ensures.shape session_app c.session_command.ensures.shape) c.stream_option.ensures.rule c.stream_option.ensures.local) c.threads_option.ensures.rule c.threads_option.ensures.local
 
-pub returns-in_err-session_command-clause-local : goal.returns-in_err-session_command-clause-local
-returns-in_err-session_command-clause-local c =
-    let p = err_from_is_err_and c.from_residual.result c.from_residual.ensures.1 in
-    rw p.1 tt
-
-pub returns-in_err-arg-clause-shape : goal.returns-in_err-arg-clause-shape
-returns-in_err-arg-clause-shape c =
-    let p = err_from_is_err_and c.from_residual-in_err-arg.result c.from_residual-in_err-arg.ensures.1 in
-    rw p.1 tt
-
-pub returns-in_err-arg-clause-local : goal.returns-in_err-arg-clause-local
-returns-in_err-arg-clause-local c =
-    let p = err_from_is_err_and c.from_residual-in_err-arg.result c.from_residual-in_err-arg.ensures.1 in
-    rw p.1 tt
+pub returns-clause-local : goal.returns-clause-local
+returns-clause-local c = c.with_option.ensures.local (c.with_option-command.ensures.local (c.described-command.ensures.local c.session_command.ensures.local) c.stream_option.ensures.local) c.threads_option.ensures.local

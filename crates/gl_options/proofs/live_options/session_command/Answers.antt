@@ -1,32 +1,10 @@
-use Rattle.std.proofs.lemmas.Result.{err_from_is_err_and}
+use Rattle.std.specs.Prelude.{codes}
+use Rattle.clap.specs.Words.{with_rule}
+use Rattle.gl_options.specs.Options.{report_app, recorders_rule, shards_rule, ring_rule}
 use Rattle.gl_options.proofs.live_options.session_command.Goals as goal
 
-pub returns-in_err-report_command-clause-shape : goal.returns-in_err-report_command-clause-shape
-returns-in_err-report_command-clause-shape c =
-    let p = err_from_is_err_and c.from_residual.result c.from_residual.ensures.1 in
-    rw p.1 tt
+pub returns-clause-shape : goal.returns-clause-shape
+returns-clause-shape c = c.with_option.ensures.shape (with_rule (with_rule (report_app (codes "live")) recorders_rule) shards_rule) ring_rule (c.with_option-command-2.ensures.shape (with_rule (report_app (codes "live")) recorders_rule) shards_rule (c.with_option-command.ensures.shape (report_app (codes "live")) recorders_rule c.report_command-command.ensures.shape c.recorders_option.ensures.rule c.recorders_option.ensures.local) c.shards_option.ensures.rule c.shards_option.ensures.local) c.ring_option.ensures.rule c.ring_option.ensures.local
 
-pub returns-in_err-report_command-clause-local : goal.returns-in_err-report_command-clause-local
-returns-in_err-report_command-clause-local c =
-    let p = err_from_is_err_and c.from_residual.result c.from_residual.ensures.1 in
-    rw p.1 tt
-
-pub returns-in_err-arg-clause-shape : goal.returns-in_err-arg-clause-shape
-returns-in_err-arg-clause-shape c =
-    let p = err_from_is_err_and c.from_residual-in_err-arg.result c.from_residual-in_err-arg.ensures.1 in
-    rw p.1 tt
-
-pub returns-in_err-arg-clause-local : goal.returns-in_err-arg-clause-local
-returns-in_err-arg-clause-local c =
-    let p = err_from_is_err_and c.from_residual-in_err-arg.result c.from_residual-in_err-arg.ensures.1 in
-    rw p.1 tt
-
-pub returns-in_err-arg-2-clause-shape : goal.returns-in_err-arg-2-clause-shape
-returns-in_err-arg-2-clause-shape c =
-    let p = err_from_is_err_and c.from_residual-in_err-arg-2.result c.from_residual-in_err-arg-2.ensures.1 in
-    rw p.1 tt
-
-pub returns-in_err-arg-2-clause-local : goal.returns-in_err-arg-2-clause-local
-returns-in_err-arg-2-clause-local c =
-    let p = err_from_is_err_and c.from_residual-in_err-arg-2.result c.from_residual-in_err-arg-2.ensures.1 in
-    rw p.1 tt
+pub returns-clause-local : goal.returns-clause-local
+returns-clause-local c = c.with_option.ensures.local (c.with_option-command-2.ensures.local (c.with_option-command.ensures.local c.report_command-command.ensures.local c.recorders_option.ensures.local) c.shards_option.ensures.local) c.ring_option.ensures.local

@@ -1,22 +1,9 @@
-use Rattle.std.proofs.lemmas.Result.{err_from_is_err_and}
+use Rattle.clap.specs.Words.{new_app, with_rule}
+use Rattle.gl_options.specs.Options.{mode_rule, len_rule, max_rule}
 use Rattle.gl_options.proofs.options.query_command.Goals as goal
 
-pub returns-in_err-arg-clause-shape : goal.returns-in_err-arg-clause-shape
-returns-in_err-arg-clause-shape c =
-    let p = err_from_is_err_and c.from_residual.result c.from_residual.ensures.1 in
-    rw p.1 tt
+pub returns-clause-shape : goal.returns-clause-shape
+returns-clause-shape c = c.with_option.ensures.shape (with_rule (with_rule (new_app c.args.name.now) mode_rule) len_rule) max_rule (c.with_option-command-2.ensures.shape (with_rule (new_app c.args.name.now) mode_rule) len_rule (c.with_option-command.ensures.shape (new_app c.args.name.now) mode_rule c.new.ensures.app c.mode_option.ensures.rule c.mode_option.ensures.local) c.len_option.ensures.rule c.len_option.ensures.local) c.max_option.ensures.rule c.max_option.ensures.local
 
-pub returns-in_err-arg-clause-local : goal.returns-in_err-arg-clause-local
-returns-in_err-arg-clause-local c =
-    let p = err_from_is_err_and c.from_residual.result c.from_residual.ensures.1 in
-    rw p.1 tt
-
-pub returns-in_err-arg-2-clause-shape : goal.returns-in_err-arg-2-clause-shape
-returns-in_err-arg-2-clause-shape c =
-    let p = err_from_is_err_and c.from_residual-in_err-arg-2.result c.from_residual-in_err-arg-2.ensures.1 in
-    rw p.1 tt
-
-pub returns-in_err-arg-2-clause-local : goal.returns-in_err-arg-2-clause-local
-returns-in_err-arg-2-clause-local c =
-    let p = err_from_is_err_and c.from_residual-in_err-arg-2.result c.from_residual-in_err-arg-2.ensures.1 in
-    rw p.1 tt
+pub returns-clause-local : goal.returns-clause-local
+returns-clause-local c = c.with_option.ensures.local (c.with_option-command-2.ensures.local (c.with_option-command.ensures.local c.new.ensures.local c.mode_option.ensures.local) c.len_option.ensures.local) c.max_option.ensures.local

@@ -1,22 +1,9 @@
-use Rattle.std.proofs.lemmas.Result.{err_from_is_err_and}
+use Rattle.clap.specs.Words.{with_rule}
+use Rattle.gl_options.specs.Options.{query_app, json_rule, findings_rule}
 use Rattle.gl_options.proofs.options.report_command.Goals as goal
 
-pub returns-in_err-query_command-clause-shape : goal.returns-in_err-query_command-clause-shape
-returns-in_err-query_command-clause-shape c =
-    let p = err_from_is_err_and c.from_residual.result c.from_residual.ensures.1 in
-    rw p.1 tt
+pub returns-clause-shape : goal.returns-clause-shape
+returns-clause-shape c = c.with_option.ensures.shape (with_rule (query_app c.args.name.now) json_rule) findings_rule (c.with_option-command.ensures.shape (query_app c.args.name.now) json_rule c.query_command-command.ensures.shape c.json_option.ensures.rule c.json_option.ensures.local) c.findings_option.ensures.rule c.findings_option.ensures.local
 
-pub returns-in_err-query_command-clause-local : goal.returns-in_err-query_command-clause-local
-returns-in_err-query_command-clause-local c =
-    let p = err_from_is_err_and c.from_residual.result c.from_residual.ensures.1 in
-    rw p.1 tt
-
-pub returns-in_err-arg-clause-shape : goal.returns-in_err-arg-clause-shape
-returns-in_err-arg-clause-shape c =
-    let p = err_from_is_err_and c.from_residual-in_err-arg.result c.from_residual-in_err-arg.ensures.1 in
-    rw p.1 tt
-
-pub returns-in_err-arg-clause-local : goal.returns-in_err-arg-clause-local
-returns-in_err-arg-clause-local c =
-    let p = err_from_is_err_and c.from_residual-in_err-arg.result c.from_residual-in_err-arg.ensures.1 in
-    rw p.1 tt
+pub returns-clause-local : goal.returns-clause-local
+returns-clause-local c = c.with_option.ensures.local (c.with_option-command.ensures.local c.query_command-command.ensures.local c.json_option.ensures.local) c.findings_option.ensures.local
