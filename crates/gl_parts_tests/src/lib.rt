@@ -1,11 +1,14 @@
-//! Worked examples of gl_event, gl_io, gl_lane, gl_recorder, gl_intake, gl_shards and gl_filters, by their
-//! public calls.
+//! Worked examples of gl_event, gl_io, gl_lane, gl_recorder, gl_intake, gl_edges, gl_segments, gl_shards and
+//! gl_filters, by their public calls.
 //!
 //! They stand in a crate of their own, since a crate is proved once more with its tests. What stands outside
-//! of the tests is a writer, [`Narrow`](narrow::Narrow).
+//! of the tests is a writer, [`Narrow`](narrow::Narrow), and a thread that is followed event by event,
+//! [`stepping`].
 #![tactic(auto)]
 
 #[cfg(test)]
 pub mod narrow;
+#[cfg(test)]
+pub mod stepping;
 #[cfg(test)]
 mod tests;

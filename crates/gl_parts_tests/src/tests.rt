@@ -1,28 +1,10 @@
 //! Worked examples, a module for each crate.
-use gl_event::{Event, LocId, LockId, LockMode};
-
+mod edges;
 mod events;
 mod filters;
 mod intakes;
 mod io;
 mod lanes;
 mod recorders;
+mod segments;
 mod shards;
-
-// An acquire, at location 0.
-fn acquire(lock: u32) -> Event {
-    Event::Acquire {
-        lock: LockId::new(lock),
-        mode: LockMode::Exclusive,
-        loc: LocId::new(0),
-    }
-}
-
-// A release, at location 0.
-fn release(lock: u32) -> Event {
-    Event::Release {
-        lock: LockId::new(lock),
-        mode: LockMode::Exclusive,
-        loc: LocId::new(0),
-    }
-}

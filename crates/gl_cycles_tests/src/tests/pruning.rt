@@ -1,211 +1,190 @@
 //! Edges that the search leaves out.
-ghost use Rattle.std.specs.Prelude.{◌<◌};
+use super::asks::Ask;
+use super::lists::Lists::{Pairs, Rings, Told, UnderGates};
+use super::{Case, expect, expect_all};
+use gl_filters::Mode;
+use gl_worked::ops::Op::{Acq, Fork, Join, Rel};
 
-use super::rings::{add_piece, ring_under_gates, under_gates};
-use super::{Known, acq, expect_first, fork, join, known_of};
-use gl_event::{Event, Memory};
-use gl_filters::{Mode, Query};
-use std::alloc::Global;
-use std::process::Abort;
-use std::test::Fail;
-use std::thread::Threads;
+const CASES: &[Case] = &[
+    // Each edge of the ring goes with edges that lead back from it, but of four edges under two gate
+    // locks two have the same one: no cycle goes through any kind.
+    Case {
+        name: "kinds_of_no_round",
+        lists: UnderGates(4, 4, &[4, 5]),
+        asks: &[
+            Ask::Count(Mode::Basic, 4, 8),
+            Ask::Count(Mode::Guarded, 4, 0),
+        ],
+    },
+    // Round the ring go four edges, of four threads. Each edge goes with edges of two others that lead
+    // back from it, but three threads make no cycle, in whichever of their segments; four do.
+    Case {
+        name: "more_pieces_than_threads",
+        lists: Rings(3),
+        asks: &[Ask::Count(Mode::Basic, 4, 0)],
+    },
+    Case {
+        name: "more_pieces_than_threads, as many",
+        lists: Rings(4),
+        asks: &[Ask::Count(Mode::Basic, 4, 480)],
+    },
+    // Two threads, each of which lets four others run the pieces of a ring of four locks, one after the
+    // other's end. Each edge of the ring may run beside edges of the other row that lead back from it, but
+    // of four edges in two rows two are in one, where each thread ends before the next one starts: their
+    // segments alone show that no cycle goes through any.
+    Case {
+        name: "segments_of_no_round",
+        lists: Told(&[
+            &[
+                Fork(1, 1),
+                Fork(2, 1),
+                Join(2, 2),
+                Fork(3, 1),
+                Join(3, 2),
+                Fork(4, 1),
+                Join(4, 2),
+                Fork(5, 1),
+                Join(5, 2),
+            ],
+            &[
+                Fork(6, 1),
+                Join(6, 2),
+                Fork(7, 1),
+                Join(7, 2),
+                Fork(8, 1),
+                Join(8, 2),
+                Fork(9, 1),
+                Join(9, 2),
+            ],
+            &[Acq(0, 1), Acq(1, 2)],
+            &[Acq(1, 1), Acq(2, 2)],
+            &[Acq(2, 1), Acq(3, 2)],
+            &[Acq(3, 1), Acq(0, 2)],
+            &[Acq(0, 1), Acq(1, 2)],
+            &[Acq(1, 1), Acq(2, 2)],
+            &[Acq(2, 1), Acq(3, 2)],
+            &[Acq(3, 1), Acq(0, 2)],
+        ]),
+        asks: &[
+            Ask::Count(Mode::Guarded, 4, 8),
+            Ask::Count(Mode::Full, 4, 0),
+        ],
+    },
+    // From the first piece no way leads back past the one across, and so none does from any other. The
+    // pieces between can be run under so many choices of gate locks, of which each leaves others across,
+    // that no search for rounds ends.
+    Case {
+        name: "no_way_back_among_many_rounds",
+        lists: Pairs(16),
+        asks: &[
+            Ask::Count(Mode::Basic, 16, 86),
+            Ask::Count(Mode::Guarded, 16, 0),
+        ],
+    },
+    // Two threads, of which the second takes the locks under two gate locks in turn, and the first under
+    // one of them the other way round. Of two kinds of edges that lead back, one has the gate lock of the
+    // edge that they lead to. Its own kind is in no cycle, but the other one is.
+    Case {
+        name: "one_kind_of_two",
+        lists: Told(&[
+            &[
+                Acq(2, 1),
+                Acq(0, 1),
+                Acq(1, 1),
+                Rel(1, 1),
+                Rel(0, 1),
+                Rel(2, 1),
+            ],
+            &[
+                Acq(2, 2),
+                Acq(1, 2),
+                Acq(0, 2),
+                Rel(0, 2),
+                Rel(1, 2),
+                Rel(2, 2),
+                Acq(3, 3),
+                Acq(1, 3),
+                Acq(0, 3),
+                Rel(0, 3),
+                Rel(1, 3),
+                Rel(3, 3),
+            ],
+        ]),
+        asks: &[Ask::First(9, &[&[0, 4]], false)],
+    },
+];
 
-// Which edges may be in a cycle; nothing is told of them.
-fn edges_sought(alloc: Global, known: &Known, query: &Query) -> Result<Vec<bool>, Memory> {
-    gl_cycles::edges_sought(alloc, &known.edges, &known.order, query)
-}
-
-// The same, found on several threads.
-fn edges_sought_parallel(
-    rt: &(impl Threads + Sync),
-    alloc: Global,
-    known: &Known,
-    query: &Query,
-) -> Result<Vec<bool>, Memory> {
-    gl_cycles::edges_sought_parallel(rt, alloc, &known.edges, &known.order, query)
-}
-
-// Which edges may be in a cycle of the mode and of at most so many edges, as one thread finds them.
-// Several find the same.
-fn sought_of(
-    rt: &(impl Abort + Threads + Sync),
-    alloc: Global,
-    known: &Known,
-    mode: Mode,
-    len: u32,
-) -> Result<Vec<bool>, Fail> {
-    let query = Query::new(mode, len, 1)?;
-    let alone = edges_sought(alloc, known, &query)?;
-    let by_parts = edges_sought_parallel(rt, alloc, known, &query)?;
-    assert!(rt; alone.as_slice() == by_parts.as_slice());
-    Ok(alone)
-}
-
-// The edges that may be in a cycle of the mode and of at most so many edges are flagged so.
-pub(super) fn expect_sought(
-    rt: &(impl Abort + Threads + Sync),
-    alloc: Global,
-    known: &Known,
-    asked: (Mode, u32),
-    wanted: &[bool],
-) -> Result<(), Fail> {
-    let flags = sought_of(rt, alloc, known, asked.0, asked.1)?;
-    assert!(rt; flags.as_slice() == wanted);
-    Ok(())
-}
-
-// How many flags are set.
-fn count_set(flags: &[bool]) -> usize {
-    flags.iter().filter(|&&flag| flag).count()
-}
-
-// So many edges of these lists may be in a cycle of the mode and of at most so many edges.
-pub(super) fn expect_count(
-    rt: &(impl Abort + Threads + Sync),
-    alloc: Global,
-    lists: &[Vec<Event>],
-    asked: (Mode, u32),
-    wanted: usize,
-) -> Result<(), Fail> {
-    let known = known_of(rt, alloc, lists)?;
-    let flags = sought_of(rt, alloc, &known, asked.0, asked.1)?;
-    assert!(rt; count_set(&flags) == wanted);
-    Ok(())
-}
-
-// Each edge of the ring goes with edges that lead back from it, but of four edges under two gate
-// locks two have the same one: no cycle goes through any kind.
 #[test]
-fn kinds_of_no_round(rt: HostRuntime) -> Result<(), Fail> {
-    let alloc = rt.alloc();
-    let lists = ring_under_gates(alloc, 4, 4, &[4, 5])?;
-    expect_count(&rt, alloc, &lists, (Mode::Basic, 4), 8)?;
-    expect_count(&rt, alloc, &lists, (Mode::Guarded, 4), 0)
+fn pruned(rt: HostRuntime) {
+    expect_all(&rt, rt.alloc(), CASES);
 }
 
-// A thread runs all pieces of a ring of four locks in one segment, and then begins the next one.
-fn add_ring(list: &mut Vec<Event>) -> Result<(), Memory> {
-    for lock in 0..4u32 {
-        add_piece(list, 4 + lock, lock, (lock + 1) % 4, 1)?;
-    }
-    list.push(fork(1_000, 2))?;
-    Ok(())
-}
+// Each of the parts has some of 2,000 edges. Under two gate locks no cycle goes through any kind of
+// them. Without regard to gate locks each one is in a cycle.
+const KINDS_BY_PARTS: Case = Case {
+    name: "kinds_by_parts",
+    lists: UnderGates(1_000, 4, &[4, 5]),
+    asks: &[
+        Ask::Count(Mode::Guarded, 4, 0),
+        Ask::Count(Mode::Basic, 4, 2_000),
+    ],
+};
 
-// A thread that does so in thirty segments.
-fn thirty_rings(alloc: Global) -> Result<Vec<Event>, Memory> {
-    let mut list = Vec::new(alloc);
-    for _ in 0..30 {
-        add_ring(&mut list)?;
-    }
-    Ok(list)
-}
-
-// So many such threads.
-fn rings_of_all(alloc: Global, threads: u32) -> Result<Vec<Vec<Event>>, Memory> {
-    let mut lists = Vec::new(alloc);
-    for _ in 0..threads {
-        lists.push(thirty_rings(alloc)?)?;
-    }
-    Ok(lists)
-}
-
-// Round the ring go four edges, of four threads. Each edge goes with edges of two others that lead
-// back from it, but three threads make no cycle, in whichever of their segments; four do.
 #[test]
-fn more_pieces_than_threads(rt: HostRuntime) -> Result<(), Fail> {
-    let alloc = rt.alloc();
-    let three = rings_of_all(alloc, 3)?;
-    expect_count(&rt, alloc, &three, (Mode::Basic, 4), 0)?;
-    let four = rings_of_all(alloc, 4)?;
-    expect_count(&rt, alloc, &four, (Mode::Basic, 4), 480)
+fn kinds_by_parts(rt: HostRuntime) {
+    expect(&rt, rt.alloc(), &KINDS_BY_PARTS);
 }
 
-// Puts forks of these threads at the end, each followed by the join of its thread.
-fn add_turns(list: &mut Vec<Event>, threads: &[u32]) -> Result<(), Memory> {
-    for thread in threads {
-        list.push(fork(*thread, 1))?;
-        list.push(join(*thread, 2))?;
-    }
-    Ok(())
-}
+// Under one gate lock no kind goes on to another.
+const ONE_GATE_BY_PARTS: Case = Case {
+    name: "one_gate_by_parts",
+    lists: UnderGates(1_020, 4, &[4]),
+    asks: &[
+        Ask::Count(Mode::Guarded, 4, 0),
+        Ask::Count(Mode::Basic, 4, 1_020),
+    ],
+};
 
-// Two threads, each of which lets four others run the pieces of a ring of four locks, one after the
-// other's end.
-fn ring_in_two_rows(alloc: Global) -> Result<Vec<Vec<Event>>, Memory> {
-    let mut first = vec![in alloc; fork(1, 1)]?;
-    add_turns(&mut first, &[2, 3, 4, 5])?;
-    let mut second = Vec::new(alloc);
-    add_turns(&mut second, &[6, 7, 8, 9])?;
-    let mut lists = vec![in alloc; first, second]?;
-    for piece in 0..8u32 {
-        lists.push(vec![in alloc; acq(piece % 4, 1), acq((piece + 1) % 4, 2)]?)?;
-    }
-    Ok(lists)
-}
-
-// Each edge of the ring may run beside edges of the other row that lead back from it, but of four
-// edges in two rows two are in one, where each thread ends before the next one starts: their
-// segments alone show that no cycle goes through any.
 #[test]
-fn segments_of_no_round(rt: HostRuntime) -> Result<(), Fail> {
-    let alloc = rt.alloc();
-    let lists = ring_in_two_rows(alloc)?;
-    expect_count(&rt, alloc, &lists, (Mode::Guarded, 4), 8)?;
-    expect_count(&rt, alloc, &lists, (Mode::Full, 4), 0)
+fn one_gate_by_parts(rt: HostRuntime) {
+    expect(&rt, rt.alloc(), &ONE_GATE_BY_PARTS);
 }
 
-// A thread runs a piece under gate locks that go with a number: under one for 0, and else under six.
-fn gated_piece(alloc: Global, number: u32, piece: u32, next: u32) -> Result<Vec<Event>, Memory>
-    requires { number < 8 }
-{
-    let own = 16 + number * 6;
-    if number == 0 {
-        return under_gates(alloc, &[own], piece, next);
-    }
-    let gates = [own, own + 1, own + 2, own + 3, own + 4, own + 5];
-    under_gates(alloc, &gates, piece, next)
-}
+// Each of the parts has some of 1,376 edges, between which so many rounds go that no search for them
+// ends. No edge has a way back.
+const WAYS_BY_PARTS: Case = Case {
+    name: "ways_by_parts",
+    lists: Pairs(256),
+    asks: &[
+        Ask::Count(Mode::Basic, 16, 1_376),
+        Ask::Count(Mode::Guarded, 16, 0),
+    ],
+};
 
-// So many threads run the pieces of a ring of sixteen locks in turn, each under gate locks that only the
-// piece across the ring has too: the first piece and the one across under one, and the others under six.
-pub(super) fn ring_of_pairs(alloc: Global, threads: u32) -> Result<Vec<Vec<Event>>, Memory> {
-    let mut lists = Vec::new(alloc);
-    for thread in 0..threads {
-        let piece = thread % 16;
-        lists.push(gated_piece(alloc, piece % 8, piece, (piece + 1) % 16)?)?;
-    }
-    Ok(lists)
-}
-
-// From the first piece no way leads back past the one across, and so none does from any other. The
-// pieces between can be run under so many choices of gate locks, of which each leaves others across,
-// that no search for rounds ends.
 #[test]
-fn no_way_back_among_many_rounds(rt: HostRuntime) -> Result<(), Fail> {
-    let alloc = rt.alloc();
-    let lists = ring_of_pairs(alloc, 16)?;
-    expect_count(&rt, alloc, &lists, (Mode::Basic, 16), 86)?;
-    expect_count(&rt, alloc, &lists, (Mode::Guarded, 16), 0)
+fn ways_by_parts(rt: HostRuntime) {
+    expect(&rt, rt.alloc(), &WAYS_BY_PARTS);
 }
 
-// The lists of two threads, of which the second takes the locks under two gate locks in turn, and the
-// first under one of them the other way round.
-fn two_gates(alloc: Global) -> Result<Vec<Vec<Event>>, Memory> {
-    let mut first = Vec::new(alloc);
-    add_piece(&mut first, 2, 0, 1, 1)?;
-    let mut second = Vec::new(alloc);
-    add_piece(&mut second, 2, 1, 0, 2)?;
-    add_piece(&mut second, 3, 1, 0, 3)?;
-    Ok(vec![in alloc; first, second]?)
-}
+const RESTS: &[Case] = &[
+    // Round a ring of ten locks go ten edges under ten different gate locks. With nine there is no cycle,
+    // but each lesser part of the ring can be run in very many ways, which leave the same gate locks again
+    // and again: so many that they can't be gone through without remembering. With ten each edge is in a
+    // cycle.
+    Case {
+        name: "ten_pieces_under_gates, nine",
+        lists: UnderGates(10, 10, &[10, 11, 12, 13, 14, 15, 16, 17, 18]),
+        asks: &[Ask::Count(Mode::Guarded, 16, 0)],
+    },
+    Case {
+        name: "ten_pieces_under_gates, ten",
+        lists: UnderGates(10, 10, &[10, 11, 12, 13, 14, 15, 16, 17, 18, 19]),
+        asks: &[Ask::Count(Mode::Guarded, 16, 100)],
+    },
+];
 
-// Of two kinds of edges that lead back, one has the gate lock of the edge that they lead to. Its own
-// kind is in no cycle, but the other one is.
+// Gaps that nothing closes.
 #[test]
-fn one_kind_of_two(rt: HostRuntime) -> Result<(), Fail> {
-    let alloc = rt.alloc();
-    let lists = two_gates(alloc)?;
-    let known = known_of(&rt, alloc, &lists)?;
-    expect_first(&rt, alloc, &known, 9, &[&[0, 4]], false)
+fn ten_pieces_under_gates(rt: HostRuntime) {
+    expect_all(&rt, rt.alloc(), RESTS);
 }

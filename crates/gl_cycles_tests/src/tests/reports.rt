@@ -1,17 +1,35 @@
 //! Reports over given edges.
-use super::{acq, are_all, are_lawful, join, lists_of};
+use super::asks::shows;
 use gl_cycles::{Report, ReportFault, report_over};
-use gl_edges::{EdgeList, edges_of};
-use gl_event::{Event, Memory, ThreadId};
+use gl_edges::EdgeList;
+use gl_event::{Event, ThreadId};
 use gl_filters::{Mode, Query};
+use gl_worked::known::lawful_edges;
+use gl_worked::lawful::are_lawful;
+use gl_worked::ops::Op::{self, Acq, Join};
+use gl_worked::ops::lists_of;
 use std::alloc::Global;
-use std::test::Fail;
 
 // Two threads that take two locks in opposite orders.
-fn opposite(alloc: Global) -> Result<Vec<Vec<Event>>, Memory> {
-    let first = [acq(0, 1), acq(1, 2)];
-    let second = [acq(1, 5), acq(0, 6)];
-    lists_of(alloc, &[&first, &second])
+const OPPOSITE: &[&[Op]] = &[&[Acq(0, 1), Acq(1, 2)], &[Acq(1, 5), Acq(0, 6)]];
+
+// The report over these edges, or why there is none. None where the lists aren't lawful.
+fn report_on(
+    alloc: Global,
+    edges: EdgeList,
+    lists: &[Vec<Event>],
+    query: &Query,
+) -> Option<Result<Report, ReportFault>> {
+    if are_lawful(lists) {
+        return Some(report_over(alloc, edges, lists, query));
+    }
+    None
+}
+
+// The report over the lists' own edges.
+fn own_report(alloc: Global, lists: &[Vec<Event>], query: &Query) -> Option<Report> {
+    let edges = lawful_edges(alloc, lists)?;
+    report_on(alloc, edges, lists, query)?.ok()
 }
 
 // Whether the answer is that the second segments of threads 0 and 1 wait for each other.
@@ -30,39 +48,34 @@ fn is_loop_of_joins(answer: &Result<Report, ReportFault>) -> bool {
 
 // The edges, the query and the cycle of the lists.
 #[test]
-fn report_over_own_edges(rt: HostRuntime) -> Result<(), Fail> {
-    let alloc = rt.alloc();
-    let lists = opposite(alloc)?;
-    assert!(rt; are_lawful(&lists));
-    let edges = edges_of(alloc, &lists)?;
-    let query = Query::new(Mode::Full, 3, 7)?;
-    let report = report_over(alloc, edges, &lists, &query)?;
+fn report_over_own_edges(rt: HostRuntime) {
+    let lists = lists_of(rt.alloc(), OPPOSITE).expect(&rt, "lists");
+    let query = Query::new(Mode::Full, 3, 7).ok().expect(&rt, "a query");
+    let report = own_report(rt.alloc(), &lists, &query).expect(&rt, "a report");
     assert!(rt; report.query == query);
     assert!(rt; report.edges.entries().len() == 2);
-    assert!(rt; are_all(&report.found, &[&[0, 1]]));
-    Ok(())
+    assert!(rt; shows(&report.found, &[&[0, 1]], false));
+}
+
+// The report over no edges, by the least query.
+fn report_of_none(alloc: Global, lists: &[&[Op]]) -> Option<Result<Report, ReportFault>> {
+    let query = Query::new(Mode::Basic, 2, 1).ok()?;
+    let lists = lists_of(alloc, lists)?;
+    report_on(alloc, EdgeList::new(alloc), &lists, &query)
 }
 
 // Over no edges there is no cycle.
 #[test]
-fn report_over_no_edges(rt: HostRuntime) -> Result<(), Fail> {
-    let alloc = rt.alloc();
-    let lists = opposite(alloc)?;
-    assert!(rt; are_lawful(&lists));
-    let query = Query::new(Mode::Basic, 2, 1)?;
-    let report = report_over(alloc, EdgeList::new(alloc), &lists, &query)?;
-    assert!(rt; are_all(&report.found, &[]));
-    Ok(())
+fn report_over_no_edges(rt: HostRuntime) {
+    let answer = report_of_none(rt.alloc(), OPPOSITE).expect(&rt, "lawful lists");
+    let report = answer.ok().expect(&rt, "a report");
+    assert!(rt; shows(&report.found, &[], false));
 }
 
 // Lists that wait for each other's end have no report at all.
 #[test]
-fn no_report_of_a_loop(rt: HostRuntime) -> Result<(), Fail> {
-    let alloc = rt.alloc();
-    let waiting = lists_of(alloc, &[&[join(1, 1)], &[join(0, 2)]])?;
-    assert!(rt; are_lawful(&waiting));
-    let query = Query::new(Mode::Basic, 2, 1)?;
-    let answer = report_over(alloc, EdgeList::new(alloc), &waiting, &query);
+fn no_report_of_a_loop(rt: HostRuntime) {
+    let lists: [&[Op]; 2] = [&[Join(1, 1)], &[Join(0, 2)]];
+    let answer = report_of_none(rt.alloc(), &lists).expect(&rt, "lawful lists");
     assert!(rt; is_loop_of_joins(&answer));
-    Ok(())
 }

@@ -1,11 +1,39 @@
 //! The trim order of a report, where it is whole.
-use super::{acq, known_in, rel};
 use gl_cycles::{Report, report_by};
-use gl_event::Event;
 use gl_filters::{Mode, Query};
+use gl_worked::known::known_in;
+use gl_worked::ops::Op::{self, Acq, Rel};
 use std::alloc::Global;
-use std::process::Abort;
-use std::test::Fail;
+
+// Three threads, each of which takes two of three locks, round.
+const RING: &[&[Op]] = &[
+    &[Acq(0, 1), Acq(1, 2)],
+    &[Acq(1, 3), Acq(2, 4)],
+    &[Acq(2, 5), Acq(0, 6)],
+];
+
+// Lists, the most edges of a cycle, and the whole trim order of their report, or none.
+const CASES: &[(&str, &[&[Op]], u32, Option<&[usize]>)] = &[
+    // Of two edges after each other in one thread first the one goes and then the other.
+    (
+        "trim_order",
+        &[&[Acq(0, 1), Acq(1, 2), Rel(0, 3), Acq(2, 4)]],
+        4,
+        Some(&[0, 1]),
+    ),
+    // Where there are no edges there are none to go.
+    ("empty_report", &[], 4, Some(&[])),
+    // The edges of a cycle stay, be it listed or too long for that.
+    ("cycle_stays", RING, 3, None),
+    ("cycle_stays, too long", RING, 2, None),
+];
+
+// The report of these lists' cycles of at most so many edges.
+fn report_of(alloc: Global, lists: &[&[Op]], len: u32) -> Option<Report> {
+    let query = Query::new(Mode::Full, len, 1_000).ok()?;
+    let known = known_in(alloc, lists)?;
+    report_by(alloc, known.edges, &known.order, &query).ok()
+}
 
 // Whether the report has this whole trim order, or none.
 fn has_trim(report: &Report, wanted: Option<&[usize]>) -> bool {
@@ -16,44 +44,17 @@ fn has_trim(report: &Report, wanted: Option<&[usize]>) -> bool {
     }
 }
 
-// The report of these lists' cycles of at most so many edges has this whole trim order, or none.
-fn expect_trim(
-    rt: &impl Abort,
-    alloc: Global,
-    lists: &[&[Event]],
-    len: u32,
-    wanted: Option<&[usize]>,
-) -> Result<(), Fail> {
-    let known = known_in(rt, alloc, lists)?;
-    let query = Query::new(Mode::Full, len, 1_000)?;
-    let report = report_by(alloc, known.edges, &known.order, &query)?;
-    assert!(rt; has_trim(&report, wanted));
-    Ok(())
+// Whether the lists' report is there, and has it.
+fn is_reported(alloc: Global, lists: &[&[Op]], len: u32, wanted: Option<&[usize]>) -> bool {
+    match report_of(alloc, lists, len) {
+        Some(report) => has_trim(&report, wanted),
+        None => false,
+    }
 }
 
-// Of two edges after each other in one thread first the one goes and then the other.
 #[test]
-fn trim_order(rt: HostRuntime) -> Result<(), Fail> {
-    let alloc = rt.alloc();
-    let list = [acq(0, 1), acq(1, 2), rel(0, 3), acq(2, 4)];
-    expect_trim(&rt, alloc, &[&list], 4, Some(&[0, 1]))
-}
-
-// Where there are no edges there are none to go.
-#[test]
-fn empty_report(rt: HostRuntime) -> Result<(), Fail> {
-    let alloc = rt.alloc();
-    expect_trim(&rt, alloc, &[], 4, Some(&[]))
-}
-
-// The edges of a cycle stay, be it listed or too long for that.
-#[test]
-fn cycle_stays(rt: HostRuntime) -> Result<(), Fail> {
-    let alloc = rt.alloc();
-    let first = [acq(0, 1), acq(1, 2)];
-    let second = [acq(1, 3), acq(2, 4)];
-    let third = [acq(2, 5), acq(0, 6)];
-    let ring: [&[Event]; 3] = [&first, &second, &third];
-    expect_trim(&rt, alloc, &ring, 3, None)?;
-    expect_trim(&rt, alloc, &ring, 2, None)
+fn trim_orders(rt: HostRuntime) {
+    for (name, lists, len, wanted) in CASES {
+        assert!(rt; is_reported(rt.alloc(), lists, *len, *wanted), "{name}");
+    }
 }

@@ -1,8 +1,6 @@
 //! Limits and held locks at their bounds.
-ghost use Rattle.std.specs.Prelude.{◌≡◌, Ok, IfOk};
-
 use gl_event::{BadLimits, Held, HeldFault, Limits, LocId, LockId, LockMode, MAX_DEPTH, NotHeld};
-use std::test::Fail;
+use std::process::Abort;
 
 #[test]
 fn limits_refused(rt: HostRuntime) {
@@ -14,83 +12,145 @@ fn limits_refused(rt: HostRuntime) {
         (1, 1, 4_000_000_001, 1, BadLimits::Events),
         (1, 1, 1, 0, BadLimits::Names),
     ] {
-        assert_eq!(rt; Limits::new(threads, ring, events, names).err(), Some(want));
+        assert!(rt;
+            Limits::new(threads, ring, events, names).err() == Some(want),
+            "{want:?}"
+        );
     }
 }
 
-#[test]
-fn limits_kept(rt: HostRuntime) -> Result<(), Fail> {
-    let limits = Limits::new(1_024, 65_536, 4_000_000_000, 7)?;
-    assert_eq!(rt; limits.threads(), 1_024);
-    assert_eq!(rt; limits.ring(), 65_536);
-    assert_eq!(rt; limits.events(), 4_000_000_000);
-    assert_eq!(rt; limits.names(), 7);
-    Ok(())
+// What the limits of these numbers are: of threads, of notes in a ring, of events and of names.
+fn kept(threads: u32, ring: u32, events: u32, names: u32) -> Option<[u32; 4]> {
+    let limits = Limits::new(threads, ring, events, names).ok()?;
+    Some([
+        limits.threads(),
+        limits.ring(),
+        limits.events(),
+        limits.names(),
+    ])
 }
 
 #[test]
-fn limits_reached(rt: HostRuntime) {
-    let lock = LockId::new(3);
-    let loc = LocId::new(0);
-    let mut held = Held::new();
+fn limits_kept(rt: HostRuntime) {
+    let wanted = [1_024, 65_536, 4_000_000_000, 7];
+    assert!(rt; kept(1_024, 65_536, 4_000_000_000, 7) == Some(wanted));
+}
+
+// A call, and its answer.
+#[derive(Clone, Copy)]
+enum Call {
+    // an acquire of this lock at this place: whether it is the outermost one
+    Acquire(u32, LockMode, u32, Result<bool, HeldFault>),
+    // outermost acquires of so many locks, from lock 0 on, in shared mode
+    Nest(u32),
+    // acquires of this lock, as many as there may be: only the first one is the outermost
+    Deepen(u32),
+    // whether it was the last one
+    Release(u32, Result<bool, NotHeld>),
+    // whether the lock is held
+    Holds(u32, bool),
+    // so many locks are held, the first of them in this mode
+    Entries(usize, LockMode),
+}
+
+use Call::{Acquire, Deepen, Entries, Holds, Nest, Release};
+
+const X: LockMode = LockMode::Exclusive;
+
+const S: LockMode = LockMode::Shared;
+
+const CASES: &[(&str, &[Call])] = &[
+    (
+        "limits_reached",
+        &[
+            Deepen(3),
+            Acquire(3, X, MAX_DEPTH, Err(HeldFault::DepthFull)),
+            Holds(3, true),
+        ],
+    ),
+    (
+        "sixty_four_locks",
+        &[
+            Nest(64),
+            Acquire(64, S, 64, Err(HeldFault::HeldFull)),
+            Acquire(63, S, 64, Ok(false)),
+            Release(64, Err(NotHeld)),
+            Release(0, Ok(true)),
+            Release(63, Ok(false)),
+            Entries(63, S),
+            Holds(0, false),
+        ],
+    ),
+    (
+        "upgrade_refused",
+        &[
+            Acquire(0, S, 0, Ok(true)),
+            Acquire(0, S, 1, Ok(false)),
+            Acquire(0, X, 2, Err(HeldFault::Upgrade)),
+            Release(0, Ok(false)),
+            Release(0, Ok(true)),
+            Acquire(0, X, 2, Ok(true)),
+            Acquire(0, S, 3, Ok(false)),
+            Entries(1, X),
+        ],
+    ),
+];
+
+fn acquired(held: &mut Held, lock: u32, mode: LockMode, place: u32) -> Result<bool, HeldFault> {
+    held.acquire(LockId::new(lock), mode, LocId::new(0), place, 0)
+}
+
+// Whether so many locks can be acquired, each as an outermost one.
+fn nests(held: &mut Held, locks: u32) -> bool {
+    for lock in 0..locks {
+        if acquired(held, lock, S, lock) != Ok(true) {
+            return false;
+        }
+    }
+    true
+}
+
+// Whether the lock can be acquired as often as a lock may be, for the first time as an outermost one.
+fn deepens(held: &mut Held, lock: u32) -> bool {
     for place in 0..MAX_DEPTH {
-        assert_eq!(rt;
-            held.acquire(lock, LockMode::Exclusive, loc, place, 0),
-            Ok(place == 0)
-        );
+        if acquired(held, lock, X, place) != Ok(place == 0) {
+            return false;
+        }
     }
-    assert_eq!(rt;
-        held.acquire(lock, LockMode::Exclusive, loc, MAX_DEPTH, 0),
-        Err(HeldFault::DepthFull)
-    );
-    assert!(rt; held.holds(lock));
+    true
+}
+
+// Whether so many locks are held, the first of them in this mode.
+fn has_entries(held: &Held, count: usize, mode: LockMode) -> bool {
+    match held.entries().first() {
+        Some(first) => first.mode == mode && held.entries().len() == count,
+        None => false,
+    }
+}
+
+// Whether the call is answered so.
+fn answers(held: &mut Held, call: &Call) -> bool {
+    match call {
+        Acquire(lock, mode, place, wanted) => acquired(held, *lock, *mode, *place) == *wanted,
+        Nest(locks) => nests(held, *locks),
+        Deepen(lock) => deepens(held, *lock),
+        Release(lock, wanted) => held.release(LockId::new(*lock)) == *wanted,
+        Holds(lock, wanted) => held.holds(LockId::new(*lock)) == *wanted,
+        Entries(count, mode) => has_entries(held, *count, *mode),
+    }
+}
+
+// The held locks answer each call as it is wanted.
+fn expect(rt: &impl Abort, name: &str, calls: &[Call]) {
+    let mut held = Held::new();
+    for (at, call) in calls.iter().enumerate() {
+        assert!(rt; answers(&mut held, call), "{name}: call {at}");
+    }
 }
 
 #[test]
-fn sixty_four_locks(rt: HostRuntime) {
-    let loc = LocId::new(0);
-    let mut held = Held::new();
-    for number in 0..64 {
-        assert_eq!(rt;
-            held.acquire(LockId::new(number), LockMode::Shared, loc, number, 0),
-            Ok(true)
-        );
+fn held_locks_answer(rt: HostRuntime) {
+    for (name, calls) in CASES {
+        expect(&rt, name, calls);
     }
-    assert_eq!(rt;
-        held.acquire(LockId::new(64), LockMode::Shared, loc, 64, 0),
-        Err(HeldFault::HeldFull)
-    );
-    assert_eq!(rt;
-        held.acquire(LockId::new(63), LockMode::Shared, loc, 64, 0),
-        Ok(false)
-    );
-    assert_eq!(rt; held.release(LockId::new(64)), Err(NotHeld));
-    assert_eq!(rt; held.release(LockId::new(0)), Ok(true));
-    assert_eq!(rt; held.release(LockId::new(63)), Ok(false));
-    assert_eq!(rt; held.entries().len(), 63);
-    assert!(rt; !held.holds(LockId::new(0)));
-}
-
-#[test]
-fn upgrade_refused(rt: HostRuntime) {
-    let lock = LockId::new(0);
-    let loc = LocId::new(0);
-    let mut held = Held::new();
-    assert_eq!(rt; held.acquire(lock, LockMode::Shared, loc, 0, 0), Ok(true));
-    assert_eq!(rt; held.acquire(lock, LockMode::Shared, loc, 1, 0), Ok(false));
-    assert_eq!(rt;
-        held.acquire(lock, LockMode::Exclusive, loc, 2, 0),
-        Err(HeldFault::Upgrade)
-    );
-    assert_eq!(rt; held.release(lock), Ok(false));
-    assert_eq!(rt; held.release(lock), Ok(true));
-    assert_eq!(rt;
-        held.acquire(lock, LockMode::Exclusive, loc, 2, 0),
-        Ok(true)
-    );
-    assert_eq!(rt; held.acquire(lock, LockMode::Shared, loc, 3, 0), Ok(false));
-    assert_eq!(rt;
-        held.entries().first().map(|entry| entry.mode),
-        Some(LockMode::Exclusive)
-    );
 }

@@ -1,38 +1,46 @@
 //! What an intake answers, note by note.
-ghost use Rattle.std.specs.Prelude.{◌≡◌, IfOk};
+ghost use Rattle.std.specs.Prelude.{◌≡◌, ◌<◌, IfSome};
 
-use super::{acquire, release};
 use gl_event::{Body, Event, Limits, Note, Refusal, ThreadId};
 use gl_intake::{Accepted, Intake, Refused};
+use gl_worked::ops::Op::{self, Acq, Rel};
+use gl_worked::ops::event_of;
 use std::alloc::Global;
 use std::process::Abort;
-use std::test::Fail;
 
-fn happened(thread: u32, place: u32, event: Event) -> Note {
+// A note: its thread and place, and its event or how many it counts.
+#[derive(Clone, Copy)]
+enum Told {
+    Happened(u32, u32, Op),
+    Ended(u32, u32, u32),
+}
+
+use Told::{Ended, Happened};
+
+fn note_of(told: Told) -> Note {
+    let (thread, place, body) = match told {
+        Happened(thread, place, op) => (thread, place, Body::Happened(event_of(op))),
+        Ended(thread, place, count) => (thread, place, Body::Ended { count }),
+    };
     Note {
         thread: ThreadId::new(thread),
         place,
-        body: Body::Happened(event),
+        body,
     }
 }
 
-fn ended(thread: u32, place: u32, count: u32) -> Note {
-    Note {
-        thread: ThreadId::new(thread),
-        place,
-        body: Body::Ended { count },
-    }
+// A call, and its answer.
+#[derive(Clone, Copy)]
+enum Call {
+    // a note that is offered
+    Offer(Told, Result<Accepted, Refused>),
+    // whether there is room for the note, or why not
+    Ready(Told, Result<(), Refused>),
+    // so many notes were accepted
+    Stream(usize),
 }
 
-// The answer to an offer is this one.
-fn expect(rt: &impl Abort, answer: Result<Accepted, Refused>, want: Result<Accepted, Refused>) {
-    assert_eq!(rt; answer, want);
-}
-
-// There is room for the note, or this is why not.
-fn expect_ready(rt: &impl Abort, answer: Result<(), Refused>, want: Result<(), Refused>) {
-    assert_eq!(rt; answer, want);
-}
+use Call::{Offer, Ready, Stream};
 
 // Why a note of place 0 is refused where place 1 is next.
 const MISPLACED: Refused = Refused::Misplaced {
@@ -46,111 +54,198 @@ const WRONG_COUNT: Refused = Refused::WrongCount {
     got: 2,
 };
 
-#[test]
-fn intake_refusals(rt: HostRuntime) -> Result<(), Fail> {
-    let mut intake = Intake::new(rt.alloc(), &Limits::new(1, 1, 100, 1)?)?;
-    let unlawful = Refused::Unlawful(Refusal::NotHeld);
-    let first = happened(0, 0, acquire(0));
-    let end = ended(0, 1, 1);
-    expect(&rt, intake.offer(first), Ok(Accepted::Event { place: 0 }));
-    expect(&rt, intake.offer(first), Err(MISPLACED));
-    expect(&rt, intake.offer(ended(0, 1, 2)), Err(WRONG_COUNT));
-    expect(&rt, intake.offer(happened(0, 1, release(5))), Err(unlawful));
-    expect(&rt, intake.offer(end), Ok(Accepted::Ended { count: 1 }));
-    let late = happened(0, 1, acquire(0));
-    expect(&rt, intake.offer(late), Err(Refused::Late));
-    let strange = happened(7, 0, acquire(0));
-    expect(&rt, intake.offer(strange), Err(Refused::Stranger));
-    assert_eq!(rt; intake.stream(), [first, end].as_slice());
-    assert!(rt; intake.all_ended());
-    Ok(())
+const UNLAWFUL: Refused = Refused::Unlawful(Refusal::NotHeld);
+
+const FIRST: Told = Happened(0, 0, Acq(0, 0));
+
+const END: Told = Ended(0, 1, 1);
+
+const REFUSALS: &[Call] = &[
+    Offer(FIRST, Ok(Accepted::Event { place: 0 })),
+    Offer(FIRST, Err(MISPLACED)),
+    Offer(Ended(0, 1, 2), Err(WRONG_COUNT)),
+    Offer(Happened(0, 1, Rel(5, 0)), Err(UNLAWFUL)),
+    Offer(END, Ok(Accepted::Ended { count: 1 })),
+    Offer(Happened(0, 1, Acq(0, 0)), Err(Refused::Late)),
+    Offer(Happened(7, 0, Acq(0, 0)), Err(Refused::Stranger)),
+];
+
+const READY_THEN_OFFER: &[Call] = &[
+    Ready(FIRST, Ok(())),
+    Stream(0),
+    Offer(FIRST, Ok(Accepted::Event { place: 0 })),
+    Ready(FIRST, Err(MISPLACED)),
+    Ready(Ended(0, 1, 2), Err(WRONG_COUNT)),
+    Ready(Happened(0, 1, Rel(5, 0)), Err(UNLAWFUL)),
+    Ready(END, Ok(())),
+    Stream(1),
+    Offer(END, Ok(Accepted::Ended { count: 1 })),
+    Ready(Happened(0, 1, Acq(0, 0)), Err(Refused::Late)),
+    Ready(Happened(7, 0, Acq(0, 0)), Err(Refused::Stranger)),
+];
+
+// Little is told of the answers, so that what is known doesn't grow with each call; so it is below.
+fn offered(intake: &mut Intake, told: Told) -> Result<Accepted, Refused>
+    ensures { intake.new.limits.threads ≡ intake.old.limits.threads }
+{
+    intake.offer(note_of(told))
 }
 
-#[test]
-fn ready_then_offer(rt: HostRuntime) -> Result<(), Fail> {
-    let mut intake = Intake::new(rt.alloc(), &Limits::new(1, 1, 100, 1)?)?;
-    let unlawful = Refused::Unlawful(Refusal::NotHeld);
-    let first = happened(0, 0, acquire(0));
-    let end = ended(0, 1, 1);
-    expect_ready(&rt, intake.ready(&first), Ok(()));
-    assert!(rt; intake.stream().is_empty());
-    expect(&rt, intake.offer(first), Ok(Accepted::Event { place: 0 }));
-    expect_ready(&rt, intake.ready(&first), Err(MISPLACED));
-    expect_ready(&rt, intake.ready(&ended(0, 1, 2)), Err(WRONG_COUNT));
-    let stray = happened(0, 1, release(5));
-    expect_ready(&rt, intake.ready(&stray), Err(unlawful));
-    expect_ready(&rt, intake.ready(&end), Ok(()));
-    assert_eq!(rt; intake.stream().len(), 1);
-    expect(&rt, intake.offer(end), Ok(Accepted::Ended { count: 1 }));
-    let late = happened(0, 1, acquire(0));
-    expect_ready(&rt, intake.ready(&late), Err(Refused::Late));
-    let strange = happened(7, 0, acquire(0));
-    expect_ready(&rt, intake.ready(&strange), Err(Refused::Stranger));
-    Ok(())
+fn readied(intake: &mut Intake, told: Told) -> Result<(), Refused> {
+    intake.ready(&note_of(told))
 }
 
-// Offers 10,000 events of thread 1, each after room was made for it.
-fn offer_ten_thousand(rt: &impl Abort, intake: &mut Intake) {
-    for place in 0..10_000 {
-        let event = if place % 2 == 0 {
-            acquire(0)
-        } else {
-            release(0)
-        };
-        let note = happened(1, place, event);
-        expect_ready(rt, intake.ready(&note), Ok(()));
-        expect(rt, intake.offer(note), Ok(Accepted::Event { place }));
+// Whether the call is answered so.
+fn answers(intake: &mut Intake, call: &Call) -> bool {
+    match call {
+        Offer(told, wanted) => offered(intake, *told) == *wanted,
+        Ready(told, wanted) => readied(intake, *told) == *wanted,
+        Stream(count) => intake.stream().len() == *count,
     }
 }
 
+// The intake answers each call as it is wanted.
+fn expect(rt: &impl Abort, intake: &mut Intake, calls: &[Call]) {
+    for (at, call) in calls.iter().enumerate() {
+        assert!(rt; answers(intake, call), "call {at}");
+    }
+}
+
+// An intake of so many threads, of so many events each.
+fn intake_of(alloc: Global, threads: u32, events: u32) -> Option<Intake> {
+    let limits = Limits::new(threads, 1, events, 1).ok()?;
+    Intake::new(alloc, &limits).ok()
+}
+
+// Whether the stream is this, and all threads have ended.
+fn has_ended_with(intake: &Intake, stream: &[Note]) -> bool {
+    intake.stream() == stream && intake.all_ended()
+}
+
 #[test]
-fn ten_thousand_events(rt: HostRuntime) -> Result<(), Fail> {
-    let mut intake = Intake::new(rt.alloc(), &Limits::new(2, 1, 10_000, 1)?)?;
-    offer_ten_thousand(&rt, &mut intake);
-    let end = ended(0, 0, 0);
-    expect(&rt, intake.offer(end), Ok(Accepted::Ended { count: 0 }));
-    assert_eq!(rt; intake.stream().len(), 10_001);
+fn intake_refusals(rt: HostRuntime) {
+    let mut intake = intake_of(rt.alloc(), 1, 100).expect(&rt, "an intake");
+    expect(&rt, &mut intake, REFUSALS);
+    assert!(rt; has_ended_with(&intake, &[note_of(FIRST), note_of(END)]));
+}
+
+#[test]
+fn ready_then_offer(rt: HostRuntime) {
+    let mut intake = intake_of(rt.alloc(), 1, 100).expect(&rt, "an intake");
+    expect(&rt, &mut intake, READY_THEN_OFFER);
+}
+
+// Offers 10,000 events of thread 1, each after room was made for it. Whether each was accepted.
+fn takes_ten_thousand(intake: &mut Intake) -> bool {
+    for place in 0..10_000 {
+        let op = if place % 2 == 0 { Acq(0, 0) } else { Rel(0, 0) };
+        let told = Happened(1, place, op);
+        if !answers(intake, &Ready(told, Ok(())))
+            || !answers(intake, &Offer(told, Ok(Accepted::Event { place })))
+        {
+            return false;
+        }
+    }
+    true
+}
+
+// How many threads have logs, and how long the last one is.
+fn logs_of(intake: &Intake) -> (usize, Option<usize>) {
     let logs = intake.logs();
-    assert_eq!(rt; logs.len(), 2);
-    assert_eq!(rt; logs.last().map(|log| log.len()), Some(10_000));
-    let full = Refused::Unlawful(Refusal::PlaceFull);
-    let last = happened(1, 10_000, acquire(0));
-    expect_ready(&rt, intake.ready(&last), Err(full));
-    Ok(())
-}
-
-// An intake of two threads, of which the second has ended.
-fn two_logs(alloc: Global) -> Result<Intake, Fail>
-    ensures { IfOk result (λ intake. intake.limits.threads ≡ 2) }
-{
-    let mut intake = Intake::new(alloc, &Limits::new(2, 1, 100, 1)?)?;
-    intake.offer(happened(1, 0, acquire(4)))?;
-    intake.offer(happened(0, 0, acquire(3)))?;
-    intake.offer(happened(1, 1, release(4)))?;
-    intake.offer(ended(1, 2, 2))?;
-    Ok(intake)
+    (logs.len(), logs.last().map(|log| log.len()))
 }
 
 #[test]
-fn two_threads(rt: HostRuntime) -> Result<(), Fail> {
-    let intake = two_logs(rt.alloc())?;
-    assert_eq!(rt; intake.stream().len(), 4);
-    assert!(rt; intake.ended(ThreadId::new(1)));
-    assert!(rt; !intake.ended(ThreadId::new(0)));
-    assert!(rt; !intake.ended(ThreadId::new(9)));
-    assert!(rt; !intake.all_ended());
-    Ok(())
+fn ten_thousand_events(rt: HostRuntime) {
+    let mut intake = intake_of(rt.alloc(), 2, 10_000).expect(&rt, "an intake");
+    assert!(rt; takes_ten_thousand(&mut intake));
+    let full = Refused::Unlawful(Refusal::PlaceFull);
+    let calls = [
+        Offer(Ended(0, 0, 0), Ok(Accepted::Ended { count: 0 })),
+        Stream(10_001),
+        Ready(Happened(1, 10_000, Acq(0, 0)), Err(full)),
+    ];
+    expect(&rt, &mut intake, &calls);
+    assert!(rt; logs_of(&intake) == (2, Some(10_000)));
+}
+
+// Offers the events of two threads, and the end of the second one. Whether all were accepted.
+fn offers_both(intake: &mut Intake) -> bool
+    ensures { intake.new.limits.threads ≡ intake.old.limits.threads }
+{
+    let answers = [
+        offered(intake, Happened(1, 0, Acq(4, 0))),
+        offered(intake, Happened(0, 0, Acq(3, 0))),
+        offered(intake, Happened(1, 1, Rel(4, 0))),
+        offered(intake, Ended(1, 2, 2)),
+    ];
+    let wanted = [
+        Ok(Accepted::Event { place: 0 }),
+        Ok(Accepted::Event { place: 0 }),
+        Ok(Accepted::Event { place: 1 }),
+        Ok(Accepted::Ended { count: 2 }),
+    ];
+    answers == wanted
+}
+
+// An intake of two threads.
+fn intake_of_two(alloc: Global) -> Option<Intake>
+    ensures { IfSome result (λ intake. intake.limits.threads ≡ 2) }
+{
+    let limits = Limits::new(2, 1, 100, 1).ok()?;
+    Intake::new(alloc, &limits).ok()
+}
+
+// The same where the second one has ended.
+fn two_logs(alloc: Global) -> Option<Intake>
+    ensures { IfSome result (λ intake. intake.limits.threads ≡ 2) }
+{
+    let mut intake = intake_of_two(alloc)?;
+    if offers_both(&mut intake) {
+        return Some(intake);
+    }
+    None
+}
+
+// Whether thread 1 has ended, thread 0, a strange one, and all.
+fn ends_of(intake: &Intake) -> [bool; 4] {
+    [
+        intake.ended(ThreadId::new(1)),
+        intake.ended(ThreadId::new(0)),
+        intake.ended(ThreadId::new(9)),
+        intake.all_ended(),
+    ]
+}
+
+#[test]
+fn two_threads(rt: HostRuntime) {
+    let intake = two_logs(rt.alloc()).expect(&rt, "an intake");
+    assert!(rt; intake.stream().len() == 4);
+    assert!(rt; ends_of(&intake) == [true, false, false, false]);
+}
+
+// Whether the thread's events are these.
+fn log_is(intake: &Intake, thread: u32, events: &[Event]) -> bool
+    requires { thread < intake.now.limits.threads }
+{
+    intake.log(ThreadId::new(thread)) == events
+}
+
+// Whether there are two logs, and the last one is this.
+fn last_of_two_is(intake: &Intake, events: &[Event]) -> bool {
+    match intake.logs() {
+        [_, log] => log.as_slice() == events,
+        _ => false,
+    }
 }
 
 // The events of these threads are apart, and each thread's are in order.
 #[test]
-fn logs_by_thread(rt: HostRuntime) -> Result<(), Fail> {
-    let intake = two_logs(rt.alloc())?;
-    let first = [acquire(3)];
-    let second = [acquire(4), release(4)];
-    assert!(rt; intake.log(ThreadId::new(0)) == first.as_slice());
-    assert!(rt; intake.log(ThreadId::new(1)) == second.as_slice());
-    assert!(rt; intake.logs().len() == 2);
-    assert!(rt; intake.logs().last().map(|log| log.as_slice()) == Some(second.as_slice()));
-    Ok(())
+fn logs_by_thread(rt: HostRuntime) {
+    let intake = two_logs(rt.alloc()).expect(&rt, "an intake");
+    let first = [event_of(Acq(3, 0))];
+    let second = [event_of(Acq(4, 0)), event_of(Rel(4, 0))];
+    assert!(rt; log_is(&intake, 0, &first));
+    assert!(rt; log_is(&intake, 1, &second));
+    assert!(rt; last_of_two_is(&intake, &second));
 }

@@ -1,129 +1,191 @@
 //! What recorders answer at their limits.
-use super::{acquire, release};
-use gl_event::{Body, Event, Limits, LocId, LockId, LockMode, MAX_DEPTH, Note, ThreadId};
+use gl_event::{Body, Limits, MAX_DEPTH, Note, ThreadId};
 use gl_recorder::{Refusal, Taker};
+use gl_worked::ops::Op::{self, Acq, Fork, Racq, Rel, Tryacq, Tryracq};
+use gl_worked::ops::event_of;
 use std::process::Abort;
-use std::test::Fail;
 
-fn acquire_shared(lock: u32) -> Event {
-    Event::Acquire {
-        lock: LockId::new(lock),
-        mode: LockMode::Shared,
-        loc: LocId::new(0),
-    }
+// A call, and its answer.
+#[derive(Clone, Copy)]
+enum Call {
+    // an event that may be taken at this place, or why it may not
+    Check(Op, Result<u32, Refusal>),
+    // the same of one that is taken then
+    Take(Op, Result<u32, Refusal>),
+    // acquires of so many locks, from lock 0 on, are taken
+    Nest(u32),
+    // an acquire that is taken so many times
+    Again(Op, u32),
+    // so many events were taken
+    Taken(u32),
+    // the end mark counts so many
+    End(u32),
 }
 
-fn try_acquire(lock: u32, mode: LockMode) -> Event {
-    Event::TryAcquire {
-        lock: LockId::new(lock),
-        mode,
-        loc: LocId::new(0),
-    }
+use Call::{Again, Check, End, Nest, Take, Taken};
+
+// The recorder of thread 0 in a session of so many threads, of so many events at most.
+#[derive(Clone, Copy)]
+struct Case {
+    name: &'static str,
+    threads: u32,
+    events: u32,
+    calls: &'static [Call],
 }
 
-fn fork(thread: u32) -> Event {
-    Event::Fork {
-        thread: ThreadId::new(thread),
-        loc: LocId::new(0),
-    }
-}
+const CASES: &[Case] = &[
+    Case {
+        name: "limits_reached",
+        threads: 1,
+        events: 1,
+        calls: &[
+            Check(Acq(0, 0), Ok(0)),
+            Take(Acq(0, 0), Ok(0)),
+            Check(Acq(0, 0), Err(Refusal::PlaceFull)),
+            Take(Acq(0, 0), Err(Refusal::PlaceFull)),
+            End(1),
+        ],
+    },
+    Case {
+        name: "most_held_locks",
+        threads: 1,
+        events: 100,
+        calls: &[
+            Take(Fork(1, 0), Err(Refusal::NoSuchThread)),
+            Take(Fork(0, 0), Err(Refusal::OnItself)),
+            Taken(0),
+            Nest(64),
+            Take(Acq(64, 0), Err(Refusal::HeldFull)),
+            Take(Acq(63, 0), Ok(64)),
+            Taken(65),
+        ],
+    },
+    Case {
+        name: "deepest_acquire",
+        threads: 1,
+        events: 4_000_000_000,
+        calls: &[
+            Again(Racq(7, 0), MAX_DEPTH),
+            Take(Racq(7, 0), Err(Refusal::DepthFull)),
+            // the depth is looked at before the mode
+            Take(Acq(7, 0), Err(Refusal::DepthFull)),
+            Taken(MAX_DEPTH),
+            Again(Rel(7, 0), 1),
+            Take(Acq(7, 0), Err(Refusal::Upgrade)),
+            Again(Racq(7, 0), 1),
+        ],
+    },
+    Case {
+        name: "stray_release",
+        threads: 2,
+        events: 2,
+        calls: &[
+            Take(Rel(5, 0), Err(Refusal::NotHeld)),
+            Take(Fork(1, 0), Ok(0)),
+            Take(Acq(5, 0), Ok(1)),
+            // the first reason in the stated order is answered
+            Take(Fork(0, 0), Err(Refusal::PlaceFull)),
+            End(2),
+        ],
+    },
+    Case {
+        name: "upgrade_refused",
+        threads: 1,
+        events: 100,
+        calls: &[
+            Again(Racq(0, 0), 1),
+            Take(Acq(0, 0), Err(Refusal::Upgrade)),
+            Take(Tryacq(0, 0), Err(Refusal::Upgrade)),
+            Take(Tryracq(0, 0), Ok(1)),
+            // either release lowers the depth
+            Again(Rel(0, 0), 1),
+            Check(Acq(0, 0), Err(Refusal::Upgrade)),
+            Again(Rel(0, 0), 1),
+            Again(Acq(0, 0), 1),
+            Again(Racq(0, 0), 1),
+            Taken(6),
+        ],
+    },
+];
 
-fn note(place: u32, body: Body) -> Note {
-    Note {
+// Whether this is the note of the event at the wanted place, or the refusal that is wanted.
+fn is_wanted(answer: Result<Note, Refusal>, op: Op, wanted: Result<u32, Refusal>) -> bool {
+    let note = |place| Note {
         thread: ThreadId::new(0),
         place,
-        body,
+        body: Body::Happened(event_of(op)),
+    };
+    answer == wanted.map(note)
+}
+
+// Whether acquires of so many locks are taken.
+fn nests(taker: &mut Taker, locks: u32) -> bool {
+    for lock in 0..locks {
+        if taker.take(event_of(Acq(lock, 0))).is_err() {
+            return false;
+        }
+    }
+    true
+}
+
+// Whether the event is taken so many times.
+fn takes_again(taker: &mut Taker, op: Op, times: u32) -> bool {
+    for _ in 0..times {
+        if taker.take(event_of(op)).is_err() {
+            return false;
+        }
+    }
+    true
+}
+
+// Whether the end mark counts so many events.
+fn ends_with(taker: &Taker, count: u32) -> bool {
+    let end = Note {
+        thread: ThreadId::new(0),
+        place: count,
+        body: Body::Ended { count },
+    };
+    taker.end() == end
+}
+
+// Whether the call is answered so.
+fn answers(taker: &mut Taker, call: &Call) -> bool {
+    match call {
+        Check(op, wanted) => is_wanted(taker.check(event_of(*op)), *op, *wanted),
+        Take(op, wanted) => is_wanted(taker.take(event_of(*op)), *op, *wanted),
+        Nest(locks) => nests(taker, *locks),
+        Again(op, times) => takes_again(taker, *op, *times),
+        Taken(count) => taker.taken() == *count,
+        End(count) => ends_with(taker, *count),
     }
 }
 
-// The answer is this one.
-fn expect(rt: &impl Abort, answer: Result<Note, Refusal>, want: Result<Note, Refusal>) {
-    assert_eq!(rt; answer, want);
-}
-
-#[test]
-fn limits_reached(rt: HostRuntime) -> Result<(), Fail> {
-    let mut taker = Taker::new(ThreadId::new(0), &Limits::new(1, 1, 1, 1)?);
-    let first = note(0, Body::Happened(acquire(0)));
-    expect(&rt, taker.check(acquire(0)), Ok(first));
-    expect(&rt, taker.take(acquire(0)), Ok(first));
-    expect(&rt, taker.check(acquire(0)), Err(Refusal::PlaceFull));
-    expect(&rt, taker.take(acquire(0)), Err(Refusal::PlaceFull));
-    assert_eq!(rt; taker.end(), note(1, Body::Ended { count: 1 }));
-    Ok(())
-}
-
-#[test]
-fn thread_told(rt: HostRuntime) -> Result<(), Fail> {
-    let taker = Taker::new(ThreadId::new(3), &Limits::new(4, 1, 1, 1)?);
-    assert_eq!(rt; taker.thread(), ThreadId::new(3));
-    Ok(())
-}
-
-#[test]
-fn most_held_locks(rt: HostRuntime) -> Result<(), Fail> {
-    let mut taker = Taker::new(ThreadId::new(0), &Limits::new(1, 1, 100, 1)?);
-    expect(&rt, taker.take(fork(1)), Err(Refusal::NoSuchThread));
-    expect(&rt, taker.take(fork(0)), Err(Refusal::OnItself));
-    assert_eq!(rt; taker.taken(), 0);
-    for lock in 0..64 {
-        assert!(rt; taker.take(acquire(lock)).is_ok());
+// The recorder of this thread.
+fn taker(thread: u32, threads: u32, events: u32) -> Option<Taker> {
+    let limits = Limits::new(threads, 1, events, 1).ok()?;
+    if thread >= threads {
+        return None;
     }
-    expect(&rt, taker.take(acquire(64)), Err(Refusal::HeldFull));
-    let again = acquire(63);
-    expect(&rt, taker.take(again), Ok(note(64, Body::Happened(again))));
-    assert_eq!(rt; taker.taken(), 65);
-    Ok(())
+    Some(Taker::new(ThreadId::new(thread), &limits))
 }
 
-#[test]
-fn deepest_acquire(rt: HostRuntime) -> Result<(), Fail> {
-    let mut taker = Taker::new(ThreadId::new(0), &Limits::new(1, 1, 4_000_000_000, 1)?);
-    for _ in 0..MAX_DEPTH {
-        assert!(rt; taker.take(acquire_shared(7)).is_ok());
+// The recorder answers each call as it is wanted.
+fn expect(rt: &impl Abort, taker: &mut Taker, case: &Case) {
+    for (at, call) in case.calls.iter().enumerate() {
+        assert!(rt; answers(taker, call), "{}: call {at}", case.name);
     }
-    expect(&rt, taker.take(acquire_shared(7)), Err(Refusal::DepthFull));
-    // the depth is looked at before the mode
-    expect(&rt, taker.take(acquire(7)), Err(Refusal::DepthFull));
-    assert_eq!(rt; taker.taken(), MAX_DEPTH);
-    assert!(rt; taker.take(release(7)).is_ok());
-    expect(&rt, taker.take(acquire(7)), Err(Refusal::Upgrade));
-    assert!(rt; taker.take(acquire_shared(7)).is_ok());
-    Ok(())
 }
 
 #[test]
-fn stray_release(rt: HostRuntime) -> Result<(), Fail> {
-    let mut taker = Taker::new(ThreadId::new(0), &Limits::new(2, 1, 2, 1)?);
-    expect(&rt, taker.take(release(5)), Err(Refusal::NotHeld));
-    expect(
-        &rt,
-        taker.take(fork(1)),
-        Ok(note(0, Body::Happened(fork(1)))),
-    );
-    let second = note(1, Body::Happened(acquire(5)));
-    expect(&rt, taker.take(acquire(5)), Ok(second));
-    // the first reason in the stated order is answered
-    expect(&rt, taker.take(fork(0)), Err(Refusal::PlaceFull));
-    assert_eq!(rt; taker.end(), note(2, Body::Ended { count: 2 }));
-    Ok(())
+fn recorders_answer(rt: HostRuntime) {
+    for case in CASES {
+        let mut taker = taker(0, case.threads, case.events).expect(&rt, case.name);
+        expect(&rt, &mut taker, case);
+    }
 }
 
 #[test]
-fn upgrade_refused(rt: HostRuntime) -> Result<(), Fail> {
-    let mut taker = Taker::new(ThreadId::new(0), &Limits::new(1, 1, 100, 1)?);
-    assert!(rt; taker.take(acquire_shared(0)).is_ok());
-    expect(&rt, taker.take(acquire(0)), Err(Refusal::Upgrade));
-    let trying = try_acquire(0, LockMode::Exclusive);
-    expect(&rt, taker.take(trying), Err(Refusal::Upgrade));
-    let again = try_acquire(0, LockMode::Shared);
-    expect(&rt, taker.take(again), Ok(note(1, Body::Happened(again))));
-    // either release lowers the depth
-    assert!(rt; taker.take(release(0)).is_ok());
-    expect(&rt, taker.check(acquire(0)), Err(Refusal::Upgrade));
-    assert!(rt; taker.take(release(0)).is_ok());
-    assert!(rt; taker.take(acquire(0)).is_ok());
-    assert!(rt; taker.take(acquire_shared(0)).is_ok());
-    assert_eq!(rt; taker.taken(), 6);
-    Ok(())
+fn thread_told(rt: HostRuntime) {
+    let taker = taker(3, 4, 1).expect(&rt, "a recorder");
+    assert!(rt; taker.thread() == ThreadId::new(3));
 }
