@@ -1,9 +1,8 @@
 //! How a thread waits that looks again and again for what another one does.
-use std::hint;
 use std::sync::Wait;
 use std::sync::atomic::AtomicU64;
-use std::thread;
 use std::time::Duration;
+use std::{hint, thread};
 
 // After how many looks a waiting thread lets others run between two of them.
 const SPINS: u32 = 8;
