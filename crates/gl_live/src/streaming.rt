@@ -271,7 +271,8 @@ fn start_collecting<'s, E, R: Threads + Wait + Sync, G: Gate + Sync>(
     requires empty { workers.old.items ≡ [] }
     requires room { vec_len workers.old + length inlets.items ≤ vec_capacity workers.old }
     ensures feeds { IfSome result
-        (λ h. map (λ w. w.promise.0.value.feed) workers.new.items ≡ map (λ i. i.feed) inlets.items) }
+        (λ h. map (λ w. w.promise.0.value.feed) workers.new.items
+        ≡ map (λ i. i.feed) inlets.items) }
     ensures collector { IfSome result (λ h. h.promise.collector.value ≡ collector) }
     ensures outlets { IfSome result (λ h. h.promise.outlets.value.items ≡ outlets.items) }
 {
