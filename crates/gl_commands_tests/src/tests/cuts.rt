@@ -1,118 +1,98 @@
 //! Readers and writers that stop, and turns that are used up.
-ghost use Rattle.std.specs.Prelude.{◌≡◌};
-ghost use Rattle.gl_options.specs.Sessions.{CanRun};
-
-use super::checks::TRUE_REPORT;
-use super::runs::{Ask, Case, End, Reader, command_of, expect_all, run};
-use super::{NO_CYCLES, OPPOSITE_ORDER, TURNS};
+use super::calls::{predict, replay, stats};
+use super::{OPPOSITE_ORDER, TURNS, full};
+use crate::cut::Cut;
 use gl_commands::Ended;
-use gl_filters::Mode;
 use gl_io::FromStd;
-use gl_options::Command;
+use gl_options::Form;
+use gl_std::Seed;
 use std::io::Cursor;
-use std::sync::Wait;
-use std::thread::Threads;
-
-const CASES: &[Case<'static>] = &[
-    Case {
-        name: "turns_used_up",
-        ask: Ask::Predict(Mode::Full, 4, 1_000),
-        text: b"",
-        reader: Reader::Turns(1),
-        end: End::Clean,
-        printed: NO_CYCLES,
-    },
-    Case {
-        name: "turns_used_up",
-        ask: Ask::Predict(Mode::Full, 4, 1_000),
-        text: OPPOSITE_ORDER,
-        reader: Reader::Turns(1),
-        end: End::ReadFailed,
-        printed: b"",
-    },
-    Case {
-        name: "writer_and_reader_fail",
-        ask: Ask::Predict(Mode::Full, 4, 1_000),
-        text: b"T0\n",
-        reader: Reader::Cut,
-        end: End::Refused(b"goodlock: line 1: no bar\n"),
-        printed: b"",
-    },
-    Case {
-        name: "writer_and_reader_fail",
-        ask: Ask::Predict(Mode::Full, 4, 1_000),
-        text: b"T0",
-        reader: Reader::Cut,
-        end: End::ReadFailed,
-        printed: b"",
-    },
-    Case {
-        name: "counts_and_replays_cut",
-        ask: Ask::Replay,
-        text: OPPOSITE_ORDER,
-        reader: Reader::Cut,
-        end: End::ReadFailed,
-        printed: b"",
-    },
-];
+use std::test::Fail;
 
 #[test]
-fn readers_stop(rt: HostRuntime) {
-    expect_all(&rt, CASES);
+fn turns_used_up(rt: HostRuntime) -> Result<(), Fail> {
+    let nothing: &[u8] = b"";
+    for (text, is_clean) in [(nothing, true), (OPPOSITE_ORDER, false)] {
+        let mut input = FromStd::new(text);
+        let mut output = FromStd::new(Vec::new(rt.alloc()));
+        match predict(
+            &rt,
+            &mut input,
+            &mut output,
+            1,
+            Seed::fixed(),
+            &full()?,
+            Form::Text,
+        ) {
+            Ended::Clean => assert!(rt; is_clean),
+            Ended::ReadFailed => assert!(rt; !is_clean),
+            other => assert!(rt; false, "{other:?}"),
+        }
+    }
+    Ok(())
 }
 
-// How the command ends over the text and a writer with room for five bytes, and what it writes.
-fn into_five<R: AllocGlobal + Threads + Wait + Sync>(
-    rt: &R,
-    command: &Command,
-    text: &[u8],
-) -> (Ended, [u8; 5])
-    requires { CanRun command.now }
-{
-    let mut input = FromStd::new(text);
+#[test]
+fn writer_and_reader_fail(rt: HostRuntime) -> Result<(), Fail> {
     let mut output = FromStd::new(Cursor::new([0u8; 5]));
-    let ended = run(rt, command, &mut input, &mut output, TURNS);
-    (ended, output.into_inner().into_inner())
-}
-
-// Whether a write failed after so many bytes.
-fn is_failed(ended: &Ended, count: usize) -> bool {
-    match ended {
-        Ended::WriteFailed { written } => *written == count,
-        _ => false,
-    }
-}
-
-// A report by `predict`, by `live`, and by `live` over a text as it comes.
-#[test]
-fn reports_cut(rt: HostRuntime) {
-    for ask in [
-        Ask::Predict(Mode::Full, 4, 1_000),
-        Ask::Live(4, 4, 256),
-        Ask::Stream(64, 4),
-    ] {
-        let command = command_of(ask).expect(&rt, "a command");
-        let (ended, held) = into_five(&rt, &command, OPPOSITE_ORDER);
-        assert!(rt; is_failed(&ended, 5), "{ended:?}");
-        assert!(rt; held == *b"cycle");
-    }
-}
-
-#[test]
-fn counts_cut(rt: HostRuntime) {
-    let command = command_of(Ask::Stats(Mode::Full, 4, 1_000)).expect(&rt, "a command");
     let mut input = FromStd::new(OPPOSITE_ORDER);
-    let mut output = FromStd::new(Cursor::new([0u8; 9]));
-    let ended = run(&rt, &command, &mut input, &mut output, TURNS);
-    assert!(rt; is_failed(&ended, 9), "{ended:?}");
-    assert!(rt; output.into_inner().into_inner() == *b"events: 6");
+    match predict(
+        &rt,
+        &mut input,
+        &mut output,
+        TURNS,
+        Seed::fixed(),
+        &full()?,
+        Form::Text,
+    ) {
+        Ended::WriteFailed { written } => assert_eq!(rt; written, 5),
+        other => assert!(rt; false, "{other:?}"),
+    }
+    assert_eq!(rt; output.into_inner().into_inner(), *b"cycle");
+    for (text, said) in [
+        (b"T0\n".as_slice(), b"goodlock: line 1: no bar\n".as_slice()),
+        (b"T0", b""),
+    ] {
+        let mut input = Cut {
+            rest: text,
+            is_failed: false,
+        };
+        let mut output = FromStd::new(Vec::new(rt.alloc()));
+        match predict(
+            &rt,
+            &mut input,
+            &mut output,
+            TURNS,
+            Seed::fixed(),
+            &full()?,
+            Form::Text,
+        ) {
+            Ended::Refused(line) => assert_eq!(rt; line.as_slice(), said),
+            Ended::ReadFailed => assert!(rt; said.is_empty()),
+            other => assert!(rt; false, "{other:?}"),
+        }
+        assert!(rt; output.into_inner().is_empty());
+    }
+    Ok(())
 }
 
 #[test]
-fn opinion_cut(rt: HostRuntime) {
-    let mut input = FromStd::new(TRUE_REPORT);
-    let mut output = FromStd::new(Cursor::new([0u8; 3]));
-    let ended = run(&rt, &Command::Check, &mut input, &mut output, TURNS);
-    assert!(rt; is_failed(&ended, 3), "{ended:?}");
-    assert!(rt; output.into_inner().into_inner() == *b"ok,");
+fn counts_and_replays_cut(rt: HostRuntime) -> Result<(), Fail> {
+    let mut output = FromStd::new(Cursor::new([0u8; 9]));
+    let mut input = FromStd::new(OPPOSITE_ORDER);
+    match stats(&rt, &mut input, &mut output, TURNS, Seed::fixed(), &full()?) {
+        Ended::WriteFailed { written } => assert_eq!(rt; written, 9),
+        other => assert!(rt; false, "{other:?}"),
+    }
+    assert_eq!(rt; output.into_inner().into_inner(), *b"events: 6");
+    let mut input = Cut {
+        rest: OPPOSITE_ORDER,
+        is_failed: false,
+    };
+    let mut output = FromStd::new(Vec::new(rt.alloc()));
+    match replay(&rt, &mut input, &mut output, TURNS, Seed::fixed()) {
+        Ended::ReadFailed => assert!(rt; output.into_inner().is_empty()),
+        other => assert!(rt; false, "{other:?}"),
+    }
+    Ok(())
 }

@@ -1,21 +1,23 @@
 //! Readers that stop after so many bytes, and writers that have room for so many: each number of them in turn, for
 //! each command.
-ghost use Rattle.std.specs.Prelude.{◌≡◌, ◌<◌, ◌≤◌, ◌^◌, length};
-ghost use Rattle.gl_options.specs.Sessions.{CanRun};
+ghost use Rattle.std.specs.Prelude.{◌≡◌, ◌<◌, ◌≤◌, ◌^◌, length, IfOk};
+ghost use Rattle.gl_options.specs.Sessions.{AreOfSession, CanRun};
 
+use super::calls::{check_input, live, predict, predict_findings, replay, stats};
 use super::checks::TRUE_REPORT;
-use super::runs::{self, Ask, command_of};
-use super::{OPPOSITE_ORDER, TURNS};
+use super::sessions::session;
+use super::{OPPOSITE_ORDER, TURNS, full};
 use gl_commands::{Ended, said};
-use gl_filters::Mode;
 use gl_io::FromStd;
-use gl_options::Command;
+use gl_options::{Command, Form, LiveOptions};
+use gl_std::Seed;
 use std::alloc::Global;
 use std::io::{self, ErrorKind};
 use std::process::Abort;
 use std::sync::Wait;
+use std::test::Fail;
 use std::thread::Threads;
-use wanted::{Next, Sample, Wanted, answered, is_printed, line_of, wanted_of};
+use wanted::{Next, Sample, Wanted, answered, wanted_of};
 
 mod wanted;
 
@@ -113,68 +115,30 @@ fn run<R: AllocGlobal + Threads + Wait + Sync>(
 {
     let mut input = FromStd::new(input);
     let mut output = FromStd::new(output);
-    let ended = runs::run(rt, command, &mut input, &mut output, turns);
+    let seed = Seed::fixed();
+    let ended = match command {
+        Command::Predict { query, form } => {
+            predict(rt, &mut input, &mut output, turns, seed, query, *form)
+        }
+        Command::Findings { query, form } => {
+            predict_findings(rt, &mut input, &mut output, turns, seed, query, *form)
+        }
+        Command::Live(options) => live(rt, &mut input, &mut output, turns, seed, options),
+        Command::Stats { query } => stats(rt, &mut input, &mut output, turns, seed, query),
+        Command::Replay => replay(rt, &mut input, &mut output, turns, seed),
+        Command::Check => check_input(rt, &mut input, &mut output, turns, seed),
+    };
     (ended, output.into_inner())
 }
 
-// Whether the line for standard error and the status are these.
-fn is_said(alloc: Global, ended: &Ended, wanted: &Wanted<'_>) -> bool {
-    let (line, status) = said(ended);
-    match line_of(alloc, wanted.said) {
-        Some(wanted_line) => line == wanted_line.as_bytes() && status == wanted.status,
-        None => false,
-    }
-}
-
 // The run ends so.
-fn expect_ended<R: Abort + AllocGlobal>(
-    rt: &R,
-    ended: &Ended,
-    output: &Narrow,
-    wanted: &Wanted<'_>,
-    at: (usize, u64, Next),
-) {
-    assert!(rt; is_said(rt.alloc(), ended, wanted), "{at:?}: {ended:?}");
-    assert!(rt;
-        is_printed(output.held.as_slice(), wanted),
-        "{at:?}: {:?}",
-        output.held.as_slice()
-    );
-    assert!(rt;
-        output.calls == output.held.len(),
-        "{at:?}: {} calls",
-        output.calls
-    );
+fn expect_ended(rt: &impl Abort, ended: &Ended, output: &Narrow, wanted: &Wanted, case: &str) {
+    let (line, status) = said(ended);
+    assert_eq!(rt; line, wanted.said.as_slice(), "{case}");
+    assert_eq!(rt; status, wanted.status, "{case}");
+    assert_eq!(rt; output.held.as_slice(), wanted.printed.as_slice(), "{case}");
+    assert_eq!(rt; output.calls, output.held.len(), "{case}");
 }
-
-// The command over this front of the sample, and this way to go on, in so many turns more.
-fn expect_stop<R: Abort + AllocGlobal + Threads + Wait + Sync>(
-    rt: &R,
-    command: &Command,
-    sample: &Sample<'_>,
-    front: &[u8],
-    way: (After<'static>, u64, Next),
-)
-    requires { CanRun command.now }
-{
-    let (after, more, next) = way;
-    let turns = (front.len() as u64).saturating_add(more).min(TURNS);
-    let wanted = wanted_of(command, sample, front, next);
-    let input = Gives { rest: front, after };
-    let output = with_room(rt.alloc(), 1_000, true);
-    let (ended, output) = run(rt, command, input, turns, output);
-    expect_ended(rt, &ended, &output, &wanted, (front.len(), turns, next));
-}
-
-// The ways to go on after a front: what the reader does, and how many turns there are for it.
-const WAYS: [(After<'static>, u64, Next); 6] = [
-    (After::End, 1, Next::End),
-    (After::End, 0, Next::Nothing),
-    (After::Failure, 1, Next::Nothing),
-    (After::Again(b"\n"), 20, Next::Lf),
-    (After::Again(b"x"), 20, Next::Nothing),
-    (After::Again(OPPOSITE_ORDER), 100, Next::Trace),
-];
 
 // The command over this front of the sample, and each of the ways to go on.
 fn expect_stops<R: Abort + AllocGlobal + Threads + Wait + Sync>(
@@ -182,12 +146,28 @@ fn expect_stops<R: Abort + AllocGlobal + Threads + Wait + Sync>(
     command: &Command,
     sample: &Sample<'_>,
     front: &[u8],
-)
+) -> Result<(), Fail>
     requires { CanRun command.now }
 {
-    for way in WAYS {
-        expect_stop(rt, command, sample, front, way);
+    let alloc = rt.alloc();
+    let count = front.len();
+    for (after, more, next) in [
+        (After::End, 1, Next::End),
+        (After::End, 0, Next::Nothing),
+        (After::Failure, 1, Next::Nothing),
+        (After::Again(b"\n"), 20, Next::Lf),
+        (After::Again(b"x"), 20, Next::Nothing),
+        (After::Again(OPPOSITE_ORDER), 100, Next::Trace),
+    ] {
+        let turns = (count as u64).saturating_add(more).min(TURNS);
+        let wanted = wanted_of(alloc, command, sample, front, next)?;
+        let input = Gives { rest: front, after };
+        let output = with_room(alloc, 1_000, true);
+        let (ended, output) = run(rt, command, input, turns, output);
+        let case = format!(in alloc; "{count} bytes, {turns} turns, {next:?}")?;
+        expect_ended(rt, &ended, &output, &wanted, case.as_str());
     }
+    Ok(())
 }
 
 // The command over each front of the sample. Those before the third line are alike in both traces.
@@ -195,7 +175,7 @@ fn expect_fronts<R: Abort + AllocGlobal + Threads + Wait + Sync>(
     rt: &R,
     command: &Command,
     sample: &Sample<'_>,
-)
+) -> Result<(), Fail>
     requires { CanRun command.now }
 {
     let first = if sample.is_bad {
@@ -204,58 +184,34 @@ fn expect_fronts<R: Abort + AllocGlobal + Threads + Wait + Sync>(
         0
     };
     for count in first..sample.text.len() {
-        expect_stops(rt, command, sample, &sample.text[..count]);
+        expect_stops(rt, command, sample, &sample.text[..count])?;
     }
-    expect_stops(rt, command, sample, sample.text);
+    expect_stops(rt, command, sample, sample.text)
 }
 
-// What stands before the trace in a text for the command.
-fn head_of(command: &Command) -> &'static [u8] {
-    match command {
+// The text for the command that has this trace, and how many bytes stand before it.
+fn text_of(alloc: Global, command: &Command, trace: &[u8]) -> Result<(Vec<u8>, usize), Fail> {
+    let head = match command {
         Command::Check => &TRUE_REPORT[..HEAD],
         _ => b"",
-    }
+    };
+    let mut text = Vec::from_slice(alloc, head)?;
+    text.extend_from_slice(trace)?;
+    Ok((text, head.len()))
 }
 
-// The text of these two parts.
-fn joined(alloc: Global, head: &[u8], trace: &[u8]) -> Option<Vec<u8>> {
-    let mut text = Vec::new(alloc);
-    text.extend_from_slice(head).ok()?;
-    text.extend_from_slice(trace).ok()?;
-    Some(text)
-}
-
-// The command over the fronts of this trace, whose third line is at fault or isn't.
-fn expect_trace<R: Abort + AllocGlobal + Threads + Wait + Sync>(
+fn expect_readers<R: Abort + AllocGlobal + Threads + Wait + Sync>(
     rt: &R,
     command: &Command,
-    trace: &[u8],
-    is_bad: bool,
-)
+) -> Result<(), Fail>
     requires { CanRun command.now }
 {
-    let head = head_of(command);
-    let text = joined(rt.alloc(), head, trace).expect(rt, "a text");
-    let sample = Sample {
-        text: text.as_slice(),
-        head: head.len(),
-        is_bad,
-    };
-    expect_fronts(rt, command, &sample);
-}
-
-fn expect_readers<R: Abort + AllocGlobal + Threads + Wait + Sync>(rt: &R, ask: Ask) {
-    let command = command_of(ask).expect(rt, "a command");
-    expect_trace(rt, &command, OPPOSITE_ORDER, false);
-    expect_trace(rt, &command, BAD_THIRD, true);
-}
-
-// Whether a write failed after so many bytes.
-fn is_failed(ended: &Ended, count: usize) -> bool {
-    match ended {
-        Ended::WriteFailed { written } => *written == count,
-        _ => false,
+    for (trace, is_bad) in [(OPPOSITE_ORDER, false), (BAD_THIRD, true)] {
+        let (text, head) = text_of(rt.alloc(), command, trace)?;
+        let text = text.as_slice();
+        expect_fronts(rt, command, &Sample { text, head, is_bad })?;
     }
+    Ok(())
 }
 
 // The writer stops before what is printed is whole, and holds its first bytes.
@@ -275,12 +231,12 @@ fn expect_full<R: Abort + AllocGlobal + Threads + Wait + Sync>(
         after: After::End,
     };
     let (ended, output) = run(rt, command, input, TURNS, output);
-    assert!(rt; is_failed(&ended, room), "room for {room}: {ended:?}");
-    assert!(rt;
-        output.held.as_slice() == &printed[..room],
-        "room for {room}"
-    );
-    assert!(rt; output.calls == room + 1, "room for {room}");
+    match ended {
+        Ended::WriteFailed { written } => assert_eq!(rt; written, room),
+        other => assert!(rt; false, "room for {room}: {other:?}"),
+    }
+    assert_eq!(rt; output.held.as_slice(), &printed[..room], "room for {room}");
+    assert_eq!(rt; output.calls, room + 1, "room for {room}");
 }
 
 // The writer has room for all.
@@ -288,7 +244,7 @@ fn expect_whole<R: Abort + AllocGlobal + Threads + Wait + Sync>(
     rt: &R,
     command: &Command,
     text: &[u8],
-    wanted: &Wanted<'_>,
+    wanted: &Wanted,
     room: usize,
 )
     requires { CanRun command.now }
@@ -299,125 +255,148 @@ fn expect_whole<R: Abort + AllocGlobal + Threads + Wait + Sync>(
     };
     let output = with_room(rt.alloc(), room, true);
     let (ended, output) = run(rt, command, input, TURNS, output);
-    expect_ended(rt, &ended, &output, wanted, (room, TURNS, Next::End));
+    expect_ended(rt, &ended, &output, wanted, "room for all");
 }
 
-// The command into writers with each number of bytes of room.
-fn expect_rooms<R: Abort + AllocGlobal + Threads + Wait + Sync>(
+fn expect_writers<R: Abort + AllocGlobal + Threads + Wait + Sync>(
     rt: &R,
     command: &Command,
-    text: &[u8],
-)
+) -> Result<(), Fail>
     requires { CanRun command.now }
 {
-    let wanted = answered(command, OPPOSITE_ORDER);
-    for room in 0..wanted.printed.len() {
-        let printed = wanted.printed;
-        expect_full(
-            rt,
-            command,
-            text,
-            printed,
-            with_room(rt.alloc(), room, false),
-        );
-        expect_full(
-            rt,
-            command,
-            text,
-            printed,
-            with_room(rt.alloc(), room, true),
-        );
+    let alloc = rt.alloc();
+    let (text, _head) = text_of(alloc, command, OPPOSITE_ORDER)?;
+    let text = text.as_slice();
+    let wanted = answered(alloc, command, OPPOSITE_ORDER)?;
+    let printed = wanted.printed.as_slice();
+    for room in 0..printed.len() {
+        expect_full(rt, command, text, printed, with_room(alloc, room, false));
+        expect_full(rt, command, text, printed, with_room(alloc, room, true));
     }
-    expect_whole(rt, command, text, &wanted, wanted.printed.len());
+    expect_whole(rt, command, text, &wanted, printed.len());
     expect_whole(rt, command, text, &wanted, 1_000);
+    Ok(())
 }
 
-fn expect_writers<R: Abort + AllocGlobal + Threads + Wait + Sync>(rt: &R, ask: Ask) {
-    let command = command_of(ask).expect(rt, "a command");
-    let text = joined(rt.alloc(), head_of(&command), OPPOSITE_ORDER).expect(rt, "a text");
-    expect_rooms(rt, &command, &text);
-}
-
-const PREDICTION: Ask = Ask::Predict(Mode::Full, 4, 1_000);
-
-const COUNTS: Ask = Ask::Stats(Mode::Full, 4, 1_000);
-
-#[test]
-fn predict_from_readers(rt: HostRuntime) {
-    expect_readers(&rt, PREDICTION);
+fn prediction() -> Result<Command, Fail>
+    ensures { IfOk result CanRun }
+{
+    Ok(Command::Predict {
+        query: full()?,
+        form: Form::Text,
+    })
 }
 
 #[test]
-fn predict_into_writers(rt: HostRuntime) {
-    expect_writers(&rt, PREDICTION);
+fn predict_from_readers(rt: HostRuntime) -> Result<(), Fail> {
+    expect_readers(&rt, &prediction()?)
 }
 
 #[test]
-fn findings_from_readers(rt: HostRuntime) {
-    expect_readers(&rt, Ask::Findings);
+fn predict_into_writers(rt: HostRuntime) -> Result<(), Fail> {
+    expect_writers(&rt, &prediction()?)
+}
+
+fn findings() -> Result<Command, Fail>
+    ensures { IfOk result CanRun }
+{
+    Ok(Command::Findings {
+        query: full()?,
+        form: Form::Text,
+    })
 }
 
 #[test]
-fn findings_into_writers(rt: HostRuntime) {
-    expect_writers(&rt, Ask::Findings);
+fn findings_from_readers(rt: HostRuntime) -> Result<(), Fail> {
+    expect_readers(&rt, &findings()?)
 }
 
 #[test]
-fn stats_from_readers(rt: HostRuntime) {
-    expect_readers(&rt, COUNTS);
+fn findings_into_writers(rt: HostRuntime) -> Result<(), Fail> {
+    expect_writers(&rt, &findings()?)
 }
 
 #[test]
-fn stats_into_writers(rt: HostRuntime) {
-    expect_writers(&rt, COUNTS);
+fn stats_from_readers(rt: HostRuntime) -> Result<(), Fail> {
+    expect_readers(&rt, &Command::Stats { query: full()? })
 }
 
 #[test]
-fn replay_from_readers(rt: HostRuntime) {
-    expect_readers(&rt, Ask::Replay);
+fn stats_into_writers(rt: HostRuntime) -> Result<(), Fail> {
+    expect_writers(&rt, &Command::Stats { query: full()? })
 }
 
 #[test]
-fn replay_into_writers(rt: HostRuntime) {
-    expect_writers(&rt, Ask::Replay);
+fn replay_from_readers(rt: HostRuntime) -> Result<(), Fail> {
+    expect_readers(&rt, &Command::Replay)
 }
 
 #[test]
-fn live_from_readers(rt: HostRuntime) {
-    expect_readers(&rt, Ask::Live(2, 2, 1));
+fn replay_into_writers(rt: HostRuntime) -> Result<(), Fail> {
+    expect_writers(&rt, &Command::Replay)
 }
 
 #[test]
-fn live_into_writers(rt: HostRuntime) {
-    expect_writers(&rt, Ask::Live(2, 2, 1));
+fn live_from_readers(rt: HostRuntime) -> Result<(), Fail> {
+    expect_readers(&rt, &Command::Live(session(full()?, 2, 2, 1)))
 }
 
 #[test]
-fn live_findings_from_readers(rt: HostRuntime) {
-    expect_readers(&rt, Ask::LiveFindings(2, 2, 1));
+fn live_into_writers(rt: HostRuntime) -> Result<(), Fail> {
+    expect_writers(&rt, &Command::Live(session(full()?, 2, 2, 1)))
+}
+
+// A session that lists findings.
+fn listing_findings() -> Result<LiveOptions, Fail>
+    ensures { IfOk result AreOfSession }
+{
+    Ok(LiveOptions {
+        findings: true,
+        ..session(full()?, 2, 2, 1)
+    })
 }
 
 #[test]
-fn stream_from_readers(rt: HostRuntime) {
-    expect_readers(&rt, Ask::Stream(4, 2));
+fn live_findings_from_readers(rt: HostRuntime) -> Result<(), Fail> {
+    expect_readers(&rt, &Command::Live(listing_findings()?))
+}
+
+// A session over a text as it comes.
+fn streaming() -> Result<LiveOptions, Fail>
+    ensures { IfOk result AreOfSession }
+{
+    Ok(LiveOptions {
+        stream: true,
+        threads: 4,
+        ..session(full()?, 2, 2, 1)
+    })
 }
 
 #[test]
-fn stream_into_writers(rt: HostRuntime) {
-    expect_writers(&rt, Ask::Stream(4, 2));
+fn stream_from_readers(rt: HostRuntime) -> Result<(), Fail> {
+    expect_readers(&rt, &Command::Live(streaming()?))
 }
 
 #[test]
-fn stream_findings_from_readers(rt: HostRuntime) {
-    expect_readers(&rt, Ask::StreamFindings(4, 2));
+fn stream_findings_from_readers(rt: HostRuntime) -> Result<(), Fail> {
+    let options = LiveOptions {
+        findings: true,
+        ..streaming()?
+    };
+    expect_readers(&rt, &Command::Live(options))
 }
 
 #[test]
-fn check_from_readers(rt: HostRuntime) {
-    expect_readers(&rt, Ask::Check);
+fn stream_into_writers(rt: HostRuntime) -> Result<(), Fail> {
+    expect_writers(&rt, &Command::Live(streaming()?))
 }
 
 #[test]
-fn check_into_writers(rt: HostRuntime) {
-    expect_writers(&rt, Ask::Check);
+fn check_from_readers(rt: HostRuntime) -> Result<(), Fail> {
+    expect_readers(&rt, &Command::Check)
+}
+
+#[test]
+fn check_into_writers(rt: HostRuntime) -> Result<(), Fail> {
+    expect_writers(&rt, &Command::Check)
 }
