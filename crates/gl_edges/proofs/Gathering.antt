@@ -45,12 +45,12 @@ table_push known new pairs pair put is = record { is = put ∙ ap (λ table. onc
 -- ---- the edges of one acquire
 
 -- an edge whose fields were set is that of the held lock
-pub pair_is : (edge : Edge) (tracker : Tracker) (wanted : ℕ) (mode : LockMode) (loc : ℕ) (h : HeldEntry) → edge.thread ≡ tracker.thread → edge.wanted ≡ wanted → edge.wanted_mode ≡ mode → edge.second ≡ tracker.segment
-    → edge.guards ≡ guards_of tracker.held
-    → ◌≡◌ {A = Edge × Sample} (record edge { held = h.lock; held_mode = h.mode; first = h.seg }, record { place = tracker.place; held_loc = h.loc; wanted_loc = loc }) (pair_for tracker wanted mode loc h)
-pair_is edge tracker wanted mode loc h of_thread wants wants_as in_segment guarded = λ i. (
+pub pair_is : (edge : Edge) (tracker : Tracker) (wanted : ℕ) (mode : LockMode) (loc : ℕ) (h : HeldEntry) (place : ℕ) → edge.thread ≡ tracker.thread → edge.wanted ≡ wanted → edge.wanted_mode ≡ mode → edge.second ≡ tracker.state.segments
+    → edge.guards ≡ guards_of tracker.state.held → place ≡ tracker.state.events
+    → ◌≡◌ {A = Edge × Sample} (record edge { held = h.lock; held_mode = h.mode; first = h.seg }, record { place = place; held_loc = h.loc; wanted_loc = loc }) (pair_for tracker wanted mode loc h)
+pair_is edge tracker wanted mode loc h place of_thread wants wants_as in_segment guarded at_place = λ i. (
   record { thread = of_thread i; held = h.lock; held_mode = h.mode; wanted = wants i; wanted_mode = wants_as i; first = h.seg; second = in_segment i; guards = guarded i },
-  record { place = tracker.place; held_loc = h.loc; wanted_loc = loc },
+  record { place = at_place i; held_loc = h.loc; wanted_loc = loc },
 )
 
 -- one more entry of the held locks
@@ -95,7 +95,7 @@ module _ (thread : ℕ) (es : List Event) (tracker : Tracker) (tracked : Tracks 
   pub pair_for_is : (lock : ℕ) (h : HeldEntry) → h ≡ entry_of es lock → pair_for tracker wanted mode loc h ≡ pair_at thread es wanted mode loc lock
   pair_for_is lock h is =
       let of_lock : h.lock ≡ lock = ap (λ x. x.lock) is ∙ entry_of-lock es lock in
-      let guarded = guards_are es tracker.held tracked.stands in
+      let guarded = guards_are es tracker.state.held tracked.stands.held in
       λ i. (
         record {
           thread = tracked.of_thread i;
@@ -104,28 +104,28 @@ module _ (thread : ℕ) (es : List Event) (tracker : Tracker) (tracked : Tracks 
           wanted = wanted;
           wanted_mode = mode;
           first = (is i).seg;
-          second = tracked.in_segment i;
+          second = tracked.stands.segments i;
           guards = guarded i;
         },
-        record { place = tracked.at_place i; held_loc = (is i).loc; wanted_loc = loc },
+        record { place = tracked.stands.events i; held_loc = (is i).loc; wanted_loc = loc },
       )
 
   -- each pair of an entry is one of the definition
-  pub pairs_made : AreAmong (map (pair_for tracker wanted mode loc) tracker.held) (map (pair_at thread es wanted mode loc) (held es))
+  pub pairs_made : AreAmong (map (pair_for tracker wanted mode loc) tracker.state.held) (map (pair_at thread es wanted mode loc) (held es))
   pairs_made pair at =
-      let (h, there, is) = contains_map_from (pair_for tracker wanted mode loc) pair tracker.held at in
-      let entry : h ≡ entry_of es h.lock = All-contains (λ h. h ≡ entry_of es h.lock) tracker.held h tracked.stands.each there in
-      let deep : 0 < depth es h.lock = All-contains (λ h. 0 < depth es h.lock) tracker.held h tracked.stands.positive there in
+      let (h, there, is) = contains_map_from (pair_for tracker wanted mode loc) pair tracker.state.held at in
+      let entry : h ≡ entry_of es h.lock = All-contains (λ h. h ≡ entry_of es h.lock) tracker.state.held h tracked.stands.held.each there in
+      let deep : 0 < depth es h.lock = All-contains (λ h. 0 < depth es h.lock) tracker.state.held h tracked.stands.held.positive there in
       subst (Contains (map (pair_at thread es wanted mode loc) (held es))) (sym (pair_for_is h.lock h entry) ∙ is)
       (contains_map (pair_at thread es wanted mode loc) h.lock (held es) (held_where_deep es h.lock deep))
 
   -- each pair of the definition is that of an entry
-  pub pairs_all : AreAmong (map (pair_at thread es wanted mode loc) (held es)) (map (pair_for tracker wanted mode loc) tracker.held)
+  pub pairs_all : AreAmong (map (pair_at thread es wanted mode loc) (held es)) (map (pair_for tracker wanted mode loc) tracker.state.held)
   pairs_all pair at =
       let (lock, there, is) = contains_map_from (pair_at thread es wanted mode loc) pair (held es) at in
-      let entry = tracked.stands.whole lock (deep_where_held es lock there) in
-      subst (Contains (map (pair_for tracker wanted mode loc) tracker.held)) (pair_for_is lock (entry_of es lock) refl ∙ is)
-      (contains_map (pair_for tracker wanted mode loc) (entry_of es lock) tracker.held entry)
+      let entry = tracked.stands.held.whole lock (deep_where_held es lock there) in
+      subst (Contains (map (pair_for tracker wanted mode loc) tracker.state.held)) (pair_for_is lock (entry_of es lock) refl ∙ is)
+      (contains_map (pair_for tracker wanted mode loc) (entry_of es lock) tracker.state.held entry)
 
 -- a lock that the test doesn't find isn't held
 -- an acquire of a lock that isn't held makes an edge where another is held
@@ -181,7 +181,7 @@ module _ (thread : ℕ) (es : List Event) (i : ℕ) (e : Event) (tracker : Track
   pub follows_next : IsLawful greatest thread es → MayFollow tracker e
   follows_next lawful = record {
     es = take i es;
-    tracked = record { of_thread = refl; stands = tracked.stands; at_place = tracked.at_place; in_segment = tracked.in_segment };
+    tracked = record { of_thread = refl; stands = tracked.stands };
     allowed = subst (λ t. refusal greatest t (take i es) e ≡ None) (sym tracked.of_thread) (lawful.each i e at_place);
   }
 

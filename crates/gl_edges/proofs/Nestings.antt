@@ -88,9 +88,9 @@ pub record IsNow (tracker : Tracker) (wanted : ℕ) (mode : LockMode) (nesting :
   -- its mode
   pub wants_as : nesting.mode ≡ mode
   -- the segment
-  pub in_segment : nesting.second ≡ tracker.segment
+  pub in_segment : nesting.second ≡ tracker.state.segments
   -- the held locks, in some order
-  pub holds : IsPermutation (map opened_of tracker.held) nesting.held.items
+  pub holds : IsPermutation (map opened_of tracker.state.held) nesting.held.items
 
 -- the edge of an acquire that is made now, for a held lock
 abbrev edge_now : Tracker → ℕ → LockMode → HeldEntry → Edge
@@ -102,24 +102,24 @@ edge_now tracker wanted mode h =
       wanted = wanted;
       wanted_mode = mode;
       first = h.seg;
-      second = tracker.segment;
-      guards = guards_of tracker.held;
+      second = tracker.state.segments;
+      guards = guards_of tracker.state.held;
     }
 
 module _ (tracker : Tracker) (wanted : ℕ) (mode : LockMode) (nesting : Nesting) (is_now : IsNow tracker wanted mode nesting) where
   -- its guards are the locks that are held
-  same_guards : ascending_guards (map guard_from nesting.held.items) ≡ guards_of tracker.held
+  same_guards : ascending_guards (map guard_from nesting.held.items) ≡ guards_of tracker.state.held
   same_guards =
-      same_members guard_cmp guard_total guard_cmp_exact (map guard_from nesting.held.items) (map guard_of tracker.held)
+      same_members guard_cmp guard_total guard_cmp_exact (map guard_from nesting.held.items) (map guard_of tracker.state.held)
       (λ g at.
       let (o, there, is) = contains_map_from guard_from g nesting.held.items at in
-      let before = Contains-permutation nesting.held.items (map opened_of tracker.held) o (IsPermutation-sym (map opened_of tracker.held) nesting.held.items is_now.holds) there in
-      let (h, here, same) = contains_map_from opened_of o tracker.held before in
-      subst (Contains (map guard_of tracker.held)) (ap guard_from same ∙ is) (contains_map guard_of h tracker.held here))
+      let before = Contains-permutation nesting.held.items (map opened_of tracker.state.held) o (IsPermutation-sym (map opened_of tracker.state.held) nesting.held.items is_now.holds) there in
+      let (h, here, same) = contains_map_from opened_of o tracker.state.held before in
+      subst (Contains (map guard_of tracker.state.held)) (ap guard_from same ∙ is) (contains_map guard_of h tracker.state.held here))
       (λ g at.
-      let (h, here, is) = contains_map_from guard_of g tracker.held at in
+      let (h, here, is) = contains_map_from guard_of g tracker.state.held at in
       subst (Contains (map guard_from nesting.held.items)) is
-      (contains_map guard_from (opened_of h) nesting.held.items (Contains-permutation (map opened_of tracker.held) nesting.held.items (opened_of h) is_now.holds (contains_map opened_of h tracker.held here))))
+      (contains_map guard_from (opened_of h) nesting.held.items (Contains-permutation (map opened_of tracker.state.held) nesting.held.items (opened_of h) is_now.holds (contains_map opened_of h tracker.state.held here))))
 
   -- its edge for a held lock
   same_edge : (h : HeldEntry) → edge_from nesting (opened_of h) ≡ edge_now tracker wanted mode h
@@ -137,19 +137,19 @@ module _ (tracker : Tracker) (wanted : ℕ) (mode : LockMode) (nesting : Nesting
   -- its edges are those that are made now
   pub from_now : (edge : Edge) → Contains (edges_now tracker wanted mode) edge → Contains (edges_from nesting) edge
   from_now edge at =
-      let (h, there, is) = contains_map_from (edge_now tracker wanted mode) edge tracker.held at in
+      let (h, there, is) = contains_map_from (edge_now tracker wanted mode) edge tracker.state.held at in
       subst (Contains (edges_from nesting)) (same_edge h ∙ is)
       (contains_map (edge_from nesting) (opened_of h) nesting.held.items
-      (Contains-permutation (map opened_of tracker.held) nesting.held.items (opened_of h) is_now.holds (contains_map opened_of h tracker.held there)))
+      (Contains-permutation (map opened_of tracker.state.held) nesting.held.items (opened_of h) is_now.holds (contains_map opened_of h tracker.state.held there)))
 
   -- and no others
   pub to_now : (edge : Edge) → Contains (edges_from nesting) edge → Contains (edges_now tracker wanted mode) edge
   to_now edge at =
       let (o, there, is) = contains_map_from (edge_from nesting) edge nesting.held.items at in
-      let before = Contains-permutation nesting.held.items (map opened_of tracker.held) o (IsPermutation-sym (map opened_of tracker.held) nesting.held.items is_now.holds) there in
-      let (h, here, same) = contains_map_from opened_of o tracker.held before in
+      let before = Contains-permutation nesting.held.items (map opened_of tracker.state.held) o (IsPermutation-sym (map opened_of tracker.state.held) nesting.held.items is_now.holds) there in
+      let (h, here, same) = contains_map_from opened_of o tracker.state.held before in
       subst (Contains (edges_now tracker wanted mode)) (sym (same_edge h) ∙ ap (edge_from nesting) same ∙ is)
-      (contains_map (edge_now tracker wanted mode) h tracker.held here)
+      (contains_map (edge_now tracker wanted mode) h tracker.state.held here)
 
   -- ---- acquires that were noted
 

@@ -85,34 +85,34 @@ later_above sample less later =
 module _ (tracker : Tracker) (wanted : ℕ) (mode : LockMode) (loc : ℕ) where
   -- its edges with their samples
   abbrev more : List (Edge × Sample)
-  more = map (pair_for tracker wanted mode loc) tracker.held
+  more = map (pair_for tracker wanted mode loc) tracker.state.held
 
   -- where all its edges stand among the pairs with earlier samples, the table has them
-  pub table_seen : (known : List (Edge × Sample)) (pairs : List (Edge × Sample)) (seen : List Edge) → AreBefore seen pairs tracker.place
+  pub table_seen : (known : List (Edge × Sample)) (pairs : List (Edge × Sample)) (seen : List Edge) → AreBefore seen pairs tracker.state.events
       → ((edge : Edge) → Contains (edges_now tracker wanted mode) edge → Contains seen edge) → IsTableOf known pairs → IsTableOf known (pairs ++ more)
   table_seen known pairs seen before all is = table_stays known pairs more less is
     where
       less : HaveLess pairs more
       less edge sample at =
-          let (h, there, same) = contains_map_from (pair_for tracker wanted mode loc) (edge, sample) tracker.held at in
+          let (h, there, same) = contains_map_from (pair_for tracker wanted mode loc) (edge, sample) tracker.state.held at in
           let now : Contains (edges_now tracker wanted mode) edge =
-          subst (Contains (edges_now tracker wanted mode)) (ap (λ pair. pair.0) same) (contains_map (λ h. (pair_for tracker wanted mode loc h).0) h tracker.held there) in
+          subst (Contains (edges_now tracker wanted mode)) (ap (λ pair. pair.0) same) (contains_map (λ h. (pair_for tracker wanted mode loc h).0) h tracker.state.held there) in
           let (earlier, has, early) = before edge (all edge now) in
           (earlier, has, later_above sample earlier (subst (λ s. earlier.place < s.place) (ap (λ pair. pair.1) same) early))
 
   -- after it, its edges stand among the pairs
-  pub before_more : (pairs : List (Edge × Sample)) (old new : List Edge) → AreBefore old pairs tracker.place
-      → ((edge : Edge) → Contains new edge → Contains old edge ⊎ Contains (edges_now tracker wanted mode) edge) → AreBefore new (pairs ++ more) (tracker.place + 1)
+  pub before_more : (pairs : List (Edge × Sample)) (old new : List Edge) → AreBefore old pairs tracker.state.events
+      → ((edge : Edge) → Contains new edge → Contains old edge ⊎ Contains (edges_now tracker wanted mode) edge) → AreBefore new (pairs ++ more) (tracker.state.events + 1)
   before_more pairs old new before noted edge at =
       elim (noted edge at) [
         | inl was ↦
             let (sample, there, early) = before edge was in
             (sample, Contains-append_left pairs more (edge, sample) there, omega (arith, early))
         | inr now ↦
-            let (h, there, same) = contains_map_from (λ h. (pair_for tracker wanted mode loc h).0) edge tracker.held now in
+            let (h, there, same) = contains_map_from (λ h. (pair_for tracker wanted mode loc h).0) edge tracker.state.held now in
             let sample = (pair_for tracker wanted mode loc h).1 in (
               sample,
-              Contains-append_right pairs more (edge, sample) (subst (λ e. Contains more (e, sample)) same (contains_map (pair_for tracker wanted mode loc) h tracker.held there)),
+              Contains-append_right pairs more (edge, sample) (subst (λ e. Contains more (e, sample)) same (contains_map (pair_for tracker wanted mode loc) h tracker.state.held there)),
               omega arith,
             )
       ]
@@ -134,11 +134,11 @@ gathers_nothing pairs none place gatherer nothing is =
 
 -- an acquire of a lock that isn't held
 pub gathers_acquire : (thread : ℕ) (es : List Event) (tracker : Tracker) → Tracks thread es tracker → (wanted : ℕ) (mode : LockMode) (loc : ℕ) (pairs : List (Edge × Sample)) (gatherer : Gatherer) → depth es wanted ≡ 0
-    → Gathers (pairs ++ more tracker wanted mode loc) (tracker.place + 1) gatherer → Gathers (pairs ++ edges_wanting thread es wanted mode loc) (length es + 1) gatherer
+    → Gathers (pairs ++ more tracker wanted mode loc) (tracker.state.events + 1) gatherer → Gathers (pairs ++ edges_wanting thread es wanted mode loc) (length es + 1) gatherer
 gathers_acquire thread es tracker tracked wanted mode loc pairs gatherer free is =
     subst (λ xs. Gathers (pairs ++ xs) (length es + 1) gatherer) (sym (wanting_is thread es wanted mode loc free))
-    (subst (λ place. Gathers (pairs ++ map (pair_at thread es wanted mode loc) (held es)) (place + 1) gatherer) tracked.at_place
-    (gathers_alike _ _ (tracker.place + 1) gatherer
+    (subst (λ place. Gathers (pairs ++ map (pair_at thread es wanted mode loc) (held es)) (place + 1) gatherer) tracked.stands.events
+    (gathers_alike _ _ (tracker.state.events + 1) gatherer
     (append_among pairs _ _ (pairs_made thread es tracker tracked wanted mode loc))
     (append_among pairs _ _ (pairs_all thread es tracker tracked wanted mode loc)) is))
 

@@ -93,16 +93,16 @@ ascending_push pairs edge sample up above =
 
 module _ (thread : ℕ) (es : List Event) (tracker : Tracker) (tracked : Tracks thread es tracker) (wanted : ℕ) (mode : LockMode) (loc : ℕ) where
   -- the pair of a held lock is that of the definition
-  pair_of_entry : (h : HeldEntry) (lock : ℕ) (guards : List Guard) → Contains tracker.held h → h.lock ≡ lock → guards ≡ guards_of tracker.held
+  pair_of_entry : (h : HeldEntry) (lock : ℕ) (guards : List Guard) → Contains tracker.state.held h → h.lock ≡ lock → guards ≡ guards_of tracker.state.held
       → ◌≡◌ {A = Edge × Sample} (
-        record { thread = tracker.thread; held = h.lock; held_mode = h.mode; wanted = wanted; wanted_mode = mode; first = h.seg; second = tracker.segment; guards = guards },
-        record { place = tracker.place; held_loc = h.loc; wanted_loc = loc },
+        record { thread = tracker.thread; held = h.lock; held_mode = h.mode; wanted = wanted; wanted_mode = mode; first = h.seg; second = tracker.state.segments; guards = guards },
+        record { place = tracker.state.events; held_loc = h.loc; wanted_loc = loc },
       ) (pair_at thread es wanted mode loc lock)
   pair_of_entry h lock guards there of_lock guarded =
-      let entry : h ≡ entry_of es h.lock = All-contains (λ h. h ≡ entry_of es h.lock) tracker.held h tracked.stands.each there in
+      let entry : h ≡ entry_of es h.lock = All-contains (λ h. h ≡ entry_of es h.lock) tracker.state.held h tracked.stands.held.each there in
       (λ i. (
-        record { thread = tracker.thread; held = h.lock; held_mode = h.mode; wanted = wanted; wanted_mode = mode; first = h.seg; second = tracker.segment; guards = guarded i },
-        record { place = tracker.place; held_loc = h.loc; wanted_loc = loc },
+        record { thread = tracker.thread; held = h.lock; held_mode = h.mode; wanted = wanted; wanted_mode = mode; first = h.seg; second = tracker.state.segments; guards = guarded i },
+        record { place = tracker.state.events; held_loc = h.loc; wanted_loc = loc },
       ))
       ∙ pair_for_is thread es tracker tracked wanted mode loc lock h (entry ∙ ap (entry_of es) of_lock)
 
@@ -111,21 +111,24 @@ module _ (thread : ℕ) (es : List Event) (tracker : Tracker) (tracked : Tracks 
   of_guard g = pair_at thread es wanted mode loc g.lock
 
   -- one more pair
-  pub pairs_more : (pairs : List (Edge × Sample)) (gs : List Guard) (i : ℕ) (g : Guard) (h : HeldEntry) (guards : List Guard) → i < length gs → g ≡ get_or gs i g
-      → Contains tracker.held h → h.lock ≡ g.lock → guards ≡ guards_of tracker.held
+  pub pairs_more : (pairs : List (Edge × Sample)) (gs : List Guard) (i : ℕ) (g : Guard) (h : HeldEntry) (guards : List Guard) (second place : ℕ)
+      → second ≡ tracker.state.segments → place ≡ tracker.state.events → i < length gs → g ≡ get_or gs i g
+      → Contains tracker.state.held h → h.lock ≡ g.lock → guards ≡ guards_of tracker.state.held
       → pairs ≡ map of_guard (take i gs)
-      → pairs ++ (record { thread = tracker.thread; held = h.lock; held_mode = h.mode; wanted = wanted; wanted_mode = mode; first = h.seg; second = tracker.segment; guards = guards }, record { place = tracker.place; held_loc = h.loc; wanted_loc = loc }) ∷ []
+      → pairs ++ (record { thread = tracker.thread; held = h.lock; held_mode = h.mode; wanted = wanted; wanted_mode = mode; first = h.seg; second = second; guards = guards }, record { place = place; held_loc = h.loc; wanted_loc = loc }) ∷ []
       ≡ map of_guard (take (i + 1) gs)
-  pairs_more pairs gs i g h guards within item there of_lock guarded before =
+  pairs_more pairs gs i g h guards second place here now within item there of_lock guarded before =
+      (λ j. pairs ++ (record { thread = tracker.thread; held = h.lock; held_mode = h.mode; wanted = wanted; wanted_mode = mode; first = h.seg; second = here j; guards = guards }, record { place = now j; held_loc = h.loc; wanted_loc = loc }) ∷ [])
+      ∙
       (λ j. before j ++ (pair_of_entry h g.lock guards there of_lock guarded ∙ ap of_guard item) j ∷ [])
       ∙ sym (map_more of_guard gs i g within)
 
   -- the pairs of all held locks
-  pub pairs_all : (pairs : List (Edge × Sample)) (gs : List Guard) (i : ℕ) → length gs ≤ i → gs ≡ guards_of tracker.held
+  pub pairs_all : (pairs : List (Edge × Sample)) (gs : List Guard) (i : ℕ) → length gs ≤ i → gs ≡ guards_of tracker.state.held
       → pairs ≡ map of_guard (take i gs) → pairs ≡ map (pair_at thread es wanted mode loc) (held es)
   pairs_all pairs gs i all are before =
       before
-      ∙ ap (map of_guard) (take_all i gs all ∙ are ∙ guards_are es tracker.held tracked.stands)
+      ∙ ap (map of_guard) (take_all i gs all ∙ are ∙ guards_are es tracker.state.held tracked.stands.held)
       ∙ sym (map-map (pair_at thread es wanted mode loc) (λ (g : Guard). g.lock) (guards es))
       ∙ ap (map (pair_at thread es wanted mode loc)) (guards-locks es)
 

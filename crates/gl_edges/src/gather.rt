@@ -41,9 +41,9 @@ impl Gatherer {
         loc: LocId,
     ) -> Result<(), Memory>
         ensures { OnOk result
-            ((pairs : List (Edge × Sample)) → Gathers pairs tracker.now.place self.old
-            → Gathers (pairs ++ map (pair_for tracker.now wanted mode loc) tracker.now.held)
-            (tracker.now.place + 1) self.new) }
+            ((pairs : List (Edge × Sample)) → Gathers pairs tracker.now.state.events self.old
+            → Gathers (pairs ++ map (pair_for tracker.now wanted mode loc) tracker.now.state.held)
+            (tracker.now.state.events + 1) self.new) }
     {
         if self.seen.note(alloc, tracker, wanted, mode)? {
             return Ok(());
@@ -64,21 +64,21 @@ impl Gatherer {
         ensures table { OnOk result
             ((pairs : List (Edge × Sample)) → IsTableOf self.old.table pairs
             → IsTableOf self.new.table
-            (pairs ++ map (pair_for tracker.now wanted mode loc) tracker.now.held)) }
+            (pairs ++ map (pair_for tracker.now wanted mode loc) tracker.now.state.held)) }
         ensures seen { OnOk result (self.new.seen ≡ self.old.seen) }
     {
-        let entries = tracker.held.entries();
+        let entries = tracker.state.entries();
         self.edge.thread = tracker.thread;
         self.edge.wanted = wanted;
         self.edge.wanted_mode = mode;
-        self.edge.second = tracker.segment;
+        self.edge.second = tracker.state.segment();
         self.edge.guards.refill(entries)?;
         for entry in entries {
             self.edge.held = entry.lock;
             self.edge.held_mode = entry.mode;
             self.edge.first = entry.seg;
             let sample = Sample {
-                place: tracker.place,
+                place: tracker.state.events(),
                 held_loc: entry.loc,
                 wanted_loc: loc,
             };
@@ -97,7 +97,7 @@ impl Gatherer {
         let Event::Acquire { lock, mode, loc } = *event else {
             return Ok(());
         };
-        if tracker.held.holds(lock) {
+        if tracker.state.holds(lock) {
             return Ok(());
         }
         self.add_acquire(alloc, tracker, lock, mode, loc)

@@ -58,16 +58,16 @@ impl Nesting {
         ensures thread { OnOk result (self.new.thread ≡ tracker.now.thread) }
         ensures wanted { OnOk result (self.new.wanted ≡ wanted) }
         ensures mode { OnOk result (self.new.mode ≡ mode) }
-        ensures second { OnOk result (self.new.second ≡ tracker.now.segment) }
+        ensures second { OnOk result (self.new.second ≡ tracker.now.state.segments) }
         ensures held { OnOk result
-            (IsPermutation (map opened_of tracker.now.held) self.new.held.items) }
+            (IsPermutation (map opened_of tracker.now.state.held) self.new.held.items) }
     {
         self.thread = tracker.thread;
         self.wanted = wanted;
         self.mode = mode;
-        self.second = tracker.segment;
+        self.second = tracker.state.segment();
         self.held.clear();
-        for entry in tracker.held.entries() {
+        for entry in tracker.state.entries() {
             self.held.push(Opened {
                 lock: entry.lock,
                 mode: entry.mode,
@@ -151,7 +151,7 @@ impl Seen {
             ((edge : Edge) → Contains self.new edge
             → Contains self.old edge ⊎ Contains (edges_now tracker.now wanted mode) edge) }
     {
-        if tracker.held.entries().len() < MANY_HELD {
+        if tracker.state.entries().len() < MANY_HELD {
             return Ok(false);
         }
         self.next.refill(tracker, wanted, mode)?;

@@ -8,7 +8,7 @@ ghost use Rattle.gl_edges.specs.Tracking.{Tracks, MayFollow};
 
 use crate::edge::{Edge, Sample};
 use crate::guards::Guards;
-use gl_event::{Event, Held, HeldEntry, LocId, LockId, LockMode, Memory, ThreadId};
+use gl_event::{Event, HeldEntry, LocId, LockId, LockMode, Memory, ThreadId, ThreadState};
 use std::alloc::Global;
 
 /// What a thread holds after its events so far, and where the next one stands.
@@ -18,9 +18,7 @@ use std::alloc::Global;
 #[derive(Drop, Debug)]
 pub struct Tracker {
     pub(crate) thread: ThreadId,
-    pub(crate) held: Held,
-    pub(crate) place: u32,
-    pub(crate) segment: u32,
+    pub(crate) state: ThreadState,
 }
 
 impl Tracker {
@@ -30,9 +28,7 @@ impl Tracker {
     {
         Tracker {
             thread,
-            held: Held::new(),
-            place: 0,
-            segment: 0,
+            state: ThreadState::new(),
         }
     }
 
@@ -69,7 +65,7 @@ impl Tracker {
         let Event::Acquire { lock, mode, loc } = *event else {
             return Ok(Vec::new(alloc));
         };
-        if self.held.holds(lock) {
+        if self.state.holds(lock) {
             return Ok(Vec::new(alloc));
         }
         self.edges_to(alloc, lock, mode, loc)
@@ -86,9 +82,9 @@ impl Tracker {
         ensures edges { (thread : ℕ) (es : List Event) → Tracks thread es self.now
             → IfOk result
             (λ v. v.items ≡ map (pair_at thread es wanted mode loc) (events.held es)) }
-        ensures room { OnErr result (self.now.held ≢ []) }
+        ensures room { OnErr result (self.now.state.held ≢ []) }
     {
-        let entries = self.held.entries();
+        let entries = self.state.entries();
         if entries.is_empty() {
             return Ok(Vec::new(alloc));
         }
@@ -105,11 +101,11 @@ impl Tracker {
                 wanted,
                 wanted_mode: mode,
                 first: entry.seg,
-                second: self.segment,
+                second: self.state.segment(),
                 guards: guards.copy(alloc)?,
             };
             let sample = Sample {
-                place: self.place,
+                place: self.state.events(),
                 held_loc: entry.loc,
                 wanted_loc: loc,
             };
@@ -125,17 +121,8 @@ impl Tracker {
         ensures { (thread : ℕ) (es : List Event) → Tracks thread es self.old
             → Tracks thread (es ++ event ∷ []) self.new }
     {
-        let place = self.place;
-        self.place = place + 1;
-        match event {
-            Event::Acquire { lock, mode, loc } | Event::TryAcquire { lock, mode, loc } => {
-                let _ = self.held.acquire(lock, mode, loc, place, self.segment);
-            }
-            Event::Release { lock, .. } => {
-                let _ = self.held.release(lock);
-            }
-            Event::Fork { .. } | Event::Join { .. } => self.segment += 1,
-        }
+        // the locks let what is lawful next come
+        let _ = self.state.take(event);
     }
 }
 

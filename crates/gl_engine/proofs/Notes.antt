@@ -38,9 +38,7 @@ module _ (limits : Bounds) (thread : ℕ) (pushed : List Note) (taker : Taking) 
       its_thread = refl;
       its_limits = refl;
       lawful = rw (is.tracks.its_limits, is.tracks.its_thread) is.tracks.lawful;
-      taken = is.tracks.taken;
-      segments = is.tracks.segments;
-      held = is.tracks.held;
+      stands = is.tracks.stands;
     };
     allowed = rw (is.tracks.its_limits, is.tracks.its_thread) allowed;
   }

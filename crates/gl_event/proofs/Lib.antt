@@ -3,3 +3,5 @@ pub mod Lawfulness
 pub mod HeldLemmas
 pub mod HeldLocks
 pub mod HeldAnswers
+pub mod Refusals
+pub mod States

@@ -4,3 +4,4 @@ pub mod Faults
 pub mod Lawful
 pub mod Modes
 pub mod Standing
+pub mod States

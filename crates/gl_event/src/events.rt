@@ -129,6 +129,42 @@ pub enum Event {
     },
 }
 
+/// What an event does to its thread: all that following a thread needs to know of it.
+#[derive(Clone, Copy, Debug, PartialEq, Eq, Hash)]
+pub enum Effect {
+    /// It acquires the lock in this mode, whether or not it could have waited for it.
+    Acquires {
+        lock: LockId,
+        mode: LockMode,
+        loc: LocId,
+    },
+    /// It releases the lock once.
+    Releases {
+        lock: LockId,
+    },
+    /// It starts or has waited for this thread, and so it closes a segment.
+    Closes {
+        partner: ThreadId,
+    },
+}
+
+impl Event {
+    ghost use Rattle.gl_event.specs.States.{HasEffect};
+
+    /// What the event does to its thread.
+    pub fn effect(&self) -> Effect
+        ensures { HasEffect self.now result }
+    {
+        match *self {
+            Event::Acquire { lock, mode, loc } => Effect::Acquires { lock, mode, loc },
+            Event::Release { lock, .. } => Effect::Releases { lock },
+            Event::TryAcquire { lock, mode, loc } => Effect::Acquires { lock, mode, loc },
+            Event::Fork { thread, .. } => Effect::Closes { partner: thread },
+            Event::Join { thread, .. } => Effect::Closes { partner: thread },
+        }
+    }
+}
+
 /// A part of a thread's run between two of its forks and joins. Segments of a thread count from 0;
 /// a fork or join belongs to the segment that it closes.
 #[derive(Clone, Copy, Debug, PartialEq, Eq, PartialOrd, Ord, Hash)]

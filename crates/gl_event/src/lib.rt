@@ -4,7 +4,8 @@
 //! crate defines, for whole lists of a thread's events, which locks the thread holds and in which
 //! mode, where each of them was opened, in which segment an event lies, and which event may come
 //! next. [`Held`] keeps
-//! the held locks of one thread while its events come one by one.
+//! the held locks of one thread while its events come one by one, and [`ThreadState`] all that is
+//! known of the thread after them.
 #![tactic(auto)]
 
 mod events;
@@ -13,8 +14,9 @@ mod ids;
 mod limits;
 mod lists;
 mod notes;
+mod thread_state;
 
-pub use events::{Event, LockMode, Refusal, Segment};
+pub use events::{Effect, Event, LockMode, Refusal, Segment};
 pub use held::{Held, HeldEntry, HeldFault, MAX_DEPTH, MAX_HELD, NotHeld};
 pub use ids::{LocId, LockId, ThreadId};
 pub use limits::{
@@ -22,6 +24,7 @@ pub use limits::{
 };
 pub use lists::{append, append_both, make_room};
 pub use notes::{Body, Note};
+pub use thread_state::ThreadState;
 
 /// Want of memory: a growth was refused. Calls that may take memory answer it, and only then.
 pub type Memory = std::alloc::AllocError;

@@ -1,4 +1,3 @@
 pub mod Refusals
 pub mod Lists
 pub mod Steps
-pub mod Sameness

@@ -1,69 +1,21 @@
 -- The refusal of an event, case by case.
-use Rattle.std.proofs.Common.{◌≡◌, ℕ, ◌<◌, ◌≤◌, true, false, cond, eqb, leb, List, length, Some, None, refl, ap, ◌∙◌, arith, get_or, inl, inr}
-use Rattle.std.proofs.lemmas.Bool.{ne_eqb, eq-eqb, le-leb, lt-leb, cases_lt}
+use Rattle.std.proofs.Common.{◌≡◌, ℕ, ◌<◌, ◌≤◌, true, List, length, Some, None, refl}
+use Rattle.std.proofs.lemmas.Bool.{false≢true, le-leb, lt-leb}
 use Rattle.gl_event.specs.Bounds.{Bounds}
-use Rattle.gl_event.specs.Events.{depth, entry_of, held_mode, partner}
-use Rattle.gl_event.specs.Lawful.{lock_refusal, acquire_refusal, is_upgrade, refusal}
-use Rattle.gl_recorder.specs.Taking.{partner_refusal}
-use Rattle.gl_event.specs.Standing.{StandsFor}
+use Rattle.gl_event.specs.Events.{acquired_lock, closes, partner}
+use Rattle.gl_event.specs.Lawful.{lock_refusal, refusal}
 use Rattle.gl_event.specs.declared.events.Event.{Event}
-use Rattle.gl_event.specs.declared.events.Event.TheVariants.{Release, Fork, Join}
-use Rattle.gl_event.specs.declared.events.LockMode.{LockMode}
-use Rattle.gl_event.specs.declared.events.Refusal.TheVariants.{PlaceFull, NotHeld, HeldFull, DepthFull, Upgrade}
-use Rattle.gl_event.specs.declared.held.HeldEntry.{HeldEntry}
-use Rattle.gl_event.proofs.HeldLemmas.{entry_of-depth, entry_of-mode}
-use Rattle.gl_event.proofs.HeldLocks.{length-held}
+use Rattle.gl_event.specs.declared.events.Event.TheVariants.{Acquire, Release, TryAcquire, Fork, Join}
+use Rattle.gl_event.specs.declared.events.Refusal.TheVariants.{PlaceFull}
+use Rattle.gl_recorder.specs.Taking.{partner_refusal}
 
--- an entry of the lock is what is known of it, and the lock is held
-pub entry_found : (es : List Event) (entries : List HeldEntry) → StandsFor es entries → (i : ℕ) (h : HeldEntry) → i < length entries → h ≡ get_or entries i h
-    → (lock : ℕ) → h.lock ≡ lock → (h ≡ entry_of es lock) × (0 < depth es lock)
-entry_found es entries stands i h within here lock same =
-    let each = stands.each i h within in
-    let positive = stands.positive i h within in
-    let own : h ≡ entry_of es h.lock = rw (← here) at each in
-    let is_held : 0 < depth es h.lock = rw (← here) at positive in
-    (own ∙ ap (entry_of es) same, rw same at is_held)
-
-module _ (es : List Event) (entries : List HeldEntry) (stands : StandsFor es entries) (lock : ℕ) (mode : LockMode) where
-  pub by_depth : acquire_refusal es lock mode
-      ≡ cond (eqb (depth es lock) 0) (cond (leb 64 (length entries)) (Some HeldFull) None) (cond (leb 1000000 (depth es lock)) (Some DepthFull) (cond (is_upgrade (held_mode es lock) mode) (Some Upgrade) None))
-  unfolding acquire_refusal
-  by_depth = rw (length-held es entries stands)
-
-  pub one_too_many : depth es lock ≡ 0 → 64 ≤ length entries → Some HeldFull ≡ acquire_refusal es lock mode
-  one_too_many unheld full = rw (by_depth, eq-eqb (depth es lock) 0 unheld, le-leb 64 (length entries) full)
-
-  pub one_more : depth es lock ≡ 0 → length entries < 64 → None ≡ acquire_refusal es lock mode
-  one_more unheld room = rw (by_depth, eq-eqb (depth es lock) 0 unheld, lt-leb 64 (length entries) room)
-
-  module _ (h : HeldEntry) (is : h ≡ entry_of es lock) (is_held : 0 < depth es lock) where
-    as_deep : h.depth ≡ depth es lock
-    as_deep = ap (λ x. x.depth) is ∙ entry_of-depth es lock
-
-    as_held : h.mode ≡ held_mode es lock
-    as_held = ap (λ x. x.mode) is ∙ entry_of-mode es lock
-
-    pub by_entry : acquire_refusal es lock mode ≡ cond (leb 1000000 h.depth) (Some DepthFull) (cond (is_upgrade h.mode mode) (Some Upgrade) None)
-    by_entry = rw (by_depth, ne_eqb (depth es lock) 0 (λ e. omega arith), as_deep, as_held) refl
-
-    pub too_deep : 1000000 ≤ h.depth → Some DepthFull ≡ acquire_refusal es lock mode
-    too_deep most = rw (by_entry, le-leb 1000000 h.depth most)
-
-    pub an_upgrade : h.depth < 1000000 → is_upgrade h.mode mode ≡ true → Some Upgrade ≡ acquire_refusal es lock mode
-    an_upgrade below shared = rw (by_entry, lt-leb 1000000 h.depth below, shared)
-
-    pub deeper : h.depth < 1000000 → is_upgrade h.mode mode ≡ false → None ≡ acquire_refusal es lock mode
-    deeper below same = rw (by_entry, lt-leb 1000000 h.depth below, same)
-
--- a lock that is held may be released
-pub held_released : (es : List Event) (lock loc : ℕ) (mode : LockMode) → 0 < depth es lock → None ≡ lock_refusal es (Release lock mode loc)
-unfolding lock_refusal
-held_released es lock loc mode some = let not_zero = ne_eqb (depth es lock) 0 (λ e. omega arith) in rw not_zero
-
--- a lock that isn't held may not be released
-pub unheld_released : (es : List Event) (lock loc : ℕ) (mode : LockMode) → (0 < depth es lock → ⊥) → Some NotHeld ≡ lock_refusal es (Release lock mode loc)
-unfolding lock_refusal
-unheld_released es lock loc mode none = let is_zero = eq-eqb (depth es lock) 0 (omega arith) in rw is_zero
+-- an event that acquires a lock is on no thread
+pub alone_of : (e : Event) (lock : ℕ) → acquired_lock e ≡ Some lock → partner e ≡ None
+alone_of (Acquire l mode loc) lock is = refl
+alone_of (Release l mode loc) lock is = absurd (cc)
+alone_of (TryAcquire l mode loc) lock is = refl
+alone_of (Fork t loc) lock is = absurd (cc)
+alone_of (Join t loc) lock is = absurd (cc)
 
 -- where there is room for it, an event of a lock is refused as the locks say, and a fork or join as its partner says
 module _ (limits : Bounds) (thread : ℕ) (es : List Event) (room : length es < limits.events) where
@@ -71,23 +23,15 @@ module _ (limits : Bounds) (thread : ℕ) (es : List Event) (room : length es < 
   unfolding refusal
   by_lock e alone = rw (lt-leb limits.events (length es) room, alone)
 
-  pub by_forked : (other loc : ℕ) → refusal limits thread es (Fork other loc) ≡ partner_refusal limits thread other
+  pub by_partner : (e : Event) (other : ℕ) → closes e ≡ true → partner e ≡ Some other → refusal limits thread es e ≡ partner_refusal limits thread other
   unfolding refusal lock_refusal
-  by_forked other loc = rw (lt-leb limits.events (length es) room)
-
-  pub by_joined : (other loc : ℕ) → refusal limits thread es (Join other loc) ≡ partner_refusal limits thread other
-  unfolding refusal lock_refusal
-  by_joined other loc = rw (lt-leb limits.events (length es) room)
+  by_partner (Acquire l mode loc) other closing is = absurd (false≢true closing)
+  by_partner (Release l mode loc) other closing is = absurd (false≢true closing)
+  by_partner (TryAcquire l mode loc) other closing is = absurd (false≢true closing)
+  by_partner (Fork t loc) other closing is = let same : t ≡ other = cc in rw (lt-leb limits.events (length es) room, same)
+  by_partner (Join t loc) other closing is = let same : t ≡ other = cc in rw (lt-leb limits.events (length es) room, same)
 
 -- a list that is as long as it may be takes no event
 pub list_full : (limits : Bounds) (thread : ℕ) (es : List Event) (e : Event) → limits.events ≤ length es → refusal limits thread es e ≡ Some PlaceFull
 unfolding refusal
 list_full limits thread es e full = rw (le-leb limits.events (length es) full)
-
--- a release that the locks allow is of a lock that is held
-pub allowed_is_held : (es : List Event) (lock loc : ℕ) (mode : LockMode) → lock_refusal es (Release lock mode loc) ≡ None → 0 < depth es lock
-allowed_is_held es lock loc mode allowed =
-    elim (cases_lt 0 (depth es lock)) [
-      | inl some ↦ some
-      | inr none ↦ let is : Some NotHeld ≡ None = unheld_released es lock loc mode (λ some. omega arith) ∙ allowed in absurd (cc)
-    ]

@@ -1,68 +1,80 @@
 -- What a recorder answers and knows, step by step.
-use Rattle.std.proofs.Common.{◌≡◌, ℕ, ◌+◌, ◌<◌, ◌≤◌, cond, List, [], ◌∷◌, ◌++◌, length, Option, None, Result, Ok, Err, sym, ◌∙◌, arith, length-append}
-use Rattle.std.specs.Prelude.{IsOk, OnOk}
-use Rattle.std.proofs.lemmas.Bool.{false≢true}
+use Rattle.std.proofs.Common.{◌≡◌, ℕ, ◌<◌, ◌≤◌, true, List, [], ◌∷◌, ◌++◌, length, Option, Some, None, Result, Ok, Err, refl, sym, ◌∙◌, arith}
+use Rattle.std.specs.Prelude.{IfSome, IfNone, IfErr, OnOk}
 use Rattle.gl_event.specs.Bounds.{Bounds}
 use Rattle.gl_event.specs.Events.{closes, partner}
-use Rattle.gl_event.specs.Lawful.{lock_refusal, acquire_refusal, refusal}
-use Rattle.gl_event.specs.Standing.{StandsFor}
+use Rattle.gl_event.specs.Lawful.{lock_refusal, refusal}
+use Rattle.gl_event.specs.States.{State, StandsAfter}
 use Rattle.gl_event.specs.declared.events.Event.{Event}
-use Rattle.gl_event.specs.declared.events.Event.TheVariants.{Acquire, TryAcquire, Fork, Join}
-use Rattle.gl_event.specs.declared.events.LockMode.{LockMode}
 use Rattle.gl_event.specs.declared.events.Refusal.{Refusal}
 use Rattle.gl_event.specs.declared.events.Refusal.TheVariants.{PlaceFull}
-use Rattle.gl_event.proofs.Depths.{segment_push}
-use Rattle.gl_event.proofs.Lawfulness.{IsLawful-push}
-use Rattle.gl_recorder.specs.Taking.{Taking, Tracks, partner_refusal, answer_to}
-use Rattle.gl_recorder.proofs.Refusals.{by_lock, by_forked, by_joined, list_full}
+use Rattle.gl_event.specs.declared.notes.Body.TheVariants.{Happened}
+use Rattle.gl_event.proofs.Lawfulness.{IsLawful-push, locks_allow}
+use Rattle.gl_event.proofs.States.{closing_allowed, room_for}
+use Rattle.gl_recorder.specs.Taking.{Taking, Tracks, MayFollow, partner_refusal, answer_to}
+use Rattle.gl_recorder.proofs.Refusals.{by_lock, by_partner, list_full}
 
--- an answer that is Ok has what it promises then
-pub ok_gives : {A E : Type 0} (r : Result A E) (P : Type 0) → IsOk r → OnOk r P → P
-ok_gives (Ok x) P is h = h
-ok_gives (Err e) P is h = absurd (false≢true is)
+-- what holds of an answer, in each of its cases
+pub if_some : (o : Option Refusal) (P : Refusal → Type 0) → ((r : Refusal) → o ≡ Some r → P r) → IfSome o P
+if_some (Some r) P h = h r refl
+if_some None P h = tt
 
--- both kinds of acquire are refused alike
-module _ (es : List Event) (lock : ℕ) (mode : LockMode) (r : Option Refusal) (is : r ≡ acquire_refusal es lock mode) (loc : ℕ) where
-  pub as_acquire : r ≡ lock_refusal es (Acquire lock mode loc)
-  unfolding lock_refusal
-  as_acquire = is
+pub if_none : (o : Option Refusal) (P : Type 0) → (o ≡ None → P) → IfNone o P
+if_none (Some r) P h = tt
+if_none None P h = h refl
 
-  pub as_try_acquire : r ≡ lock_refusal es (TryAcquire lock mode loc)
-  unfolding lock_refusal
-  as_try_acquire = is
+-- a refused event is answered by its reason
+pub answers_refused : (limits : Bounds) (thread : ℕ) (es : List Event) (e : Event) (r : Refusal) → refusal limits thread es e ≡ Some r → Err r ≡ answer_to limits thread es e
+answers_refused limits thread es e r is = rw is
 
 module _ (limits : Bounds) (thread : ℕ) (es : List Event) (t : Taking) (tracks : Tracks limits thread es t) where
-  -- the list is as long as it may be
-  pub place_full : (e : Event) → t.limits.events ≤ t.taken → Err PlaceFull ≡ answer_to limits thread es e
-  place_full e full =
-      let most : limits.events ≤ length es = rw (tracks.its_limits, tracks.taken) at full in
-      rw (list_full limits thread es e most)
+  -- and any other by its note
+  pub answers_taken : (e : Event) → refusal limits thread es e ≡ None → Ok (record { thread = t.thread; place = t.state.events; body = Happened e }) ≡ answer_to limits thread es e
+  answers_taken e is = rw (is, tracks.its_thread, tracks.stands.events)
 
-  within : t.taken < limits.events → length es < limits.events
-  within room = rw tracks.taken at room
+  -- the list is as long as it may be
+  pub place_full : (e : Event) → t.limits.events ≤ t.state.events → refusal limits thread es e ≡ Some PlaceFull
+  place_full e full = list_full limits thread es e (rw (tracks.its_limits, tracks.stands.events) at full)
+
+  within : t.state.events < t.limits.events → length es < limits.events
+  within room = rw (tracks.its_limits, tracks.stands.events) at room
 
   -- the locks decide
-  pub as_locks : t.taken < limits.events → (e : Event) → partner e ≡ None → (r : Option Refusal) → r ≡ lock_refusal es e → r ≡ refusal limits thread es e
-  as_locks room e alone r is = is ∙ sym (by_lock limits thread es (within room) e alone)
-
-  as_own : (other : ℕ) (r : Option Refusal) → r ≡ partner_refusal t.limits t.thread other → r ≡ partner_refusal limits thread other
-  as_own other r is = rw (tracks.its_limits, tracks.its_thread) at is
+  pub as_locks : t.state.events < t.limits.events → (e : Event) → partner e ≡ None → refusal limits thread es e ≡ lock_refusal es e
+  as_locks room e alone = by_lock limits thread es (within room) e alone
 
   -- the partner decides
-  pub as_forked : t.taken < limits.events → (other loc : ℕ) (r : Option Refusal) → r ≡ partner_refusal t.limits t.thread other → r ≡ refusal limits thread es (Fork other loc)
-  as_forked room other loc r is = as_own other r is ∙ sym (by_forked limits thread es (within room) other loc)
+  pub as_partner : t.state.events < t.limits.events → (e : Event) (other : ℕ) → closes e ≡ true → partner e ≡ Some other → refusal limits thread es e ≡ partner_refusal t.limits t.thread other
+  as_partner room e other closing is = rw (tracks.its_limits, tracks.its_thread) (by_partner limits thread es (within room) e other closing is)
 
-  pub as_joined : t.taken < limits.events → (other loc : ℕ) (r : Option Refusal) → r ≡ partner_refusal t.limits t.thread other → r ≡ refusal limits thread es (Join other loc)
-  as_joined room other loc r is = as_own other r is ∙ sym (by_joined limits thread es (within room) other loc)
+  -- and if it doesn't refuse, no lock does
+  pub left_to_locks : t.state.events < t.limits.events → (e : Event) (other : ℕ) → closes e ≡ true → partner e ≡ Some other → partner_refusal t.limits t.thread other ≡ None → refusal limits thread es e ≡ lock_refusal es e
+  left_to_locks room e other closing is none = as_partner room e other closing is ∙ none ∙ sym (closing_allowed es e closing)
 
   -- one event more
-  pub tracks_push : (e : Event) → refusal limits thread es e ≡ None → (new : Taking) → new.thread ≡ t.thread → new.limits ≡ t.limits
-      → new.taken ≡ t.taken + 1 → new.segments ≡ t.segments + cond (closes e) 1 0 → StandsFor (es ++ e ∷ []) new.held → Tracks limits thread (es ++ e ∷ []) new
-  tracks_push e allowed new same_thread same_limits more segments stands = record {
-    its_thread = same_thread ∙ tracks.its_thread;
-    its_limits = same_limits ∙ tracks.its_limits;
+  pub tracks_push : (e : Event) → refusal limits thread es e ≡ None → (new : State) → StandsAfter (es ++ e ∷ []) new → Tracks limits thread (es ++ e ∷ []) (record t { state = new })
+  tracks_push e allowed new stands = record {
+    its_thread = tracks.its_thread;
+    its_limits = tracks.its_limits;
     lawful = IsLawful-push limits thread es e tracks.lawful allowed;
-    taken = omega (arith, length-append es (e ∷ []), more, tracks.taken);
-    segments = omega (arith, segment_push es e, segments, tracks.segments);
-    held = stands;
+    stands = stands;
   }
+
+by_locks : (limits : Bounds) (thread : ℕ) (es fs : List Event) (e : Event) → length fs ≡ length es → lock_refusal fs e ≡ lock_refusal es e → refusal limits thread fs e ≡ refusal limits thread es e
+unfolding refusal
+by_locks limits thread es fs e long locks = rw (long, locks) refl
+
+-- what is lawful next after one list that the recorder could have taken is lawful next after each that the locks let it follow
+pub allowed_after : (limits : Bounds) (thread : ℕ) (fs : List Event) (t : Taking) (e : Event) → Tracks limits thread fs t → (may : MayFollow t e)
+    → lock_refusal may.es e ≡ None → lock_refusal fs e ≡ None → refusal limits thread fs e ≡ None
+allowed_after limits thread fs t e tracks may locks now =
+    rw (← tracks.its_limits, ← tracks.its_thread)
+    (by_locks t.limits t.thread may.es fs e (sym tracks.stands.events ∙ may.tracked.stands.events) (now ∙ sym locks) ∙ may.allowed)
+
+-- no lock refuses what is lawful next
+pub locks_let : (t : Taking) (e : Event) → (may : MayFollow t e) → lock_refusal may.es e ≡ None
+locks_let t e may = locks_allow t.limits t.thread may.es e may.allowed
+
+-- there is room for it
+pub room_to_follow : (t : Taking) (e : Event) → MayFollow t e → t.state.events < t.limits.events
+room_to_follow t e may = let room = room_for t.limits t.thread may.es e may.allowed in omega (arith, may.tracked.stands.events)

@@ -2,32 +2,26 @@
 use Rattle.std.specs.Prelude.{◌≡◌, ◌≤◌, ◌==◌, ℕ, List, length, slice_get, Option, Some, None, Result, Ok, Err, nat_le, if◌then◌else◌}
 use Rattle.std.specs.Option.{option_map_or}
 use Rattle.gl_event.specs.Bounds.{Bounds}
-use Rattle.gl_event.specs.Events.{segment}
 use Rattle.gl_event.specs.Lawful.{refusal, IsLawful}
-use Rattle.gl_event.specs.Standing.{StandsFor}
+use Rattle.gl_event.specs.States.{State, StandsAfter}
 use Rattle.gl_event.specs.declared.events.Event.{Event}
 use Rattle.gl_event.specs.declared.events.Refusal.{Refusal}
 use Rattle.gl_event.specs.declared.events.Refusal.TheVariants.{NoSuchThread, OnItself}
-use Rattle.gl_event.specs.declared.held.HeldEntry.{HeldEntry}
 use Rattle.gl_event.specs.declared.notes.Note.{Note}
 use Rattle.gl_event.specs.declared.notes.Body.TheVariants.{Happened, Ended}
 
--- a recorder's thread and limits, how many events it took, how many of these were forks and joins, and what its thread holds
+-- a recorder's thread and limits, and what is known of the thread after the events that it took
 pub record Taking : Type 0 where
   pub thread : ℕ
   pub limits : Bounds
-  pub taken : ℕ
-  pub segments : ℕ
-  pub held : List HeldEntry
+  pub state : State
 
 -- a recorder of this thread, under these limits, took exactly these events
 pub record Tracks (limits : Bounds) (thread : ℕ) (es : List Event) (t : Taking) : Type 0 where
   pub its_thread : t.thread ≡ thread
   pub its_limits : t.limits ≡ limits
   pub lawful : IsLawful limits thread es
-  pub taken : t.taken ≡ length es
-  pub segments : t.segments ≡ segment es
-  pub held : StandsFor es t.held
+  pub stands : StandsAfter es t.state
 
 -- the recorder took some list of events after which this one is lawful next
 pub record MayFollow (t : Taking) (event : Event) : Type 0 where

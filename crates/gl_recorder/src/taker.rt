@@ -1,87 +1,31 @@
 //! The recorder of one thread.
-ghost use Rattle.std.specs.Prelude.{◌≡◌, ◌≢◌, ◌↔◌, ℕ, ◌+◌, ◌<◌, ◌≤◌, None, Some, List, [], ◌∷◌, ◌++◌, length, OnOk, OnErr, IfSome, IfNone};
+ghost use Rattle.std.specs.Prelude.{◌≡◌, ◌≢◌, ◌<◌, ◌≤◌, ℕ, None, Some, List, [], ◌∷◌, ◌++◌, length, OnOk, OnErr, IfSome, IfNone};
 ghost use Rattle.gl_event.specs.Bounds.{Bounds};
-ghost use Rattle.gl_event.specs.Events.{depth, entry_of, location};
-ghost use Rattle.gl_event.specs.Lawful.{lock_refusal, acquire_refusal, refusal};
-ghost use Rattle.gl_event.specs.Standing.{StandsFor, IsAcquireOf};
+ghost use Rattle.gl_event.specs.Lawful.{lock_refusal, refusal};
 ghost use Rattle.gl_event.specs.declared.events.Event.{Event};
-ghost use Rattle.gl_event.specs.declared.events.Event.TheVariants.{Release};
-ghost use Rattle.gl_event.specs.declared.events.LockMode.{LockMode};
-ghost use Rattle.gl_recorder.specs.Taking.{Tracks, MayFollow, end_note, answer_to, partner_refusal};
 ghost use Rattle.gl_event.specs.declared.limits.TheConstants.{MAX_EVENTS};
+ghost use Rattle.gl_event.specs.declared.notes.Body.TheVariants.{Happened};
+ghost use Rattle.gl_recorder.specs.Taking.{Tracks, MayFollow, end_note, answer_to, partner_refusal};
 
-use gl_event::{
-    Body, Event, Held, HeldEntry, Limits, LocId, LockId, LockMode, MAX_DEPTH, MAX_HELD, Note,
-    Refusal, ThreadId,
-};
+use gl_event::{Body, Effect, Event, Limits, Note, Refusal, ThreadId, ThreadState};
 use std::marker::Model;
 
 /// The recorder of one thread: it takes the thread's events, each where it is lawful next.
 ///
-/// Contracts see its thread and limits, how many events it took, how many of these were forks and
-/// joins, and what its thread holds.
+/// Contracts see its thread and limits, and what is known of the thread after the events that it took.
 #[derive(Drop, Debug)]
 pub struct Taker {
     thread: ThreadId,
     limits: Limits,
-    taken: u32,
-    segments: u32,
-    held: Held,
+    state: ThreadState,
 }
 
 impl Model for Taker {
-    ghost use Rattle.std.specs.Prelude.{◌≤◌};
     ghost use Rattle.gl_recorder.specs.Taking.{Taking};
 
     ghost Value = { Taking };
 
-    ghost view = { λ t. record { thread = t.thread; limits = t.limits; taken = t.taken; segments = t.segments; held = t.held } };
-
-    ghost invariant = { λ t. t.segments ≤ t.taken };
-}
-
-// What is known of the lock, where it is held.
-fn entry_of(held: &Held, lock: LockId) -> Option<HeldEntry>
-    ensures found { (es : List Event) → StandsFor es held.now
-        → IfSome result (λ entry. (entry ≡ entry_of es lock) × (0 < depth es lock)) }
-    ensures absent { (es : List Event) → StandsFor es held.now → IfNone result (depth es lock ≡ 0) }
-{
-    for entry in held.entries() {
-        if entry.lock == lock {
-            return Some(*entry);
-        }
-    }
-    None
-}
-
-// Why the lock can't be acquired in this mode.
-fn acquire_refusal(held: &Held, lock: LockId, mode: LockMode) -> Option<Refusal>
-    ensures { (es : List Event) → StandsFor es held.now → result ≡ acquire_refusal es lock mode }
-{
-    let Some(entry) = entry_of(held, lock) else {
-        if held.entries().len() >= MAX_HELD {
-            return Some(Refusal::HeldFull);
-        }
-        return None;
-    };
-    if entry.depth >= MAX_DEPTH {
-        return Some(Refusal::DepthFull);
-    }
-    if mode.upgrades(entry.mode) {
-        return Some(Refusal::Upgrade);
-    }
-    None
-}
-
-// Why the lock can't be released.
-fn release_refusal(held: &Held, lock: LockId) -> Option<Refusal>
-    ensures { (es : List Event) → StandsFor es held.now → (mode : LockMode) (loc : ℕ)
-        → result ≡ lock_refusal es (Release lock mode loc) }
-{
-    if held.holds(lock) {
-        return None;
-    }
-    Some(Refusal::NotHeld)
+    ghost view = { λ t. record { thread = t.thread; limits = t.limits; state = t.state } };
 }
 
 impl Taker {
@@ -89,15 +33,13 @@ impl Taker {
     pub fn new(thread: ThreadId, limits: &Limits) -> Taker
         requires { thread < limits.now.threads }
         ensures fresh { result ≡ record
-            { thread = thread; limits = limits.now; taken = 0; segments = 0; held = [] } }
+            { thread = thread; limits = limits.now; state = record { held = []; events = 0; segments = 0 } } }
         ensures tracks { Tracks limits.now thread [] result }
     {
         Taker {
             thread,
             limits: *limits,
-            taken: 0,
-            segments: 0,
-            held: Held::new(),
+            state: ThreadState::new(),
         }
     }
 
@@ -107,7 +49,10 @@ impl Taker {
         ensures { (limits : Bounds) (thread : ℕ) (es : List Event)
             → Tracks limits thread es self.now → result ≡ answer_to limits thread es event }
     {
-        self.answer(&event)
+        match self.refusal(&event) {
+            Some(refusal) => Err(refusal),
+            None => Ok(self.note(event)),
+        }
     }
 
     /// Takes the event, if it may come next: the answer is its note. Otherwise nothing changes, and
@@ -122,8 +67,11 @@ impl Taker {
             → OnOk result (Tracks limits thread (es ++ event ∷ []) self.new) }
         ensures unchanged { OnErr result (self.new ≡ self.old) }
     {
-        let note = self.answer(&event)?;
-        self.keep(&event);
+        if let Some(refusal) = self.refusal_beside_locks(&event) {
+            return Err(refusal);
+        }
+        let note = self.note(event);
+        self.state.take(event)?;
         Ok(note)
     }
 
@@ -136,9 +84,10 @@ impl Taker {
         ensures { (limits : Bounds) (thread : ℕ) (es : List Event)
             → Tracks limits thread es self.old → Tracks limits thread (es ++ event ∷ []) self.new }
     {
-        let has_room = self.taken < self.limits.events();
+        let has_room = self.state.events() < self.limits.events();
         prove!(has_room);
-        self.keep(&event);
+        // the locks let what is lawful next come
+        let _ = self.state.take(event);
     }
 
     /// The thread whose events are taken.
@@ -152,57 +101,67 @@ impl Taker {
 
     /// How many events were taken.
     pub fn taken(&self) -> u32
-        ensures value { result ≡ self.now.taken }
+        ensures value { result ≡ self.now.state.events }
         ensures length { (limits : Bounds) (thread : ℕ) (es : List Event)
             → Tracks limits thread es self.now → result ≡ length es }
     {
-        self.taken
+        self.state.events()
     }
 
     /// The mark that the thread has ended, with the number of events taken.
     pub fn end(&self) -> Note
-        ensures value { result ≡ end_note self.now.thread self.now.taken }
+        ensures value { result ≡ end_note self.now.thread self.now.state.events }
         ensures mark { (limits : Bounds) (thread : ℕ) (es : List Event)
             → Tracks limits thread es self.now → result ≡ end_note thread (length es) }
     {
+        let count = self.state.events();
         Note {
             thread: self.thread,
-            place: self.taken,
-            body: Body::Ended { count: self.taken },
+            place: count,
+            body: Body::Ended { count },
         }
     }
 
-    // The note of the event, or why it may not come next.
-    fn answer(&self, event: &Event) -> Result<Note, Refusal>
-        ensures answers { (limits : Bounds) (thread : ℕ) (es : List Event)
-            → Tracks limits thread es self.now → result ≡ answer_to limits thread es event.now }
-        ensures room { OnOk result (self.now.taken < MAX_EVENTS) }
+    // The note of the event, which comes next.
+    fn note(&self, event: Event) -> Note
+        ensures { result ≡ record
+            { thread = self.now.thread; place = self.now.state.events; body = Happened event } }
     {
-        if self.taken >= self.limits.events() {
-            return Err(Refusal::PlaceFull);
-        }
-        match self.refusal(event) {
-            Some(refusal) => Err(refusal),
-            None => Ok(Note {
-                thread: self.thread,
-                place: self.taken,
-                body: Body::Happened(*event),
-            }),
+        Note {
+            thread: self.thread,
+            place: self.state.events(),
+            body: Body::Happened(event),
         }
     }
 
-    // Why the event may not come next, where there is room for it.
+    // Why the event may not come next.
     fn refusal(&self, event: &Event) -> Option<Refusal>
         ensures { (limits : Bounds) (thread : ℕ) (es : List Event)
-            → Tracks limits thread es self.now → self.now.taken < limits.events
-            → result ≡ refusal limits thread es event.now }
+            → Tracks limits thread es self.now → result ≡ refusal limits thread es event.now }
     {
-        match *event {
-            Event::Acquire { lock, mode, .. } => acquire_refusal(&self.held, lock, mode),
-            Event::TryAcquire { lock, mode, .. } => acquire_refusal(&self.held, lock, mode),
-            Event::Release { lock, .. } => release_refusal(&self.held, lock),
-            Event::Fork { thread, .. } => self.partner_refusal(thread),
-            Event::Join { thread, .. } => self.partner_refusal(thread),
+        if let Some(refusal) = self.refusal_beside_locks(event) {
+            return Some(refusal);
+        }
+        self.state.refusal(event)
+    }
+
+    // Why the event may not come next, whatever the locks say; else these decide.
+    fn refusal_beside_locks(&self, event: &Event) -> Option<Refusal>
+        ensures refused { IfSome result
+            (λ r. (limits : Bounds) (thread : ℕ) (es : List Event)
+            → Tracks limits thread es self.now → refusal limits thread es event.now ≡ Some r) }
+        ensures left { IfNone result
+            ((limits : Bounds) (thread : ℕ) (es : List Event) → Tracks limits thread es self.now
+            → refusal limits thread es event.now ≡ lock_refusal es event.now) }
+        ensures room { IfNone result (self.now.state.events < MAX_EVENTS) }
+    {
+        if self.state.events() >= self.limits.events() {
+            return Some(Refusal::PlaceFull);
+        }
+        match event.effect() {
+            Effect::Closes { partner } => self.partner_refusal(partner),
+            Effect::Acquires { .. } => None,
+            Effect::Releases { .. } => None,
         }
     }
 
@@ -217,58 +176,5 @@ impl Taker {
             return Some(Refusal::OnItself);
         }
         None
-    }
-
-    // Counts the event, which has to be lawful next, and keeps what the thread holds after it.
-    fn keep(&mut self, event: &Event)
-        requires { self.old.taken < MAX_EVENTS }
-        ensures { (limits : Bounds) (thread : ℕ) (es : List Event)
-            → Tracks limits thread es self.old → refusal limits thread es event.now ≡ None
-            → Tracks limits thread (es ++ event.now ∷ []) self.new }
-    {
-        match *event {
-            Event::Acquire { lock, mode, loc } => self.keep_acquire(lock, mode, loc),
-            Event::TryAcquire { lock, mode, loc } => self.keep_acquire(lock, mode, loc),
-            Event::Release { lock, .. } => self.keep_release(lock),
-            Event::Fork { .. } => self.close_segment(),
-            Event::Join { .. } => self.close_segment(),
-        }
-    }
-
-    // Counts an acquire, of either kind.
-    fn keep_acquire(&mut self, lock: LockId, mode: LockMode, loc: LocId)
-        requires { self.old.taken < MAX_EVENTS }
-        ensures { (limits : Bounds) (thread : ℕ) (es : List Event) (e : Event)
-            → Tracks limits thread es self.old → IsAcquireOf lock mode e → location e ≡ loc
-            → refusal limits thread es e ≡ None → Tracks limits thread (es ++ e ∷ []) self.new }
-    {
-        // check has shown that the lock can be acquired
-        let _ = self
-            .held
-            .acquire(lock, mode, loc, self.taken, self.segments);
-        self.taken += 1;
-    }
-
-    // Counts a release.
-    fn keep_release(&mut self, lock: LockId)
-        requires { self.old.taken < MAX_EVENTS }
-        ensures { (limits : Bounds) (thread loc : ℕ) (mode : LockMode) (es : List Event)
-            → Tracks limits thread es self.old
-            → refusal limits thread es (Release lock mode loc) ≡ None
-            → Tracks limits thread (es ++ Release lock mode loc ∷ []) self.new }
-    {
-        // check has shown that the lock is held
-        let _ = self.held.release(lock);
-        self.taken += 1;
-    }
-
-    // Counts a fork or a join.
-    fn close_segment(&mut self)
-        requires { self.old.taken < MAX_EVENTS }
-        ensures { self.new
-            ≡ record self.old { taken = self.old.taken + 1; segments = self.old.segments + 1 } }
-    {
-        self.segments += 1;
-        self.taken += 1;
     }
 }

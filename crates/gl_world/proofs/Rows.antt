@@ -196,7 +196,7 @@ module _ (limits : Bounds) (thread : ℕ) (lane : Lane) (note : Note) (front : I
           let here : refusal limits thread (events_of thread (take lane.popped lane.pushed)) e ≡ None = subst (λ t. refusal limits t (events_of t (take lane.popped lane.pushed)) e ≡ None) front.own fits in
           record {
             es = events_of thread (take lane.popped lane.pushed);
-            tracked = record { of_thread = refl; stands = follows.stands; at_place = follows.at_place; in_segment = follows.in_segment };
+            tracked = record { of_thread = refl; stands = follows.stands };
             allowed = subst (λ t. refusal greatest t (events_of thread (take lane.popped lane.pushed)) e ≡ None) (sym follows.of_thread) (allowed_by_greatest limits thread _ e range here);
           }
       by_body (EndMark count) is = tt

@@ -30,8 +30,8 @@ pair_for tracker wanted mode loc h = (
     wanted = wanted;
     wanted_mode = mode;
     first = h.seg;
-    second = tracker.segment;
-    guards = guards_of tracker.held;
+    second = tracker.state.segments;
+    guards = guards_of tracker.state.held;
   },
-  record { place = tracker.place; held_loc = h.loc; wanted_loc = loc },
+  record { place = tracker.state.events; held_loc = h.loc; wanted_loc = loc },
 )

@@ -52,7 +52,7 @@ edges_now tracker wanted mode =
       wanted = wanted;
       wanted_mode = mode;
       first = h.seg;
-      second = tracker.segment;
-      guards = guards_of tracker.held;
+      second = tracker.state.segments;
+      guards = guards_of tracker.state.held;
     })
-    tracker.held
+    tracker.state.held

@@ -1,8 +1,7 @@
-use Rattle.std.proofs.Common.{map, sym, refl, subst, ◌∙◌, arith, length}
+use Rattle.std.proofs.Common.{map, refl, arith}
 use Rattle.std.proofs.lemmas.Bool.{false≢true}
 use Rattle.std.proofs.lemmas.List.{length-map}
 use Rattle.std.proofs.lemmas.Option.{slice_get_within}
-use Rattle.gl_event.specs.Lawful.{IsLawful}
 use Rattle.gl_recorder.proofs.Lists.{list_at, lawful_more}
 use Rattle.gl_recorder.proofs.lawful.are_lawful.Goals as goal
 

@@ -11,8 +11,8 @@ invariant-loop-entry l = record {
   of_thread : l.self.edge.thread ≡ l.tracker.thread;
   wants : l.self.edge.wanted ≡ l.fn.wanted;
   wants_as : l.self.edge.wanted_mode ≡ l.fn.mode;
-  in_segment : l.self.edge.second ≡ l.tracker.segment;
-  guarded : l.self.edge.guards ≡ guards_of l.tracker.held;
+  in_segment : l.self.edge.second ≡ l.tracker.state.segments;
+  guarded : l.self.edge.guards ≡ guards_of l.tracker.state.held;
   same_seen : l.self.seen ≡ l.fn.self.seen;
-  known : (pairs : List (Edge × Sample)) → IsTableOf l.fn.self.table pairs → IsTableOf l.self.table (pairs ++ map (pair_for l.tracker l.fn.wanted l.fn.mode l.fn.loc) (take l.entry-index l.tracker.held));
+  known : (pairs : List (Edge × Sample)) → IsTableOf l.fn.self.table pairs → IsTableOf l.self.table (pairs ++ map (pair_for l.tracker l.fn.wanted l.fn.mode l.fn.loc) (take l.entry-index l.tracker.state.held));
 }

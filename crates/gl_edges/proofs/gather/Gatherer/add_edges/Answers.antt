@@ -18,7 +18,7 @@ returns c =
     let free = not_deep c.holds.result _ (c.holds.ensures es tracked.stands).1 c.if-holds.false in
     rw c.in-Acquire.is
     (gathers_acquire thread es c.args.tracker.now tracked c.in-Acquire.lock c.in-Acquire.mode c.in-Acquire.loc pairs c.add_acquire.new.self free
-    (added pairs (subst (λ place. Gathers pairs place c.args.self.now) (sym tracked.at_place) is))))
+    (added pairs (subst (λ place. Gathers pairs place c.args.self.now) (sym tracked.stands.events) is))))
     c.add_acquire.ensures
 
 pub returns-in_default : goal.returns-in_default

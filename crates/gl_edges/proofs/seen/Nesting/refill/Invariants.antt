@@ -7,6 +7,6 @@ invariant-loop-entry l = record {
   of_thread : l.self.thread ≡ l.tracker.thread;
   wants : l.self.wanted ≡ l.fn.wanted;
   wants_as : l.self.mode ≡ l.fn.mode;
-  in_segment : l.self.second ≡ l.tracker.segment;
-  so_far : l.self.held.items ≡ map opened_of (take l.entry-index l.tracker.held);
+  in_segment : l.self.second ≡ l.tracker.state.segments;
+  so_far : l.self.held.items ≡ map opened_of (take l.entry-index l.tracker.state.held);
 }

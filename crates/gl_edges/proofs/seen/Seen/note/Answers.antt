@@ -25,7 +25,7 @@ returns-clause-noted c = λ edge at.
       wants = made.wanted ∙ filled.wanted;
       wants_as = made.mode ∙ filled.mode;
       in_segment = made.second ∙ filled.second;
-      holds = subst (IsPermutation (map opened_of c.args.tracker.now.held)) (sym made.held) filled.held;
+      holds = subst (IsPermutation (map opened_of c.args.tracker.now.state.held)) (sym made.held) filled.held;
     } in
     subst (λ edges. Contains edges edge ⊎ Contains (edges_now c.args.tracker.now c.args.wanted c.args.mode) edge) c.self.view_is
     (noted_now c.args.tracker.now c.args.wanted c.args.mode c.in_ok-nesting.nesting is_now _ c.self.inside.nestings.keys edge

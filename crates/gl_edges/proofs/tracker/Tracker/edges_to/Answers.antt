@@ -14,7 +14,7 @@ loop-guard-init c = λ thread es tracked. c.new-pairs.ensures.items
 pub returns-then-is_empty-clause-edges : goal.returns-then-is_empty-clause-edges
 returns-then-is_empty-clause-edges c = λ thread es tracked.
     let none = sym c.entries-entries.ensures ∙ nothing_there c.entries-entries.result.now (sym c.is_empty.ensures ∙ c.if-is_empty.true) in
-    c.new.ensures.items ∙ sym (ap (map (pair_at thread es c.args.wanted c.args.mode c.args.loc)) (none_held es (held es) refl (subst (StandsFor es) none tracked.stands)))
+    c.new.ensures.items ∙ sym (ap (map (pair_at thread es c.args.wanted c.args.mode c.args.loc)) (none_held es (held es) refl (subst (StandsFor es) none tracked.stands.held)))
 
 pub entry_for-entry-requires : goal.entry_for-entry-requires
 entry_for-entry-requires c =
@@ -27,8 +27,8 @@ loop-guard-preserved c = λ thread es tracked.
     let guarded = c.in_ok-copy.ensures ∙ c.in_ok-refill.ensures ∙ ap guards_of c.entries-entries.ensures in
     let there = rw c.entries-entries.ensures at c.entry_for-entry.ensures.there in
     c.in_ok-push.ensures.items
-    ∙ pairs_more thread es c.args.self.now tracked c.args.wanted c.args.mode c.args.loc c.loop-guard.pairs.items c.as_slice-locks.result.now c.loop-guard.guard-index c.guard-item.result c.entry_for-entry.result c.in_ok-copy.field-0
-    c.loop-guard-test.true c.guard-item.is there c.entry_for-entry.ensures.of_lock guarded (c.loop-guard.invariant thread es tracked)
+    ∙ pairs_more thread es c.args.self.now tracked c.args.wanted c.args.mode c.args.loc c.loop-guard.pairs.items c.as_slice-locks.result.now c.loop-guard.guard-index c.guard-item.result c.entry_for-entry.result c.in_ok-copy.field-0 _ _
+    c.segment.ensures c.events.ensures c.loop-guard-test.true c.guard-item.is there c.entry_for-entry.ensures.of_lock guarded (c.loop-guard.invariant thread es tracked)
 
 pub returns-clause-edges : goal.returns-clause-edges
 returns-clause-edges c = λ thread es tracked.

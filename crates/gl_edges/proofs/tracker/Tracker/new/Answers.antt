@@ -1,5 +1,5 @@
-use Rattle.gl_edges.proofs.Following.{tracks_none}
+use Rattle.std.proofs.Common.{refl}
 use Rattle.gl_edges.proofs.tracker.Tracker.new.Goals as goal
 
 pub returns : goal.returns
-returns c = tracks_none c.args.thread c.new.result c.new.ensures.stands
+returns c = record { of_thread = refl; stands = c.new.ensures.stands }

@@ -18,4 +18,4 @@ pub returns-clause-room : goal.returns-clause-room
 returns-clause-room c = λ thread es tracked.
     let free = not_deep c.holds.result _ (c.holds.ensures es tracked.stands).1 c.if-holds.false in
     rw c.in-Acquire.is
-    (on_err_weaker c.edges_to.result (λ some. wanting_some thread es c.in-Acquire.lock c.in-Acquire.mode c.in-Acquire.loc c.args.self.now.held free tracked.stands some) c.edges_to.ensures.room)
+    (on_err_weaker c.edges_to.result (λ some. wanting_some thread es c.in-Acquire.lock c.in-Acquire.mode c.in-Acquire.loc c.args.self.now.state.held free tracked.stands.held some) c.edges_to.ensures.room)

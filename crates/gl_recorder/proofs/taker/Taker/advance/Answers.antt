@@ -1,12 +1,19 @@
-use Rattle.std.proofs.Common.{◌<◌, subst, sym, arith}
-use Rattle.gl_recorder.specs.Taking.{Taking}
-use Rattle.gl_recorder.proofs.Sameness.{allowed_after, room_to_follow}
+use Rattle.std.proofs.Common.{sym, subst, ◌<◌, arith}
+use Rattle.gl_recorder.specs.Taking.{Taking, Tracks, MayFollow}
+use Rattle.gl_recorder.proofs.Steps.{allowed_after, locks_let, room_to_follow, tracks_push}
+use Rattle.gl_event.proofs.States.{is_taken}
 use Rattle.gl_recorder.proofs.taker.Taker.advance.Goals as goal
-
-pub returns : goal.returns
-returns c = λ limits thread es tracks. c.keep.ensures limits thread es tracks (allowed_after limits thread es c.args.self.now c.args.event tracks c.requires)
 
 pub prove-unreachable-requires : goal.prove-unreachable-requires
 prove-unreachable-requires c =
-    let room = subst (λ (t : Taking). t.taken < t.limits.events) (sym c.self.view_is) (room_to_follow c.args.self.now c.args.event c.requires) in
-    omega (arith, c.events.ensures.value)
+    let room = subst (λ (t : Taking). t.state.events < t.limits.events) (sym c.self.view_is) (room_to_follow c.args.self.now c.args.event c.requires) in
+    omega (arith, c.events.ensures, c.events-2.ensures.value)
+
+pub returns : goal.returns
+returns c = λ limits thread es tracks.
+    let own = subst (Tracks limits thread es) (sym c.self.view_is) tracks in
+    let may : MayFollow (record { thread = c.self.inside.thread; limits = c.self.inside.limits; state = c.self.inside.state }) c.args.event = subst (λ t. MayFollow t c.args.event) (sym c.self.view_is) c.requires in
+    let none = locks_let _ c.args.event may in
+    let allowed = is_taken c.take.result c.self.inside.state may.es c.args.event may.tracked.stands c.take.ensures.refused none c.take.ensures.allowed in
+    let stands = is_taken c.take.result c.self.inside.state may.es c.args.event may.tracked.stands c.take.ensures.refused none c.take.ensures.stands in
+    tracks_push limits thread es _ own c.args.event (allowed_after limits thread es _ c.args.event own may none (allowed es own.stands)) c.take.new.self (stands es own.stands)

@@ -1,7 +1,7 @@
 use Rattle.std.proofs.Common.{sym, ◌∙◌}
 use Rattle.std.proofs.lemmas.Bool.{false≢true}
-use Rattle.gl_recorder.proofs.Refusals.{held_released, unheld_released}
-use Rattle.gl_recorder.proofs.taker.release_refusal.Goals as goal
+use Rattle.gl_event.proofs.Refusals.{held_released, unheld_released}
+use Rattle.gl_event.proofs.thread_state.release_refusal.Goals as goal
 
 pub returns-then-holds : goal.returns-then-holds
 returns-then-holds c = λ es stands mode loc. held_released es c.args.lock loc mode ((c.holds.ensures es stands).0 c.if-holds.true)

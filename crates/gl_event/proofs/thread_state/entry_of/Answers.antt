@@ -2,8 +2,8 @@ use Rattle.std.proofs.Common.{sym, ◌∙◌, arith, subst}
 use Rattle.std.proofs.lemmas.Bool.{eqb-true}
 use Rattle.gl_event.specs.Standing.{StandsFor}
 use Rattle.gl_event.proofs.HeldLemmas.{absent_depth}
-use Rattle.gl_recorder.proofs.Refusals.{entry_found}
-use Rattle.gl_recorder.proofs.taker.entry_of.Goals as goal
+use Rattle.gl_event.proofs.Refusals.{entry_found}
+use Rattle.gl_event.proofs.thread_state.entry_of.Goals as goal
 
 pub returns-then-eq-clause-found : goal.returns-then-eq-clause-found
 returns-then-eq-clause-found c =

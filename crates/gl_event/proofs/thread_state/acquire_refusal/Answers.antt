@@ -1,6 +1,6 @@
 use Rattle.std.proofs.Common.{length, ap, sym, arith}
-use Rattle.gl_recorder.proofs.Refusals.{one_too_many, one_more, too_deep, an_upgrade, deeper}
-use Rattle.gl_recorder.proofs.taker.acquire_refusal.Goals as goal
+use Rattle.gl_event.proofs.Refusals.{one_too_many, one_more, too_deep, an_upgrade, deeper}
+use Rattle.gl_event.proofs.thread_state.acquire_refusal.Goals as goal
 
 pub returns-then-entries-ge-MAX_HELD : goal.returns-then-entries-ge-MAX_HELD
 returns-then-entries-ge-MAX_HELD c = λ es stands. one_too_many es _ stands _ _ (c.in_default.ensures.absent es stands) (omega (arith, ap length c.entries.ensures))

@@ -1,0 +1,27 @@
+-- What is known of a thread's events without the events themselves, and what each event does to it.
+use Rattle.std.specs.Prelude.{◌≡◌, ℕ, true, List, length, Some}
+use Rattle.gl_event.specs.Events.{lock_mode, location, closes, partner, segment}
+use Rattle.gl_event.specs.Standing.{StandsFor, IsAcquireOf}
+use Rattle.gl_event.specs.declared.events.Effect.{Effect}
+use Rattle.gl_event.specs.declared.events.Effect.TheVariants.{Acquires, Releases, Closes}
+use Rattle.gl_event.specs.declared.events.Event.{Event}
+use Rattle.gl_event.specs.declared.events.Event.TheVariants.{Release}
+use Rattle.gl_event.specs.declared.held.HeldEntry.{HeldEntry}
+
+-- the event does this to its thread
+abbrev pub HasEffect : Event → Effect → Type 0
+HasEffect e (Acquires lock mode loc) = IsAcquireOf lock mode e × (loc ≡ location e)
+HasEffect e (Releases lock) = e ≡ Release lock (lock_mode e) (location e)
+HasEffect e (Closes other) = (closes e ≡ true) × (partner e ≡ Some other)
+
+-- what is known of a thread's events: what it holds after them, how many there are, and how many of them closed a segment
+pub record State : Type 0 where
+  pub held : List HeldEntry
+  pub events : ℕ
+  pub segments : ℕ
+
+-- this is known where the thread's events are these
+pub record StandsAfter (es : List Event) (s : State) : Type 0 where
+  pub held : StandsFor es s.held
+  pub events : s.events ≡ length es
+  pub segments : s.segments ≡ segment es
