@@ -1,5 +1,5 @@
 -- What is known of a thread's events without the events themselves, and what each event does to it.
-use Rattle.std.specs.Prelude.{◌≡◌, ℕ, true, List, length, Some}
+use Rattle.std.specs.Prelude.{◌≡◌, ℕ, true, List, [], ◌∷◌, ◌++◌, length, Some}
 use Rattle.gl_event.specs.Events.{lock_mode, location, closes, partner, segment}
 use Rattle.gl_event.specs.Standing.{StandsFor, IsAcquireOf}
 use Rattle.gl_event.specs.declared.events.Effect.{Effect}
@@ -20,8 +20,16 @@ pub record State : Type 0 where
   pub events : ℕ
   pub segments : ℕ
 
+-- what is known before the first event
+abbrev pub no_events : State
+no_events = record { held = []; events = 0; segments = 0 }
+
 -- this is known where the thread's events are these
 pub record StandsAfter (es : List Event) (s : State) : Type 0 where
   pub held : StandsFor es s.held
   pub events : s.events ≡ length es
   pub segments : s.segments ≡ segment es
+
+-- this is known after the event where that was known before it
+abbrev pub HasFollowed : State → Event → State → Type 0
+HasFollowed before e after = (es : List Event) → StandsAfter es before → StandsAfter (es ++ e ∷ []) after

@@ -85,11 +85,11 @@ fn release_refusal(held: &Held, lock: LockId) -> Option<Refusal>
 impl ThreadState {
     ghost use Rattle.gl_event.specs.Events.{closes, lock_mode, location};
     ghost use Rattle.gl_event.specs.Standing.{IsAcquireOf};
-    ghost use Rattle.gl_event.specs.States.{StandsAfter};
+    ghost use Rattle.gl_event.specs.States.{HasFollowed, StandsAfter, no_events};
 
     /// What is known before the first event.
     pub fn new() -> ThreadState
-        ensures fresh { result ≡ record { held = []; events = 0; segments = 0 } }
+        ensures fresh { result ≡ no_events }
         ensures stands { StandsAfter [] result }
     {
         ThreadState {
@@ -150,8 +150,7 @@ impl ThreadState {
             (λ r. (es : List Event) → StandsAfter es self.old → lock_refusal es event ≡ Some r) }
         ensures allowed { OnOk result
             ((es : List Event) → StandsAfter es self.old → lock_refusal es event ≡ None) }
-        ensures stands { OnOk result
-            ((es : List Event) → StandsAfter es self.old → StandsAfter (es ++ event ∷ []) self.new) }
+        ensures stands { OnOk result (HasFollowed self.old event self.new) }
         ensures unchanged { OnErr result (self.new ≡ self.old) }
     {
         match event.effect() {
@@ -179,8 +178,7 @@ impl ThreadState {
             (λ r. (es : List Event) → StandsAfter es self.old → lock_refusal es event ≡ Some r) }
         ensures allowed { OnOk result
             ((es : List Event) → StandsAfter es self.old → lock_refusal es event ≡ None) }
-        ensures stands { OnOk result
-            ((es : List Event) → StandsAfter es self.old → StandsAfter (es ++ event ∷ []) self.new) }
+        ensures stands { OnOk result (HasFollowed self.old event self.new) }
         ensures unchanged { OnErr result (self.new ≡ self.old) }
     {
         match self
@@ -204,8 +202,7 @@ impl ThreadState {
             (λ r. (es : List Event) → StandsAfter es self.old → lock_refusal es event ≡ Some r) }
         ensures allowed { OnOk result
             ((es : List Event) → StandsAfter es self.old → lock_refusal es event ≡ None) }
-        ensures stands { OnOk result
-            ((es : List Event) → StandsAfter es self.old → StandsAfter (es ++ event ∷ []) self.new) }
+        ensures stands { OnOk result (HasFollowed self.old event self.new) }
         ensures unchanged { OnErr result (self.new ≡ self.old) }
     {
         match self.held.release(lock) {
@@ -221,8 +218,7 @@ impl ThreadState {
         requires fits { self.old.events + 1 < 2 ^ 32 }
         requires closes { closes event ≡ true }
         ensures allowed { (es : List Event) → lock_refusal es event ≡ None }
-        ensures stands { (es : List Event) → StandsAfter es self.old
-            → StandsAfter (es ++ event ∷ []) self.new }
+        ensures stands { HasFollowed self.old event self.new }
     {
         self.events += 1;
         self.segments += 1;

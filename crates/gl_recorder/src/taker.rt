@@ -2,6 +2,7 @@
 ghost use Rattle.std.specs.Prelude.{◌≡◌, ◌≢◌, ◌<◌, ◌≤◌, ℕ, None, Some, List, [], ◌∷◌, ◌++◌, length, OnOk, OnErr, IfSome, IfNone};
 ghost use Rattle.gl_event.specs.Bounds.{Bounds};
 ghost use Rattle.gl_event.specs.Lawful.{lock_refusal, refusal};
+ghost use Rattle.gl_event.specs.States.{no_events};
 ghost use Rattle.gl_event.specs.declared.events.Event.{Event};
 ghost use Rattle.gl_event.specs.declared.limits.TheConstants.{MAX_EVENTS};
 ghost use Rattle.gl_event.specs.declared.notes.Body.TheVariants.{Happened};
@@ -32,8 +33,7 @@ impl Taker {
     /// The recorder of this thread, which has taken nothing yet.
     pub fn new(thread: ThreadId, limits: &Limits) -> Taker
         requires { thread < limits.now.threads }
-        ensures fresh { result ≡ record
-            { thread = thread; limits = limits.now; state = record { held = []; events = 0; segments = 0 } } }
+        ensures fresh { result.state ≡ no_events }
         ensures tracks { Tracks limits.now thread [] result }
     {
         Taker {

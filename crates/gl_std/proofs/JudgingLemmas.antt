@@ -8,7 +8,8 @@ use Rattle.gl_event.specs.Lawful.{lock_refusal}
 use Rattle.gl_std.specs.bodies.Telling.{with_judged}
 use Rattle.gl_std.specs.Judging.{Judge, HasJudged, IsSound}
 use Rattle.gl_std.specs.Listed.{listed}
-use Rattle.gl_std.specs.Standings.{State, StandsAfter, AreStanding}
+use Rattle.gl_event.specs.States.{State, StandsAfter}
+use Rattle.gl_std.specs.Standings.{AreStanding}
 use Rattle.gl_std.specs.bodies.Counting.{count_of}
 use Rattle.gl_std.specs.Line.{Operation, is_on_thread}
 use Rattle.gl_std.specs.Names.{NameLists}

@@ -17,7 +17,6 @@ pub mod RenumberingLemmas
 pub mod RetoldLemmas
 pub mod SayingLemmas
 pub mod ShapeLemmas
-pub mod StandingLemmas
 pub mod StepLemmas
 pub mod StreamLemmas
 pub mod ToldLemmas

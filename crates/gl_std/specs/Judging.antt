@@ -2,7 +2,8 @@
 use Rattle.std.specs.Prelude.{◌≡◌, ℕ, ◌<◌, ◌≤◌, List, All, length}
 use Rattle.gl_event.specs.Bounds.{Bounds, AreWithinRange}
 use Rattle.gl_std.specs.Names.{NameLists}
-use Rattle.gl_std.specs.Standings.{State, AreStanding}
+use Rattle.gl_event.specs.States.{State}
+use Rattle.gl_std.specs.Standings.{AreStanding}
 use Rattle.gl_std.specs.Trace.{IsTraceOver}
 use Rattle.gl_std.specs.declared.trace.Trace.{Trace}
 

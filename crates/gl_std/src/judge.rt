@@ -14,8 +14,8 @@ use crate::faults::{ReadFault, StdKind};
 use crate::line::{Operation, Shape, shape_of};
 use crate::names::{Found, Names};
 use crate::seed::Seed;
-use crate::standing::{Ruling, Standing};
-use gl_event::{Event, Limits, LocId, LockId, ThreadId};
+use crate::standing::{Ruling, rule};
+use gl_event::{Event, Limits, LocId, LockId, ThreadId, ThreadState};
 use std::alloc::{AllocError, Global};
 
 /// What a line is that isn't at fault.
@@ -38,7 +38,7 @@ pub(crate) struct Judge {
     alloc: Global,
     limits: Limits,
     names: Names,
-    standings: Vec<Standing>,
+    standings: Vec<ThreadState>,
     // The thread of the latest event, which is likely to be that of the next one.
     latest: Option<ThreadId>,
     skipped: u64,
@@ -257,7 +257,8 @@ impl Judge {
             Operation::Release(_) => {
                 let thread = thread.as_ref()?;
                 let standing = self.standings.get(thread.number() as usize)?;
-                standing.innermost()
+                let entry = standing.entries().last()?;
+                Some(entry.lock)
             }
             _ => None,
         }
@@ -359,7 +360,7 @@ fn event_of(operation: Operation, operand: u32, loc: LocId) -> Event
 // Lets the thread of the event stand after it, and a new thread that it forks or joins after nothing,
 // unless the held locks or `limit` refuse the event.
 fn stand(
-    standings: &mut Vec<Standing>,
+    standings: &mut Vec<ThreadState>,
     operation: Operation,
     found: &Found,
     event: Event,
@@ -388,7 +389,7 @@ fn stand(
 
 // `stand`, for the acting thread, known or new.
 fn stand_own(
-    standings: &mut Vec<Standing>,
+    standings: &mut Vec<ThreadState>,
     found: &Found,
     event: Event,
     limit: Option<StdKind>,
@@ -406,7 +407,7 @@ fn stand_own(
     match found.thread {
         Some(number) => {
             let standing = &mut standings[number.number() as usize];
-            Ok(standing.take(event, limit))
+            Ok(rule(standing, event, limit))
         }
         None => stand_first(standings, event, limit),
     }
@@ -414,7 +415,7 @@ fn stand_own(
 
 // Lets a new thread that the event forks or joins stand after nothing.
 fn add_partner(
-    standings: &mut Vec<Standing>,
+    standings: &mut Vec<ThreadState>,
     operation: Operation,
     found: &Found,
 ) -> Result<(), AllocError>
@@ -431,7 +432,7 @@ fn add_partner(
     match found.operand {
         Some(_) => Ok(()),
         None => {
-            standings.push(Standing::new())?;
+            standings.push(ThreadState::new())?;
             Ok(())
         }
     }
@@ -439,7 +440,7 @@ fn add_partner(
 
 // `stand_own`, for the first event of a thread.
 fn stand_first(
-    standings: &mut Vec<Standing>,
+    standings: &mut Vec<ThreadState>,
     event: Event,
     limit: Option<StdKind>,
 ) -> Result<Ruling, AllocError>
@@ -449,8 +450,8 @@ fn stand_first(
         → AreStanding (lists ++ (event ∷ []) ∷ []) standings.new.items }
     ensures stray { result ≡ Ok Stray → standings.new.items ≡ standings.old.items }
 {
-    let mut standing = Standing::new();
-    match standing.take(event, limit) {
+    let mut standing = ThreadState::new();
+    match rule(&mut standing, event, limit) {
         Ruling::Kept => {
             standings.push(standing)?;
             Ok(Ruling::Kept)

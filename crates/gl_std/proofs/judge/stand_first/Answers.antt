@@ -6,4 +6,4 @@ use Rattle.gl_std.proofs.judge.stand_first.Goals as goal
 pub returns-in_ok-push-in-Kept-clause-kept : goal.returns-in_ok-push-in-Kept-clause-kept
 returns-in_ok-push-in-Kept-clause-kept c = λ kept lists are.
     let own = c.in-Kept.ensures.kept refl [] c.new-standing.ensures.stands in
-    subst (AreStanding (lists ++ (c.args.event ∷ []) ∷ [])) (sym c.in_ok-push-in-Kept.ensures.items) (standing_push lists c.args.standings.now.items (c.args.event ∷ []) c.take.new.self are own)
+    subst (AreStanding (lists ++ (c.args.event ∷ []) ∷ [])) (sym c.in_ok-push-in-Kept.ensures.items) (standing_push lists c.args.standings.now.items (c.args.event ∷ []) c.rule.new.state are own)

@@ -8,11 +8,11 @@ use Rattle.gl_std.proofs.judge.stand_own.Goals as goal
 pub returns-in-Some-clause-ruling : goal.returns-in-Some-clause-ruling
 returns-in-Some-clause-ruling c = λ lists are.
     let is : c.args.found.now.thread ≡ Some c.number.result = c.in-Some.is ∙ ap (λ n. Some n) (sym c.number.ensures) in
-    c.take.ensures.ruling (events_of lists c.args.found.now.thread) (standing_own lists c.args.standings.now.items c.args.found.now.thread c.number.result (vec_len c.args.standings.now) c.index_mut-standing.result.now are is c.requires.known c.args.standings.now.ok.0 c.index_mut-standing.ensures.value)
+    c.rule.ensures.ruling (events_of lists c.args.found.now.thread) (standing_own lists c.args.standings.now.items c.args.found.now.thread c.number.result (vec_len c.args.standings.now) c.index_mut-standing.result.now are is c.requires.known c.args.standings.now.ok.0 c.index_mut-standing.ensures.value)
 
 pub returns-in-Some-clause-kept : goal.returns-in-Some-clause-kept
 returns-in-Some-clause-kept c = λ kept lists are.
     let is : c.args.found.now.thread ≡ Some c.number.result = c.in-Some.is ∙ ap (λ n. Some n) (sym c.number.ensures) in
-    let keeps : c.take.result ≡ Kept = grind (arith, common_steps, kept) in
+    let keeps : c.rule.result ≡ Kept = grind (arith, common_steps, kept) in
     let own = standing_own lists c.args.standings.now.items c.args.found.now.thread c.number.result (vec_len c.args.standings.now) c.index_mut-standing.result.now are is c.requires.known c.args.standings.now.ok.0 c.index_mut-standing.ensures.value in
-    standing_event lists c.args.standings.now.items c.args.found.now.thread c.number.result c.take.new.self c.args.event are is (c.take.ensures.kept keeps (events_of lists c.args.found.now.thread) own)
+    standing_event lists c.args.standings.now.items c.args.found.now.thread c.number.result c.rule.new.state c.args.event are is (c.rule.ensures.kept keeps (events_of lists c.args.found.now.thread) own)
