@@ -1,5 +1,5 @@
 -- How many events are known of.
-use Rattle.std.specs.Prelude.{ℕ, List, [], Option, slice_index_or}
+use Rattle.std.specs.Prelude.{ℕ, List, Option, slice_index_or}
 use Rattle.std.specs.Option.{option_map_or}
 use Rattle.gl_event.specs.States.{State, no_events}
 
