@@ -39,14 +39,14 @@ all_one : {X : Type 0} (P : X → Type 0) (x : X) → P x → All P (x ∷ [])
 all_one P x holds zero d within = holds
 all_one P x holds (suc k) d within = absurd (omega arith)
 
--- ---- one pull, off a lane that has this row
+-- ---- one pull, off a lane that has this input
 
-module _ (thread : ℕ) (old new : Collecting) (still : IsStillThat old new) (row : Pulling) (here : slice_get old.rows thread ≡ Some row) where
-  broken_here : (side : Side) → new ≡ with_side old thread side → broken_at new thread ≡ side.row.broken
-  broken_here side moved = ap (λ (c : Collecting). broken_at c thread) moved ∙ ap (option_and_then (λ (r : Pulling). r.broken)) (written old.rows thread row side.row here)
+module _ (thread : ℕ) (old new : Collecting) (still : IsStillThat old new) (input : Pulling) (here : slice_get old.inputs thread ≡ Some input) where
+  broken_here : (side : Side) → new ≡ with_side old thread side → broken_at new thread ≡ side.input.broken
+  broken_here side moved = ap (λ (c : Collecting). broken_at c thread) moved ∙ ap (option_and_then (λ (r : Pulling). r.broken)) (written old.inputs thread input side.input here)
 
   others_same : (side : Side) → new ≡ with_side old thread side → AreOthersSame thread old new
-  others_same side moved other differ = ap (λ (c : Collecting). broken_at c other) moved ∙ ap (option_and_then (λ (r : Pulling). r.broken)) (unwritten old.rows thread other side.row differ)
+  others_same side moved other differ = ap (λ (c : Collecting). broken_at c other) moved ∙ ap (option_and_then (λ (r : Pulling). r.broken)) (unwritten old.inputs thread other side.input differ)
 
   moved_one : (side : Side) (note : Note) (one : PulledCount) → new ≡ with_side old thread side → side.stream ≡ old.stream ++ as_of thread note ∷ [] → counted (as_of thread note ∷ []) ≡ one
       → ArePulled (AreOfThread thread) old new one
@@ -58,23 +58,23 @@ module _ (thread : ℕ) (old new : Collecting) (still : IsStillThat old new) (ro
     count_is = sym counts;
   }
 
-  event_pulled : (place : ℕ) → IsPull old thread row (Ok (Event place)) new → IsOnePull thread old (record { events = 1; ended = 0 }) new
+  event_pulled : (place : ℕ) → IsPull old thread input (Ok (Event place)) new → IsOnePull thread old (record { events = 1; ended = 0 }) new
   event_pulled place is =
       let note = is.tells.note in
       record {
         pulled = moved_one is.side note _ is.moved (ap (λ (s : Side). s.stream) is.tells.moved) (event_counted thread note.place place note.body is.tells.answer_is);
         is_one = refl;
-        whole = broken_here is.side is.moved ∙ ap (λ (s : Side). s.row.broken) is.tells.moved ∙ is.tells.running;
+        whole = broken_here is.side is.moved ∙ ap (λ (s : Side). s.input.broken) is.tells.moved ∙ is.tells.running;
         others = others_same is.side is.moved;
       }
 
-  end_pulled : (count : ℕ) → IsPull old thread row (Ok (Ended count)) new → IsOnePull thread old (record { events = 0; ended = 1 }) new
+  end_pulled : (count : ℕ) → IsPull old thread input (Ok (Ended count)) new → IsOnePull thread old (record { events = 0; ended = 1 }) new
   end_pulled count is =
       let note = is.tells.note in
       record {
         pulled = moved_one is.side note _ is.moved (ap (λ (s : Side). s.stream) is.tells.moved) (end_counted thread note.place count note.body is.tells.answer_is);
         is_one = refl;
-        whole = broken_here is.side is.moved ∙ ap (λ (s : Side). s.row.broken) is.tells.moved ∙ is.tells.running;
+        whole = broken_here is.side is.moved ∙ ap (λ (s : Side). s.input.broken) is.tells.moved ∙ is.tells.running;
         others = others_same is.side is.moved;
       }
 
@@ -87,29 +87,29 @@ module _ (thread : ℕ) (old new : Collecting) (still : IsStillThat old new) (ro
     count_is = refl;
   }
 
-  empty_pulled : IsPull old thread row (Ok Empty) new → IsNoPull thread old OK new
+  empty_pulled : IsPull old thread input (Ok Empty) new → IsNoPull thread old OK new
   empty_pulled is = record {
     none = moved_none is.side is.moved (ap (λ (s : Side). s.stream) is.tells.1);
     ends = record {
       answers = refl;
       broken = λ answer. (let clash : OK ≡ BROKEN = answer in cc);
-      whole = λ _ _. broken_here is.side is.moved ∙ ap (λ (s : Side). s.row.broken) is.tells.1 ∙ is.tells.0;
+      whole = λ _ _. broken_here is.side is.moved ∙ ap (λ (s : Side). s.input.broken) is.tells.1 ∙ is.tells.0;
     };
     others = others_same is.side is.moved;
   }
 
-  memory_pulled : IsPull old thread row (Err Memory) new → IsNoPull thread old MEMORY new
+  memory_pulled : IsPull old thread input (Err Memory) new → IsNoPull thread old MEMORY new
   memory_pulled is = record {
     none = moved_none is.side is.moved (ap (λ (s : Side). s.stream) is.tells.1);
     ends = record {
       answers = refl;
       broken = λ answer. (let clash : MEMORY ≡ BROKEN = answer in cc);
-      whole = λ _ _. broken_here is.side is.moved ∙ ap (λ (s : Side). s.row.broken) is.tells.1 ∙ is.tells.0;
+      whole = λ _ _. broken_here is.side is.moved ∙ ap (λ (s : Side). s.input.broken) is.tells.1 ∙ is.tells.0;
     };
     others = others_same is.side is.moved;
   }
 
-  broken_side : (side : Side) (why : Refused) → new ≡ with_side old thread side → side.stream ≡ old.stream → side.row.broken ≡ Some why → IsNoPull thread old BROKEN new
+  broken_side : (side : Side) (why : Refused) → new ≡ with_side old thread side → side.stream ≡ old.stream → side.input.broken ≡ Some why → IsNoPull thread old BROKEN new
   broken_side side why moved same broken = record {
     none = moved_none side moved same;
     ends = record {
@@ -120,36 +120,36 @@ module _ (thread : ℕ) (old new : Collecting) (still : IsStillThat old new) (ro
     others = others_same side moved;
   }
 
-  broken_pulled : (why : Refused) → IsPull old thread row (Err (Broken why)) new → IsNoPull thread old BROKEN new
+  broken_pulled : (why : Refused) → IsPull old thread input (Err (Broken why)) new → IsNoPull thread old BROKEN new
   broken_pulled why is =
       elim is.tells [
-        | inl same ↦ broken_side is.side why is.moved (ap (λ (s : Side). s.stream) same.1) (ap (λ (s : Side). s.row.broken) same.1 ∙ same.0)
-        | inr has ↦ broken_side is.side why is.moved (ap (λ (s : Side). s.stream) has.moved) (ap (λ (s : Side). s.row.broken) has.moved)
+        | inl same ↦ broken_side is.side why is.moved (ap (λ (s : Side). s.stream) same.1) (ap (λ (s : Side). s.input.broken) same.1 ∙ same.0)
+        | inr has ↦ broken_side is.side why is.moved (ap (λ (s : Side). s.stream) has.moved) (ap (λ (s : Side). s.input.broken) has.moved)
       ]
 
 -- ---- the same by what is answered
 
-module _ (thread : ℕ) (old new : Collecting) (still : IsStillThat old new) (known : thread < length old.rows) (answer : Result Pulled PullFault)
-    (tells : (row : Pulling) → slice_get old.rows thread ≡ Some row → IsPull old thread row answer new) where
-  as_answered : (X : Type 0) (said : Result Pulled PullFault) → answer ≡ said → ((row : Pulling) → slice_get old.rows thread ≡ Some row → IsPull old thread row said new → X) → X
+module _ (thread : ℕ) (old new : Collecting) (still : IsStillThat old new) (known : thread < length old.inputs) (answer : Result Pulled PullFault)
+    (tells : (input : Pulling) → slice_get old.inputs thread ≡ Some input → IsPull old thread input answer new) where
+  as_answered : (X : Type 0) (said : Result Pulled PullFault) → answer ≡ said → ((input : Pulling) → slice_get old.inputs thread ≡ Some input → IsPull old thread input said new → X) → X
   as_answered X said is use_it =
-      let (row, here) = at old.rows thread known in
-      use_it row here (subst (λ (a : Result Pulled PullFault). IsPull old thread row a new) is (tells row here))
+      let (input, here) = at old.inputs thread known in
+      use_it input here (subst (λ (a : Result Pulled PullFault). IsPull old thread input a new) is (tells input here))
 
   pub event_pull : (place : ℕ) → answer ≡ Ok (Event place) → IsOnePull thread old (record { events = 1; ended = 0 }) new
-  event_pull place is = as_answered _ _ is (λ row here. event_pulled thread old new still row here place)
+  event_pull place is = as_answered _ _ is (λ input here. event_pulled thread old new still input here place)
 
   pub end_pull : (count : ℕ) → answer ≡ Ok (Ended count) → IsOnePull thread old (record { events = 0; ended = 1 }) new
-  end_pull count is = as_answered _ _ is (λ row here. end_pulled thread old new still row here count)
+  end_pull count is = as_answered _ _ is (λ input here. end_pulled thread old new still input here count)
 
   pub empty_pull : answer ≡ Ok Empty → IsNoPull thread old OK new
-  empty_pull is = as_answered _ _ is (λ row here. empty_pulled thread old new still row here)
+  empty_pull is = as_answered _ _ is (λ input here. empty_pulled thread old new still input here)
 
   pub memory_pull : answer ≡ Err Memory → IsNoPull thread old MEMORY new
-  memory_pull is = as_answered _ _ is (λ row here. memory_pulled thread old new still row here)
+  memory_pull is = as_answered _ _ is (λ input here. memory_pulled thread old new still input here)
 
   pub broken_pull : (why : Refused) → answer ≡ Err (Broken why) → IsNoPull thread old BROKEN new
-  broken_pull why is = as_answered _ _ is (λ row here. broken_pulled thread old new still row here why)
+  broken_pull why is = as_answered _ _ is (λ input here. broken_pulled thread old new still input here why)
 
 -- ---- one after the other
 

@@ -103,9 +103,9 @@ whole_next number old new before others here t below =
     ]
 
 -- where no thread's lane is broken, none is
-pub whole_all : (threads : ℕ) (c : Collecting) → length c.rows ≤ threads → ((t : ℕ) → t < threads → broken_at c t ≡ None) → (t : ℕ) → broken_at c t ≡ None
+pub whole_all : (threads : ℕ) (c : Collecting) → length c.inputs ≤ threads → ((t : ℕ) → t < threads → broken_at c t ≡ None) → (t : ℕ) → broken_at c t ≡ None
 whole_all threads c count each t =
     elim (cases_lt t threads) [
       | inl known ↦ each t known
-      | inr past ↦ ap (option_and_then (λ (r : Pulling). r.broken)) (slice_get_past c.rows t (omega arith))
+      | inr past ↦ ap (option_and_then (λ (r : Pulling). r.broken)) (slice_get_past c.inputs t (omega arith))
     ]

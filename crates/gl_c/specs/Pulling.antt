@@ -44,7 +44,7 @@ AreOfThread thread notes = All (λ note. note.thread ≡ thread) notes
 
 -- why the thread's lane is broken, if it is: its front note may not come next
 abbrev pub broken_at : Collecting → ℕ → Option Refused
-broken_at c thread = option_and_then (λ row. row.broken) (slice_get c.rows thread)
+broken_at c thread = option_and_then (λ input. input.broken) (slice_get c.inputs thread)
 
 -- no other thread's lane breaks
 abbrev pub AreOthersSame : ℕ → Collecting → Collecting → Type 0

@@ -15,7 +15,7 @@ pub struct Running {
     /// The limits are those of what collects.
     pub ghost same: { collector.limits ≡ limits },
     /// It collects from a lane of each thread.
-    pub ghost rows: { length collector.rows ≡ limits.threads },
+    pub ghost inputs: { length collector.inputs ≡ limits.threads },
 }
 
 /// How far a session has come.

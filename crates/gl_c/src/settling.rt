@@ -52,7 +52,7 @@ fn tell_missing(missing: Option<u32>, thread: &mut u32) -> u32
 // The session as it was, and what is answered.
 fn unsettled(limits: Limits, fault: UnsettledFault, thread: &mut u32) -> (Running, u32)
     requires same { (collector_of fault).limits ≡ limits }
-    requires rows { length (collector_of fault).rows ≡ limits.threads }
+    requires inputs { length (collector_of fault).inputs ≡ limits.threads }
     ensures running { (result.0.limits ≡ limits) × (result.0.collector ≡ collector_of fault) }
     ensures told { IsToldMissing (missing_thread fault) thread.old result.1 thread.new }
 {

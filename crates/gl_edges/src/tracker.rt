@@ -2,6 +2,7 @@
 ghost use Rattle.std.specs.Prelude.{◌≡◌, ◌≢◌, ℕ, List, [], ◌∷◌, ◌++◌, map, length, Contains, Any, IfOk, OnOk, OnErr};
 ghost use Rattle.gl_event.specs.declared.events.Event.{Event};
 ghost use Rattle.gl_event.specs.Events as events;
+ghost use Rattle.gl_event.specs.States.{StandsAfter};
 ghost use Rattle.gl_edges.specs.Edges.{edges_at, edges_after, pair_at};
 ghost use Rattle.gl_edges.specs.Order.{AreAscending};
 ghost use Rattle.gl_edges.specs.Tracking.{Tracks, MayFollow};
@@ -62,56 +63,7 @@ impl Tracker {
         ensures room { (thread : ℕ) (es : List Event) → Tracks thread es self.now
             → OnErr result (edges_after thread es event.now ≢ []) }
     {
-        let Event::Acquire { lock, mode, loc } = *event else {
-            return Ok(Vec::new(alloc));
-        };
-        if self.state.holds(lock) {
-            return Ok(Vec::new(alloc));
-        }
-        self.edges_to(alloc, lock, mode, loc)
-    }
-
-    // The edges from each held lock to one that isn't held, ascending.
-    fn edges_to(
-        &self,
-        alloc: Global,
-        wanted: LockId,
-        mode: LockMode,
-        loc: LocId,
-    ) -> Result<Vec<(Edge, Sample)>, Memory>
-        ensures edges { (thread : ℕ) (es : List Event) → Tracks thread es self.now
-            → IfOk result
-            (λ v. v.items ≡ map (pair_at thread es wanted mode loc) (events.held es)) }
-        ensures room { OnErr result (self.now.state.held ≢ []) }
-    {
-        let entries = self.state.entries();
-        if entries.is_empty() {
-            return Ok(Vec::new(alloc));
-        }
-        let mut guards = Guards::empty(alloc);
-        guards.refill(entries)?;
-        let mut pairs = Vec::new(alloc);
-        let locks = guards.as_slice();
-        for guard in locks {
-            let entry = entry_for(entries, guard.lock);
-            let edge = Edge {
-                thread: self.thread,
-                held: entry.lock,
-                held_mode: entry.mode,
-                wanted,
-                wanted_mode: mode,
-                first: entry.seg,
-                second: self.state.segment(),
-                guards: guards.copy(alloc)?,
-            };
-            let sample = Sample {
-                place: self.state.events(),
-                held_loc: entry.loc,
-                wanted_loc: loc,
-            };
-            pairs.push((edge, sample))?;
-        }
-        Ok(pairs)
+        next_edges(alloc, self.thread, &self.state, event)
     }
 
     /// Takes the next event, which has to be lawful next under the greatest limits, without its edges.
@@ -124,6 +76,74 @@ impl Tracker {
         // the locks let what is lawful next come
         let _ = self.state.take(event);
     }
+}
+
+/// The edges that the event would make as the next one of the thread of which this is known, ascending.
+/// Where it makes none no memory is taken.
+///
+/// An acquire takes a step for each pair of locks that are held.
+pub fn next_edges(
+    alloc: Global,
+    thread: ThreadId,
+    state: &ThreadState,
+    event: &Event,
+) -> Result<Vec<(Edge, Sample)>, Memory>
+    ensures edges { (es : List Event) → StandsAfter es state.now
+        → IfOk result (λ v. v.items ≡ edges_after thread es event.now) }
+    ensures room { (es : List Event) → StandsAfter es state.now
+        → OnErr result (edges_after thread es event.now ≢ []) }
+{
+    let Event::Acquire { lock, mode, loc } = *event else {
+        return Ok(Vec::new(alloc));
+    };
+    if state.holds(lock) {
+        return Ok(Vec::new(alloc));
+    }
+    edges_to(alloc, thread, state, lock, mode, loc)
+}
+
+// The edges from each held lock to one that isn't held, ascending.
+fn edges_to(
+    alloc: Global,
+    thread: ThreadId,
+    state: &ThreadState,
+    wanted: LockId,
+    mode: LockMode,
+    loc: LocId,
+) -> Result<Vec<(Edge, Sample)>, Memory>
+    ensures edges { (es : List Event) → StandsAfter es state.now
+        → IfOk result
+        (λ v. v.items ≡ map (pair_at thread es wanted mode loc) (events.held es)) }
+    ensures room { OnErr result (state.now.held ≢ []) }
+{
+    let entries = state.entries();
+    if entries.is_empty() {
+        return Ok(Vec::new(alloc));
+    }
+    let mut guards = Guards::empty(alloc);
+    guards.refill(entries)?;
+    let mut pairs = Vec::new(alloc);
+    let locks = guards.as_slice();
+    for guard in locks {
+        let entry = entry_for(entries, guard.lock);
+        let edge = Edge {
+            thread,
+            held: entry.lock,
+            held_mode: entry.mode,
+            wanted,
+            wanted_mode: mode,
+            first: entry.seg,
+            second: state.segment(),
+            guards: guards.copy(alloc)?,
+        };
+        let sample = Sample {
+            place: state.events(),
+            held_loc: entry.loc,
+            wanted_loc: loc,
+        };
+        pairs.push((edge, sample))?;
+    }
+    Ok(pairs)
 }
 
 // The entry of the lock, which is among these.

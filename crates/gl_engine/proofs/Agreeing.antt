@@ -17,7 +17,7 @@ use Rattle.gl_world.specs.Machine as machine
 use Rattle.gl_world.specs.Keeping.{IsLaneOf}
 use Rattle.gl_world.specs.declared.steps.Step.TheVariants.{Pull}
 use Rattle.gl_world.specs.declared.steps.Did.TheVariants.{Taken}
-use Rattle.gl_world.proofs.Rows.{take_open, end_room, end_full, due_are}
+use Rattle.gl_world.proofs.ThreadParts.{take_open, end_room, end_full, due_are}
 use Rattle.gl_world.proofs.Sound.{front_is_next, front_of, told_events}
 use Rattle.gl_world.proofs.Worlds.{pull_known}
 use Rattle.gl_engine.specs.Collecting.{Collecting, as_of}
@@ -109,7 +109,7 @@ module _ (c : Collecting) (s : State) (thread : ℕ) (lane : Lane) (note : Note)
 pub pull_is_pull : PullIsPull
 pull_is_pull = record {
   did = λ c s thread lane note o. ap (λ (m : machine.Moved). m.did) (pulls c s thread lane note o);
-  stream = λ c s thread row lane note o. ap (λ (m : machine.Moved). m.after.stream) (pulls c s thread lane note o) ∙ grown c s thread lane note o;
-  made = λ c s thread row lane note o. ap (λ (m : machine.Moved). m.after.dispatch.made) (pulls c s thread lane note o) ∙ made c s thread lane note o;
+  stream = λ c s thread input lane note o. ap (λ (m : machine.Moved). m.after.stream) (pulls c s thread lane note o) ∙ grown c s thread lane note o;
+  made = λ c s thread input lane note o. ap (λ (m : machine.Moved). m.after.dispatch.made) (pulls c s thread lane note o) ∙ made c s thread lane note o;
   next = is_next;
 }

@@ -37,7 +37,7 @@ use Rattle.gl_engine.specs.Settling.{AreListsOf, IsMemoryOrGone, IsSettled, told
 use Rattle.gl_engine.specs.bodies.Whole.{lane_of, IsCollected, IsConfirmed, IsWhole}
 use Rattle.gl_engine.specs.declared.faults.RunFault.{RunFault}
 use Rattle.gl_engine.specs.declared.faults.RunFault.TheVariants as kept
-use Rattle.gl_engine.specs.declared.row.Row.{Row}
+use Rattle.gl_engine.specs.declared.lane_input.LaneInput.{LaneInput}
 use Rattle.gl_engine.proofs.Dealt.{numbered_at, dealt_edges}
 use Rattle.gl_engine.proofs.Handing.{prefix_on, handed_seen}
 
@@ -107,34 +107,34 @@ none_to_blame limits thread stream taken note why r its same is told refused =
     let clash : None ≡ Some why = sym next ∙ ap (note_refusal limits stream) (sym own) ∙ refused in
     cc
 
--- ---- rows
+-- ---- inputs
 
-pub row_at : (rows : List Row) (i : ℕ) (row : Row) → i < length rows → row ≡ get_or rows i row → slice_get (map pulling_of rows) i ≡ Some (pulling_of row)
-row_at rows i row within is = slice_get-map pulling_of rows i ∙ ap (option_map pulling_of) (get_at rows i row within is)
+pub input_at : (inputs : List LaneInput) (i : ℕ) (input : LaneInput) → i < length inputs → input ≡ get_or inputs i input → slice_get (map pulling_of inputs) i ≡ Some (pulling_of input)
+input_at inputs i input within is = slice_get-map pulling_of inputs i ∙ ap (option_map pulling_of) (get_at inputs i input within is)
 
--- the rows after one lane was confirmed
-pub rows_same : (rows : List Row) (i : ℕ) (row : Row) (lane : Popping) → row ≡ get_or rows i row → lane.lane ≡ row.lane.lane → lane.popped ≡ row.lane.popped
-    → map pulling_of (set rows i (record row { lane = lane })) ≡ map pulling_of rows
-rows_same rows i row lane is same popped =
-    let seen : pulling_of (record row { lane = lane }) ≡ pulling_of row = (λ j. record { lane = same j; popped = popped j; broken = row.broken }) in
-    map-set_same pulling_of rows i (record row { lane = lane }) row (seen ∙ ap pulling_of is)
+-- the inputs after one lane was confirmed
+pub inputs_same : (inputs : List LaneInput) (i : ℕ) (input : LaneInput) (lane : Popping) → input ≡ get_or inputs i input → lane.lane ≡ input.lane.lane → lane.popped ≡ input.lane.popped
+    → map pulling_of (set inputs i (record input { lane = lane })) ≡ map pulling_of inputs
+inputs_same inputs i input lane is same popped =
+    let seen : pulling_of (record input { lane = lane }) ≡ pulling_of input = (λ j. record { lane = same j; popped = popped j; broken = input.broken }) in
+    map-set_same pulling_of inputs i (record input { lane = lane }) input (seen ∙ ap pulling_of is)
 
 -- a lane that was confirmed
-pub confirmed_row : (rows : List Row) (i session thread : ℕ) (limits : Bounds) (row : Row) (lane : Popping) (f : AllPushed) → i ≡ thread → i < length rows → row ≡ get_or rows i row
-    → AreNotesOf limits thread f.pushed → lane.popped ≡ row.lane.popped → IsPrefix row.lane.left lane.left → lane.popped ++ lane.left ≡ f.pushed
-    → (seen : Row) → slice_get rows thread ≡ Some seen → IsConfirmed (handed seen.lane) (record { session = session; thread = thread; limits = limits; lane = f.lane; pushed = f.pushed })
-confirmed_row rows i session thread limits row lane f its within is notes popped left whole seen at =
-    let this : row ≡ seen = same_some row seen (sym (get_at rows i row within is) ∙ ap (slice_get rows) its ∙ at) in
-    let more : IsPrefix (handed row.lane) f.pushed = subst (IsPrefix (handed row.lane)) whole (handed_seen row.lane lane popped left) in
-    record { notes = notes; begins = subst (λ (r : Row). IsPrefix (handed r.lane) f.pushed) this more }
+pub confirmed_input : (inputs : List LaneInput) (i session thread : ℕ) (limits : Bounds) (input : LaneInput) (lane : Popping) (f : AllPushed) → i ≡ thread → i < length inputs → input ≡ get_or inputs i input
+    → AreNotesOf limits thread f.pushed → lane.popped ≡ input.lane.popped → IsPrefix input.lane.left lane.left → lane.popped ++ lane.left ≡ f.pushed
+    → (seen : LaneInput) → slice_get inputs thread ≡ Some seen → IsConfirmed (handed seen.lane) (record { session = session; thread = thread; limits = limits; lane = f.lane; pushed = f.pushed })
+confirmed_input inputs i session thread limits input lane f its within is notes popped left whole seen at =
+    let this : input ≡ seen = same_some input seen (sym (get_at inputs i input within is) ∙ ap (slice_get inputs) its ∙ at) in
+    let more : IsPrefix (handed input.lane) f.pushed = subst (IsPrefix (handed input.lane)) whole (handed_seen input.lane lane popped left) in
+    record { notes = notes; begins = subst (λ (r : LaneInput). IsPrefix (handed r.lane) f.pushed) this more }
 
--- what is confirmed of a row later is confirmed of it as it was before
-pub confirmed_before : (before rows : List Row) → HandOver before rows → (old r : Closed) → old ≡ r → (was : Row) → slice_get before r.thread ≡ Some was
-    → ((row : Row) → slice_get rows old.thread ≡ Some row → IsConfirmed (handed row.lane) old) → IsConfirmed (handed was.lane) r
-confirmed_before before rows more old r same was seen confirmed =
+-- what is confirmed of an input later is confirmed of it as it was before
+pub confirmed_before : (before inputs : List LaneInput) → HandOver before inputs → (old r : Closed) → old ≡ r → (was : LaneInput) → slice_get before r.thread ≡ Some was
+    → ((input : LaneInput) → slice_get inputs old.thread ≡ Some input → IsConfirmed (handed input.lane) old) → IsConfirmed (handed was.lane) r
+confirmed_before before inputs more old r same was seen confirmed =
     let now = more r.thread was seen in
-    let is : IsConfirmed (handed now.row.lane) r = subst (IsConfirmed (handed now.row.lane)) same (confirmed now.row (ap (λ (c : Closed). slice_get rows c.thread) same ∙ now.here)) in
-    record { notes = is.notes; begins = prefix_on (handed was.lane) (handed now.row.lane) r.pushed now.first is.begins }
+    let is : IsConfirmed (handed now.input.lane) r = subst (IsConfirmed (handed now.input.lane)) same (confirmed now.input (ap (λ (c : Closed). slice_get inputs c.thread) same ∙ now.here)) in
+    record { notes = is.notes; begins = prefix_on (handed was.lane) (handed now.input.lane) r.pushed now.first is.begins }
 
 -- ---- receipts
 
@@ -176,11 +176,11 @@ not_strange session threads before r own =
     let (known, first) = or_parts (leb threads r.thread) _ rest in
     (eqb-true r.session session (not_false _ same), leb-false threads r.thread known)
 
--- what is seen of a row tells its lane
-lane_seen : (rows : List Row) (i : ℕ) (row : Pulling) → slice_get (map pulling_of rows) i ≡ Some row → slice_get (map lane_of rows) i ≡ Some row.lane
-lane_seen [] i row at = absurd (cc)
-lane_seen (r ∷ rows) zero row at = ap (λ (p : Pulling). Some p.lane) (same_some (pulling_of r) row at)
-lane_seen (r ∷ rows) (suc i) row at = lane_seen rows i row at
+-- what is seen of an input tells its lane
+lane_seen : (inputs : List LaneInput) (i : ℕ) (input : Pulling) → slice_get (map pulling_of inputs) i ≡ Some input → slice_get (map lane_of inputs) i ≡ Some input.lane
+lane_seen [] i input at = absurd (cc)
+lane_seen (r ∷ inputs) zero input at = ap (λ (p : Pulling). Some p.lane) (same_some (pulling_of r) input at)
+lane_seen (r ∷ inputs) (suc i) input at = lane_seen inputs i input at
 
 -- ---- tables
 
@@ -193,15 +193,15 @@ union_sent tables sent are =
 
 -- ---- all threads
 
-module _ (limits : Bounds) (rows : List Row) (stream : List Note) (collected : IsCollected limits rows stream) (count : length rows ≡ limits.threads) (receipts : List Closed)
+module _ (limits : Bounds) (inputs : List LaneInput) (stream : List Note) (collected : IsCollected limits inputs stream) (count : length inputs ≡ limits.threads) (receipts : List Closed)
     (all : AreThereBelow receipts limits.threads)
     (known : (at : ℕ) (r : Closed) → slice_get receipts at ≡ Some r → r.thread < limits.threads)
     (same : (at : ℕ) (r : Closed) → slice_get receipts at ≡ Some r → r.limits ≡ limits)
-    (confirmed : (at : ℕ) (r : Closed) (row : Row) → slice_get receipts at ≡ Some r → slice_get rows r.thread ≡ Some row → IsConfirmed (handed row.lane) r) where
+    (confirmed : (at : ℕ) (r : Closed) (input : LaneInput) → slice_get receipts at ≡ Some r → slice_get inputs r.thread ≡ Some input → IsConfirmed (handed input.lane) r) where
   its_log : (at : ℕ) (r : Closed) → slice_get receipts at ≡ Some r → events_of r.thread stream ≡ recorded_whole r
   its_log at r here =
-      let (row, found) = found_within rows r.thread (let k = known at r here in omega (arith, count)) in
-      all_recorded limits r.thread stream row.lane r refl (same at r here) (confirmed at r row here found) (collected.told r.thread row found) (collected.ended r.thread (known at r here))
+      let (input, found) = found_within inputs r.thread (let k = known at r here in omega (arith, count)) in
+      all_recorded limits r.thread stream input.lane r refl (same at r here) (confirmed at r input here found) (collected.told r.thread input found) (collected.ended r.thread (known at r here))
 
   pub lists_settled : AreListsOf receipts (logs_of limits.threads stream)
   lists_settled = record {
@@ -211,50 +211,50 @@ module _ (limits : Bounds) (rows : List Row) (stream : List Note) (collected : I
 
 -- ---- what was collected, with the receipts of the session
 
-module _ (session : ℕ) (limits : Bounds) (rows : List Row) (receipts : List Closed) (count : length rows ≡ limits.threads) (ours : AreOfRecorders session limits (map lane_of rows) receipts)
+module _ (session : ℕ) (limits : Bounds) (inputs : List LaneInput) (receipts : List Closed) (count : length inputs ≡ limits.threads) (ours : AreOfRecorders session limits (map lane_of inputs) receipts)
     (own : AreOwnBelow session limits.threads receipts (length receipts)) where
   its_own : (at : ℕ) (r : Closed) → slice_get receipts at ≡ Some r → (r.session ≡ session) × (r.thread < limits.threads)
   its_own at r here = not_strange session limits.threads (take at receipts) r (own at r (slice_get_within receipts at r here) here)
 
-  pub rows_known : (at : ℕ) (r : Closed) → slice_get receipts at ≡ Some r → r.thread < length rows
-  rows_known at r here = let k = (its_own at r here).1 in omega (arith, count)
+  pub inputs_known : (at : ℕ) (r : Closed) → slice_get receipts at ≡ Some r → r.thread < length inputs
+  inputs_known at r here = let k = (its_own at r here).1 in omega (arith, count)
 
-  pub rows_ours : (at : ℕ) (r : Closed) (row : Pulling) → slice_get receipts at ≡ Some r → slice_get (map pulling_of rows) r.thread ≡ Some row → r.lane ≡ row.lane
-  rows_ours at r row here seen = (ours at r here (its_own at r here).0 row.lane (lane_seen rows r.thread row seen)).0
+  pub inputs_ours : (at : ℕ) (r : Closed) (input : Pulling) → slice_get receipts at ≡ Some r → slice_get (map pulling_of inputs) r.thread ≡ Some input → r.lane ≡ input.lane
+  inputs_ours at r input here seen = (ours at r here (its_own at r here).0 input.lane (lane_seen inputs r.thread input seen)).0
 
   its_limits : (at : ℕ) (r : Closed) → slice_get receipts at ≡ Some r → r.limits ≡ limits
   its_limits at r here =
-      let (row, found) = found_within rows r.thread (rows_known at r here) in
-      (ours at r here (its_own at r here).0 row.lane.lane (slice_get-map lane_of rows r.thread ∙ ap (option_map lane_of) found)).1
+      let (input, found) = found_within inputs r.thread (inputs_known at r here) in
+      (ours at r here (its_own at r here).0 input.lane.lane (slice_get-map lane_of inputs r.thread ∙ ap (option_map lane_of) found)).1
 
   -- each receipt was compared with its lane
   abbrev AreConfirmed : Type 0
-  AreConfirmed = (at : ℕ) (r : Closed) (row : Row) → slice_get receipts at ≡ Some r → slice_get rows r.thread ≡ Some row → IsConfirmed (handed row.lane) r
+  AreConfirmed = (at : ℕ) (r : Closed) (input : LaneInput) → slice_get receipts at ≡ Some r → slice_get inputs r.thread ≡ Some input → IsConfirmed (handed input.lane) r
 
   module _ (stream : List Note) (all : AreThereBelow receipts limits.threads) (confirmed : AreConfirmed) where
     -- the lists of what was collected are the receipts'
-    pub rows_listed : IsCollected limits rows stream → (collecting : Bounds) → collecting ≡ limits → AreListsOf receipts (logs_of collecting.threads stream)
-    rows_listed collected collecting same =
+    pub inputs_listed : IsCollected limits inputs stream → (collecting : Bounds) → collecting ≡ limits → AreListsOf receipts (logs_of collecting.threads stream)
+    inputs_listed collected collecting same =
         subst (λ (b : Bounds). AreListsOf receipts (logs_of b.threads stream)) (sym same)
-        (lists_settled limits rows stream collected count receipts all (λ at r here. (its_own at r here).1) its_limits confirmed)
+        (lists_settled limits inputs stream collected count receipts all (λ at r here. (its_own at r here).1) its_limits confirmed)
 
-    pub rows_settled : (sent : List AllSent) → IsWhole limits rows stream sent → (collecting : Bounds) → collecting ≡ limits → IsSettled receipts (logs_of collecting.threads stream) sent
-    rows_settled sent whole collecting same = record {
-      lists_are = rows_listed whole.collected collecting same;
+    pub inputs_settled : (sent : List AllSent) → IsWhole limits inputs stream sent → (collecting : Bounds) → collecting ≡ limits → IsSettled receipts (logs_of collecting.threads stream) sent
+    inputs_settled sent whole collecting same = record {
+      lists_are = inputs_listed whole.collected collecting same;
       edges_are = subst (λ (b : Bounds). once (flat_map (λ s. s.sent) sent) ≡ edges (logs_of b.threads stream)) (sym same)
           (dealt_edges limits.threads stream sent (length sent) (omega (arith, whole.some)) whole.made_are whole.shipped);
     }
 
-    never_broken : (thread : ℕ) (why : Refused) → IsBroken limits rows stream thread why → ⊥
+    never_broken : (thread : ℕ) (why : Refused) → IsBroken limits inputs stream thread why → ⊥
     never_broken thread why is =
-        let within : thread < limits.threads = (let k = slice_get_within rows thread is.came.row is.came.here in omega (arith, count)) in
+        let within : thread < limits.threads = (let k = slice_get_within inputs thread is.came.input is.came.here in omega (arith, count)) in
         let (at, r, here, its) = receipt_of_thread receipts thread (all thread within) in
-        let confirms : IsConfirmed (handed is.came.row.lane) r = confirmed at r is.came.row here (ap (slice_get rows) its ∙ is.came.here) in
-        let first : IsConfirmed (is.taken ++ is.note ∷ []) r = record { notes = confirms.notes; begins = prefix_on (is.taken ++ is.note ∷ []) (handed is.came.row.lane) r.pushed is.came.first confirms.begins } in
+        let confirms : IsConfirmed (handed is.came.input.lane) r = confirmed at r is.came.input here (ap (slice_get inputs) its ∙ is.came.here) in
+        let first : IsConfirmed (is.taken ++ is.note ∷ []) r = record { notes = confirms.notes; begins = prefix_on (is.taken ++ is.note ∷ []) (handed is.came.input.lane) r.pushed is.came.first confirms.begins } in
         none_to_blame limits thread stream is.taken is.note why r its (its_limits at r here) first is.told is.refused
 
     -- with its receipts, a run is left with no fault of a lane
-    pub memory_or_gone : (f : RunFault) → IsBlamed limits rows stream f → IsMemoryOrGone (told f)
+    pub memory_or_gone : (f : RunFault) → IsBlamed limits inputs stream f → IsMemoryOrGone (told f)
     memory_or_gone kept.Memory is = tt
     memory_or_gone (kept.Gone shard) is = tt
     memory_or_gone (kept.Broken thread why) is = absurd (never_broken thread why is)

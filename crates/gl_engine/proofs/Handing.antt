@@ -1,6 +1,6 @@
 -- What lanes hand over, note by note.
-use Rattle.std.proofs.Common.{◌≡◌, ℕ, ◌<◌, List, [], ◌∷◌, ◌++◌, length, set, get_or, sym, ap, ◌∙◌, subst, append_assoc, inl, inr}
-use Rattle.std.specs.Prelude.{slice_get}
+use Rattle.std.proofs.Common.{◌≡◌, ℕ, ◌<◌, List, [], ◌∷◌, ◌++◌, length, set, Result, Ok, Err, get_or, sym, ap, ◌∙◌, subst, append_assoc, inl, inr}
+use Rattle.std.specs.Prelude.{slice_get, OnOk}
 use mathlib.Core.List.{IsPrefix}
 use Rattle.std.proofs.lemmas.Bool.{cases_eq}
 use Rattle.std.proofs.lemmas.List.{append-nil}
@@ -11,7 +11,7 @@ use Rattle.gl_world.proofs.Lists.{same_some, get_at, get_set_same, get_set_other
 use Rattle.gl_engine.specs.bodies.Breaking.{handed, HandOver, IsBlamed, IsGone}
 use Rattle.gl_engine.specs.declared.faults.RunFault.{RunFault}
 use Rattle.gl_engine.specs.declared.faults.RunFault.TheVariants.{Memory, Gone, Broken}
-use Rattle.gl_engine.specs.declared.row.Row.{Row}
+use Rattle.gl_engine.specs.declared.lane_input.LaneInput.{LaneInput}
 
 pub prefix_same : {X : Type 0} (xs : List X) → IsPrefix xs xs
 prefix_same xs = ([], append-nil xs)
@@ -36,43 +36,52 @@ handed_seen old new popped left = subst (IsPrefix (handed old)) (ap (λ l. l ++ 
 
 -- ---- lanes
 
-pub hand_over_same : (rows : List Row) → HandOver rows rows
-hand_over_same rows thread row at = record { row = row; here = at; first = prefix_same (handed row.lane) }
+pub hand_over_same : (inputs : List LaneInput) → HandOver inputs inputs
+hand_over_same inputs thread input at = record { input = input; here = at; first = prefix_same (handed input.lane) }
 
-pub hand_over_then : (first second third : List Row) → HandOver first second → HandOver second third → HandOver first third
-hand_over_then first second third a b thread row at =
-    let one = a thread row at in
-    let two = b thread one.row one.here in
-    record { row = two.row; here = two.here; first = prefix_on (handed row.lane) (handed one.row.lane) (handed two.row.lane) one.first two.first }
+pub hand_over_then : (first second third : List LaneInput) → HandOver first second → HandOver second third → HandOver first third
+hand_over_then first second third a b thread input at =
+    let one = a thread input at in
+    let two = b thread one.input one.here in
+    record { input = two.input; here = two.here; first = prefix_on (handed input.lane) (handed one.input.lane) (handed two.input.lane) one.first two.first }
 
 -- one lane has handed over more
-pub hand_over_one : (rows : List Row) (i : ℕ) (was new : Row) → i < length rows → was ≡ get_or rows i was → IsPrefix (handed was.lane) (handed new.lane) → HandOver rows (set rows i new)
-hand_over_one rows i was new within is more thread row at =
+pub hand_over_one : (inputs : List LaneInput) (i : ℕ) (was new : LaneInput) → i < length inputs → was ≡ get_or inputs i was → IsPrefix (handed was.lane) (handed new.lane) → HandOver inputs (set inputs i new)
+hand_over_one inputs i was new within is more thread input at =
     elim (cases_eq i thread) [
       | inl same ↦
-          let its : was ≡ row = same_some was row (sym (get_at rows i was within is) ∙ ap (slice_get rows) same ∙ at) in
-          record { row = new; here = ap (slice_get (set rows i new)) (sym same) ∙ get_set_same rows i new within; first = subst (λ (r : Row). IsPrefix (handed r.lane) (handed new.lane)) its more }
-      | inr other ↦ record { row = row; here = get_set_other rows i thread new other ∙ at; first = prefix_same (handed row.lane) }
+          let its : was ≡ input = same_some was input (sym (get_at inputs i was within is) ∙ ap (slice_get inputs) same ∙ at) in
+          record { input = new; here = ap (slice_get (set inputs i new)) (sym same) ∙ get_set_same inputs i new within; first = subst (λ (r : LaneInput). IsPrefix (handed r.lane) (handed new.lane)) its more }
+      | inr other ↦ record { input = input; here = get_set_other inputs i thread new other ∙ at; first = prefix_same (handed input.lane) }
     ]
 
 -- ---- what is to blame
 
 -- whatever comes later, the same note is to blame
-pub blamed_later : (limits : Bounds) (before after : List Row) (stream : List Note) (fault : RunFault) → HandOver before after → IsBlamed limits before stream fault → IsBlamed limits after stream fault
+pub blamed_later : (limits : Bounds) (before after : List LaneInput) (stream : List Note) (fault : RunFault) → HandOver before after → IsBlamed limits before stream fault → IsBlamed limits after stream fault
 blamed_later limits before after stream Memory more is = tt
 blamed_later limits before after stream (Gone shard) more is = tt
 blamed_later limits before after stream (Broken thread why) more is =
-    let later = more thread is.came.row is.came.here in
+    let later = more thread is.came.input is.came.here in
     record {
       taken = is.taken;
       note = is.note;
       told = is.told;
-      came = record { row = later.row; here = later.here; first = prefix_on (is.taken ++ is.note ∷ []) (handed is.came.row.lane) (handed later.row.lane) is.came.first later.first };
+      came = record { input = later.input; here = later.here; first = prefix_on (is.taken ++ is.note ∷ []) (handed is.came.input.lane) (handed later.input.lane) is.came.first later.first };
       refused = is.refused;
     }
 
 -- no lane is to blame for a worker that is gone
-pub blamed_gone : (limits : Bounds) (rows : List Row) (stream : List Note) (fault : RunFault) → IsGone fault → IsBlamed limits rows stream fault
-blamed_gone limits rows stream Memory is = tt
-blamed_gone limits rows stream (Gone shard) is = tt
-blamed_gone limits rows stream (Broken thread why) is = absurd is
+pub blamed_gone : (limits : Bounds) (inputs : List LaneInput) (stream : List Note) (fault : RunFault) → IsGone fault → IsBlamed limits inputs stream fault
+blamed_gone limits inputs stream Memory is = tt
+blamed_gone limits inputs stream (Gone shard) is = tt
+blamed_gone limits inputs stream (Broken thread why) is = absurd is
+
+-- what holds anyway holds after an Ok
+pub on_ok_anyway : {A E P : Type 0} (r : Result A E) → P → OnOk r P
+on_ok_anyway (Ok x) it = it
+on_ok_anyway (Err e) it = tt
+
+-- what was made before, and then beside it, is all that is made
+pub made_on : {X : Type 0} (before one more both between all : List X) → both ≡ one ++ more → before ++ one ≡ between → between ++ more ≡ all → before ++ both ≡ all
+made_on before one more both between all parts first then = ap (λ xs. before ++ xs) parts ∙ sym (append_assoc before one more) ∙ ap (λ xs. xs ++ more) first ∙ then

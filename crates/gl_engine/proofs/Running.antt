@@ -11,10 +11,9 @@ use Rattle.std.proofs.lemmas.Option.{slice_get-map}
 use Rattle.std.proofs.lemmas.Result.{IfErr-at_err}
 use Rattle.gl_event.specs.Bounds.{Bounds}
 use Rattle.gl_event.specs.declared.notes.Note.{Note}
-use Rattle.gl_edges.specs.Tracking.{Tracks as Follows}
 use Rattle.gl_edges.specs.declared.edge.Edge.{Edge}
 use Rattle.gl_edges.specs.declared.edge.Sample.{Sample}
-use Rattle.gl_intake.specs.Stream.{events_of, has_ended}
+use Rattle.gl_intake.specs.Stream.{has_ended}
 use Rattle.gl_shards.specs.Feeds.{AllSent, Sending}
 use Rattle.gl_shards.specs.Shards.{shard_of}
 use Rattle.gl_shards.specs.Tables.{of_shard}
@@ -32,14 +31,14 @@ use Rattle.gl_engine.specs.declared.pulled.Pulled.{Pulled}
 use Rattle.gl_engine.specs.declared.pulled.Pulled.TheVariants.{Empty, Event as Answered, Ended as Closing}
 use Rattle.gl_engine.specs.declared.pulled.PullFault.{PullFault}
 use Rattle.gl_engine.specs.declared.pulled.PullFault.TheVariants.{Broken, Memory as OutOfMemory}
-use Rattle.gl_engine.specs.declared.row.Row.{Row}
+use Rattle.gl_engine.specs.declared.lane_input.LaneInput.{LaneInput}
 use Rattle.gl_engine.proofs.Dealt.{dealt_at, dealt_more}
 use Rattle.gl_engine.proofs.Handing.{prefix_behind, blamed_gone}
 use Rattle.gl_engine.proofs.Sides.{collector_after, lane_same}
 
 -- the side with these edges made before its own
 abbrev pub side_after : List (Edge × Sample) → Side → Side
-side_after before side = record { row = side.row; stream = side.stream; made = before ++ side.made }
+side_after before side = record { input = side.input; stream = side.stream; made = before ++ side.made }
 
 module _ (limits : Bounds) (thread : ℕ) (before : List (Edge × Sample)) (old new : Side) where
   pulled_after : (answer : Pulled) → HasPulled limits thread old answer new → HasPulled limits thread (side_after before old) answer (side_after before new)
@@ -49,7 +48,7 @@ module _ (limits : Bounds) (thread : ℕ) (before : List (Edge × Sample)) (old 
     next = has.next;
     answer_is = has.answer_is;
     moved = ap (side_after before) has.moved
-        ∙ ap (λ pairs. let side : Side = record { row = (with_pulled thread old has.note).row; stream = (with_pulled thread old has.note).stream; made = pairs } in side) (sym (append_assoc before old.made _));
+        ∙ ap (λ pairs. let side : Side = record { input = (with_pulled thread old has.note).input; stream = (with_pulled thread old has.note).stream; made = pairs } in side) (sym (append_assoc before old.made _));
   }
 
   -- the same pull, with these edges made before
@@ -62,33 +61,33 @@ module _ (limits : Bounds) (thread : ℕ) (before : List (Edge × Sample)) (old 
   pull_after (Err OutOfMemory) tells = (tells.0, ap (side_after before) tells.1)
 
 -- a lane that a pull found broken is so
-broken_by : (limits : Bounds) (thread : ℕ) (old new : Side) (why : Refused) → IsSidePull limits thread old (Err (Broken why)) new → new.row.broken ≡ Some why
-broken_by limits thread old new why (inl same) = ap (λ (s : Side). s.row.broken) same.1 ∙ same.0
-broken_by limits thread old new why (inr has) = ap (λ (s : Side). s.row.broken) has.moved
+broken_by : (limits : Bounds) (thread : ℕ) (old new : Side) (why : Refused) → IsSidePull limits thread old (Err (Broken why)) new → new.input.broken ≡ Some why
+broken_by limits thread old new why (inl same) = ap (λ (s : Side). s.input.broken) same.1 ∙ same.0
+broken_by limits thread old new why (inr has) = ap (λ (s : Side). s.input.broken) has.moved
 
-module _ (limits : Bounds) (rows : List Row) (stream : List Note) (is : IsCollector limits rows stream (made_by stream) limits)
-    (thread : ℕ) (was new : Row) (within : thread < length rows) (here : was ≡ get_or rows thread was) (later : List Note) (due : List (Edge × Sample))
-    (follows : Follows thread (events_of thread later) new.tracker) (cause : BreaksForCause limits thread later new) (answer : Result Pulled PullFault)
-    (tells : IsSidePull limits thread (record { row = pulling_of was; stream = stream; made = [] }) answer (record { row = pulling_of new; stream = later; made = due })) where
-  told_after : IsSidePull limits thread (record { row = pulling_of was; stream = stream; made = made_by stream }) answer (record { row = pulling_of new; stream = later; made = made_by stream ++ due })
+module _ (limits : Bounds) (inputs : List LaneInput) (stream : List Note) (is : IsCollector limits inputs stream (made_by stream) limits)
+    (thread : ℕ) (was new : LaneInput) (within : thread < length inputs) (here : was ≡ get_or inputs thread was) (later : List Note) (due : List (Edge × Sample))
+    (cause : BreaksForCause limits thread later new) (answer : Result Pulled PullFault)
+    (tells : IsSidePull limits thread (record { input = pulling_of was; stream = stream; made = [] }) answer (record { input = pulling_of new; stream = later; made = due })) where
+  told_after : IsSidePull limits thread (record { input = pulling_of was; stream = stream; made = made_by stream }) answer (record { input = pulling_of new; stream = later; made = made_by stream ++ due })
   told_after =
-      subst (λ pairs. IsSidePull limits thread (record { row = pulling_of was; stream = stream; made = pairs }) answer (record { row = pulling_of new; stream = later; made = made_by stream ++ due })) (append-nil (made_by stream))
-      (pull_after limits thread (made_by stream) (record { row = pulling_of was; stream = stream; made = [] }) (record { row = pulling_of new; stream = later; made = due }) answer tells)
+      subst (λ pairs. IsSidePull limits thread (record { input = pulling_of was; stream = stream; made = pairs }) answer (record { input = pulling_of new; stream = later; made = made_by stream ++ due })) (append-nil (made_by stream))
+      (pull_after limits thread (made_by stream) (record { input = pulling_of was; stream = stream; made = [] }) (record { input = pulling_of new; stream = later; made = due }) answer tells)
 
-  after : IsCollector limits (set rows thread new) later (made_by stream ++ due) limits
-  after = collector_after limits rows stream (made_by stream) limits is thread was new within here later (made_by stream ++ due) follows cause answer told_after
+  after : IsCollector limits (set inputs thread new) later (made_by stream ++ due) limits
+  after = collector_after limits inputs stream (made_by stream) limits is thread was new within here later (made_by stream ++ due) cause answer told_after
 
   -- the edges due are those that the stream makes beside those before
   pub due_later : made_by stream ++ due ≡ made_by later
   due_later = after.made_is
 
-  pub kept_later : IsCollector limits (set rows thread new) later (made_by later) limits
-  kept_later = subst (λ pairs. IsCollector limits (set rows thread new) later pairs limits) due_later after
+  pub kept_later : IsCollector limits (set inputs thread new) later (made_by later) limits
+  kept_later = subst (λ pairs. IsCollector limits (set inputs thread new) later pairs limits) due_later after
 
-  pub lanes_later : map lane_of (set rows thread new) ≡ map lane_of rows
-  lanes_later = map-set_same lane_of rows thread new was (lane_same limits rows stream (made_by stream) limits is thread was new within here later (made_by stream ++ due) follows answer told_after ∙ ap lane_of here)
+  pub lanes_later : map lane_of (set inputs thread new) ≡ map lane_of inputs
+  lanes_later = map-set_same lane_of inputs thread new was (lane_same limits inputs stream (made_by stream) limits is thread was new within here later (made_by stream ++ due) answer told_after ∙ ap lane_of here)
 
-  grown_by : (answer : Result Pulled PullFault) → IsSidePull limits thread (record { row = pulling_of was; stream = stream; made = [] }) answer (record { row = pulling_of new; stream = later; made = due }) → IsPrefix stream later
+  grown_by : (answer : Result Pulled PullFault) → IsSidePull limits thread (record { input = pulling_of was; stream = stream; made = [] }) answer (record { input = pulling_of new; stream = later; made = due }) → IsPrefix stream later
   grown_by (Ok Empty) t = ([], append-nil stream ∙ sym (ap (λ (s : Side). s.stream) t.1))
   grown_by (Ok (Answered place)) t = (as_of thread t.note ∷ [], sym (ap (λ (s : Side). s.stream) t.moved))
   grown_by (Ok (Closing count)) t = (as_of thread t.note ∷ [], sym (ap (λ (s : Side). s.stream) t.moved))
@@ -100,19 +99,19 @@ module _ (limits : Bounds) (rows : List Row) (stream : List Note) (is : IsCollec
   grown_later = grown_by answer tells
 
   -- where the pull broke the lane, its front note is to blame
-  pub blamed_now : (fault : RunFault) → IsKeptFor thread answer fault → IsBlamed limits (set rows thread new) later fault
+  pub blamed_now : (fault : RunFault) → IsKeptFor thread answer fault → IsBlamed limits (set inputs thread new) later fault
   blamed_now kept.Memory told = tt
   blamed_now (kept.Gone shard) told = tt
   blamed_now (kept.Broken number why) told =
-      let broken : new.broken ≡ Some why = broken_by limits thread _ _ why (subst (λ a. IsSidePull limits thread (record { row = pulling_of was; stream = stream; made = [] }) a (record { row = pulling_of new; stream = later; made = due })) told.1 tells) in
+      let broken : new.broken ≡ Some why = broken_by limits thread _ _ why (subst (λ a. IsSidePull limits thread (record { input = pulling_of was; stream = stream; made = [] }) a (record { input = pulling_of new; stream = later; made = due })) told.1 tells) in
       let stuck = cause why broken in
-      let there : slice_get (set rows thread new) thread ≡ Some new = get_set_same rows thread new within in
-      subst (λ t. IsBlamed limits (set rows thread new) later (kept.Broken t why)) (sym told.0)
+      let there : slice_get (set inputs thread new) thread ≡ Some new = get_set_same inputs thread new within in
+      subst (λ t. IsBlamed limits (set inputs thread new) later (kept.Broken t why)) (sym told.0)
       (record {
         taken = new.lane.popped;
         note = stuck.note;
-        told = after.rows_are.told thread new there;
-        came = record { row = new; here = there; first = prefix_behind new.lane.popped (stuck.note ∷ []) new.lane.left stuck.front };
+        told = after.inputs_are.told thread new there;
+        came = record { input = new; here = there; first = prefix_behind new.lane.popped (stuck.note ∷ []) new.lane.left stuck.front };
         refused = stuck.refused;
       })
 
@@ -158,40 +157,40 @@ when_ok (Err e) P ok told = absurd (false≢true ok)
 -- ---- what was gathered
 
 -- a run that kept up to the end has gathered all
-pub all_whole : (limits : Bounds) (rows : List Row) (stream : List Note) (outlets : List Sending) (sent : List AllSent) → KeepsUp limits rows stream outlets
-    → ((thread : ℕ) → thread < limits.threads → has_ended thread stream ≡ true) → 1 ≤ length outlets → map (λ s. s.sent) sent ≡ map (λ o. o.sent) outlets → IsWhole limits rows stream sent
-all_whole limits rows stream outlets sent keeps ended some are =
+pub all_whole : (limits : Bounds) (inputs : List LaneInput) (stream : List Note) (outlets : List Sending) (sent : List AllSent) → KeepsUp limits inputs stream outlets
+    → ((thread : ℕ) → thread < limits.threads → has_ended thread stream ≡ true) → 1 ≤ length outlets → map (λ s. s.sent) sent ≡ map (λ o. o.sent) outlets → IsWhole limits inputs stream sent
+all_whole limits inputs stream outlets sent keeps ended some are =
     let count : length sent ≡ length outlets = as_long (λ (s : AllSent). s.sent) (λ (o : Sending). o.sent) sent outlets are in
     record {
-      collected = record { told = keeps.collector.rows_are.told; in_order = keeps.collector.in_order; ended = ended };
+      collected = record { told = keeps.collector.inputs_are.told; in_order = keeps.collector.in_order; ended = ended };
       made_are = keeps.collector.made_are;
       some = omega (arith, some, count);
       shipped = are ∙ keeps.shipped ∙ ap (λ n. dealt n (made_by stream)) (sym count);
     }
 
--- what a collector's rows show of their lanes
-pub lanes_shown : (rows : List Row) → map (λ (p : Pulling). p.lane) (map pulling_of rows) ≡ map lane_of rows
-lanes_shown rows = map-map (λ (p : Pulling). p.lane) pulling_of rows
+-- what a collector's inputs show of their lanes
+pub lanes_shown : (inputs : List LaneInput) → map (λ (p : Pulling). p.lane) (map pulling_of inputs) ≡ map lane_of inputs
+lanes_shown inputs = map-map (λ (p : Pulling). p.lane) pulling_of inputs
 
 -- where a lane broke in a run, there is a note to blame
-blamed_first : (limits : Bounds) (rows : List Row) (stream : List Note) (gathered : Result (Unit {0}) RunFault) → IfErr gathered (IsBlamed limits rows stream) → (fault : Option RunFault)
-    → IfSome fault (λ f. (gathered ≡ Err f) ⊎ IsGone f) → IfSome fault (IsBlamed limits rows stream)
-blamed_first limits rows stream gathered blamed None from = tt
-blamed_first limits rows stream gathered blamed (Some f) (inl is) = IfErr-at_err (IsBlamed limits rows stream) is blamed
-blamed_first limits rows stream gathered blamed (Some f) (inr gone) = blamed_gone limits rows stream f gone
+blamed_first : (limits : Bounds) (inputs : List LaneInput) (stream : List Note) (gathered : Result (Unit {0}) RunFault) → IfErr gathered (IsBlamed limits inputs stream) → (fault : Option RunFault)
+    → IfSome fault (λ f. (gathered ≡ Err f) ⊎ IsGone f) → IfSome fault (IsBlamed limits inputs stream)
+blamed_first limits inputs stream gathered blamed None from = tt
+blamed_first limits inputs stream gathered blamed (Some f) (inl is) = IfErr-at_err (IsBlamed limits inputs stream) is blamed
+blamed_first limits inputs stream gathered blamed (Some f) (inr gone) = blamed_gone limits inputs stream f gone
 
 -- what a run keeps at its end, whatever went wrong
-pub gathered_all : (limits collecting : Bounds) → collecting ≡ limits → (before rows : List Row) → length before ≡ limits.threads → map lane_of rows ≡ map lane_of before → (stream : List Note) (given outlets : List Sending) (sent : List AllSent)
-    → 1 ≤ length given → map (λ o. o.feed) outlets ≡ map (λ o. o.feed) given → (gathered : Result (Unit {0}) RunFault) (ended : Result (Unit {0}) ℕ) → OnOk gathered (KeepsUp collecting rows stream outlets)
+pub gathered_all : (limits collecting : Bounds) → collecting ≡ limits → (before inputs : List LaneInput) → length before ≡ limits.threads → map lane_of inputs ≡ map lane_of before → (stream : List Note) (given outlets : List Sending) (sent : List AllSent)
+    → 1 ≤ length given → map (λ o. o.feed) outlets ≡ map (λ o. o.feed) given → (gathered : Result (Unit {0}) RunFault) (ended : Result (Unit {0}) ℕ) → OnOk gathered (KeepsUp collecting inputs stream outlets)
     → OnOk gathered ((thread : ℕ) → thread < collecting.threads → has_ended thread stream ≡ true) → OnOk ended (map (λ s. s.sent) sent ≡ map (λ o. o.sent) outlets)
-    → IfErr gathered (IsBlamed collecting rows stream) → (fault : Option RunFault) → (fault ≡ None → IsOk gathered × IsOk ended) → IfSome fault (λ f. (gathered ≡ Err f) ⊎ IsGone f) → IsGathered limits rows stream collecting sent fault
-gathered_all limits collecting same before rows count lanes stream given outlets sent some feeds gathered ended keeps all kept blamed fault none some_fault = record {
-  count = as_long lane_of lane_of rows before lanes ∙ count;
+    → IfErr gathered (IsBlamed collecting inputs stream) → (fault : Option RunFault) → (fault ≡ None → IsOk gathered × IsOk ended) → IfSome fault (λ f. (gathered ≡ Err f) ⊎ IsGone f) → IsGathered limits inputs stream collecting sent fault
+gathered_all limits collecting same before inputs count lanes stream given outlets sent some feeds gathered ended keeps all kept blamed fault none some_fault = record {
+  count = as_long lane_of lane_of inputs before lanes ∙ count;
   same_limits = same;
   whole = λ is.
       (let (ok, kept_ok) = none is in
       let many : length outlets ≡ length given = as_long (λ (o : Sending). o.feed) (λ (o : Sending). o.feed) outlets given feeds in
-      subst (λ b. IsWhole b rows stream sent) same
-      (all_whole collecting rows stream outlets sent (when_ok gathered _ ok keeps) (when_ok gathered _ ok all) (omega (arith, many, some)) (when_ok ended _ kept_ok kept)));
-  blamed = subst (λ b. IfSome fault (IsBlamed b rows stream)) same (blamed_first collecting rows stream gathered blamed fault some_fault);
+      subst (λ b. IsWhole b inputs stream sent) same
+      (all_whole collecting inputs stream outlets sent (when_ok gathered _ ok keeps) (when_ok gathered _ ok all) (omega (arith, many, some)) (when_ok ended _ kept_ok kept)));
+  blamed = subst (λ b. IfSome fault (IsBlamed b inputs stream)) same (blamed_first collecting inputs stream gathered blamed fault some_fault);
 }

@@ -1,4 +1,4 @@
--- What a pull makes of a collector's rows, stream and edges.
+-- What a pull makes of a collector's inputs, stream and edges.
 use Rattle.std.proofs.Common.{◌≡◌, ◌≢◌, ℕ, ◌<◌, List, [], ◌∷◌, ◌++◌, length, map, take, set, get_or, Some, Result, Ok, Err, Vec, Global, refl, sym, ap, ◌∙◌, subst, inl, inr}
 use Rattle.std.specs.Prelude.{slice_get, IfOk}
 use Rattle.std.proofs.Math.Seq.{take-append_seam, map-set_same}
@@ -6,36 +6,33 @@ use Rattle.std.proofs.lemmas.Bool.{cases_eq}
 use Rattle.std.specs.Option.{option_map}
 use Rattle.std.proofs.lemmas.List.{length-set, map-append, map-set, get_or-map}
 use Rattle.std.proofs.lemmas.Option.{slice_get-map}
-use Rattle.gl_event.specs.Bounds.{Bounds, AreWithinRange}
+use Rattle.gl_event.specs.Bounds.{Bounds}
 use Rattle.gl_event.specs.declared.events.Event.{Event}
 use Rattle.gl_event.specs.declared.notes.Note.{Note}
 use Rattle.gl_event.specs.declared.notes.Body.{Body}
 use Rattle.gl_event.specs.declared.notes.Body.TheVariants.{Happened, Ended}
 use Rattle.gl_event.proofs.Depths.{slice_get_last}
-use Rattle.gl_edges.specs.Tracking.{Tracks as Follows}
 use Rattle.gl_edges.specs.declared.edge.Edge.{Edge}
 use Rattle.gl_edges.specs.declared.edge.Sample.{Sample}
-use Rattle.gl_edges.specs.declared.tracker.Tracker.{Tracker}
 use Rattle.gl_edges.specs.Edges.{edges_after}
 use Rattle.gl_edges.proofs.Steps.{newest}
 use Rattle.gl_intake.specs.Stream.{accepted_as, events_of, note_refusal, AreInOrder, IsNext}
 use Rattle.gl_intake.proofs.Order.{AreInOrder-push}
 use Rattle.gl_intake.proofs.Streams.{ended_other, events_ended, events_more, events_other}
 use Rattle.gl_world.specs.Machine.{Lane, edges_due}
-use Rattle.gl_world.specs.Keeping.{notes_of, IsFrontOf, AreMade, MayTake, with_body}
+use Rattle.gl_world.specs.Keeping.{notes_of, IsFrontOf, AreMade, with_body}
 use Rattle.gl_world.proofs.Lists.{same_some, get_at, get_set_same, get_set_other}
 use Rattle.gl_world.proofs.Makings.{made_pulled}
-use Rattle.gl_world.proofs.Rows.{may_take}
 use Rattle.gl_world.proofs.Sound.{notes_own, notes_other}
 use Rattle.gl_engine.specs.Collecting.{Pulling, Collecting, Side, as_of, pulled_of, HasPulled, IsSidePull, IsPull}
 use Rattle.gl_engine.specs.Dealing.{made_by}
-use Rattle.gl_engine.specs.Keeping.{AreRows, BreaksForCause, IsCollector, IsStuck, pulling_of}
+use Rattle.gl_engine.specs.Keeping.{AreInputs, BreaksForCause, IsCollector, IsStuck, pulling_of}
 use Rattle.gl_engine.proofs.Dealt.{made_by_more}
 use Rattle.gl_engine.specs.declared.pulled.Pulled.{Pulled}
 use Rattle.gl_engine.specs.declared.pulled.Pulled.TheVariants.{Empty, Event as Answered, Ended as Closing}
 use Rattle.gl_engine.specs.declared.pulled.PullFault.{PullFault}
 use Rattle.gl_engine.specs.declared.pulled.PullFault.TheVariants.{Broken, Memory as OutOfMemory}
-use Rattle.gl_engine.specs.declared.row.Row.{Row}
+use Rattle.gl_engine.specs.declared.lane_input.LaneInput.{LaneInput}
 
 -- ---- the note that joins a stream, as the front note of one lane
 
@@ -70,40 +67,35 @@ module _ (limits : Bounds) (stream : List Note) (note : Note) (next : IsNext lim
       ≡ edges_due note.thread (events_of note.thread (stream ++ note ∷ [])) note.place note.body
   due_is = λ i. edges_due note.thread (with_note i) (sym next.in_place i) note.body
 
--- ---- the rows
+-- ---- the inputs
 
 -- a note of another thread has the refusal that it had
 refusal_other : (limits : Bounds) (stream : List Note) (own : Note) (t : ℕ) → own.thread ≢ t → (note : Note) → note_refusal limits (stream ++ own ∷ []) (as_of t note) ≡ note_refusal limits stream (as_of t note)
 unfolding note_refusal
 refusal_other limits stream own t other note = rw (events_other stream own t other, ended_other stream own t other)
 
-module _ (limits : Bounds) (rows : List Row) (stream : List Note) (are : AreRows limits rows stream) (thread : ℕ) (new : Row) (later : List Note) (within : thread < length rows)
-    (told : notes_of thread later ≡ map (as_of thread) new.lane.popped) (follows : Follows thread (events_of thread later) new.tracker) (cause : BreaksForCause limits thread later new)
+module _ (limits : Bounds) (inputs : List LaneInput) (stream : List Note) (are : AreInputs limits inputs stream) (thread : ℕ) (new : LaneInput) (later : List Note) (within : thread < length inputs)
+    (told : notes_of thread later ≡ map (as_of thread) new.lane.popped) (cause : BreaksForCause limits thread later new)
     (still : (t : ℕ) → thread ≢ t → (notes_of t later ≡ notes_of t stream) × (events_of t later ≡ events_of t stream) × ((note : Note) → note_refusal limits later (as_of t note) ≡ note_refusal limits stream (as_of t note))) where
-  now_there : (t : ℕ) (row : Row) → thread ≡ t → slice_get (set rows thread new) t ≡ Some row → row ≡ new
-  now_there t row same at = same_some row new (sym at ∙ ap (slice_get (set rows thread new)) (sym same) ∙ get_set_same rows thread new within)
+  now_there : (t : ℕ) (input : LaneInput) → thread ≡ t → slice_get (set inputs thread new) t ≡ Some input → input ≡ new
+  now_there t input same at = same_some input new (sym at ∙ ap (slice_get (set inputs thread new)) (sym same) ∙ get_set_same inputs thread new within)
 
-  pub rows_with : AreRows limits (set rows thread new) later
-  rows_with = record {
-    count = length-set rows thread new ∙ are.count;
-    told = λ t row at.
+  pub inputs_with : AreInputs limits (set inputs thread new) later
+  inputs_with = record {
+    count = length-set inputs thread new ∙ are.count;
+    told = λ t input at.
         elim (cases_eq thread t) [
-          | inl same ↦ subst (λ k. notes_of k later ≡ map (as_of k) row.lane.popped) same (subst (λ (r : Row). notes_of thread later ≡ map (as_of thread) r.lane.popped) (sym (now_there t row same at)) told)
-          | inr other ↦ (still t other).0 ∙ are.told t row (sym (get_set_other rows thread t new other) ∙ at)
+          | inl same ↦ subst (λ k. notes_of k later ≡ map (as_of k) input.lane.popped) same (subst (λ (r : LaneInput). notes_of thread later ≡ map (as_of thread) r.lane.popped) (sym (now_there t input same at)) told)
+          | inr other ↦ (still t other).0 ∙ are.told t input (sym (get_set_other inputs thread t new other) ∙ at)
         ];
-    follows = λ t row at.
-        elim (cases_eq thread t) [
-          | inl same ↦ subst (λ k. Follows k (events_of k later) row.tracker) same (subst (λ (r : Row). Follows thread (events_of thread later) r.tracker) (sym (now_there t row same at)) follows)
-          | inr other ↦ subst (λ es. Follows t es row.tracker) (sym (still t other).1) (are.follows t row (sym (get_set_other rows thread t new other) ∙ at))
-        ];
-    cause = λ t row at why broken.
+    cause = λ t input at why broken.
         elim (cases_eq thread t) [
           | inl same ↦
-              let there = now_there t row same at in
-              let stuck = cause why (ap (λ (r : Row). r.broken) (sym there) ∙ broken) in
-              subst (λ k. IsStuck limits k later row.lane why) same (subst (λ (r : Row). IsStuck limits thread later r.lane why) (sym there) stuck)
+              let there = now_there t input same at in
+              let stuck = cause why (ap (λ (r : LaneInput). r.broken) (sym there) ∙ broken) in
+              subst (λ k. IsStuck limits k later input.lane why) same (subst (λ (r : LaneInput). IsStuck limits thread later r.lane why) (sym there) stuck)
           | inr other ↦
-              let stuck = are.cause t row (sym (get_set_other rows thread t new other) ∙ at) why broken in
+              let stuck = are.cause t input (sym (get_set_other inputs thread t new other) ∙ at) why broken in
               record { note = stuck.note; front = stuck.front; refused = (still t other).2 stuck.note ∙ stuck.refused }
         ];
   }
@@ -115,13 +107,6 @@ pub due_if : {E : Type 0} (thread : ℕ) (es : List Event) (e : Event) (result :
     → IfOk result (λ edges. edges.items ≡ edges_due thread (es ++ e ∷ []) (length es) (Happened e))
 due_if thread es e (Ok edges) made = made ∙ sym (newest thread es e)
 due_if thread es e (Err why) made = tt
-
--- a tracker of the thread may take the next note
-pub may_take_next : (limits : Bounds) (stream : List Note) (note : Note) → IsNext limits stream note → (tracker : Tracker) → Follows note.thread (events_of note.thread stream) tracker → AreWithinRange limits
-    → MayTake tracker note.body
-may_take_next limits stream note next tracker follows range =
-    may_take limits note.thread (whole_lane stream note) note (is_front limits stream note next) tracker
-    (subst (λ notes. Follows note.thread (events_of note.thread notes) tracker) (sym (take-append_seam stream (note ∷ []))) follows) range
 
 never_empty : (place : ℕ) (body : Body) → Empty ≢ pulled_of (accepted_as place body)
 never_empty place (Happened e) is = cc
@@ -136,24 +121,23 @@ pull_ok limits thread old (Closing count) new has = has
 -- ---- the collector after a pull
 
 abbrev pub collecting_from : ℕ → Bounds → List Pulling → List Note → List (Edge × Sample) → Collecting
-collecting_from session limits rows stream made = record { session = session; limits = limits; rows = rows; stream = stream; made = made }
+collecting_from session limits inputs stream made = record { session = session; limits = limits; inputs = inputs; stream = stream; made = made }
 
--- what contracts see of a collector with these rows
-abbrev pub collecting_of : ℕ → Bounds → List Row → List Note → List (Edge × Sample) → Collecting
-collecting_of session limits rows stream made = collecting_from session limits (map pulling_of rows) stream made
+-- what contracts see of a collector with these inputs
+abbrev pub collecting_of : ℕ → Bounds → List LaneInput → List Note → List (Edge × Sample) → Collecting
+collecting_of session limits inputs stream made = collecting_from session limits (map pulling_of inputs) stream made
 
-module _ (limits : Bounds) (rows : List Row) (stream : List Note) (made : List (Edge × Sample)) (collecting : Bounds) (is : IsCollector limits rows stream made collecting)
-    (thread : ℕ) (was new : Row) (within : thread < length rows) (here : was ≡ get_or rows thread was) (later : List Note) (later_made : List (Edge × Sample))
-    (follows : Follows thread (events_of thread later) new.tracker) where
-  row_at : slice_get rows thread ≡ Some was
-  row_at = get_at rows thread was within here
+module _ (limits : Bounds) (inputs : List LaneInput) (stream : List Note) (made : List (Edge × Sample)) (collecting : Bounds) (is : IsCollector limits inputs stream made collecting)
+    (thread : ℕ) (was new : LaneInput) (within : thread < length inputs) (here : was ≡ get_or inputs thread was) (later : List Note) (later_made : List (Edge × Sample)) where
+  input_at : slice_get inputs thread ≡ Some was
+  input_at = get_at inputs thread was within here
 
   was_told : notes_of thread stream ≡ map (as_of thread) was.lane.popped
-  was_told = is.rows_are.told thread was row_at
+  was_told = is.inputs_are.told thread was input_at
 
-  kept_same : BreaksForCause limits thread later new → later ≡ stream → later_made ≡ made → new.lane.popped ≡ was.lane.popped → IsCollector limits (set rows thread new) later later_made collecting
+  kept_same : BreaksForCause limits thread later new → later ≡ stream → later_made ≡ made → new.lane.popped ≡ was.lane.popped → IsCollector limits (set inputs thread new) later later_made collecting
   kept_same cause same same_made popped = record {
-    rows_are = rows_with limits rows stream is.rows_are thread new later within (ap (notes_of thread) same ∙ was_told ∙ ap (map (as_of thread)) (sym popped)) follows cause
+    inputs_are = inputs_with limits inputs stream is.inputs_are thread new later within (ap (notes_of thread) same ∙ was_told ∙ ap (map (as_of thread)) (sym popped)) cause
         (λ t other. (ap (notes_of t) same, ap (events_of t) same, λ note. ap (λ notes. note_refusal limits notes (as_of t note)) same));
     in_order = subst (AreInOrder limits) (sym same) is.in_order;
     made_are = subst (λ notes. AreMade limits.threads notes later_made) (sym same) (subst (AreMade limits.threads stream) (sym same_made) is.made_are);
@@ -163,14 +147,14 @@ module _ (limits : Bounds) (rows : List Row) (stream : List Note) (made : List (
   }
 
   abbrev old_side : Side
-  old_side = record { row = pulling_of was; stream = stream; made = made }
+  old_side = record { input = pulling_of was; stream = stream; made = made }
 
   abbrev new_side : Side
-  new_side = record { row = pulling_of new; stream = later; made = later_made }
+  new_side = record { input = pulling_of new; stream = later; made = later_made }
 
-  kept_pulled : BreaksForCause limits thread later new → (answer : Pulled) → HasPulled collecting thread old_side answer new_side → IsCollector limits (set rows thread new) later later_made collecting
+  kept_pulled : BreaksForCause limits thread later new → (answer : Pulled) → HasPulled collecting thread old_side answer new_side → IsCollector limits (set inputs thread new) later later_made collecting
   kept_pulled cause answer has = record {
-    rows_are = rows_with limits rows stream is.rows_are thread new later within told follows cause
+    inputs_are = inputs_with limits inputs stream is.inputs_are thread new later within told cause
         (λ t other. (
           ap (notes_of t) grown ∙ notes_other stream own t other,
           ap (events_of t) grown ∙ events_other stream own t other,
@@ -196,46 +180,46 @@ module _ (limits : Bounds) (rows : List Row) (stream : List Note) (made : List (
       edges = ap (λ (s : Side). s.made) has.moved
 
       popped : new.lane.popped ≡ was.lane.popped ++ has.note ∷ []
-      popped = ap (λ (s : Side). s.row.popped) has.moved
+      popped = ap (λ (s : Side). s.input.popped) has.moved
 
       told : notes_of thread later ≡ map (as_of thread) new.lane.popped
       told =
           ap (notes_of thread) grown ∙ notes_own stream own ∙ ap (λ notes. notes ++ own ∷ []) was_told
           ∙ sym (map-append (as_of thread) was.lane.popped (has.note ∷ [])) ∙ ap (map (as_of thread)) (sym popped)
 
-  pub collector_after : BreaksForCause limits thread later new → (answer : Result Pulled PullFault) → IsSidePull collecting thread old_side answer new_side → IsCollector limits (set rows thread new) later later_made collecting
-  collector_after cause (Ok Empty) tells = kept_same cause (ap (λ (s : Side). s.stream) tells.1) (ap (λ (s : Side). s.made) tells.1) (ap (λ (s : Side). s.row.popped) tells.1)
+  pub collector_after : BreaksForCause limits thread later new → (answer : Result Pulled PullFault) → IsSidePull collecting thread old_side answer new_side → IsCollector limits (set inputs thread new) later later_made collecting
+  collector_after cause (Ok Empty) tells = kept_same cause (ap (λ (s : Side). s.stream) tells.1) (ap (λ (s : Side). s.made) tells.1) (ap (λ (s : Side). s.input.popped) tells.1)
   collector_after cause (Ok (Answered place)) tells = kept_pulled cause (Answered place) tells
   collector_after cause (Ok (Closing count)) tells = kept_pulled cause (Closing count) tells
-  collector_after cause (Err (Broken why)) (inl same) = kept_same cause (ap (λ (s : Side). s.stream) same.1) (ap (λ (s : Side). s.made) same.1) (ap (λ (s : Side). s.row.popped) same.1)
-  collector_after cause (Err (Broken why)) (inr has) = kept_same cause (ap (λ (s : Side). s.stream) has.moved) (ap (λ (s : Side). s.made) has.moved) (ap (λ (s : Side). s.row.popped) has.moved)
-  collector_after cause (Err OutOfMemory) tells = kept_same cause (ap (λ (s : Side). s.stream) tells.1) (ap (λ (s : Side). s.made) tells.1) (ap (λ (s : Side). s.row.popped) tells.1)
+  collector_after cause (Err (Broken why)) (inl same) = kept_same cause (ap (λ (s : Side). s.stream) same.1) (ap (λ (s : Side). s.made) same.1) (ap (λ (s : Side). s.input.popped) same.1)
+  collector_after cause (Err (Broken why)) (inr has) = kept_same cause (ap (λ (s : Side). s.stream) has.moved) (ap (λ (s : Side). s.made) has.moved) (ap (λ (s : Side). s.input.popped) has.moved)
+  collector_after cause (Err OutOfMemory) tells = kept_same cause (ap (λ (s : Side). s.stream) tells.1) (ap (λ (s : Side). s.made) tells.1) (ap (λ (s : Side). s.input.popped) tells.1)
 
-  pub pull_tells : (session : ℕ) (answer : Result Pulled PullFault) → IsSidePull collecting thread old_side answer new_side → (before : Collecting) → collecting_of session limits rows stream made ≡ before
-      → (row : Pulling) → slice_get before.rows thread ≡ Some row → IsPull before thread row answer (collecting_of session limits (set rows thread new) later later_made)
+  pub pull_tells : (session : ℕ) (answer : Result Pulled PullFault) → IsSidePull collecting thread old_side answer new_side → (before : Collecting) → collecting_of session limits inputs stream made ≡ before
+      → (input : Pulling) → slice_get before.inputs thread ≡ Some input → IsPull before thread input answer (collecting_of session limits (set inputs thread new) later later_made)
   pull_tells session answer tells before view =
-      subst (λ (s : Collecting). (row : Pulling) → slice_get s.rows thread ≡ Some row → IsPull s thread row answer (collecting_of session limits (set rows thread new) later later_made)) view
-      (λ row found.
-      let its : Some (pulling_of was) ≡ Some row = sym (slice_get-map pulling_of rows thread ∙ ap (option_map pulling_of) row_at) ∙ found in
-      let same : pulling_of was ≡ row = same_some (pulling_of was) row its in
+      subst (λ (s : Collecting). (input : Pulling) → slice_get s.inputs thread ≡ Some input → IsPull s thread input answer (collecting_of session limits (set inputs thread new) later later_made)) view
+      (λ input found.
+      let its : Some (pulling_of was) ≡ Some input = sym (slice_get-map pulling_of inputs thread ∙ ap (option_map pulling_of) input_at) ∙ found in
+      let same : pulling_of was ≡ input = same_some (pulling_of was) input its in
       record {
         side = new_side;
-        tells = subst (λ (r : Pulling). IsSidePull limits thread (record { row = r; stream = stream; made = made }) answer new_side) same
+        tells = subst (λ (r : Pulling). IsSidePull limits thread (record { input = r; stream = stream; made = made }) answer new_side) same
             (subst (λ b. IsSidePull b thread old_side answer new_side) is.same_limits tells);
-        moved = ap (λ ps. collecting_from session limits ps later later_made) (map-set pulling_of rows thread new);
+        moved = ap (λ ps. collecting_from session limits ps later later_made) (map-set pulling_of inputs thread new);
       })
 
   pub lane_same : (answer : Result Pulled PullFault) → IsSidePull collecting thread old_side answer new_side → new.lane.lane ≡ was.lane.lane
-  lane_same (Ok Empty) tells = ap (λ (s : Side). s.row.lane) tells.1
-  lane_same (Ok (Answered place)) tells = ap (λ (s : Side). s.row.lane) tells.moved
-  lane_same (Ok (Closing count)) tells = ap (λ (s : Side). s.row.lane) tells.moved
-  lane_same (Err (Broken why)) (inl same) = ap (λ (s : Side). s.row.lane) same.1
-  lane_same (Err (Broken why)) (inr has) = ap (λ (s : Side). s.row.lane) has.moved
-  lane_same (Err OutOfMemory) tells = ap (λ (s : Side). s.row.lane) tells.1
+  lane_same (Ok Empty) tells = ap (λ (s : Side). s.input.lane) tells.1
+  lane_same (Ok (Answered place)) tells = ap (λ (s : Side). s.input.lane) tells.moved
+  lane_same (Ok (Closing count)) tells = ap (λ (s : Side). s.input.lane) tells.moved
+  lane_same (Err (Broken why)) (inl same) = ap (λ (s : Side). s.input.lane) same.1
+  lane_same (Err (Broken why)) (inr has) = ap (λ (s : Side). s.input.lane) has.moved
+  lane_same (Err OutOfMemory) tells = ap (λ (s : Side). s.input.lane) tells.1
 
   -- the lanes stay where they are
-  pub lanes_still : (answer : Result Pulled PullFault) → IsSidePull collecting thread old_side answer new_side → map (λ (p : Pulling). p.lane) (map pulling_of (set rows thread new)) ≡ map (λ (p : Pulling). p.lane) (map pulling_of rows)
+  pub lanes_still : (answer : Result Pulled PullFault) → IsSidePull collecting thread old_side answer new_side → map (λ (p : Pulling). p.lane) (map pulling_of (set inputs thread new)) ≡ map (λ (p : Pulling). p.lane) (map pulling_of inputs)
   lanes_still answer tells =
-      let at : get_or (map pulling_of rows) thread (pulling_of was) ≡ pulling_of was = get_or-map pulling_of rows thread was (pulling_of was) within ∙ ap pulling_of (sym here) in
-      ap (map (λ (p : Pulling). p.lane)) (map-set pulling_of rows thread new)
-      ∙ map-set_same (λ (p : Pulling). p.lane) (map pulling_of rows) thread (pulling_of new) (pulling_of was) (lane_same answer tells ∙ ap (λ (p : Pulling). p.lane) (sym at))
+      let at : get_or (map pulling_of inputs) thread (pulling_of was) ≡ pulling_of was = get_or-map pulling_of inputs thread was (pulling_of was) within ∙ ap pulling_of (sym here) in
+      ap (map (λ (p : Pulling). p.lane)) (map-set pulling_of inputs thread new)
+      ∙ map-set_same (λ (p : Pulling). p.lane) (map pulling_of inputs) thread (pulling_of new) (pulling_of was) (lane_same answer tells ∙ ap (λ (p : Pulling). p.lane) (sym at))

@@ -16,15 +16,15 @@ set_back [] i x at = refl
 set_back (y ∷ xs) zero x at = ap (λ z. z ∷ xs) (sym (same_some y x at))
 set_back (y ∷ xs) (suc i) x at = ap (λ zs. y ∷ zs) (set_back xs i x at)
 
-module _ (old : Collecting) (thread : ℕ) (row : Pulling) (here : slice_get old.rows thread ≡ Some row) where
-  same_side : (side : Side) → side ≡ side_of old row → with_side old thread side ≡ old
-  same_side side same = ap (with_side old thread) same ∙ ap (λ rows. record old { rows = rows }) (set_back old.rows thread row here)
+module _ (old : Collecting) (thread : ℕ) (input : Pulling) (here : slice_get old.inputs thread ≡ Some input) where
+  same_side : (side : Side) → side ≡ side_of old input → with_side old thread side ≡ old
+  same_side side same = ap (with_side old thread) same ∙ ap (λ inputs. record old { inputs = inputs }) (set_back old.inputs thread input here)
 
-  never : (why : Refused) → row.broken ≡ None → row.broken ≡ Some why → ⊥
+  never : (why : Refused) → input.broken ≡ None → input.broken ≡ Some why → ⊥
   never why none some = (let clash : None ≡ Some why = sym none ∙ some in cc)
 
-  still_broken : (limits : Bounds) (answer : Result Pulled PullFault) (side : Side) (why : Refused) → row.broken ≡ Some why → IsSidePull limits thread (side_of old row) answer side
-      → (answer ≡ Err (Broken why)) × (side ≡ side_of old row)
+  still_broken : (limits : Bounds) (answer : Result Pulled PullFault) (side : Side) (why : Refused) → input.broken ≡ Some why → IsSidePull limits thread (side_of old input) answer side
+      → (answer ≡ Err (Broken why)) × (side ≡ side_of old input)
   still_broken limits (Ok Empty) side why broken tells = absurd (never why tells.0 broken)
   still_broken limits (Ok (Event place)) side why broken tells = absurd (never why tells.running broken)
   still_broken limits (Ok (Ended count)) side why broken tells = absurd (never why tells.running broken)
@@ -34,9 +34,9 @@ module _ (old : Collecting) (thread : ℕ) (row : Pulling) (here : slice_get old
 
 pub unpulled_is_unchanged : UnpulledIsUnchanged
 unpulled_is_unchanged = record {
-  broken = λ old thread row answer new why here broken is.
-      (let (answered, same) = still_broken old thread row here old.limits answer is.side why broken is.tells in
-      (answered, is.moved ∙ same_side old thread row here is.side same));
-  empty = λ old thread row new here is. is.moved ∙ same_side old thread row here is.side is.tells.1;
-  memory = λ old thread row new here is. is.moved ∙ same_side old thread row here is.side is.tells.1;
+  broken = λ old thread input answer new why here broken is.
+      (let (answered, same) = still_broken old thread input here old.limits answer is.side why broken is.tells in
+      (answered, is.moved ∙ same_side old thread input here is.side same));
+  empty = λ old thread input new here is. is.moved ∙ same_side old thread input here is.side is.tells.1;
+  memory = λ old thread input new here is. is.moved ∙ same_side old thread input here is.side is.tells.1;
 }

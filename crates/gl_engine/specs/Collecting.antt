@@ -26,21 +26,21 @@ pub record Pulling : Type 0 where
 pub record Collecting : Type 0 where
   pub session : ℕ
   pub limits : Bounds
-  pub rows : List Pulling
+  pub inputs : List Pulling
   pub stream : List Note
   pub made : List (Edge × Sample)
 
 -- the threads' lanes, in the order of thread numbers
 abbrev pub lanes_of : Collecting → List LaneId
-lanes_of c = map (λ row. row.lane) c.rows
+lanes_of c = map (λ input. input.lane) c.inputs
 
 -- the collector's end of a new lane
-abbrev pub fresh_row : LaneId → Pulling
-fresh_row lane = record { lane = lane; popped = []; broken = None }
+abbrev pub fresh_input : LaneId → Pulling
+fresh_input lane = record { lane = lane; popped = []; broken = None }
 
 -- the collector of a session whose recorders have these lanes, before the first pull
 abbrev pub fresh_collecting : ℕ → Bounds → List LaneId → Collecting
-fresh_collecting session limits lanes = record { session = session; limits = limits; rows = map fresh_row lanes; stream = []; made = [] }
+fresh_collecting session limits lanes = record { session = session; limits = limits; inputs = map fresh_input lanes; stream = []; made = [] }
 
 -- a new session: a recorder for each thread, in order, and a collector that has the other ends of their lanes
 pub record IsOpened (session : ℕ) (limits : Bounds) (recorders : List Recording) (collector : Collecting) : Type 0 where
@@ -52,41 +52,41 @@ pub record IsOpened (session : ℕ) (limits : Bounds) (recorders : List Recordin
 abbrev pub as_of : ℕ → Note → Note
 as_of thread note = record note { thread = thread }
 
--- the row with one note more popped
+-- the input with one note more popped
 abbrev pub pop_note : Pulling → Note → Pulling
-pop_note row note = record row { popped = row.popped ++ note ∷ [] }
+pop_note input note = record input { popped = input.popped ++ note ∷ [] }
 
--- the row whose front note was refused
-abbrev pub break_row : Pulling → Refused → Pulling
-break_row row why = record row { broken = Some why }
+-- the input whose front note was refused
+abbrev pub break_input : Pulling → Refused → Pulling
+break_input input why = record input { broken = Some why }
 
--- what a pull from a thread's lane can change of a collector: the thread's row, the stream and the edges made
+-- what a pull from a thread's lane can change of a collector: the thread's input, the stream and the edges made
 pub record Side : Type 0 where
-  pub row : Pulling
+  pub input : Pulling
   pub stream : List Note
   pub made : List (Edge × Sample)
 
--- the collector from the side of a thread with this row
+-- the collector from the side of a thread with this input
 abbrev pub side_of : Collecting → Pulling → Side
-side_of c row = record { row = row; stream = c.stream; made = c.made }
+side_of c input = record { input = input; stream = c.stream; made = c.made }
 
 -- the collector with this at the side of the thread, and all else as it was
 abbrev pub with_side : Collecting → ℕ → Side → Collecting
-with_side c thread side = record c { rows = slice_set c.rows thread side.row; stream = side.stream; made = side.made }
+with_side c thread side = record c { inputs = slice_set c.inputs thread side.input; stream = side.stream; made = side.made }
 
 -- this note is popped, joins the stream as one of the thread, and its edges join those made
 abbrev pub with_pulled : ℕ → Side → Note → Side
 with_pulled thread side note =
     let stream = side.stream ++ as_of thread note ∷ [] in
     record {
-      row = pop_note side.row note;
+      input = pop_note side.input note;
       stream = stream;
       made = side.made ++ edges_due thread (events_of thread stream) note.place note.body;
     }
 
 -- the lane is broken
 abbrev pub break_lane : Side → Refused → Side
-break_lane side why = record side { row = break_row side.row why }
+break_lane side why = record side { input = break_input side.input why }
 
 -- what the pull of an accepted note is answered
 abbrev pub pulled_of : Accepted → Pulled
@@ -95,7 +95,7 @@ pulled_of (accepted.Ended count) = Ended count
 
 -- a note was pulled off the thread's lane: its thread's next one
 pub record HasPulled (limits : Bounds) (thread : ℕ) (old : Side) (answer : Pulled) (new : Side) : Type 0 where
-  pub running : old.row.broken ≡ None
+  pub running : old.input.broken ≡ None
   pub note : Note
   pub next : IsNext limits old.stream (as_of thread note)
   pub answer_is : answer ≡ pulled_of (accepted_as note.place note.body)
@@ -103,28 +103,28 @@ pub record HasPulled (limits : Bounds) (thread : ℕ) (old : Side) (answer : Pul
 
 -- the lane's front note was refused, and stays
 pub record HasRefused (limits : Bounds) (thread : ℕ) (old : Side) (why : Refused) (new : Side) : Type 0 where
-  pub running : old.row.broken ≡ None
+  pub running : old.input.broken ≡ None
   pub note : Note
   pub refused : note_refusal limits old.stream (as_of thread note) ≡ Some why
   pub moved : new ≡ break_lane old why
 
 -- what the answer to a pull from the thread's lane tells
 abbrev pub IsSidePull : Bounds → ℕ → Side → Result Pulled PullFault → Side → Type 0
-IsSidePull limits thread old (Ok Empty) new = (old.row.broken ≡ None) × (new ≡ old)
+IsSidePull limits thread old (Ok Empty) new = (old.input.broken ≡ None) × (new ≡ old)
 IsSidePull limits thread old (Ok (Event place)) new = HasPulled limits thread old (Event place) new
 IsSidePull limits thread old (Ok (Ended count)) new = HasPulled limits thread old (Ended count) new
-IsSidePull limits thread old (Err (Broken why)) new = ((old.row.broken ≡ Some why) × (new ≡ old)) ⊎ HasRefused limits thread old why new
-IsSidePull limits thread old (Err Memory) new = (old.row.broken ≡ None) × (new ≡ old)
+IsSidePull limits thread old (Err (Broken why)) new = ((old.input.broken ≡ Some why) × (new ≡ old)) ⊎ HasRefused limits thread old why new
+IsSidePull limits thread old (Err Memory) new = (old.input.broken ≡ None) × (new ≡ old)
 
--- a pull from the thread's lane, which has this row, changes its side of the collector alone, and that as the answer tells
-pub record IsPull (old : Collecting) (thread : ℕ) (row : Pulling) (answer : Result Pulled PullFault) (new : Collecting) : Type 0 where
+-- a pull from the thread's lane, which has this input, changes its side of the collector alone, and that as the answer tells
+pub record IsPull (old : Collecting) (thread : ℕ) (input : Pulling) (answer : Result Pulled PullFault) (new : Collecting) : Type 0 where
   pub side : Side
-  pub tells : IsSidePull old.limits thread (side_of old row) answer side
+  pub tells : IsSidePull old.limits thread (side_of old input) answer side
   pub moved : new ≡ with_side old thread side
 
 -- where a lane is broken, the answer is that it is; and where it is, or where a pull finds no note or no memory, nothing changes
 pub record UnpulledIsUnchanged : Type 0 where
-  pub broken : (old : Collecting) (thread : ℕ) (row : Pulling) (answer : Result Pulled PullFault) (new : Collecting) (why : Refused) → slice_get old.rows thread ≡ Some row → row.broken ≡ Some why
-      → IsPull old thread row answer new → (answer ≡ Err (Broken why)) × (new ≡ old)
-  pub empty : (old : Collecting) (thread : ℕ) (row : Pulling) (new : Collecting) → slice_get old.rows thread ≡ Some row → IsPull old thread row (Ok Empty) new → new ≡ old
-  pub memory : (old : Collecting) (thread : ℕ) (row : Pulling) (new : Collecting) → slice_get old.rows thread ≡ Some row → IsPull old thread row (Err Memory) new → new ≡ old
+  pub broken : (old : Collecting) (thread : ℕ) (input : Pulling) (answer : Result Pulled PullFault) (new : Collecting) (why : Refused) → slice_get old.inputs thread ≡ Some input → input.broken ≡ Some why
+      → IsPull old thread input answer new → (answer ≡ Err (Broken why)) × (new ≡ old)
+  pub empty : (old : Collecting) (thread : ℕ) (input : Pulling) (new : Collecting) → slice_get old.inputs thread ≡ Some input → IsPull old thread input (Ok Empty) new → new ≡ old
+  pub memory : (old : Collecting) (thread : ℕ) (input : Pulling) (new : Collecting) → slice_get old.inputs thread ≡ Some input → IsPull old thread input (Err Memory) new → new ≡ old

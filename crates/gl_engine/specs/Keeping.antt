@@ -3,7 +3,6 @@ use Rattle.std.specs.Prelude.{◌≡◌, ℕ, ◌<◌, true, false, List, [], �
 use mathlib.Core.List.{IsPrefix}
 use Rattle.gl_event.specs.Bounds.{Bounds, AreWithinRange}
 use Rattle.gl_event.specs.declared.notes.Note.{Note}
-use Rattle.gl_edges.specs.Tracking.{Tracks as Follows}
 use Rattle.gl_edges.specs.declared.edge.Edge.{Edge}
 use Rattle.gl_edges.specs.declared.edge.Sample.{Sample}
 use Rattle.gl_intake.specs.Stream.{events_of, has_ended, note_refusal, AreInOrder}
@@ -13,7 +12,7 @@ use Rattle.gl_recorder.specs.Taking.{Taking, Tracks}
 use Rattle.gl_world.specs.Keeping.{notes_of, AreMade}
 use Rattle.gl_engine.specs.Collecting.{Pulling, as_of}
 use Rattle.gl_engine.specs.Dealing.{made_by}
-use Rattle.gl_engine.specs.declared.row.Row.{Row}
+use Rattle.gl_engine.specs.declared.lane_input.LaneInput.{LaneInput}
 
 -- these notes are of the thread alone, and each is its next one after those before it
 pub record AreNotesOf (limits : Bounds) (thread : ℕ) (notes : List Note) : Type 0 where
@@ -33,9 +32,9 @@ pub record IsReceipt (limits : Bounds) (thread : ℕ) (pushed : List Note) (take
   pub ended : has_ended thread pushed ≡ true
   pub counted : taken ≡ length (events_of thread pushed)
 
--- what contracts see of a row
-abbrev pub pulling_of : Row → Pulling
-pulling_of row = record { lane = row.lane.lane; popped = row.lane.popped; broken = row.broken }
+-- what contracts see of an input
+abbrev pub pulling_of : LaneInput → Pulling
+pulling_of input = record { lane = input.lane.lane; popped = input.lane.popped; broken = input.broken }
 
 -- the lane's front note, read as one of the thread, may not come next, for this reason
 pub record IsStuck (limits : Bounds) (thread : ℕ) (stream : List Note) (lane : Popping) (why : Refused) : Type 0 where
@@ -43,20 +42,19 @@ pub record IsStuck (limits : Bounds) (thread : ℕ) (stream : List Note) (lane :
   pub front : IsPrefix (note ∷ []) lane.left
   pub refused : note_refusal limits stream (as_of thread note) ≡ Some why
 
--- where the row has its lane broken, the front note is the cause
-abbrev pub BreaksForCause : Bounds → ℕ → List Note → Row → Type 0
-BreaksForCause limits thread stream row = (why : Refused) → row.broken ≡ Some why → IsStuck limits thread stream row.lane why
+-- where the input has its lane broken, the front note is the cause
+abbrev pub BreaksForCause : Bounds → ℕ → List Note → LaneInput → Type 0
+BreaksForCause limits thread stream input = (why : Refused) → input.broken ≡ Some why → IsStuck limits thread stream input.lane why
 
--- the rows are the threads': the stream has of each thread what was popped off its lane, its tracker follows that, and a lane breaks for cause
-pub record AreRows (limits : Bounds) (rows : List Row) (stream : List Note) : Type 0 where
-  pub count : length rows ≡ limits.threads
-  pub told : (thread : ℕ) (row : Row) → slice_get rows thread ≡ Some row → notes_of thread stream ≡ map (as_of thread) row.lane.popped
-  pub follows : (thread : ℕ) (row : Row) → slice_get rows thread ≡ Some row → Follows thread (events_of thread stream) row.tracker
-  pub cause : (thread : ℕ) (row : Row) → slice_get rows thread ≡ Some row → BreaksForCause limits thread stream row
+-- the inputs are the threads': the stream has of each thread what was popped off its lane, and a lane breaks for cause
+pub record AreInputs (limits : Bounds) (inputs : List LaneInput) (stream : List Note) : Type 0 where
+  pub count : length inputs ≡ limits.threads
+  pub told : (thread : ℕ) (input : LaneInput) → slice_get inputs thread ≡ Some input → notes_of thread stream ≡ map (as_of thread) input.lane.popped
+  pub cause : (thread : ℕ) (input : LaneInput) → slice_get inputs thread ≡ Some input → BreaksForCause limits thread stream input
 
--- a collector's rows and edges made are those of its stream, which has each thread's notes in order
-pub record IsCollector (limits : Bounds) (rows : List Row) (stream : List Note) (made : List (Edge × Sample)) (collecting : Bounds) : Type 0 where
-  pub rows_are : AreRows limits rows stream
+-- a collector's inputs and edges made are those of its stream, which has each thread's notes in order
+pub record IsCollector (limits : Bounds) (inputs : List LaneInput) (stream : List Note) (made : List (Edge × Sample)) (collecting : Bounds) : Type 0 where
+  pub inputs_are : AreInputs limits inputs stream
   pub in_order : AreInOrder limits stream
   pub made_are : AreMade limits.threads stream made
   pub made_is : made ≡ made_by stream

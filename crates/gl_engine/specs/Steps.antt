@@ -48,9 +48,9 @@ pub record Offers (c : Collecting) (s : State) (thread : ℕ) (lane : Lane) (not
 -- a note is pulled as the machine pulls it: the stream and the edges made are then the machine's
 pub record PullIsPull : Type 0 where
   pub did : (c : Collecting) (s : State) (thread : ℕ) (lane : Lane) (note : Note) → Offers c s thread lane note → (step s (Pull thread)).did ≡ Pulled (accepted_as note.place note.body)
-  pub stream : (c : Collecting) (s : State) (thread : ℕ) (row : Pulling) (lane : Lane) (note : Note) → Offers c s thread lane note
-      → (step s (Pull thread)).after.stream ≡ (with_pulled thread (side_of c row) note).stream
-  pub made : (c : Collecting) (s : State) (thread : ℕ) (row : Pulling) (lane : Lane) (note : Note) → Offers c s thread lane note
-      → (step s (Pull thread)).after.dispatch.made ≡ (with_pulled thread (side_of c row) note).made
+  pub stream : (c : Collecting) (s : State) (thread : ℕ) (input : Pulling) (lane : Lane) (note : Note) → Offers c s thread lane note
+      → (step s (Pull thread)).after.stream ≡ (with_pulled thread (side_of c input) note).stream
+  pub made : (c : Collecting) (s : State) (thread : ℕ) (input : Pulling) (lane : Lane) (note : Note) → Offers c s thread lane note
+      → (step s (Pull thread)).after.dispatch.made ≡ (with_pulled thread (side_of c input) note).made
   -- and no lane breaks
   pub next : (c : Collecting) (s : State) (thread : ℕ) (lane : Lane) (note : Note) → Offers c s thread lane note → IsNext c.limits c.stream (as_of thread note)

@@ -4,9 +4,9 @@ ghost use Rattle.gl_cycles.specs.Reports.{IsGoodlockReport, IsReportFault};
 ghost use Rattle.gl_intake.specs.Stream.{events_of, logs_of, AreInOrder};
 ghost use Rattle.gl_engine.specs.Collecting.{Pulling, lanes_of, IsPull};
 
+use crate::lane_input::LaneInput;
 use crate::pulled::{PullFault, Pulled};
 use crate::reports::report_of_all;
-use crate::row::Row;
 use gl_cycles::{Report, ReportFault};
 use gl_edges::{Edge, Sample};
 use gl_event::{Event, Limits, Note, ThreadId};
@@ -25,7 +25,7 @@ pub struct Collector {
     pub(crate) session: u64,
     pub(crate) limits: Limits,
     pub(crate) intake: Intake,
-    pub(crate) rows: Vec<Row>,
+    pub(crate) inputs: Vec<LaneInput>,
     pub(crate) made: Vec<(Edge, Sample)>,
 }
 
@@ -36,9 +36,9 @@ impl Model for Collector {
 
     ghost Value = { Collecting };
 
-    ghost view = { λ c. record { session = c.session; limits = c.limits; rows = map pulling_of c.rows.items; stream = c.intake.stream; made = c.made.items } };
+    ghost view = { λ c. record { session = c.session; limits = c.limits; inputs = map pulling_of c.inputs.items; stream = c.intake.stream; made = c.made.items } };
 
-    ghost invariant = { λ c. IsCollector c.limits c.rows.items c.intake.stream c.made.items c.intake.limits };
+    ghost invariant = { λ c. IsCollector c.limits c.inputs.items c.intake.stream c.made.items c.intake.limits };
 }
 
 impl Collector {
@@ -51,14 +51,14 @@ impl Collector {
     /// lock is acquired beside others takes a step for each pair of them.
     pub fn pull(&mut self, thread: ThreadId) -> Result<Pulled, PullFault>
         requires known { thread < self.old.limits.threads }
-        ensures tells { (row : Pulling) → slice_get self.old.rows thread ≡ Some row
-            → IsPull self.old thread row result self.new }
+        ensures tells { (input : Pulling) → slice_get self.old.inputs thread ≡ Some input
+            → IsPull self.old thread input result self.new }
         ensures session { self.new.session ≡ self.old.session }
         ensures limits { self.new.limits ≡ self.old.limits }
         ensures lanes { lanes_of self.new ≡ lanes_of self.old }
     {
-        let row = &mut self.rows[thread.number() as usize];
-        row.pull(self.alloc, thread, &mut self.intake, &mut self.made)
+        let input = &mut self.inputs[thread.number() as usize];
+        input.pull(self.alloc, thread, &mut self.intake, &mut self.made)
     }
 
     /// The events of the thread that were collected so far.

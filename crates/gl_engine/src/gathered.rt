@@ -1,6 +1,6 @@
 //! What a collector leaves behind that has run.
 use crate::faults::RunFault;
-use crate::row::Row;
+use crate::lane_input::LaneInput;
 use gl_event::Limits;
 use gl_intake::Intake;
 use gl_shards::Sent;
@@ -17,7 +17,7 @@ pub struct Gathered {
     pub(crate) session: u64,
     pub(crate) limits: Limits,
     pub(crate) intake: Intake,
-    pub(crate) rows: Vec<Row>,
+    pub(crate) inputs: Vec<LaneInput>,
     pub(crate) sent: Vec<Sent>,
     pub(crate) fault: Option<RunFault>,
 }
@@ -29,7 +29,7 @@ impl Model for Gathered {
 
     ghost Value = { Gathering };
 
-    ghost view = { λ g. record { session = g.session; limits = g.limits; lanes = map lane_of g.rows.items; stream = g.intake.stream; sent = g.sent.items; fault = g.fault } };
+    ghost view = { λ g. record { session = g.session; limits = g.limits; lanes = map lane_of g.inputs.items; stream = g.intake.stream; sent = g.sent.items; fault = g.fault } };
 
-    ghost invariant = { λ g. IsGathered g.limits g.rows.items g.intake.stream g.intake.limits g.sent.items g.fault };
+    ghost invariant = { λ g. IsGathered g.limits g.inputs.items g.intake.stream g.intake.limits g.sent.items g.fault };
 }

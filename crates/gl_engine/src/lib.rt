@@ -38,21 +38,21 @@
 #![tactic(auto)]
 
 mod collector;
+mod collector_run;
+mod discarding;
 mod faults;
-mod gather;
 mod gathered;
+mod lane_input;
 mod laws;
+mod pull_and_ship;
 mod pulled;
 mod receipt;
 mod receipts;
 mod recorder;
 mod reports;
-mod row;
-mod run;
 mod session;
-mod settle;
 mod settled;
-mod throw;
+mod settlement;
 
 pub use collector::Collector;
 pub use faults::{RunFault, SettleFault, UnsettledFault};

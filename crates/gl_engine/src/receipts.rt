@@ -5,12 +5,12 @@ ghost use Rattle.gl_engine.specs.Collecting.{Pulling};
 ghost use Rattle.gl_engine.specs.Keeping.{pulling_of};
 ghost use Rattle.gl_engine.specs.bodies.Breaking.{handed, HandOver};
 ghost use Rattle.gl_engine.specs.bodies.Whole.{IsConfirmed};
-ghost use Rattle.gl_engine.specs.declared.row.Row.{Row};
+ghost use Rattle.gl_engine.specs.declared.lane_input.LaneInput.{LaneInput};
 ghost use Rattle.gl_engine.specs.Receipts as wanted;
 ghost use Rattle.gl_engine.specs.Receipts.{AreOwnBelow, AreThereBelow, IsFirstStrange, IsFirstMissing};
 
+use crate::lane_input::LaneInput;
 use crate::receipt::Receipt;
-use crate::row::Row;
 use gl_event::ThreadId;
 
 // Whether one of the receipts is of the thread.
@@ -67,32 +67,32 @@ pub(crate) fn first_missing(threads: u32, receipts: &[Receipt]) -> Option<Thread
 }
 
 // Compares a receipt with what came off its thread's lane, where that is the recorder's lane.
-fn confirm_at(rows: &mut Vec<Row>, receipt: &mut Receipt)
-    requires known { receipt.old.thread < length rows.old.items }
-    requires one_lane { (row : Pulling)
-        → slice_get (map pulling_of rows.old.items) receipt.old.thread ≡ Some row
-        → receipt.old.lane ≡ row.lane }
+fn confirm_at(inputs: &mut Vec<LaneInput>, receipt: &mut Receipt)
+    requires known { receipt.old.thread < length inputs.old.items }
+    requires one_lane { (input : Pulling)
+        → slice_get (map pulling_of inputs.old.items) receipt.old.thread ≡ Some input
+        → receipt.old.lane ≡ input.lane }
     ensures receipt { receipt.new ≡ receipt.old }
-    ensures rows { map pulling_of rows.new.items ≡ map pulling_of rows.old.items }
-    ensures handed { HandOver rows.old.items rows.new.items }
-    ensures confirmed { (row : Row) → slice_get rows.old.items receipt.old.thread ≡ Some row
-        → IsConfirmed (handed row.lane) receipt.old }
+    ensures inputs { map pulling_of inputs.new.items ≡ map pulling_of inputs.old.items }
+    ensures handed { HandOver inputs.old.items inputs.new.items }
+    ensures confirmed { (i : LaneInput) → slice_get inputs.old.items receipt.old.thread ≡ Some i
+        → IsConfirmed (handed i.lane) receipt.old }
 {
-    let row = &mut rows[receipt.thread.number() as usize];
-    row.lane.confirm(&mut receipt.finished);
+    let input = &mut inputs[receipt.thread.number() as usize];
+    input.lane.confirm(&mut receipt.finished);
 }
 
 /// Compares each receipt with what came off its thread's lane.
-pub(crate) fn confirm_all(rows: &mut Vec<Row>, receipts: &mut [Receipt])
+pub(crate) fn confirm_all(inputs: &mut Vec<LaneInput>, receipts: &mut [Receipt])
     requires known { (at : ℕ) (r : Closed) → slice_get receipts.old at ≡ Some r
-        → r.thread < length rows.old.items }
-    requires one_lane { (at : ℕ) (r : Closed) (row : Pulling) → slice_get receipts.old at ≡ Some r
-        → slice_get (map pulling_of rows.old.items) r.thread ≡ Some row → r.lane ≡ row.lane }
+        → r.thread < length inputs.old.items }
+    requires one_lane { (at : ℕ) (r : Closed) (input : Pulling) → slice_get receipts.old at ≡ Some r
+        → slice_get (map pulling_of inputs.old.items) r.thread ≡ Some input → r.lane ≡ input.lane }
     ensures receipts { receipts.new ≡ receipts.old }
-    ensures confirmed { (at : ℕ) (r : Closed) (row : Row) → slice_get receipts.old at ≡ Some r
-        → slice_get rows.old.items r.thread ≡ Some row → IsConfirmed (handed row.lane) r }
+    ensures confirmed { (at : ℕ) (r : Closed) (i : LaneInput) → slice_get receipts.old at ≡ Some r
+        → slice_get inputs.old.items r.thread ≡ Some i → IsConfirmed (handed i.lane) r }
 {
     for at in 0..receipts.len() {
-        confirm_at(rows, &mut receipts[at]);
+        confirm_at(inputs, &mut receipts[at]);
     }
 }

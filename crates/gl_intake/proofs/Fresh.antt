@@ -1,4 +1,4 @@
--- The logs and rows of an intake that has accepted nothing.
+-- The logs and cursors of an intake that has accepted nothing.
 use Rattle.std.proofs.Common.{◌≡◌, ℕ, ◌+◌, ◌<◌, false, List, [], ◌∷◌, ◌++◌, length, get_or, Vec, Global, refl, sym, ap, subst, ◌∙◌, arith, inl, inr}
 use Rattle.std.proofs.lemmas.Bool.{cases_lt}
 use Rattle.std.proofs.lemmas.List.{get_or_append_left, length_push}
@@ -7,8 +7,8 @@ use Rattle.gl_event.specs.Bounds.{Bounds}
 use Rattle.gl_event.specs.declared.events.Event.{Event}
 use Rattle.gl_recorder.specs.Taking.{Tracks}
 use Rattle.gl_intake.specs.Stream.{events_of, has_ended}
-use Rattle.gl_intake.specs.Rows.{AreLogs, AreRows}
-use Rattle.gl_intake.specs.declared.intake.Row.{Row}
+use Rattle.gl_intake.specs.Keeping.{AreLogs, AreCursors}
+use Rattle.gl_intake.specs.declared.intake.ThreadCursor.{ThreadCursor}
 
 -- what holds of each item, and of one more at its end
 pub each_pushed : {X : Type 0} (P : ℕ → X → Type 0) (xs : List X) (x : X) → ((i : ℕ) (d : X) → i < length xs → P i (get_or xs i d)) → P (length xs) x
@@ -35,17 +35,17 @@ count_new xs ys x n is count = ap length is ∙ length_push xs x ∙ ap (λ k. k
 abbrev pub IsEmptyLog : ℕ → Vec Event Global → Type 0
 IsEmptyLog thread log = log.items ≡ []
 
--- a row of a thread that has had no event
-abbrev pub IsFreshRow : Bounds → ℕ → Row → Type 0
-IsFreshRow limits thread row = Tracks limits thread [] row.taker × (row.has_ended ≡ false)
+-- a cursor of a thread that has had no event
+abbrev pub IsFreshCursor : Bounds → ℕ → ThreadCursor → Type 0
+IsFreshCursor limits thread cursor = Tracks limits thread [] cursor.taker × (cursor.has_ended ≡ false)
 
 pub all_logs : (threads : ℕ) (logs : List (Vec Event Global)) → length logs ≡ threads → ((i : ℕ) (d : Vec Event Global) → i < length logs → IsEmptyLog i (get_or logs i d)) → AreLogs threads [] logs
 unfolding events_of
 all_logs threads logs count each = record { count = count; each = λ i d within. each i d (omega arith) }
 
-pub all_rows : (limits : Bounds) (rows : List Row) → length rows ≡ limits.threads → ((i : ℕ) (d : Row) → i < length rows → IsFreshRow limits i (get_or rows i d)) → AreRows limits [] rows
+pub all_cursors : (limits : Bounds) (cursors : List ThreadCursor) → length cursors ≡ limits.threads → ((i : ℕ) (d : ThreadCursor) → i < length cursors → IsFreshCursor limits i (get_or cursors i d)) → AreCursors limits [] cursors
 unfolding events_of has_ended
-all_rows limits rows count each = record {
+all_cursors limits cursors count each = record {
   count = count;
   tracks = λ i d within. (each i d (omega arith)).0;
   ended = λ i d within. (each i d (omega arith)).1;

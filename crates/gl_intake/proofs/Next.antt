@@ -11,8 +11,8 @@ use Rattle.gl_event.specs.declared.notes.Body.{Body}
 use Rattle.gl_event.specs.declared.notes.Body.TheVariants.{Happened, Ended}
 use Rattle.gl_recorder.specs.Taking.{Tracks}
 use Rattle.gl_intake.specs.Stream.{events_of, has_ended, FitsAfter, IsNext, IsRefusedFor, body_refusal, refusal_after, note_refusal}
-use Rattle.gl_intake.specs.Rows.{AreRows}
-use Rattle.gl_intake.specs.declared.intake.Row.{Row}
+use Rattle.gl_intake.specs.Keeping.{AreCursors}
+use Rattle.gl_intake.specs.declared.intake.ThreadCursor.{ThreadCursor}
 use Rattle.gl_intake.specs.declared.notes.Refused.{Refused}
 use Rattle.gl_intake.specs.declared.notes.Refused.TheVariants.{Stranger, Late, Unlawful, Memory}
 
@@ -63,14 +63,14 @@ pub of_stranger : (limits : Bounds) (stream : List Note) (note : Note) → limit
 unfolding note_refusal
 of_stranger limits stream note strange = rw (le-leb limits.threads note.thread strange)
 
--- what a known thread's row says of the note
-pub of_known : (limits : Bounds) (stream : List Note) (note : Note) (rows : List Row) → AreRows limits stream rows → note.thread < limits.threads
-    → (row : Row) → row ≡ get_or rows note.thread row → (r : Option Refused)
-    → ((b : Bounds) (es : List Event) → Tracks b note.thread es row.taker → r ≡ refusal_after b es row.has_ended note) → r ≡ note_refusal limits stream note
+-- what a known thread's cursor says of the note
+pub of_known : (limits : Bounds) (stream : List Note) (note : Note) (cursors : List ThreadCursor) → AreCursors limits stream cursors → note.thread < limits.threads
+    → (cursor : ThreadCursor) → cursor ≡ get_or cursors note.thread cursor → (r : Option Refused)
+    → ((b : Bounds) (es : List Event) → Tracks b note.thread es cursor.taker → r ≡ refusal_after b es cursor.has_ended note) → r ≡ note_refusal limits stream note
 unfolding note_refusal
-of_known limits stream note rows are known row here r says =
-    let tracks = rw (← here) at (are.tracks note.thread row known) in
-    let late : row.has_ended ≡ has_ended note.thread stream = rw (← here) at (are.ended note.thread row known) in
+of_known limits stream note cursors are known cursor here r says =
+    let tracks = rw (← here) at (are.tracks note.thread cursor known) in
+    let late : cursor.has_ended ≡ has_ended note.thread stream = rw (← here) at (are.ended note.thread cursor known) in
     says limits (events_of note.thread stream) tracks ∙ rw (lt-leb limits.threads note.thread known, late)
 
 -- ---- no refusal is for want of memory

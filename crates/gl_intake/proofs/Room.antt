@@ -5,7 +5,7 @@ use Rattle.std.specs.Vec.{vec_len, vec_capacity}
 use Rattle.std.proofs.lemmas.List.{get_or-map, get_or-set_same, length-set}
 use Rattle.gl_event.specs.declared.events.Event.{Event}
 use Rattle.gl_event.specs.declared.notes.Note.{Note}
-use Rattle.gl_intake.specs.Rows.{unused, spares}
+use Rattle.gl_intake.specs.Keeping.{unused, spares}
 use Rattle.gl_intake.proofs.Streams.{some_item}
 
 -- the least of two numbers is above 0 where both are

@@ -1,4 +1,4 @@
--- What one more note makes of a stream's events, end marks, logs and rows.
+-- What one more note makes of a stream's events, end marks, logs and cursors.
 use Rattle.std.proofs.Common.{◌≡◌, ◌≢◌, ℕ, ◌<◌, ◌≤◌, Bool, true, false, cond, ◌||◌, ◌&&◌, eqb, append-nil, List, [], ◌∷◌, ◌++◌, length, map, get_or, Vec, Global, Option, None, refl, sym, ◌∙◌, arith}
 use Rattle.std.proofs.lemmas.List.{get_or-map, ext_get_or, length-map}
 use Rattle.std.proofs.lemmas.List.Elements.{filter_map-append}
@@ -10,8 +10,8 @@ use Rattle.gl_event.specs.declared.events.Event.{Event}
 use Rattle.gl_event.specs.declared.notes.Note.{Note}
 use Rattle.gl_event.specs.declared.notes.Body.TheVariants.{Happened, Ended}
 use Rattle.gl_intake.specs.Stream.{event_in, is_end, events_of, has_ended, logs_of}
-use Rattle.gl_intake.specs.Rows.{AreLogs, AreRows}
-use Rattle.gl_intake.specs.declared.intake.Row.{Row}
+use Rattle.gl_intake.specs.Keeping.{AreLogs, AreCursors}
+use Rattle.gl_intake.specs.declared.intake.ThreadCursor.{ThreadCursor}
 
 -- the logs, one by one, are the lists of all threads' events
 pub logs_listed : (threads : ℕ) (stream : List Note) (logs : List (Vec Event Global)) → AreLogs threads stream logs → map (λ log. log.items) logs ≡ logs_of threads stream
@@ -29,12 +29,12 @@ pub some_item : {X : Type 0} (xs : List X) (i : ℕ) → i < length xs → X
 some_item [] i within = absurd (omega arith)
 some_item (x ∷ xs) i within = x
 
--- where each row says that its thread has ended, each thread has
-pub all_rows_ended : (limits : Bounds) (stream : List Note) (rows : List Row) → AreRows limits stream rows → (n : ℕ) → length rows ≤ n
-    → ((thread : ℕ) (d : Row) → thread < n → (get_or rows thread d).has_ended ≡ true) → (thread : ℕ) → thread < limits.threads → has_ended thread stream ≡ true
-all_rows_ended limits stream rows are n all say thread within =
-    let here : thread < length rows = omega (arith, are.count) in
-    let d = some_item rows thread here in
+-- where each cursor says that its thread has ended, each thread has
+pub all_cursors_ended : (limits : Bounds) (stream : List Note) (cursors : List ThreadCursor) → AreCursors limits stream cursors → (n : ℕ) → length cursors ≤ n
+    → ((thread : ℕ) (d : ThreadCursor) → thread < n → (get_or cursors thread d).has_ended ≡ true) → (thread : ℕ) → thread < limits.threads → has_ended thread stream ≡ true
+all_cursors_ended limits stream cursors are n all say thread within =
+    let here : thread < length cursors = omega (arith, are.count) in
+    let d = some_item cursors thread here in
     sym (are.ended thread d within) ∙ say thread d (omega arith)
 
 -- ---- one note more

@@ -1,3 +1,3 @@
 pub mod Stream
-pub mod Rows
+pub mod Keeping
 pub mod bodies

@@ -1,23 +1,26 @@
 //! The stream of accepted notes, with a log for each thread.
 ghost use Rattle.std.specs.Prelude.{◌≡◌, ◌≢◌, ◌↔◌, ℕ, ◌<◌, ◌≤◌, Some, None, Err, List, [], ◌∷◌, ◌++◌, length, map, slice_get, IsTrue, IsOk, IfOk, IfErr, OnOk, OnErr, ◌==◌, if◌then◌else◌};
-ghost use Rattle.gl_intake.specs.Rows.{AreLogs, AreRows};
+ghost use Rattle.gl_intake.specs.Keeping.{AreLogs, AreCursors};
 ghost use Rattle.gl_intake.specs.declared.notes.Refused.TheVariants.{WrongCount, Memory};
 ghost use Rattle.gl_event.specs.declared.notes.Body.TheVariants.{Happened, Ended};
 ghost use Rattle.gl_event.specs.Bounds.{Bounds, greatest};
 ghost use Rattle.gl_event.specs.declared.events.Event.{Event};
 ghost use Rattle.gl_event.specs.Lawful.{IsLawful};
+ghost use Rattle.gl_event.specs.States.{StandsAfter};
 ghost use Rattle.gl_recorder.specs.Taking.{Tracks};
 ghost use Rattle.gl_intake.specs.Stream.{events_of, has_ended, logs_of, AreInOrder, IsRefusedFor, refusal_after, note_refusal, accepted_as, spare_of};
 
 use crate::notes::{Accepted, Refused};
-use gl_event::{Body, Event, Limits, Memory, Note, ThreadId, append, append_both, make_room};
+use gl_event::{
+    Body, Event, Limits, Memory, Note, ThreadId, ThreadState, append, append_both, make_room,
+};
 use gl_recorder::Taker;
 use std::alloc::Global;
 use std::marker::Model;
 
 // What is known of a thread: its events so far, and whether it has ended.
 #[derive(Drop, Debug)]
-struct Row {
+struct ThreadCursor {
     taker: Taker,
     has_ended: bool,
 }
@@ -31,29 +34,29 @@ pub struct Intake {
     limits: Limits,
     stream: Vec<Note>,
     logs: Vec<Vec<Event>>,
-    rows: Vec<Row>,
+    cursors: Vec<ThreadCursor>,
 }
 
 impl Model for Intake {
     ghost use Rattle.gl_intake.specs.Stream.{Collected};
-    ghost use Rattle.gl_intake.specs.Rows.{IsKept, spares};
+    ghost use Rattle.gl_intake.specs.Keeping.{IsKept, spares};
 
     ghost Value = { Collected };
 
     ghost view = { λ i. record { limits = i.limits; stream = i.stream.items; spare = spares i.stream i.logs.items } };
 
-    ghost invariant = { λ i. IsKept i.limits i.stream.items i.logs.items i.rows.items };
+    ghost invariant = { λ i. IsKept i.limits i.stream.items i.logs.items i.cursors.items };
 }
 
-// Why the note may not come after the events so far of the row's thread.
-fn row_refusal(row: &Row, note: &Note) -> Option<Refused>
-    ensures { (limits : Bounds) (es : List Event) → Tracks limits note.now.thread es row.now.taker
-        → result ≡ refusal_after limits es row.now.has_ended note.now }
+// Why the note may not come after the events so far of the cursor's thread.
+fn cursor_refusal(past: &ThreadCursor, note: &Note) -> Option<Refused>
+    ensures { (limits : Bounds) (es : List Event) → Tracks limits note.now.thread es past.now.taker
+        → result ≡ refusal_after limits es past.now.has_ended note.now }
 {
-    if row.has_ended {
+    if past.has_ended {
         return Some(Refused::Late);
     }
-    let expected = row.taker.taken();
+    let expected = past.taker.taken();
     if note.place != expected {
         return Some(Refused::Misplaced {
             expected,
@@ -61,7 +64,7 @@ fn row_refusal(row: &Row, note: &Note) -> Option<Refused>
         });
     }
     match note.body {
-        Body::Happened(event) => match row.taker.check(event) {
+        Body::Happened(event) => match past.taker.check(event) {
             Ok(_) => None,
             Err(refusal) => Some(Refused::Unlawful(refusal)),
         },
@@ -90,36 +93,36 @@ fn empty_logs(alloc: Global, threads: u32) -> Result<Vec<Vec<Event>>, Memory>
     Ok(logs)
 }
 
-// A row for each thread, which has had no event.
-fn fresh_rows(alloc: Global, limits: &Limits) -> Result<Vec<Row>, Memory>
-    ensures { IfOk result (λ rows. AreRows limits.now [] rows.items) }
+// A cursor for each thread, which has had no event.
+fn fresh_cursors(alloc: Global, limits: &Limits) -> Result<Vec<ThreadCursor>, Memory>
+    ensures { IfOk result (λ cursors. AreCursors limits.now [] cursors.items) }
 {
-    let mut rows = Vec::new(alloc);
+    let mut cursors = Vec::new(alloc);
     for thread in 0..limits.threads() {
-        rows.push(Row {
+        cursors.push(ThreadCursor {
             taker: Taker::new(ThreadId::new(thread), limits),
             has_ended: false,
         })?;
     }
-    Ok(rows)
+    Ok(cursors)
 }
 
 impl Intake {
     ghost use Rattle.gl_intake.specs.bodies.Accepting.{Accepts};
 
-    /// An intake that has accepted nothing yet, under these limits. It has memory for a row and a
+    /// An intake that has accepted nothing yet, under these limits. It has memory for a cursor and a
     /// log of each thread.
     pub fn new(alloc: Global, limits: &Limits) -> Result<Intake, Memory>
         ensures limits { IfOk result (λ intake. intake.limits ≡ limits.now) }
         ensures empty { IfOk result (λ intake. intake.stream ≡ []) }
     {
         let logs = empty_logs(alloc, limits.threads())?;
-        let rows = fresh_rows(alloc, limits)?;
+        let cursors = fresh_cursors(alloc, limits)?;
         Ok(Intake {
             limits: *limits,
             stream: Vec::new(alloc),
             logs,
-            rows,
+            cursors,
         })
     }
 
@@ -155,12 +158,20 @@ impl Intake {
         self.logs[thread.number() as usize].as_slice()
     }
 
+    /// What is known of the thread after the events that were accepted of it.
+    pub fn state(&self, thread: ThreadId) -> &ThreadState
+        requires { thread < self.now.limits.threads }
+        ensures { StandsAfter (events_of thread self.now.stream) result.now }
+    {
+        self.cursors[thread.number() as usize].taker.state()
+    }
+
     /// Whether the thread has ended. One that isn't known hasn't.
     pub fn ended(&self, thread: ThreadId) -> bool
         ensures { result ≡ has_ended thread self.now.stream }
     {
-        match self.rows.get(thread.number() as usize) {
-            Some(row) => row.has_ended,
+        match self.cursors.get(thread.number() as usize) {
+            Some(cursor) => cursor.has_ended,
             None => false,
         }
     }
@@ -171,8 +182,8 @@ impl Intake {
             ((thread : ℕ) → thread < self.now.limits.threads
             → IsTrue (has_ended thread self.now.stream)) }
     {
-        for row in &self.rows {
-            if !row.has_ended {
+        for cursor in &self.cursors {
+            if !cursor.has_ended {
                 return false;
             }
         }
@@ -220,7 +231,25 @@ impl Intake {
         if let Some(refused) = self.refusal(&note) {
             return Err(refused);
         }
-        Ok(self.accept(&note)?)
+        Ok(self.try_accept(&note)?)
+    }
+
+    /// Accepts the note, which is its thread's next one and has room, as `ready` answered and made it.
+    /// It isn't asked again whether it is, and no memory is taken.
+    ///
+    /// It looks through the at most 64 locks that the thread holds, and appends to two lists.
+    pub fn accept(&mut self, note: &Note) -> Accepted
+        requires next { note_refusal self.old.limits self.old.stream note.now ≡ None }
+        requires reserved { 1 ≤ spare_of self.old note.now.thread }
+        ensures answer { result ≡ accepted_as note.now.place note.now.body }
+        ensures grown { self.new.stream ≡ self.old.stream ++ note.now ∷ [] }
+        ensures limits { self.new.limits ≡ self.old.limits }
+    {
+        match self.try_accept(note) {
+            Ok(accepted) => accepted,
+            // there is room for it
+            Err(Memory) => unreachable!(),
+        }
     }
 
     // Why the note may not come next.
@@ -228,10 +257,10 @@ impl Intake {
         ensures { result ≡ note_refusal self.now.limits self.now.stream note.now }
     {
         let index = note.thread.number() as usize;
-        if index >= self.rows.len() {
+        if index >= self.cursors.len() {
             return Some(Refused::Stranger);
         }
-        row_refusal(&self.rows[index], note)
+        cursor_refusal(&self.cursors[index], note)
     }
 
     // Makes room for a note of the thread.
@@ -247,7 +276,7 @@ impl Intake {
     }
 
     // Accepts the note, which may come next.
-    fn accept(&mut self, note: &Note) -> Result<Accepted, Memory>
+    fn try_accept(&mut self, note: &Note) -> Result<Accepted, Memory>
         requires next { note_refusal self.old.limits self.old.stream note.now ≡ None }
         ensures answer { IfOk result (λ answer. answer ≡ accepted_as note.now.place note.now.body) }
         ensures accepts { Accepts self.old self.new note.now result }
@@ -272,7 +301,7 @@ impl Intake {
     {
         let index = note.thread.number() as usize;
         append_both(&mut self.logs[index], &mut self.stream, *event, *note)?;
-        self.rows[index].taker.advance(*event);
+        self.cursors[index].taker.advance(*event);
         Ok(())
     }
 
@@ -284,7 +313,7 @@ impl Intake {
     {
         let index = note.thread.number() as usize;
         append(&mut self.stream, *note)?;
-        self.rows[index].has_ended = true;
+        self.cursors[index].has_ended = true;
         Ok(())
     }
 }

@@ -16,9 +16,9 @@ use Rattle.gl_std.specs.declared.trace.Trace.{Trace}
 use Rattle.gl_engine.specs.Recording.{Recording, Closed, next_note, recorded, recorded_whole, with_pushed}
 use Rattle.gl_world.proofs.Lists.{same_some, get_in, get_set_same, get_set_other}
 use Rattle.gl_live.specs.bodies.Padded.{padded}
-use Rattle.gl_live.specs.bodies.Seats.{Seat, Seating, left_by, seat_of, IsReceiptOf, IsSeatOf}
+use Rattle.gl_live.specs.bodies.Rosters.{Identity, Roster, left_by, identity_of, IsReceiptOf, IsOnRoster}
 use Rattle.gl_live.specs.bodies.Streams.{AreRecorded, Follows, HasTaken, IsOfThreads, Stops}
-use Rattle.gl_live.proofs.Seated.{recorded_more}
+use Rattle.gl_live.proofs.Rostered.{recorded_more}
 
 same_or_not : (i j : ℕ) → (i ≡ j) ⊎ (i ≢ j)
 same_or_not zero zero = inl refl
@@ -74,7 +74,7 @@ module _ (threads : ℕ) (lists : List (List Event)) (thread : ℕ) (event : Eve
 
   -- ---- a recorder that takes it
 
-  module _ (s : Seating) (old : List Recording) (are : AreRecorded s lists old) (r later : Recording) (room : ℕ) (here : slice_get old thread ≡ Some r) (is : later ≡ with_pushed r (next_note r event) room) where
+  module _ (s : Roster) (old : List Recording) (are : AreRecorded s lists old) (r later : Recording) (room : ℕ) (here : slice_get old thread ≡ Some r) (is : later ≡ with_pushed r (next_note r event) room) where
     abbrev pub now : List Recording
     now = slice_set old thread later
 
@@ -93,9 +93,9 @@ module _ (threads : ℕ) (lists : List (List Event)) (thread : ℕ) (event : Eve
 
     pub records : AreRecorded s (listed threads lists thread event) now
     records = record {
-      seats =
-          at_each (λ at x. IsSeatOf s (seat_of x)) (subst (IsSeatOf s) (sym (ap seat_of is)) (are.seats thread r here))
-          (λ at x differ found. are.seats at x found);
+      identities =
+          at_each (λ at x. IsOnRoster s (identity_of x)) (subst (IsOnRoster s) (sym (ap identity_of is)) (are.identities thread r here))
+          (λ at x differ found. are.identities at x found);
       threads = at_each (λ at x. x.thread ≡ at) (ap (λ (x : Recording). x.thread) is ∙ are.threads thread r here) (λ at x differ found. are.threads at x found);
       events =
           at_each (λ at x. recorded x ≡ slice_index_or (listed threads lists thread event) at [])
@@ -108,19 +108,19 @@ module _ (threads : ℕ) (lists : List (List Event)) (thread : ℕ) (event : Eve
 at_padded : (more : ℕ) (lists : List (List Event)) (at : ℕ) → at < length lists + more → slice_get (padded more lists) at ≡ Some (slice_index_or lists at [])
 at_padded more lists at within = get_in (padded more lists) at [] (omega (arith, within, long more lists)) ∙ ap Some (index_padded more lists at)
 
-pub all_taken : (s : Seating) (lists : List (List Event)) (recorders : List Recording) (more : ℕ) → length recorders ≡ length lists + more → AreRecorded s lists recorders → All (HasTaken s (padded more lists)) recorders
+pub all_taken : (s : Roster) (lists : List (List Event)) (recorders : List Recording) (more : ℕ) → length recorders ≡ length lists + more → AreRecorded s lists recorders → All (HasTaken s (padded more lists)) recorders
 all_taken s lists recorders more count are thread d within =
     let r = get_or recorders thread d in
     let here = get_in recorders thread d within in record {
-      seat = are.seats thread r here;
+      identity = are.identities thread r here;
       whole = ap (slice_get (padded more lists)) (are.threads thread r here) ∙ at_padded more lists thread (omega (arith, within, count)) ∙ ap Some (sym (are.events thread r here));
     }
 
 -- the receipt of a recorder that has taken its thread's whole list
-pub receipt_taken : (s : Seating) (lists : List (List Event)) (r : Recording) (receipt : Closed) → left_by receipt ≡ seat_of r → recorded_whole receipt ≡ recorded r → HasTaken s lists r → IsReceiptOf s lists receipt
-receipt_taken s lists r receipt seat whole has = record {
-  seat = subst (IsSeatOf s) (sym seat) has.seat;
-  whole = ap (λ (x : Seat). slice_get lists x.thread) seat ∙ has.whole ∙ ap Some (sym whole);
+pub receipt_taken : (s : Roster) (lists : List (List Event)) (r : Recording) (receipt : Closed) → left_by receipt ≡ identity_of r → recorded_whole receipt ≡ recorded r → HasTaken s lists r → IsReceiptOf s lists receipt
+receipt_taken s lists r receipt identity whole has = record {
+  identity = subst (IsOnRoster s) (sym identity) has.identity;
+  whole = ap (λ (x : Identity). slice_get lists x.thread) identity ∙ has.whole ∙ ap Some (sym whole);
 }
 
 -- ---- items
@@ -153,7 +153,7 @@ is_told End thread event is = cc
 pub of_threads : (item : Item) (threads : ℕ) → ((thread : ℕ) (event : Event) → (let x : Result Item LinesFault = Ok item in x) ≡ Ok (Told thread event) → thread < threads) → IsOfThreads threads item
 of_threads item threads known thread event is = known thread event (ap (λ x. Ok x) (is_told item thread event is))
 
-module _ (s : Seating) (limits : Bounds) (turns : ℕ) (input : Use) (items : Stream) (text : List ℕ) (told : Trace) where
+module _ (s : Roster) (limits : Bounds) (turns : ℕ) (input : Use) (items : Stream) (text : List ℕ) (told : Trace) where
   -- what the items told with one more is recorded
   pub follows_more : (item : Item) (recorders : List Recording) → GoesOn limits turns input items text told (Ok item) → AreRecorded s (with_item item (names_of items) told).lists recorders → Follows s limits turns input items recorders
   follows_more item recorders on are = record { text = text ++ on.piece; told = with_item item (names_of items) told; tells = on.tells; recorded = are }

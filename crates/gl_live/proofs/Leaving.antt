@@ -12,7 +12,7 @@ use Rattle.gl_engine.specs.Gathering.{Gathering, AreOurs}
 use Rattle.gl_engine.specs.Recording.{Closed}
 use Rattle.gl_engine.specs.Settling.{IsSettled}
 use Rattle.gl_engine.proofs.Confirming.{receipt_of_thread}
-use Rattle.gl_live.specs.bodies.Seats.{Seating, seating_of, gathered_from, AreReceipts, IsReceiptOf}
+use Rattle.gl_live.specs.bodies.Rosters.{Roster, roster_of, gathered_from, AreReceipts, IsReceiptOf}
 
 -- what holds of all elements holds of the one at a place
 pub all_get : {X : Type 0} (P : X → Type 0) (xs : List X) (at : ℕ) (x : X) → slice_get xs at ≡ Some x → All P xs → P x
@@ -28,12 +28,12 @@ as_long f g xs ys same = sym (length-map xs f) ∙ ap length same ∙ length-map
 
 -- ---- receipts of what was gathered
 
-pub seating_same : (g : Gathering) (c : Collecting) → g.session ≡ c.session → g.limits ≡ c.limits → g.lanes ≡ lanes_of c → gathered_from g ≡ seating_of c
-seating_same g c session limits lanes = λ i. (let x : Seating = record { session = session i; limits = limits i; lanes = lanes i } in x)
+pub roster_same : (g : Gathering) (c : Collecting) → g.session ≡ c.session → g.limits ≡ c.limits → g.lanes ≡ lanes_of c → gathered_from g ≡ roster_of c
+roster_same g c session limits lanes = λ i. (let x : Roster = record { session = session i; limits = limits i; lanes = lanes i } in x)
 
 pub receipts_gathered : (g : Gathering) (c : Collecting) (lists : List (List Event)) (receipts : List Closed) → g.session ≡ c.session → g.limits ≡ c.limits → g.lanes ≡ lanes_of c
-    → All (IsReceiptOf (seating_of c) lists) receipts → All (IsReceiptOf (gathered_from g) lists) receipts
-receipts_gathered g c lists receipts session limits lanes are = subst (λ s. All (IsReceiptOf s lists) receipts) (sym (seating_same g c session limits lanes)) are
+    → All (IsReceiptOf (roster_of c) lists) receipts → All (IsReceiptOf (gathered_from g) lists) receipts
+receipts_gathered g c lists receipts session limits lanes are = subst (λ s. All (IsReceiptOf s lists) receipts) (sym (roster_same g c session limits lanes)) are
 
 -- ---- the lists that are settled
 
@@ -61,7 +61,7 @@ settled_lists g lists receipts settled sent is count are =
 pub ours : (g : Gathering) (receipts : List Closed) → AreReceipts (gathered_from g) receipts → AreOurs g receipts
 ours g receipts are = λ at r here same lane there.
     let its = all_get (IsReceiptOf (gathered_from g) are.lists) receipts at r here are.each in
-    (same_some r.lane lane (sym its.seat.lane ∙ there), its.seat.limits)
+    (same_some r.lane lane (sym its.identity.lane ∙ there), its.identity.limits)
 
-pub are_receipts : (s : Seating) (lists : List (List Event)) (receipts : List Closed) → All (IsReceiptOf s lists) receipts → AreReceipts s receipts
+pub are_receipts : (s : Roster) (lists : List (List Event)) (receipts : List Closed) → All (IsReceiptOf s lists) receipts → AreReceipts s receipts
 are_receipts s lists receipts each = record { lists = lists; each = each }

@@ -1,4 +1,4 @@
-pub mod Seated
+pub mod Rostered
 pub mod Opened
 pub mod Leaving
 pub mod Listings

@@ -20,7 +20,7 @@ use Rattle.gl_std.specs.declared.faults.LinesFault.{LinesFault}
 use Rattle.gl_std.specs.declared.stream.Item.{Item}
 use Rattle.gl_std.specs.declared.stream.Item.TheVariants.{Event as Told, End}
 use Rattle.gl_std.specs.declared.trace.Trace.{Trace}
-use Rattle.gl_std.proofs.StepLemmas.{trace_of_over}
+use Rattle.gl_std.proofs.WithinLimits.{trace_of_over}
 use Rattle.gl_engine.specs.Recording.{Recording, recorded}
 use Rattle.gl_world.proofs.Lists.{found_within}
 use Rattle.gl_live.specs.bodies.Streams.{CanBeTaken, Follows, IsRecording, MayTake}
@@ -54,9 +54,9 @@ refuses_no_more limits more thread es e few same none =
 told_over : (limits : Bounds) (turns : ℕ) (input : Use) (items : Stream) (text : List ℕ) (told : Trace) → HasNoFault items → HasTold limits turns input items text told → IsTraceOver limits told
 told_over limits turns input items text told none tells = by items.stage refl tells
   where
-    by : (stage : Stage) → items.stage ≡ stage → HasToldAt stage limits turns input items.feed text told → IsTraceOver limits told
+    by : (stage : Stage) → items.stage ≡ stage → HasToldAt stage limits turns input items.reader text told → IsTraceOver limits told
     by Reading is on =
-        let judge = items.feed.judge in
+        let judge = items.reader.judge in
         let reaches = on.at.reaches in
         subst (λ l. IsTraceOver l told) on.same (trace_of_over judge.limits (ended_lines on.at.seen ++ []) told (reaches.is.goes_on []))
     by Done is over = trace_of_over limits text told over.1
@@ -68,7 +68,7 @@ in_range : (limits : Bounds) (turns : ℕ) (input : Use) (items : Stream) (text 
     → CanBeAsked items input.failed → HasTold limits turns input items text told → AreWithinRange limits
 in_range limits turns input items text told result thread event is ends fails usable tells = by items.stage refl usable tells
   where
-    by : (stage : Stage) → items.stage ≡ stage → CanReadOn stage input.failed items.feed → HasToldAt stage limits turns input items.feed text told → AreWithinRange limits
+    by : (stage : Stage) → items.stage ≡ stage → CanReadOn stage input.failed items.reader → HasToldAt stage limits turns input items.reader text told → AreWithinRange limits
     by Reading at fit on = subst AreWithinRange on.same fit.1.sound.in_range
     by Done at fit on = let wrong = sym is ∙ ends at in cc
     by (Faulty fault) at fit on = let wrong = sym is ∙ fails fault at in cc
@@ -116,7 +116,7 @@ can_be_taken now later failed failed2 items more recorders item result answer re
     (omega (arith, known thread event is, over.threads_fit, recording.as_many))
     (omega (arith, range.events_fit, recording.events_are))
     recording.threads_are
-    (λ r here. ((are.seats thread r here).limits, are.threads thread r here, are.events thread r here))
+    (λ r here. ((are.identities thread r here).limits, are.threads thread r here, are.events thread r here))
     (λ es at. over.lawful thread es at)
 
 -- recorders go on after items were recorded

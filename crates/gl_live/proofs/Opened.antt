@@ -10,19 +10,19 @@ use Rattle.gl_event.specs.Bounds.{Bounds}
 use Rattle.gl_event.specs.declared.limits.TheConstants.{MAX_EVENTS}
 use Rattle.gl_lane.specs.Lanes.{LaneId}
 use Rattle.gl_world.proofs.Lists.{get_in}
-use Rattle.gl_engine.specs.Collecting.{Collecting, IsOpened, fresh_row, lanes_of}
+use Rattle.gl_engine.specs.Collecting.{Collecting, IsOpened, fresh_input, lanes_of}
 use Rattle.gl_engine.specs.Recording.{Recording}
 use Rattle.gl_shards.specs.declared.shard.TheConstants.{MAX_SHARDS}
-use Rattle.gl_live.specs.bodies.Desks.{IsDeskOf}
+use Rattle.gl_live.specs.bodies.Workloads.{IsWorkloadOf}
 use Rattle.gl_live.specs.bodies.Ready.{IsReady}
-use Rattle.gl_live.specs.bodies.Seats.{Seating, seating_of, IsRecorderOf}
+use Rattle.gl_live.specs.bodies.Rosters.{Roster, roster_of, IsRecorderOf}
 use Rattle.gl_live.specs.bodies.Streams.{AreRecorded, IsReadyToRead}
 use Rattle.gl_live.specs.declared.session.Session.{Session}
 use Rattle.gl_live.specs.declared.streaming.ReadSession.{ReadSession}
-use Rattle.gl_live.proofs.Seated.{events_none}
+use Rattle.gl_live.proofs.Rostered.{events_none}
 use Rattle.gl_intake.specs.Stream.{events_of}
 
-lanes_of_fresh : (lanes : List LaneId) → map (λ row. row.lane) (map fresh_row lanes) ≡ lanes
+lanes_of_fresh : (lanes : List LaneId) → map (λ input. input.lane) (map fresh_input lanes) ≡ lanes
 lanes_of_fresh [] = refl
 lanes_of_fresh (lane ∷ lanes) = ap (λ ls. lane ∷ ls) (lanes_of_fresh lanes)
 
@@ -30,11 +30,11 @@ module _ (session : ℕ) (limits : Bounds) (recorders : List Recording) (c : Col
   lanes_are : lanes_of c ≡ map (λ r. r.lane) recorders
   lanes_are = ap lanes_of opened.collects ∙ lanes_of_fresh (map (λ r. r.lane) recorders)
 
-  one_ours : (thread : ℕ) (r : Recording) → slice_get recorders thread ≡ Some r → IsRecorderOf (seating_of c) r
+  one_ours : (thread : ℕ) (r : Recording) → slice_get recorders thread ≡ Some r → IsRecorderOf (roster_of c) r
   one_ours thread r here =
       let fresh = opened.fresh thread r here in
       record {
-        seat = record {
+        identity = record {
           session = ap (λ (x : Recording). x.session) fresh ∙ sym (ap (λ (x : Collecting). x.session) opened.collects);
           limits = ap (λ (x : Recording). x.limits) fresh ∙ sym (ap (λ (x : Collecting). x.limits) opened.collects);
           lane =
@@ -46,18 +46,18 @@ module _ (session : ℕ) (limits : Bounds) (recorders : List Recording) (c : Col
         unused = ap (λ (x : Recording). x.pushed) fresh;
       }
 
-  pub opened_ours : All (IsRecorderOf (seating_of c)) recorders
+  pub opened_ours : All (IsRecorderOf (roster_of c)) recorders
   opened_ours thread d within = one_ours thread (get_or recorders thread d) (get_in recorders thread d within)
 
   pub ready : (threads shards : ℕ) → limits.threads ≡ threads → 1 ≤ shards → shards ≤ MAX_SHARDS → (x : Session) → x.collector ≡ c
-      → ((s : Seating) → All (IsRecorderOf s) recorders → All (IsDeskOf s) x.desks.items)
+      → ((s : Roster) → All (IsRecorderOf s) recorders → All (IsWorkloadOf s) x.workloads.items)
       → length x.outlets.items ≡ shards → map (λ i. i.feed) x.inlets.items ≡ map (λ o. o.feed) x.outlets.items → All (λ o. o.sent ≡ []) x.outlets.items
       → x.receipts.items ≡ [] → x.served.items ≡ [] → vec_len x.served ≡ 0 → shards ≤ vec_capacity x.served → IsReady threads x
-  ready threads shards known some fit x is desks count feeds unsent no_receipt none_served empty room =
+  ready threads shards known some fit x is workloads count feeds unsent no_receipt none_served empty room =
       let inlets : length x.inlets.items ≡ shards = sym (length-map x.inlets.items (λ i. i.feed)) ∙ ap length feeds ∙ length-map x.outlets.items (λ o. o.feed) ∙ count in
       record {
         threads_are = ap (λ (y : Collecting). y.limits.threads) (is ∙ opened.collects) ∙ known;
-        desks = subst (λ (y : Collecting). All (IsDeskOf (seating_of y)) x.desks.items) (sym is) (desks (seating_of c) opened_ours);
+        workloads = subst (λ (y : Collecting). All (IsWorkloadOf (roster_of y)) x.workloads.items) (sym is) (workloads (roster_of c) opened_ours);
         some = omega (arith, some, count);
         fit = subst (λ n. n ≤ MAX_SHARDS) (sym count) fit;
         unsent = unsent;
@@ -78,10 +78,10 @@ module _ (session : ℕ) (limits : Bounds) (recorders : List Recording) (c : Col
         threads_are = ap (λ (y : Collecting). y.limits.threads) (is ∙ opened.collects) ∙ known ∙ sym many;
         events_are = ap (λ (y : Collecting). y.limits.events) (is ∙ opened.collects) ∙ events;
         unused =
-            subst (λ rs. AreRecorded (seating_of x.collector) [] rs) (sym are)
-            (subst (λ (y : Collecting). AreRecorded (seating_of y) [] recorders) (sym is)
+            subst (λ rs. AreRecorded (roster_of x.collector) [] rs) (sym are)
+            (subst (λ (y : Collecting). AreRecorded (roster_of y) [] recorders) (sym is)
             (record {
-              seats = λ thread r here. (one_ours thread r here).seat;
+              identities = λ thread r here. (one_ours thread r here).identity;
               threads = λ thread r here. ap (λ (y : Recording). y.thread) (opened.fresh thread r here);
               events = λ thread r here. ap (events_of r.thread) (one_ours thread r here).unused ∙ events_none r.thread;
             }));

@@ -16,14 +16,14 @@ use Rattle.gl_std.specs.Streaming.{HasTold, HasToldAt, IsDone, Stream}
 use Rattle.gl_std.specs.Trace.{nothing, IsNamed, IsTraceOver}
 use Rattle.gl_std.specs.declared.faults.LinesFault.{LinesFault}
 use Rattle.gl_std.specs.declared.trace.Trace.{Trace}
-use Rattle.gl_std.proofs.StepLemmas.{trace_of_over}
+use Rattle.gl_std.proofs.WithinLimits.{trace_of_over}
 use Rattle.gl_engine.specs.Collecting.{Collecting}
 use Rattle.gl_engine.specs.Gathering.{Gathering}
 use Rattle.gl_engine.specs.Recording.{Recording, Closed}
 use Rattle.gl_live.specs.Faults.{IsLiveFault}
 use Rattle.gl_live.specs.Streamed.{Becomes, FailsInTime, IsStreamFault}
 use Rattle.gl_live.specs.bodies.Padded.{padded, HaveAll}
-use Rattle.gl_live.specs.bodies.Seats.{Seating, seating_of, gathered_from, AreReceipts, IsReceiptOf}
+use Rattle.gl_live.specs.bodies.Rosters.{Roster, roster_of, gathered_from, AreReceipts, IsReceiptOf}
 use Rattle.gl_live.specs.bodies.Streams.{AreRecorded, Follows, HasGathered, HasStreamed, HasTaken, Stops}
 use Rattle.gl_live.specs.declared.faults.LiveFault.{LiveFault}
 use Rattle.gl_live.specs.declared.faults.LiveFault.TheVariants.{Inconsistent, Memory, Unconfirmed}
@@ -33,10 +33,10 @@ use Rattle.gl_live.specs.declared.run.Ran.{Ran}
 use Rattle.gl_live.proofs.Following.{all_taken, long}
 use Rattle.gl_live.proofs.Leaving.{all_get, receipts_gathered}
 use Rattle.gl_live.proofs.Padding.{least_only, report_only}
-use Rattle.gl_live.proofs.Seated.{all_same}
+use Rattle.gl_live.proofs.Rostered.{all_same}
 
 -- nothing was read
-pub begins : (c : Collecting) (limits : Bounds) (turns : ℕ) (input : Use) (items : Stream) (recorders : List Recording) → AreRecorded (seating_of c) [] recorders → HasTold limits turns input items [] nothing → Follows (seating_of c) limits turns input items recorders
+pub begins : (c : Collecting) (limits : Bounds) (turns : ℕ) (input : Use) (items : Stream) (recorders : List Recording) → AreRecorded (roster_of c) [] recorders → HasTold limits turns input items [] nothing → Follows (roster_of c) limits turns input items recorders
 begins c limits turns input items recorders unused told = record { text = []; told = nothing; tells = told; recorded = unused }
 
 -- what was gathered of the session that its collector's thread was given
@@ -46,8 +46,8 @@ has_gathered own c its outlets g same alike is = subst (λ os. HasGathered c os 
 -- all was recorded
 pub streamed : (limits : Bounds) (turns : ℕ) (input : Use) (threads : ℕ) (items : Stream) (c : Collecting) (outlets : List Sending) (recorders : List Recording) (before : List Closed) (ran : Ran)
     → HasGathered c outlets ran.gathered → before ≡ [] → length recorders ≡ threads → IsDone items
-    → ((s : Seating) (lists : List (List Event)) → All (HasTaken s lists) recorders → All (IsReceiptOf s lists) before → All (IsReceiptOf s lists) ran.receipts.items)
-    → Follows (seating_of c) limits turns input items recorders → HasStreamed limits turns input threads items (Ok ran)
+    → ((s : Roster) (lists : List (List Event)) → All (HasTaken s lists) recorders → All (IsReceiptOf s lists) before → All (IsReceiptOf s lists) ran.receipts.items)
+    → Follows (roster_of c) limits turns input items recorders → HasStreamed limits turns input threads items (Ok ran)
 streamed limits turns input threads items c outlets recorders before ran gathered none count done closed follows =
     let lists = follows.told.lists in record {
       text = follows.text;
@@ -57,7 +57,7 @@ streamed limits turns input threads items c outlets recorders before ran gathere
         done,
         λ more is.
             receipts_gathered ran.gathered c (padded more lists) ran.receipts.items gathered.session gathered.limits gathered.lanes
-            (closed (seating_of c) (padded more lists) (all_taken (seating_of c) lists recorders more (count ∙ is) follows.recorded) (all_same none (IsReceiptOf (seating_of c) (padded more lists)) (All-nil _))),
+            (closed (roster_of c) (padded more lists) (all_taken (roster_of c) lists recorders more (count ∙ is) follows.recorded) (all_same none (IsReceiptOf (roster_of c) (padded more lists)) (All-nil _))),
       );
     }
 
@@ -70,7 +70,7 @@ unstreamed limits turns input threads items fault stops = record { text = stops.
 -- what holds of the trace where the end was answered
 over : (limits : Bounds) (turns : ℕ) (input : Use) (items : Stream) (text : List ℕ) (told : Trace) → IsDone items → HasTold limits turns input items text told → IsTraceOver limits told
 over limits turns input items text told done tells =
-    let at = subst (λ stage. HasToldAt stage limits turns input items.feed text told) done tells in
+    let at = subst (λ stage. HasToldAt stage limits turns input items.reader text told) done tells in
     trace_of_over limits text told at.1
 
 have_all : (limits : Bounds) (told : Trace) → IsTraceOver limits told → HaveAll told.lists

@@ -1,7 +1,7 @@
 -- The words of loops and private functions. No public contract cites them.
-pub mod Desks
+pub mod Workloads
 pub mod Padded
 pub mod Ready
 pub mod Runs
-pub mod Seats
+pub mod Rosters
 pub mod Streams

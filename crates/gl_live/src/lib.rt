@@ -10,12 +10,12 @@
 
 mod faults;
 mod live;
+mod preallocated;
 mod recording;
 mod reports;
-mod room;
 mod run;
 mod session;
-mod start;
+mod start_gate;
 mod stream;
 mod streaming;
 mod working;

@@ -17,11 +17,11 @@ ghost use Rattle.gl_engine.specs.Settling.{IsSettled};
 ghost use Rattle.gl_findings.specs.Reports.{IsReportListing};
 ghost use Rattle.gl_live.specs.Faults.{IsLiveFault};
 ghost use Rattle.gl_live.specs.bodies.Runs.{HasRun};
-ghost use Rattle.gl_live.specs.bodies.Seats.{gathered_from, AreReceipts, IsReceiptOf};
+ghost use Rattle.gl_live.specs.bodies.Rosters.{gathered_from, AreReceipts, IsReceiptOf};
 
 use crate::faults::{LiveFault, unserved, unsettled};
+use crate::preallocated::keep;
 use crate::reports::report_over;
-use crate::room::keep;
 use crate::run::{Ran, run_session};
 use crate::session::{SessionOptions, prepare};
 use gl_cycles::Report;

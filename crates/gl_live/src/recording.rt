@@ -6,11 +6,11 @@ ghost use Rattle.gl_segments.specs.Orders.{lists_of};
 ghost use Rattle.gl_event.specs.declared.events.Event.{Event};
 ghost use Rattle.gl_engine.specs.Collecting.{Collecting};
 ghost use Rattle.gl_engine.specs.Recording.{recorded, recorded_whole};
-ghost use Rattle.gl_live.specs.bodies.Desks.{HasRoom, IsDeskOf};
-ghost use Rattle.gl_live.specs.bodies.Seats.{Seating, seating_of, seat_of, left_by, IsRecorderOf, IsReceiptOf};
+ghost use Rattle.gl_live.specs.bodies.Workloads.{HasRoom, IsWorkloadOf};
+ghost use Rattle.gl_live.specs.bodies.Rosters.{Roster, roster_of, identity_of, left_by, IsRecorderOf, IsReceiptOf};
 
-use crate::room::keep;
-use crate::start::Start;
+use crate::preallocated::keep;
+use crate::start_gate::StartGate;
 use gl_engine::{CloseFault, Collector, Receipt, Recorder};
 use gl_event::{Event, Memory, ThreadId};
 use std::snapshot::Snapshot;
@@ -20,7 +20,7 @@ use std::thread::{Promise, PromisedHandle, Scope, Threads};
 
 /// The recorders of one thread, with room for their receipts.
 #[derive(Drop)]
-pub struct Desk {
+pub struct Workload {
     pub recorders: Vec<Recorder>,
     pub receipts: Vec<Receipt>,
 }
@@ -33,7 +33,7 @@ pub struct RecordedBy<'a> {
 }
 
 impl<'a> Promise<Vec<Receipt>> for RecordedBy<'a> {
-    ghost kept_by = { λ p receipts. All (IsReceiptOf (seating_of p.collector.value) (lists_of p.lists.now)) receipts.items };
+    ghost kept_by = { λ p receipts. All (IsReceiptOf (roster_of p.collector.value) (lists_of p.lists.now)) receipts.items };
 }
 
 /// A recorder thread.
@@ -42,7 +42,7 @@ pub type Recording<'a> = PromisedHandle<Vec<Receipt>, RecordedBy<'a>>;
 // Records these events one after the other, each as soon as there is room for it. Whether each may
 // come after those before it.
 fn record_each<R: Wait>(rt: &R, recorder: &mut Recorder, list: &[Event]) -> bool
-    ensures seat { seat_of recorder.new ≡ seat_of recorder.old }
+    ensures identity { identity_of recorder.new ≡ identity_of recorder.old }
     ensures all { result ≡ true → recorded recorder.new ≡ recorded recorder.old ++ list.now }
 {
     for event in list {
@@ -55,7 +55,7 @@ fn record_each<R: Wait>(rt: &R, recorder: &mut Recorder, list: &[Event]) -> bool
 
 /// Closes the recorder as soon as there is room for its end mark. None where nobody is left to collect.
 pub fn close_wait<R: Wait>(rt: &R, recorder: Recorder) -> Option<Receipt>
-    ensures seat { IfSome result (λ receipt. left_by receipt ≡ seat_of recorder) }
+    ensures identity { IfSome result (λ receipt. left_by receipt ≡ identity_of recorder) }
     ensures all { IfSome result (λ receipt. recorded_whole receipt ≡ recorded recorder) }
 {
     let mut recorder = recorder;
@@ -73,7 +73,7 @@ pub fn close_wait<R: Wait>(rt: &R, recorder: Recorder) -> Option<Receipt>
 // Records the list, and closes the recorder. None where an event of the list may not come next, and
 // where nobody is left to collect.
 fn record_list<R: Wait>(rt: &R, recorder: Recorder, list: &[Event]) -> Option<Receipt>
-    ensures seat { IfSome result (λ receipt. left_by receipt ≡ seat_of recorder) }
+    ensures identity { IfSome result (λ receipt. left_by receipt ≡ identity_of recorder) }
     ensures whole { IfSome result
         (λ receipt. recorded_whole receipt ≡ recorded recorder ++ list.now) }
 {
@@ -93,7 +93,7 @@ fn list_of(lists: &[Vec<Event>], thread: ThreadId) -> Option<&[Event]>
 
 // Records the list of the recorder's thread, and closes the recorder.
 fn record_own<R: Wait>(rt: &R, recorder: Recorder, lists: &[Vec<Event>]) -> Option<Receipt>
-    ensures { (s : Seating) → IsRecorderOf s recorder
+    ensures { (s : Roster) → IsRecorderOf s recorder
         → IfSome result (IsReceiptOf s (lists_of lists.now)) }
 {
     let Some(list) = list_of(lists, recorder.thread()) else {
@@ -106,16 +106,21 @@ fn record_own<R: Wait>(rt: &R, recorder: Recorder, lists: &[Vec<Event>]) -> Opti
 
 // Records the lists of the recorders' threads, one after the other, once the run begins. Nothing, where
 // it is called off.
-fn record_all<R: Wait>(rt: &R, start: &Start, desk: Desk, lists: &[Vec<Event>]) -> Vec<Receipt>
-    requires room { HasRoom desk }
-    ensures { (s : Seating) → All (IsRecorderOf s) desk.recorders.items
-        → All (IsReceiptOf s (lists_of lists.now)) desk.receipts.items
+fn record_all<R: Wait>(
+    rt: &R,
+    start: &StartGate,
+    workload: Workload,
+    lists: &[Vec<Event>],
+) -> Vec<Receipt>
+    requires room { HasRoom workload }
+    ensures { (s : Roster) → All (IsRecorderOf s) workload.recorders.items
+        → All (IsReceiptOf s (lists_of lists.now)) workload.receipts.items
         → All (IsReceiptOf s (lists_of lists.now)) result.items }
 {
-    let Desk {
+    let Workload {
         recorders,
         mut receipts,
-    } = desk;
+    } = workload;
     if !start.wait(rt) {
         return receipts;
     }
@@ -127,19 +132,19 @@ fn record_all<R: Wait>(rt: &R, start: &Start, desk: Desk, lists: &[Vec<Event>]) 
     receipts
 }
 
-// Starts the recorder thread of this desk.
+// Starts the recorder thread of this workload.
 fn start_recorder<'s, E, R: Threads + Wait + Sync>(
     scope: &'s Scope<'s, E>,
     rt: &'s R,
-    start: &'s Start,
+    start: &'s StartGate,
     lists: &'s [Vec<Event>],
     collector: &Collector,
-    desk: Desk,
+    workload: Workload,
 ) -> Option<Recording<'s>>
-    requires room { HasRoom desk }
-    requires ours { All (IsRecorderOf (seating_of collector.now)) desk.recorders.items }
-    requires kept { All (IsReceiptOf (seating_of collector.now)
-        (lists_of lists.now)) desk.receipts.items }
+    requires room { HasRoom workload }
+    requires ours { All (IsRecorderOf (roster_of collector.now)) workload.recorders.items }
+    requires kept { All (IsReceiptOf (roster_of collector.now)
+        (lists_of lists.now)) workload.receipts.items }
     ensures collector { IfSome result (λ h. h.promise.collector.value ≡ collector.now) }
     ensures lists { IfSome result (λ h. h.promise.lists.now ≡ lists.now) }
 {
@@ -150,34 +155,34 @@ fn start_recorder<'s, E, R: Threads + Wait + Sync>(
     let recorder = scope.spawn_with(
         promise,
         move || -> Vec<Receipt>
-            requires room { HasRoom desk }
-            ensures { (s : Seating) → All (IsRecorderOf s) desk.recorders.items
-                → All (IsReceiptOf s (lists_of lists.entry.now)) desk.receipts.items
+            requires room { HasRoom workload }
+            ensures { (s : Roster) → All (IsRecorderOf s) workload.recorders.items
+                → All (IsReceiptOf s (lists_of lists.entry.now)) workload.receipts.items
                 → All (IsReceiptOf s (lists_of lists.entry.now)) result.items }
-        { record_all(rt, start, desk, lists) },
+        { record_all(rt, start, workload, lists) },
     );
     recorder.ok()
 }
 
-/// Starts a recorder thread for each desk, up to the first that can't be started. Whether all were.
+/// Starts a recorder thread for each workload, up to the first that can't be started. Whether all were.
 pub fn start_recorders<'s, E, R: Threads + Wait + Sync>(
     scope: &'s Scope<'s, E>,
     rt: &'s R,
-    start: &'s Start,
+    start: &'s StartGate,
     lists: &'s [Vec<Event>],
     collector: &Collector,
-    desks: Vec<Desk>,
+    workloads: Vec<Workload>,
     recorders: &mut Vec<Recording<'s>>,
 ) -> bool
-    requires desks { All (IsDeskOf (seating_of collector.now)) desks.items }
+    requires workloads { All (IsWorkloadOf (roster_of collector.now)) workloads.items }
     requires empty { recorders.old.items ≡ [] }
-    requires room { vec_len recorders.old + length desks.items ≤ vec_capacity recorders.old }
+    requires room { vec_len recorders.old + length workloads.items ≤ vec_capacity recorders.old }
     ensures { result ≡ true
         → All (λ h. (h.promise.collector.value ≡ collector.now)
         × (lists_of h.promise.lists.now ≡ lists_of lists.now)) recorders.new.items }
 {
-    for desk in desks {
-        let Some(recorder) = start_recorder(scope, rt, start, lists, collector, desk) else {
+    for workload in workloads {
+        let Some(recorder) = start_recorder(scope, rt, start, lists, collector, workload) else {
             return false;
         };
         keep(recorders, recorder);
@@ -195,8 +200,8 @@ pub fn join_recorders<'a, R: Threads>(
     ensures { (c : Collecting) (lists : List (List Event))
         → All (λ h. (h.promise.collector.value ≡ c)
         × (lists_of h.promise.lists.now ≡ lists)) recorders.entry.items
-        → All (IsReceiptOf (seating_of c) lists) receipts.old.items
-        → OnOk result (All (IsReceiptOf (seating_of c) lists) receipts.new.items) }
+        → All (IsReceiptOf (roster_of c) lists) receipts.old.items
+        → OnOk result (All (IsReceiptOf (roster_of c) lists) receipts.new.items) }
 {
     for recorder in recorders {
         let mut left = recorder.join(rt);

@@ -7,15 +7,15 @@ ghost use Rattle.gl_segments.specs.Orders.{lists_of};
 ghost use Rattle.gl_engine.specs.Collecting.{Collecting};
 ghost use Rattle.gl_live.specs.Faults.{IsLiveFault};
 ghost use Rattle.gl_shards.specs.declared.shard.TheConstants.{MAX_SHARDS};
-ghost use Rattle.gl_live.specs.bodies.Desks.{IsDeskOf};
+ghost use Rattle.gl_live.specs.bodies.Workloads.{IsWorkloadOf};
 ghost use Rattle.gl_live.specs.bodies.Ready.{IsReady};
 ghost use Rattle.gl_live.specs.bodies.Runs.{HasRun};
-ghost use Rattle.gl_live.specs.bodies.Seats.{gathered_from, seating_of, IsReceiptOf};
+ghost use Rattle.gl_live.specs.bodies.Rosters.{gathered_from, roster_of, IsReceiptOf};
 
 use crate::faults::LiveFault;
-use crate::recording::{Desk, Recording, join_recorders, start_recorders};
+use crate::recording::{Recording, Workload, join_recorders, start_recorders};
 use crate::session::Session;
-use crate::start::Start;
+use crate::start_gate::StartGate;
 use crate::working::{Working, join_workers, start_workers};
 use gl_engine::{Collector, Gathered, Receipt};
 use gl_event::Event;
@@ -34,7 +34,7 @@ pub struct Ran {
 }
 
 // Calls the run off: the threads that were started end without recording, and the feeds are ended.
-fn call_off<R: Wait>(rt: &R, start: &Start, outlets: Vec<Outlet>) {
+fn call_off<R: Wait>(rt: &R, start: &StartGate, outlets: Vec<Outlet>) {
     start.call_off();
     for outlet in outlets {
         let _ = outlet.end(rt);
@@ -46,21 +46,21 @@ fn start_threads<'s, E, R: Threads + Wait + Sync, G: Gate + Sync>(
     scope: &'s Scope<'s, E>,
     rt: &'s R,
     alloc: Global,
-    start: &'s Start,
+    start: &'s StartGate,
     lists: &'s [Vec<Event>],
     gate: &'s G,
     collector: &Collector,
-    desks: Vec<Desk>,
+    workloads: Vec<Workload>,
     inlets: Vec<Inlet>,
     workers: &mut Vec<Working>,
     recorders: &mut Vec<Recording<'s>>,
 ) -> bool
-    requires desks { All (IsDeskOf (seating_of collector.now)) desks.items }
+    requires workloads { All (IsWorkloadOf (roster_of collector.now)) workloads.items }
     requires fit { length inlets.items ≤ MAX_SHARDS }
     requires none_works { workers.old.items ≡ [] }
     requires work_room { vec_len workers.old + length inlets.items ≤ vec_capacity workers.old }
     requires none_records { recorders.old.items ≡ [] }
-    requires record_room { vec_len recorders.old + length desks.items ≤ vec_capacity recorders.old }
+    requires all_fit { vec_len recorders.old + length workloads.items ≤ vec_capacity recorders.old }
     ensures feeds { result ≡ true
         → map (λ w. w.promise.0.value.feed) workers.new.items ≡ map (λ i. i.feed) inlets.items }
     ensures lists { result ≡ true
@@ -70,7 +70,7 @@ fn start_threads<'s, E, R: Threads + Wait + Sync, G: Gate + Sync>(
     if !start_workers(scope, rt, alloc, inlets, gate, workers) {
         return false;
     }
-    start_recorders(scope, rt, start, lists, collector, desks, recorders)
+    start_recorders(scope, rt, start, lists, collector, workloads, recorders)
 }
 
 // Waits for all threads, and gives what they leave.
@@ -91,7 +91,7 @@ fn join_threads<'s, R: Threads>(
     ensures threads { (threads : ℕ) → gathered.limits.threads ≡ threads
         → IfOk result (λ ran. ran.gathered.limits.threads ≡ threads) }
     ensures receipts { (c : Collecting) (lists : List (List Event))
-        → seating_of c ≡ gathered_from gathered
+        → roster_of c ≡ gathered_from gathered
         → All (λ h. (h.promise.collector.value ≡ c)
         × (lists_of h.promise.lists.now ≡ lists)) recorders.entry.items
         → receipts.items ≡ []
@@ -119,7 +119,7 @@ fn run_threads<'s, E, R: Threads + Wait + Sync, G: Gate + Sync>(
     scope: &'s Scope<'s, E>,
     rt: &'s R,
     alloc: Global,
-    start: &'s Start,
+    start: &'s StartGate,
     lists: &'s [Vec<Event>],
     gate: &'s G,
     session: Session,
@@ -136,12 +136,12 @@ fn run_threads<'s, E, R: Threads + Wait + Sync, G: Gate + Sync>(
     let Ok(mut workers) = Vec::with_capacity(alloc, session.inlets.len()) else {
         return Err(LiveFault::Memory);
     };
-    let Ok(mut recorders) = Vec::with_capacity(alloc, session.desks.len()) else {
+    let Ok(mut recorders) = Vec::with_capacity(alloc, session.workloads.len()) else {
         return Err(LiveFault::Memory);
     };
     let Session {
         collector,
-        desks,
+        workloads,
         outlets,
         inlets,
         receipts,
@@ -155,7 +155,7 @@ fn run_threads<'s, E, R: Threads + Wait + Sync, G: Gate + Sync>(
         lists,
         gate,
         &collector,
-        desks,
+        workloads,
         inlets,
         &mut workers,
         &mut recorders,
@@ -188,7 +188,7 @@ pub fn run_session<R: Threads + Wait + Sync, G: Gate + Sync>(
         (IsReceiptOf (gathered_from ran.gathered) (lists_of lists.now)) ran.receipts.items) }
     ensures fault { (all : List (List Event)) → IfErr result (IsLiveFault all) }
 {
-    let begin = Start::new();
+    let begin = StartGate::new();
     let start = &begin;
     thread::scope(
         thread::scope_env(),

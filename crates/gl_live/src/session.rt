@@ -4,11 +4,11 @@ ghost use Rattle.std.specs.List.{All};
 ghost use Rattle.std.specs.Vec.{vec_len, vec_capacity};
 ghost use Rattle.gl_event.specs.declared.limits.TheConstants.{MAX_EVENTS, MAX_THREADS, MAX_RING};
 ghost use Rattle.gl_shards.specs.declared.shard.TheConstants.{MAX_SHARDS};
-ghost use Rattle.gl_live.specs.bodies.Desks.{IsDeskOf};
-ghost use Rattle.gl_live.specs.bodies.Seats.{Seating, seating_of, IsRecorderOf};
+ghost use Rattle.gl_live.specs.bodies.Workloads.{IsWorkloadOf};
+ghost use Rattle.gl_live.specs.bodies.Rosters.{Roster, roster_of, IsRecorderOf};
 ghost use Rattle.gl_live.specs.bodies.Ready.{IsReady};
 
-use crate::recording::Desk;
+use crate::recording::Workload;
 use gl_engine::{Collector, Receipt, Recorder, open};
 use gl_event::{Limits, MAX_EVENTS, MAX_NAMES, Memory};
 use gl_shards::{Inlet, Outlet, Served, feed};
@@ -29,7 +29,7 @@ pub struct SessionOptions {
 #[derive(Drop)]
 pub struct Session {
     pub collector: Collector,
-    pub desks: Vec<Desk>,
+    pub workloads: Vec<Workload>,
     pub outlets: Vec<Outlet>,
     pub inlets: Vec<Inlet>,
     pub receipts: Vec<Receipt>,
@@ -73,7 +73,7 @@ fn grouped(
     count: u32,
 ) -> Result<Vec<Vec<Recorder>>, Memory>
     requires some { 1 ≤ count }
-    ensures { (s : Seating) → All (IsRecorderOf s) recorders.items
+    ensures { (s : Roster) → All (IsRecorderOf s) recorders.items
         → IfOk result (λ groups. All (λ group. All (IsRecorderOf s) group.items) groups.items) }
 {
     let mut groups = empty_groups(alloc, count)?;
@@ -84,29 +84,29 @@ fn grouped(
     Ok(groups)
 }
 
-// A desk for these recorders.
-fn desk(alloc: Global, recorders: Vec<Recorder>) -> Result<Desk, Memory>
-    ensures { (s : Seating) → All (IsRecorderOf s) recorders.items → IfOk result (IsDeskOf s) }
+// A workload for these recorders.
+fn workload(alloc: Global, recorders: Vec<Recorder>) -> Result<Workload, Memory>
+    ensures { (s : Roster) → All (IsRecorderOf s) recorders.items → IfOk result (IsWorkloadOf s) }
 {
     let receipts = Vec::with_capacity(alloc, recorders.len())?;
-    Ok(Desk {
+    Ok(Workload {
         recorders,
         receipts,
     })
 }
 
-// The recorders' desks, so many.
-fn desks(alloc: Global, recorders: Vec<Recorder>, count: u32) -> Result<Vec<Desk>, Memory>
+// The recorders' workloads, so many.
+fn workloads(alloc: Global, recorders: Vec<Recorder>, count: u32) -> Result<Vec<Workload>, Memory>
     requires some { 1 ≤ count }
-    ensures { (s : Seating) → All (IsRecorderOf s) recorders.items
-        → IfOk result (λ desks. All (IsDeskOf s) desks.items) }
+    ensures { (s : Roster) → All (IsRecorderOf s) recorders.items
+        → IfOk result (λ workloads. All (IsWorkloadOf s) workloads.items) }
 {
     let groups = grouped(alloc, recorders, count)?;
-    let mut desks = Vec::with_capacity(alloc, groups.len())?;
+    let mut workloads = Vec::with_capacity(alloc, groups.len())?;
     for group in groups {
-        desks.push(desk(alloc, group)?)?;
+        workloads.push(workload(alloc, group)?)?;
     }
-    Ok(desks)
+    Ok(workloads)
 }
 
 // Adds a feed with this capacity.
@@ -163,11 +163,11 @@ pub fn prepare(alloc: Global, threads: u32, options: &SessionOptions) -> Result<
 {
     let limits = session_limits(threads, options.ring);
     let (recorders, collector) = open(alloc, SESSION, &limits)?;
-    let desks = desks(alloc, recorders, options.recorders)?;
+    let workloads = workloads(alloc, recorders, options.recorders)?;
     let (outlets, inlets) = feeds(alloc, options.shards, options.ring)?;
     Ok(Session {
         collector,
-        desks,
+        workloads,
         outlets,
         inlets,
         receipts: Vec::with_capacity(alloc, threads as usize)?,

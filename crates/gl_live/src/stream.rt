@@ -10,7 +10,7 @@ ghost use Rattle.gl_std.specs.Streaming.{CanBeAsked, HasTold, IsDone};
 ghost use Rattle.gl_std.specs.Trace.{nothing};
 ghost use Rattle.gl_live.specs.Streamed.{Becomes, FailsInTime, IsUnread};
 ghost use Rattle.gl_live.specs.bodies.Runs.{HasRun};
-ghost use Rattle.gl_live.specs.bodies.Seats.{gathered_from, AreReceipts};
+ghost use Rattle.gl_live.specs.bodies.Rosters.{gathered_from, AreReceipts};
 ghost use Rattle.gl_live.specs.bodies.Streams.{HasStreamed};
 
 use crate::faults::{LiveFault, StreamFault};

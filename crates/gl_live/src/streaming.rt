@@ -2,24 +2,21 @@
 ghost use Rattle.std.specs.Prelude.{◌≡◌, ◌<◌, ◌≤◌, ◌+◌, ℕ, true, false, [], List, Ok, Option, length, map, IfErr, IfOk, IfSome, OnOk};
 ghost use Rattle.std.specs.List.{All};
 ghost use Rattle.std.specs.Vec.{vec_len, vec_capacity};
-ghost use Rattle.gl_event.specs.Bounds.{Bounds};
 ghost use Rattle.gl_event.specs.declared.events.Event.{Event as EventOf};
 ghost use Rattle.gl_event.specs.declared.limits.TheConstants.{MAX_THREADS, MAX_RING};
-ghost use Rattle.gl_io.specs.Uses.{used};
 ghost use Rattle.gl_shards.specs.declared.shard.TheConstants.{MAX_SHARDS};
 ghost use Rattle.gl_std.specs.Listed.{listed};
 ghost use Rattle.gl_std.specs.Names.{NameLists};
-ghost use Rattle.gl_std.specs.Streaming.{with_item, CanBeAsked, HasTold, IsDone};
-ghost use Rattle.gl_std.specs.Trace.{nothing};
+ghost use Rattle.gl_std.specs.Streaming.{with_item, CanBeAsked, IsDone};
 ghost use Rattle.gl_std.specs.declared.trace.Trace.{Trace};
 ghost use Rattle.gl_live.specs.Streamed.{FailsInTime, IsUnread};
 ghost use Rattle.gl_live.specs.bodies.Runs.{HasRun};
-ghost use Rattle.gl_live.specs.bodies.Seats.{Seating, gathered_from, AreReceipts, IsReceiptOf};
-ghost use Rattle.gl_live.specs.bodies.Streams.{AreRecorded, CanBeTaken, Follows, HasGathered, HasStreamed, HasTaken, IsOfThreads, IsReadyToRead, IsRecording, MayTake, Stops};
+ghost use Rattle.gl_live.specs.bodies.Rosters.{Roster, gathered_from, AreReceipts, IsReceiptOf};
+ghost use Rattle.gl_live.specs.bodies.Streams.{AreRecorded, CanBeTaken, FollowOn, HasGathered, HasTaken, IsOfThreads, IsReadyToRead, IsRecording, MayTake, StopsAfter, StreamsOn};
 
 use crate::faults::{LiveFault, StreamFault};
+use crate::preallocated::keep;
 use crate::recording::close_wait;
-use crate::room::keep;
 use crate::run::Ran;
 use crate::session::{SESSION, feeds, session_limits};
 use crate::working::{Working, join_workers, start_workers};
@@ -90,7 +87,7 @@ pub fn prepare_to_read(alloc: Global, options: &StreamOptions) -> Result<ReadSes
 fn record_one<R: Wait>(rt: &R, recorders: &mut Vec<Recorder>, thread: u32, event: Event)
     requires may_take { MayTake recorders.old.items thread event }
     ensures count { length recorders.new.items ≡ length recorders.old.items }
-    ensures recorded { (s : Seating) (lists : List (List EventOf)) (threads : ℕ) → thread < threads
+    ensures recorded { (s : Roster) (lists : List (List EventOf)) (threads : ℕ) → thread < threads
         → AreRecorded s lists recorders.old.items
         → AreRecorded s (listed threads lists thread event) recorders.new.items }
 {
@@ -104,7 +101,7 @@ fn record_one<R: Wait>(rt: &R, recorders: &mut Vec<Recorder>, thread: u32, event
 fn record_item<R: Wait>(rt: &R, recorders: &mut Vec<Recorder>, item: Item)
     requires can_be_taken { CanBeTaken recorders.old.items item }
     ensures count { length recorders.new.items ≡ length recorders.old.items }
-    ensures recorded { (s : Seating) (names : NameLists) (told : Trace)
+    ensures recorded { (s : Roster) (names : NameLists) (told : Trace)
         → IsOfThreads (length names.threads) item → AreRecorded s told.lists recorders.old.items
         → AreRecorded s (with_item item names told).lists recorders.new.items }
 {
@@ -127,18 +124,12 @@ fn record_next<R: Wait, S: Source>(
     ensures usable { CanBeAsked items.new (S.failed input.new) }
     ensures count { length recorders.new.items ≡ length recorders.old.items }
     ensures follows { OnOk result
-        ((s : Seating) (limits : Bounds) (turns : ℕ) (start : Option (List ℕ))
-        → Follows s limits turns
-        (used start (S.remaining input.old) (S.failed input.old)) items.old recorders.old.items
-        → Follows s limits turns
-        (used start (S.remaining input.new) (S.failed input.new)) items.new recorders.new.items) }
+        (FollowOn (S.remaining input.old) (S.failed input.old) items.old recorders.old.items
+        (S.remaining input.new) (S.failed input.new) items.new recorders.new.items) }
     ensures done { result ≡ Ok false → IsDone items.new }
     ensures stops { IfErr result
-        (λ fault. (s : Seating) (limits : Bounds) (turns : ℕ) (start : Option (List ℕ))
-        → Follows s limits turns
-        (used start (S.remaining input.old) (S.failed input.old)) items.old recorders.old.items
-        → Stops limits turns
-        (used start (S.remaining input.new) (S.failed input.new)) items.new fault) }
+        (StopsAfter (S.remaining input.old) (S.failed input.old) items.old recorders.old.items
+        (S.remaining input.new) (S.failed input.new) items.new) }
 {
     match items.next(input) {
         Ok(Item::End) => Ok(false),
@@ -163,18 +154,12 @@ fn record_items<R: Wait, S: Source>(
         (S.failed input.old) items.old recorders.old.items }
     ensures count { length recorders.new.items ≡ length recorders.old.items }
     ensures follows { OnOk result
-        ((s : Seating) (limits : Bounds) (turns : ℕ) (start : Option (List ℕ))
-        → Follows s limits turns
-        (used start (S.remaining input.old) (S.failed input.old)) items.old recorders.old.items
-        → Follows s limits turns
-        (used start (S.remaining input.new) (S.failed input.new)) items.new recorders.new.items) }
+        (FollowOn (S.remaining input.old) (S.failed input.old) items.old recorders.old.items
+        (S.remaining input.new) (S.failed input.new) items.new recorders.new.items) }
     ensures done { OnOk result (IsDone items.new) }
     ensures stops { IfErr result
-        (λ fault. (s : Seating) (limits : Bounds) (turns : ℕ) (start : Option (List ℕ))
-        → Follows s limits turns
-        (used start (S.remaining input.old) (S.failed input.old)) items.old recorders.old.items
-        → Stops limits turns
-        (used start (S.remaining input.new) (S.failed input.new)) items.new fault) }
+        (StopsAfter (S.remaining input.old) (S.failed input.old) items.old recorders.old.items
+        (S.remaining input.new) (S.failed input.new) items.new) }
 {
     for _ in rt.forever() {
         match record_next(rt, items, input, recorders) {
@@ -189,7 +174,7 @@ fn record_items<R: Wait, S: Source>(
 // Closes all recorders, and keeps their receipts.
 fn close_all<R: Wait>(rt: &R, recorders: Vec<Recorder>, receipts: &mut Vec<Receipt>)
     requires room { vec_len receipts.old + length recorders.items ≤ vec_capacity receipts.old }
-    ensures { (s : Seating) (lists : List (List EventOf)) → All (HasTaken s lists) recorders.items
+    ensures { (s : Roster) (lists : List (List EventOf)) → All (HasTaken s lists) recorders.items
         → All (IsReceiptOf s lists) receipts.old.items
         → All (IsReceiptOf s lists) receipts.new.items }
 {
@@ -302,10 +287,8 @@ fn record_text<'s, E, R: Threads + Wait + Sync, S: Source, G: Gate + Sync>(
         (λ ran. HasRun (length session.outlets.items) ran.gathered ran.served.items) }
     ensures threads { IfOk result
         (λ ran. ran.gathered.limits.threads ≡ length session.recorders.items) }
-    ensures streamed { (limits : Bounds) (turns : ℕ) (start : Option (List ℕ))
-        → HasTold limits turns
-        (used start (S.remaining input.old) (S.failed input.old)) items.old [] nothing
-        → HasStreamed limits turns (used start (S.remaining input.new) (S.failed input.new))
+    ensures streamed { StreamsOn (S.remaining input.old) (S.failed input.old) items.old
+        (S.remaining input.new) (S.failed input.new)
         (length session.recorders.items) items.new result }
     ensures done { OnOk result (IsDone items.new) }
     ensures in_time { FailsInTime (S.remaining input.old) (S.remaining input.new) items.new result }
@@ -368,10 +351,8 @@ fn lend_text<'s, 'x, E, R: Threads + Wait + Sync, S: Source, G: Gate + Sync>(
         (λ ran. HasRun (length session.outlets.items) ran.gathered ran.served.items) }
     ensures threads { IfOk result.0
         (λ ran. ran.gathered.limits.threads ≡ length session.recorders.items) }
-    ensures streamed { (limits : Bounds) (turns : ℕ) (start : Option (List ℕ))
-        → HasTold limits turns
-        (used start (S.remaining input.old) (S.failed input.old)) items [] nothing
-        → HasStreamed limits turns (used start (S.remaining result.2.now) (S.failed result.2.now))
+    ensures streamed { StreamsOn (S.remaining input.old) (S.failed input.old) items
+        (S.remaining result.2.now) (S.failed result.2.now)
         (length session.recorders.items) result.1 result.0 }
     ensures done { OnOk result.0 (IsDone result.1) }
     ensures in_time { FailsInTime (S.remaining input.old)
@@ -404,10 +385,8 @@ pub fn read_session<R: Threads + Wait + Sync, S: Source, G: Gate + Sync>(
         (λ ran. HasRun (length session.outlets.items) ran.gathered ran.served.items) }
     ensures threads { IfOk result.0
         (λ ran. ran.gathered.limits.threads ≡ length session.recorders.items) }
-    ensures streamed { (limits : Bounds) (turns : ℕ) (start : Option (List ℕ))
-        → HasTold limits turns
-        (used start (S.remaining input.old) (S.failed input.old)) items [] nothing
-        → HasStreamed limits turns (used start (S.remaining input.new) (S.failed input.new))
+    ensures streamed { StreamsOn (S.remaining input.old) (S.failed input.old) items
+        (S.remaining input.new) (S.failed input.new)
         (length session.recorders.items) result.1 result.0 }
     ensures done { OnOk result.0 (IsDone result.1) }
     ensures in_time { FailsInTime (S.remaining input.old)
@@ -428,12 +407,8 @@ pub fn read_session<R: Threads + Wait + Sync, S: Source, G: Gate + Sync>(
                 (λ ran. HasRun (length session.outlets.items) ran.gathered ran.served.items) }
             ensures threads { IfOk result.0
                 (λ ran. ran.gathered.limits.threads ≡ length session.recorders.items) }
-            ensures streamed { (limits : Bounds) (turns : ℕ) (start : Option (List ℕ))
-                → HasTold limits turns
-                (used start (S.remaining input.entry.now)
-                (S.failed input.entry.now)) items [] nothing
-                → HasStreamed limits turns
-                (used start (S.remaining result.2.now) (S.failed result.2.now))
+            ensures streamed { StreamsOn (S.remaining input.entry.now) (S.failed input.entry.now)
+                items (S.remaining result.2.now) (S.failed result.2.now)
                 (length session.recorders.items) result.1 result.0 }
             ensures done { OnOk result.0 (IsDone result.1) }
             ensures in_time { FailsInTime (S.remaining input.entry.now)

@@ -99,6 +99,13 @@ impl Taker {
         self.thread
     }
 
+    /// What is known of the thread after the events that were taken.
+    pub fn state(&self) -> &ThreadState
+        ensures value { result.now ≡ self.now.state }
+    {
+        &self.state
+    }
+
     /// How many events were taken.
     pub fn taken(&self) -> u32
         ensures value { result ≡ self.now.state.events }

@@ -1,7 +1,7 @@
 pub mod Dispatching
 pub mod Errors
 pub mod Lists
-pub mod Rows
+pub mod ThreadParts
 pub mod Makings
 pub mod Shippings
 pub mod Sound

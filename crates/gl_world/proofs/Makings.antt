@@ -21,7 +21,7 @@ use Rattle.gl_intake.proofs.Streams.{events_more, events_ended, events_other}
 use Rattle.gl_world.specs.Machine.{Lane, edges_due, taken_of}
 use Rattle.gl_world.specs.Keeping.{AreMade, IsFrontOf}
 use Rattle.gl_world.proofs.Lists.{same_some}
-use Rattle.gl_world.proofs.Rows.{due_are}
+use Rattle.gl_world.proofs.ThreadParts.{due_are}
 
 -- ---- the edges of the lists of what was collected
 

@@ -19,7 +19,7 @@ use Rattle.gl_world.specs.Keeping.{IsSound}
 use Rattle.gl_world.specs.Headline.{collected_lists, worked_table, IsReportOf}
 use Rattle.gl_world.proofs.Drained.{drained_report, drained_fault}
 use Rattle.gl_world.proofs.Makings.{number_at}
-use Rattle.gl_world.proofs.Rows.{allowed_by_greatest}
+use Rattle.gl_world.proofs.ThreadParts.{allowed_by_greatest}
 
 -- there are no more logs than threads
 pub logs_few : (logs : List (Vec Event Global)) (threads : ℕ) (stream : List Note) → map (λ log. log.items) logs ≡ logs_of threads stream → threads ≤ 1024 → length logs ≤ 1024

@@ -20,7 +20,7 @@ use Rattle.gl_world.specs.declared.steps.Step.TheVariants.{Take, End, Pull, Agai
 use Rattle.gl_world.specs.declared.steps.Did.{Did}
 use Rattle.gl_world.specs.declared.steps.Did.TheVariants.{Taken, Ended, Pulled, Refused}
 use Rattle.gl_world.specs.Dispatch.{ship_turn, work_turn}
-use Rattle.gl_world.proofs.Rows.{events_cut}
+use Rattle.gl_world.proofs.ThreadParts.{events_cut}
 use Rattle.gl_world.proofs.Shippings.{shipped_turn, worked_turn, ship_makes_none, work_makes_none}
 use Rattle.gl_world.proofs.Sound.{lane_pushed, other_isnt_next, sound_turned, sound_handled, sound_pulled, sound_start, told_events}
 

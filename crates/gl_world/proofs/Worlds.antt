@@ -1,4 +1,4 @@
--- A world's rows and its state, step by step.
+-- A world's parts and its state, step by step.
 use Rattle.std.proofs.Common.{◌≡◌, ◌≢◌, ℕ, Bool, true, false, cond, eqb, ◌+◌, ◌<◌, ◌≤◌, List, [], ◌∷◌, ◌++◌, length, map, set, get_or, Option, Some, None, refl, sym, ap, ◌∙◌, arith, subst, take, Vec, Global, ◌⊎◌, inl, inr}
 use Rattle.std.specs.Prelude.{slice_get, Result, Ok, Err, IfOk, OnOk, OnErr, IsTrue}
 use Rattle.std.specs.Option.{option_map, option_map_or}
@@ -113,15 +113,15 @@ run_next s now new steps i x did is at moved =
 pub run_all : (s : State) (steps : List Step) (i : ℕ) → length steps ≤ i → run s (take i steps) ≡ run s steps
 run_all s steps i all = ap (run s) (take_all i steps all)
 
--- ---- one row changed
+-- ---- one part changed
 
 module _ (limits : Bounds) (dispatch : Dispatch) (keepers : List Keeper) (stream : List Note) (collecting : Bounds) (world : IsWorld limits dispatch keepers stream collecting)
     (i : ℕ) (was : Keeper) (within : i < length keepers) (here : was ≡ get_or keepers i was) where
-  row_at : slice_get keepers i ≡ Some was
-  row_at = get_at keepers i was within here
+  part_at : slice_get keepers i ≡ Some was
+  part_at = get_at keepers i was within here
 
   pub lane_at : slice_get (lanes_of keepers) i ≡ Some was.lane
-  lane_at = slice_get-map (λ k. k.lane) keepers i ∙ ap (option_map (λ (k : Keeper). k.lane)) row_at
+  lane_at = slice_get-map (λ k. k.lane) keepers i ∙ ap (option_map (λ (k : Keeper). k.lane)) part_at
 
   -- the state has no other lane of this thread
   pub lane_is : (s : State) → state_of limits dispatch keepers stream ≡ s → (lane : Lane) → slice_get s.lanes i ≡ Some lane → lane ≡ was.lane
@@ -131,10 +131,10 @@ module _ (limits : Bounds) (dispatch : Dispatch) (keepers : List Keeper) (stream
       cc
 
   own : was.thread ≡ i
-  own = world.keeping.in_place i was row_at
+  own = world.keeping.in_place i was part_at
 
   own_limits : was.limits ≡ limits
-  own_limits = world.keeping.same_limits i was row_at
+  own_limits = world.keeping.same_limits i was part_at
 
   found_now : (now : Keeper) (t : ℕ) (k : Keeper) → i ≡ t → slice_get (set keepers i now) t ≡ Some k → k ≡ now
   found_now now t k same at =
@@ -166,7 +166,7 @@ module _ (limits : Bounds) (dispatch : Dispatch) (keepers : List Keeper) (stream
       take_known (state_of limits dispatch keepers stream) i was.lane lane_at
       ∙ moved_as (take_turn limits i was.lane) now did (ap (λ (k : Keeper). k.lane) is ∙ ap (λ (t : Turn). t.lane) same) (says ∙ ap (λ (t : Turn). t.did) same)
 
-  -- what the step of the state does is what the turn of the row does
+  -- what the step of the state does is what the turn of the part does
   pub take_did : (step (state_of limits dispatch keepers stream) (Take i)).did ≡ (take_turn was.limits was.thread was.lane).did
   take_did =
       let same : take_turn was.limits was.thread was.lane ≡ take_turn limits i was.lane = rw (own, own_limits) in
@@ -184,16 +184,16 @@ module _ (limits : Bounds) (dispatch : Dispatch) (keepers : List Keeper) (stream
       end_known (state_of limits dispatch keepers stream) i was.lane lane_at
       ∙ moved_as (end_turn limits i was.lane) now did (ap (λ (k : Keeper). k.lane) is ∙ ap (λ (t : Turn). t.lane) same) (says ∙ ap (λ (t : Turn). t.did) same)
 
-  -- the row's lane in the state
+  -- the part's lane in the state
   sound_lane : IsLaneOf limits i stream was.lane
   sound_lane = world.sound.lanes i was.lane lane_at
 
-  -- what is known of the front of the state's lane holds of the row's
+  -- what is known of the front of the state's lane holds of the part's
   pub front_there : (s : State) → state_of limits dispatch keepers stream ≡ s → (note : Note) → ((lane : Lane) → slice_get s.lanes i ≡ Some lane → slice_get lane.pushed lane.popped ≡ Some note)
       → slice_get was.lane.pushed was.lane.popped ≡ Some note
   front_there s e note front = front was.lane (subst (λ (s : State). slice_get s.lanes i ≡ Some was.lane) e lane_at)
 
-  -- the next note of this row
+  -- the next note of this part
   pub front_here : (note : Note) → slice_get was.lane.pushed was.lane.popped ≡ Some note → IsFrontOf was.limits was.thread was.lane note
   front_here note at = rw (own, own_limits) (front_of limits i stream was.lane sound_lane note at)
 
@@ -209,7 +209,7 @@ module _ (limits : Bounds) (dispatch : Dispatch) (keepers : List Keeper) (stream
       let made : due ≡ edges_due i (taken_of i was.lane) note.place note.body = due_is ∙ ap (λ t. edges_due t (taken_of t was.lane) note.place note.body) own in
       pull_known (state_of limits dispatch keepers stream) i was.lane lane_at (Some note) front ∙ rw (map-set (λ (k : Keeper). k.lane) keepers i now, is, made)
 
-  -- the world after a step that changed this row
+  -- the world after a step that changed this part
   world_after : (x : Step) (now : Keeper) (next : Dispatch) (after : List Note) (did : Did)
       → (let m : Moved = record { after = state_of limits next (set keepers i now) after; did = did } in step (state_of limits dispatch keepers stream) x ≡ m)
       → now.thread ≡ was.thread → now.limits ≡ was.limits → IsWorld limits next (set keepers i now) after collecting
@@ -237,9 +237,9 @@ module _ (limits : Bounds) (dispatch : Dispatch) (keepers : List Keeper) (stream
       world_after (Pull i) now (add_edges dispatch due) (stream ++ note ∷ []) (Pulled (accepted_as note.place note.body)) (pull_moved note front now is due due_is)
       (ap (λ (k : Keeper). k.thread) is) (ap (λ (k : Keeper). k.limits) is)
 
--- two readings of one row are the same
-pub same_row : (keepers : List Keeper) (i : ℕ) (a b : Keeper) → i < length keepers → a ≡ get_or keepers i a → b ≡ get_or keepers i b → a ≡ b
-same_row keepers i a b within at_a at_b = same_some a b (sym (get_at keepers i a within at_a) ∙ get_at keepers i b within at_b)
+-- two readings of one part are the same
+pub same_part : (keepers : List Keeper) (i : ℕ) (a b : Keeper) → i < length keepers → a ≡ get_or keepers i a → b ≡ get_or keepers i b → a ≡ b
+same_part keepers i a b within at_a at_b = same_some a b (sym (get_at keepers i a within at_a) ∙ get_at keepers i b within at_b)
 
 -- ---- the dispatch changed
 
@@ -286,13 +286,13 @@ pub work_is_step : (s : State) (k : ℕ) → step s (Work k) ≡ handled s (work
 unfolding step
 work_is_step s k = refl
 
--- ---- fresh rows
+-- ---- fresh parts
 
--- a row of this thread under these limits
-abbrev pub IsFreshRow : Bounds → ℕ → Keeper → Type 0
-IsFreshRow limits thread keeper = (keeper.thread ≡ thread) × (keeper.limits ≡ limits)
+-- a part of this thread under these limits
+abbrev pub IsFreshPart : Bounds → ℕ → Keeper → Type 0
+IsFreshPart limits thread keeper = (keeper.thread ≡ thread) × (keeper.limits ≡ limits)
 
-pub all_fresh : (limits : Bounds) (keepers : List Keeper) → ((i : ℕ) (d : Keeper) → i < length keepers → IsFreshRow limits i (get_or keepers i d)) → AreKeepers limits keepers
+pub all_fresh : (limits : Bounds) (keepers : List Keeper) → ((i : ℕ) (d : Keeper) → i < length keepers → IsFreshPart limits i (get_or keepers i d)) → AreKeepers limits keepers
 all_fresh limits keepers each = record {
   in_place = λ t k found. (let is = each t k (slice_get_within keepers t k found) in rw (get_or_from_slice_get keepers t k k found) at is.0);
   same_limits = λ t k found. (let is = each t k (slice_get_within keepers t k found) in rw (get_or_from_slice_get keepers t k k found) at is.1);

@@ -19,7 +19,7 @@ use Rattle.gl_shards.specs.declared.shard.TheConstants.{MAX_SHARDS}
 use Rattle.gl_world.specs.Dispatch.{Dispatch, Shard}
 use Rattle.gl_world.specs.Machine.{Lane, State}
 
--- a thread's row: its number, the limits and its lane
+-- a thread's part: its number, the limits and its lane
 pub record Keeper : Type 0 where
   pub thread : ℕ
   pub limits : Bounds
@@ -91,16 +91,16 @@ pub record AreShards (shards : List Shard) : Type 0 where
   pub some : 1 ≤ length shards
   pub fit : length shards ≤ MAX_SHARDS
 
--- each row is of the thread whose number is its place, under these limits
+-- each part is of the thread whose number is its place, under these limits
 pub record AreKeepers (limits : Bounds) (keepers : List Keeper) : Type 0 where
   pub in_place : (thread : ℕ) (keeper : Keeper) → slice_get keepers thread ≡ Some keeper → keeper.thread ≡ thread
   pub same_limits : (thread : ℕ) (keeper : Keeper) → slice_get keepers thread ≡ Some keeper → keeper.limits ≡ limits
 
--- the rows' lanes
+-- the parts' lanes
 abbrev pub lanes_of : List Keeper → List Lane
 lanes_of keepers = map (λ keeper. keeper.lane) keepers
 
--- a world's rows, its collector's stream and its dispatch make a state that is as after some steps from a new world
+-- a world's parts, its collector's stream and its dispatch make a state that is as after some steps from a new world
 pub record IsWorld (limits : Bounds) (dispatch : Dispatch) (keepers : List Keeper) (stream : List Note) (collecting : Bounds) : Type 0 where
   pub sound : IsSound (record { limits = limits; lanes = lanes_of keepers; stream = stream; dispatch = dispatch })
   pub keeping : AreKeepers limits keepers

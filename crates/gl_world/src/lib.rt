@@ -27,8 +27,8 @@
 mod dispatcher;
 mod feed;
 mod laws;
-mod row;
 mod steps;
+mod thread_part;
 mod world;
 
 pub use gl_shards::MAX_SHARDS;

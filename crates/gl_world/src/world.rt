@@ -13,8 +13,8 @@ ghost use Rattle.gl_world.specs.declared.steps.Step.{Step};
 ghost use Rattle.gl_world.specs.declared.steps.Step.TheVariants.{Take, End, Pull, Again, Ship, Work};
 
 use crate::dispatcher::Dispatcher;
-use crate::row::Row;
 use crate::steps::{Did, Step};
+use crate::thread_part::ThreadPart;
 use gl_cycles::{Report, ReportFault, report_over};
 use gl_event::{Event, Limits, Memory, Note, ThreadId};
 use gl_filters::Query;
@@ -30,7 +30,7 @@ use std::marker::Model;
 pub struct World {
     alloc: Global,
     limits: Limits,
-    rows: Vec<Row>,
+    parts: Vec<ThreadPart>,
     intake: Intake,
     dispatcher: Dispatcher,
 }
@@ -41,31 +41,31 @@ impl Model for World {
 
     ghost Value = { State };
 
-    ghost view = { λ w. record { limits = w.limits; lanes = lanes_of w.rows.items; stream = w.intake.stream; dispatch = w.dispatcher } };
+    ghost view = { λ w. record { limits = w.limits; lanes = lanes_of w.parts.items; stream = w.intake.stream; dispatch = w.dispatcher } };
 
-    ghost invariant = { λ w. IsWorld w.limits w.dispatcher w.rows.items w.intake.stream w.intake.limits };
+    ghost invariant = { λ w. IsWorld w.limits w.dispatcher w.parts.items w.intake.stream w.intake.limits };
 }
 
-// A row for each thread, with its wishes.
-fn fresh_rows(
+// A part for each thread, with its wishes.
+fn fresh_parts(
     alloc: Global,
     limits: &Limits,
     wishes: Vec<Vec<Event>>,
-) -> Result<Vec<Row>, AllocError>
+) -> Result<Vec<ThreadPart>, AllocError>
     requires { length wishes.items ≡ limits.now.threads }
     ensures lanes { IfOk result
-        (λ rows. lanes_of rows.items ≡ map (λ w. fresh_lane w.items) wishes.items) }
-    ensures keepers { IfOk result (λ rows. AreKeepers limits.now rows.items) }
+        (λ parts. lanes_of parts.items ≡ map (λ w. fresh_lane w.items) wishes.items) }
+    ensures keepers { IfOk result (λ parts. AreKeepers limits.now parts.items) }
     ensures range { AreWithinRange limits.now }
 {
-    let mut rows = Vec::new(alloc);
-    rows.reserve(limits.threads() as usize)?;
+    let mut parts = Vec::new(alloc);
+    parts.reserve(limits.threads() as usize)?;
     let mut thread = 0;
     for list in wishes {
-        rows.push(Row::new(alloc, ThreadId::new(thread), limits, list))?;
+        parts.push(ThreadPart::new(alloc, ThreadId::new(thread), limits, list))?;
         thread += 1;
     }
-    Ok(rows)
+    Ok(parts)
 }
 
 // The want of memory for which a note was refused.
@@ -91,25 +91,11 @@ fn make_ready(intake: &mut Intake, note: &Note) -> Result<(), Memory>
     }
 }
 
-// Accepts the note, which may come next, where there is room for it.
-fn accept(intake: &mut Intake, note: &Note) -> Accepted
-    requires next { note_refusal intake.old.limits intake.old.stream note.now ≡ None }
-    requires room { 1 ≤ spare_of intake.old note.now.thread }
-    ensures answer { result ≡ accepted_as note.now.place note.now.body }
-    ensures grown { intake.new.stream ≡ intake.old.stream ++ note.now ∷ [] }
-    ensures limits { intake.new.limits ≡ intake.old.limits }
-{
-    match intake.offer(*note) {
-        Ok(accepted) => accepted,
-        Err(_) => unreachable!(),
-    }
-}
-
 impl World {
     /// A new world under these limits, with this many shards, and with the events that each thread
     /// is to take, in the order of thread numbers. Each lane and each feed has the capacity of a ring.
     ///
-    /// It takes memory for a row of each thread and a feed of each shard.
+    /// It takes memory for a part of each thread and a feed of each shard.
     pub fn new(
         alloc: Global,
         limits: &Limits,
@@ -124,12 +110,12 @@ impl World {
         ensures lanes { IfOk result (λ world. length world.lanes ≡ world.limits.threads) }
     {
         let intake = Intake::new(alloc, limits)?;
-        let rows = fresh_rows(alloc, limits, wishes)?;
+        let parts = fresh_parts(alloc, limits, wishes)?;
         let dispatcher = Dispatcher::new(alloc, shards)?;
         Ok(World {
             alloc,
             limits: *limits,
-            rows,
+            parts,
             intake,
             dispatcher,
         })
@@ -153,7 +139,7 @@ impl World {
         ensures unchanged { OnErr result (self.new ≡ self.old) }
     {
         // Tells the proof that each thread has a lane.
-        let _ = &self.rows;
+        let _ = &self.parts;
         self.make(next)
     }
 
@@ -171,7 +157,7 @@ impl World {
         ensures stopped { IfErr result (λ stop. self.new ≡ run self.old (take stop.0 steps.now)) }
     {
         // Tells the proof that each thread has a lane.
-        let _ = &self.rows;
+        let _ = &self.parts;
         for place in 0..steps.len() {
             match self.step(steps[place]) {
                 Ok(_) => {}
@@ -187,7 +173,7 @@ impl World {
         ensures { (lane : Lane) → slice_get self.now.lanes thread ≡ Some lane
             → result.now ≡ taken_of thread lane }
     {
-        self.rows[thread.number() as usize].taken()
+        self.parts[thread.number() as usize].taken()
     }
 
     /// The events of the thread that were collected: how those that it took begin, and once the world
@@ -276,10 +262,10 @@ impl World {
         ensures unchanged { OnErr result (self.new ≡ self.old) }
     {
         let index = thread.number() as usize;
-        if index >= self.rows.len() {
+        if index >= self.parts.len() {
             return Ok(Did::Nothing);
         }
-        let did = self.rows[index].take()?;
+        let did = self.parts[index].take()?;
         Ok(did)
     }
 
@@ -290,10 +276,10 @@ impl World {
         ensures unchanged { OnErr result (self.new ≡ self.old) }
     {
         let index = thread.number() as usize;
-        if index >= self.rows.len() {
+        if index >= self.parts.len() {
             return Ok(Did::Nothing);
         }
-        let did = self.rows[index].end()?;
+        let did = self.parts[index].end()?;
         Ok(did)
     }
 
@@ -304,10 +290,10 @@ impl World {
         ensures unchanged { OnErr result (self.new ≡ self.old) }
     {
         let index = thread.number() as usize;
-        if index >= self.rows.len() {
+        if index >= self.parts.len() {
             return Ok(Did::Nothing);
         }
-        match self.rows[index].front() {
+        match self.parts[index].front() {
             Some(note) => self.collect(thread, &note),
             None => Ok(Did::Nothing),
         }
@@ -325,10 +311,10 @@ impl World {
     {
         let index = thread.number() as usize;
         make_ready(&mut self.intake, note)?;
-        let edges = self.rows[index].due(self.alloc, note)?;
+        let edges = self.parts[index].due(self.alloc, note)?;
         self.dispatcher.add(edges)?;
-        let accepted = accept(&mut self.intake, note);
-        self.rows[index].pop(note);
+        let accepted = self.intake.accept(note);
+        self.parts[index].pop(note);
         Ok(Did::Pulled(accepted))
     }
 
@@ -336,13 +322,13 @@ impl World {
         ensures { step self.old (Again thread place) ≡ record { after = self.new; did = result } }
     {
         let index = thread.number() as usize;
-        if index >= self.rows.len() {
+        if index >= self.parts.len() {
             return Did::Nothing;
         }
-        if place as usize == self.rows[index].popped() {
+        if place as usize == self.parts[index].popped() {
             return Did::Nothing;
         }
-        match self.rows[index].note(place as usize) {
+        match self.parts[index].note(place as usize) {
             Some(note) => self.refuse(thread, place, &note),
             None => Did::Nothing,
         }

@@ -13,35 +13,35 @@ use Rattle.gl_engine.specs.declared.faults.RunFault.TheVariants as kept
 use Rattle.gl_engine.specs.declared.pulled.Pulled.{Pulled}
 use Rattle.gl_engine.specs.declared.pulled.PullFault.{PullFault}
 use Rattle.gl_engine.specs.declared.pulled.PullFault.TheVariants.{Broken, Memory}
-use Rattle.gl_engine.specs.declared.row.Row.{Row}
+use Rattle.gl_engine.specs.declared.lane_input.LaneInput.{LaneInput}
 
 -- the notes that a lane has handed over so far, oldest first: those popped, and those seen in it
 abbrev pub handed : Popping → List Note
 handed lane = lane.popped ++ lane.left
 
 -- the thread's lane has handed over these notes first
-pub record HasHanded (rows : List Row) (thread : ℕ) (notes : List Note) : Type 0 where
-  pub row : Row
-  pub here : slice_get rows thread ≡ Some row
-  pub first : IsPrefix notes (handed row.lane)
+pub record HasHanded (inputs : List LaneInput) (thread : ℕ) (notes : List Note) : Type 0 where
+  pub input : LaneInput
+  pub here : slice_get inputs thread ≡ Some input
+  pub first : IsPrefix notes (handed input.lane)
 
 -- the lanes stay where they are and hand over more, at most
-abbrev pub HandOver : List Row → List Row → Type 0
-HandOver before after = (thread : ℕ) (row : Row) → slice_get before thread ≡ Some row → HasHanded after thread (handed row.lane)
+abbrev pub HandOver : List LaneInput → List LaneInput → Type 0
+HandOver before after = (thread : ℕ) (input : LaneInput) → slice_get before thread ≡ Some input → HasHanded after thread (handed input.lane)
 
 -- after the notes that were collected of the thread, its lane handed over one that may not come next, for this reason
-pub record IsBroken (limits : Bounds) (rows : List Row) (stream : List Note) (thread : ℕ) (why : Refused) : Type 0 where
+pub record IsBroken (limits : Bounds) (inputs : List LaneInput) (stream : List Note) (thread : ℕ) (why : Refused) : Type 0 where
   pub taken : List Note
   pub note : Note
   pub told : notes_of thread stream ≡ map (as_of thread) taken
-  pub came : HasHanded rows thread (taken ++ note ∷ [])
+  pub came : HasHanded inputs thread (taken ++ note ∷ [])
   pub refused : note_refusal limits stream (as_of thread note) ≡ Some why
 
 -- where a lane is broken, there is a note to blame
-abbrev pub IsBlamed : Bounds → List Row → List Note → RunFault → Type 0
-IsBlamed limits rows stream kept.Memory = Unit {0}
-IsBlamed limits rows stream (kept.Gone shard) = Unit {0}
-IsBlamed limits rows stream (kept.Broken thread why) = IsBroken limits rows stream thread why
+abbrev pub IsBlamed : Bounds → List LaneInput → List Note → RunFault → Type 0
+IsBlamed limits inputs stream kept.Memory = Unit {0}
+IsBlamed limits inputs stream (kept.Gone shard) = Unit {0}
+IsBlamed limits inputs stream (kept.Broken thread why) = IsBroken limits inputs stream thread why
 
 -- a worker is gone
 abbrev pub IsGone : RunFault → Type 0

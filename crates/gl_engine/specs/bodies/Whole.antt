@@ -1,9 +1,11 @@
 -- What holds of what was gathered.
-use Rattle.std.specs.Prelude.{◌≡◌, ℕ, ◌<◌, true, List, length, map, Option, Some, None, slice_get, IfSome}
+use Rattle.std.specs.Prelude.{◌≡◌, ℕ, ◌<◌, true, List, ◌++◌, length, map, Option, Some, None, Result, slice_get, IfSome, IfErr, OnOk}
 use mathlib.Core.List.{IsPrefix}
 use Rattle.gl_event.specs.Bounds.{Bounds}
 use Rattle.gl_event.specs.declared.notes.Note.{Note}
-use Rattle.gl_intake.specs.Stream.{has_ended, AreInOrder}
+use Rattle.gl_edges.specs.declared.edge.Edge.{Edge}
+use Rattle.gl_edges.specs.declared.edge.Sample.{Sample}
+use Rattle.gl_intake.specs.Stream.{has_ended, AreInOrder, Collected}
 use Rattle.gl_lane.specs.Lanes.{LaneId}
 use Rattle.gl_shards.specs.Feeds.{AllSent, Sending}
 use Rattle.gl_world.specs.Keeping.{notes_of, AreMade}
@@ -13,36 +15,56 @@ use Rattle.gl_engine.specs.Keeping.{AreNotesOf, IsCollector}
 use Rattle.gl_engine.specs.Recording.{Closed}
 use Rattle.gl_engine.specs.Dealing.{dealt, made_by}
 use Rattle.gl_engine.specs.declared.faults.RunFault.{RunFault}
-use Rattle.gl_engine.specs.declared.row.Row.{Row}
+use Rattle.gl_engine.specs.declared.lane_input.LaneInput.{LaneInput}
 
--- a row's lane
-abbrev pub lane_of : Row → LaneId
-lane_of row = row.lane.lane
+-- an input's lane
+abbrev pub lane_of : LaneInput → LaneId
+lane_of input = input.lane.lane
 
 -- a run has kept up so far: what a collector keeps of the notes collected, and to each shard the edges were shipped that are its own
-pub record KeepsUp (limits : Bounds) (rows : List Row) (stream : List Note) (outlets : List Sending) : Type 0 where
-  pub collector : IsCollector limits rows stream (made_by stream) limits
+pub record KeepsUp (limits : Bounds) (inputs : List LaneInput) (stream : List Note) (outlets : List Sending) : Type 0 where
+  pub collector : IsCollector limits inputs stream (made_by stream) limits
   pub shipped : map (λ o. o.sent) outlets ≡ dealt (length outlets) (made_by stream)
 
+-- pulls went on from there: the collector's inputs and edges are those of what was collected, these edges were made; lanes and limits
+-- stay, what was collected stays, and where something goes wrong that is to blame
+pub record PullsOn {A : Type 0} (before after : Collected) (inputs later : List LaneInput) (pairs : List (Edge × Sample)) (result : Result A RunFault) : Type 0 where
+  pub keeps : IsCollector before.limits later after.stream (made_by after.stream) before.limits
+  pub made : OnOk result (made_by before.stream ++ pairs ≡ made_by after.stream)
+  pub limits : after.limits ≡ before.limits
+  pub lanes : map lane_of later ≡ map lane_of inputs
+  pub grown : IsPrefix before.stream after.stream
+  pub blamed : IfErr result (IsBlamed before.limits later after.stream)
+
+-- a run went on from there: as long as nothing goes wrong it keeps up; lanes, feeds and limits stay, what was collected stays, and
+-- where something goes wrong that is to blame
+pub record GoesOn {A : Type 0} (before after : Collected) (inputs later : List LaneInput) (outlets shipped : List Sending) (result : Result A RunFault) : Type 0 where
+  pub keeps : OnOk result (KeepsUp before.limits later after.stream shipped)
+  pub limits : after.limits ≡ before.limits
+  pub lanes : map lane_of later ≡ map lane_of inputs
+  pub feeds : map (λ o. o.feed) shipped ≡ map (λ o. o.feed) outlets
+  pub grown : IsPrefix before.stream after.stream
+  pub blamed : IfErr result (IsBlamed before.limits later after.stream)
+
 -- all was collected: each thread's notes in order and as they were popped, up to its end mark
-pub record IsCollected (limits : Bounds) (rows : List Row) (stream : List Note) : Type 0 where
-  pub told : (thread : ℕ) (row : Row) → slice_get rows thread ≡ Some row → notes_of thread stream ≡ map (as_of thread) row.lane.popped
+pub record IsCollected (limits : Bounds) (inputs : List LaneInput) (stream : List Note) : Type 0 where
+  pub told : (thread : ℕ) (input : LaneInput) → slice_get inputs thread ≡ Some input → notes_of thread stream ≡ map (as_of thread) input.lane.popped
   pub in_order : AreInOrder limits stream
   pub ended : (thread : ℕ) → thread < limits.threads → has_ended thread stream ≡ true
 
 -- all was collected, and shipped: to each shard those of the edges made that are its own
-pub record IsWhole (limits : Bounds) (rows : List Row) (stream : List Note) (sent : List AllSent) : Type 0 where
-  pub collected : IsCollected limits rows stream
+pub record IsWhole (limits : Bounds) (inputs : List LaneInput) (stream : List Note) (sent : List AllSent) : Type 0 where
+  pub collected : IsCollected limits inputs stream
   pub made_are : AreMade limits.threads stream (made_by stream)
   pub some : 0 < length sent
   pub shipped : map (λ s. s.sent) sent ≡ dealt (length sent) (made_by stream)
 
--- there is a row for each thread; all was collected and shipped unless something went wrong, and where a lane broke, there is a note to blame
-pub record IsGathered (limits : Bounds) (rows : List Row) (stream : List Note) (collecting : Bounds) (sent : List AllSent) (fault : Option RunFault) : Type 0 where
-  pub count : length rows ≡ limits.threads
+-- there is an input for each thread; all was collected and shipped unless something went wrong, and where a lane broke, there is a note to blame
+pub record IsGathered (limits : Bounds) (inputs : List LaneInput) (stream : List Note) (collecting : Bounds) (sent : List AllSent) (fault : Option RunFault) : Type 0 where
+  pub count : length inputs ≡ limits.threads
   pub same_limits : collecting ≡ limits
-  pub whole : fault ≡ None → IsWhole limits rows stream sent
-  pub blamed : IfSome fault (IsBlamed limits rows stream)
+  pub whole : fault ≡ None → IsWhole limits inputs stream sent
+  pub blamed : IfSome fault (IsBlamed limits inputs stream)
 
 -- a receipt's notes are its thread's, in order, and what its lane has handed over begins them
 pub record IsConfirmed (came : List Note) (r : Closed) : Type 0 where

@@ -10,6 +10,7 @@ use Rattle.gl_io.specs.Uses.{Use, used}
 use Rattle.gl_shards.specs.Feeds.{Sending}
 use Rattle.gl_shards.specs.declared.shard.TheConstants.{MAX_SHARDS}
 use Rattle.gl_std.specs.Streaming.{event_in, HasFault, HasTold, IsDone, Stream}
+use Rattle.gl_std.specs.Trace.{nothing}
 use Rattle.gl_std.specs.declared.faults.LinesFault.{LinesFault}
 use Rattle.gl_std.specs.declared.stream.Item.{Item}
 use Rattle.gl_std.specs.declared.trace.Trace.{Trace}
@@ -18,14 +19,14 @@ use Rattle.gl_engine.specs.Gathering.{Gathering}
 use Rattle.gl_engine.specs.Recording.{Recording, recorded}
 use Rattle.gl_live.specs.Streamed.{IsStreamFault}
 use Rattle.gl_live.specs.bodies.Padded.{padded}
-use Rattle.gl_live.specs.bodies.Seats.{Seating, seating_of, gathered_from, seat_of, IsSeatOf, IsReceiptOf}
+use Rattle.gl_live.specs.bodies.Rosters.{Roster, roster_of, gathered_from, identity_of, IsOnRoster, IsReceiptOf}
 use Rattle.gl_live.specs.declared.faults.StreamFault.{StreamFault}
 use Rattle.gl_live.specs.declared.run.Ran.{Ran}
 use Rattle.gl_live.specs.declared.streaming.ReadSession.{ReadSession}
 
 -- the recorders are those of the session, in the order of thread numbers, and each has recorded its thread's events of these lists
-pub record AreRecorded (s : Seating) (lists : List (List Event)) (recorders : List Recording) : Type 0 where
-  pub seats : (thread : ℕ) (r : Recording) → slice_get recorders thread ≡ Some r → IsSeatOf s (seat_of r)
+pub record AreRecorded (s : Roster) (lists : List (List Event)) (recorders : List Recording) : Type 0 where
+  pub identities : (thread : ℕ) (r : Recording) → slice_get recorders thread ≡ Some r → IsOnRoster s (identity_of r)
   pub threads : (thread : ℕ) (r : Recording) → slice_get recorders thread ≡ Some r → r.thread ≡ thread
   pub events : (thread : ℕ) (r : Recording) → slice_get recorders thread ≡ Some r → recorded r ≡ slice_index_or lists thread []
 
@@ -34,8 +35,8 @@ abbrev pub IsOfThreads : ℕ → Item → Type 0
 IsOfThreads threads item = (thread : ℕ) (event : Event) → event_in item ≡ Some (thread, event) → thread < threads
 
 -- the recorder is one of the session, and has recorded the whole of its thread's list
-pub record HasTaken (s : Seating) (lists : List (List Event)) (r : Recording) : Type 0 where
-  pub seat : IsSeatOf s (seat_of r)
+pub record HasTaken (s : Roster) (lists : List (List Event)) (r : Recording) : Type 0 where
+  pub identity : IsOnRoster s (identity_of r)
   pub whole : slice_get lists r.thread ≡ Some (recorded r)
 
 -- there is a recorder for each thread, those of the collector's session, which have recorded nothing and take as many events as there may be;
@@ -44,7 +45,7 @@ pub record HasTaken (s : Seating) (lists : List (List Event)) (r : Recording) : 
 pub record IsReadyToRead (s : ReadSession) : Type 0 where
   pub threads_are : s.collector.limits.threads ≡ length s.recorders.items
   pub events_are : s.collector.limits.events ≡ MAX_EVENTS
-  pub unused : AreRecorded (seating_of s.collector) [] s.recorders.items
+  pub unused : AreRecorded (roster_of s.collector) [] s.recorders.items
   pub some : 1 ≤ length s.outlets.items
   pub fit : length s.outlets.items ≤ MAX_SHARDS
   pub unsent : All (λ o. o.sent ≡ []) s.outlets.items
@@ -62,16 +63,21 @@ pub record HasGathered (c : Collecting) (outlets : List Sending) (g : Gathering)
   pub feeds : g.fault ≡ None → map (λ s. s.feed) g.sent ≡ map (λ o. o.feed) outlets
 
 -- the reads gave a text, and the recorders have recorded what the items told of it
-pub record Follows (s : Seating) (limits : Bounds) (turns : ℕ) (input : Use) (items : Stream) (recorders : List Recording) : Type 0 where
+pub record Follows (s : Roster) (limits : Bounds) (turns : ℕ) (input : Use) (items : Stream) (recorders : List Recording) : Type 0 where
   pub text : List ℕ
   pub told : Trace
   pub tells : HasTold limits turns input items text told
   pub recorded : AreRecorded s told.lists recorders
 
+-- whatever the recorders followed with this left to read, they follow on with that left
+abbrev pub FollowOn : Option (List ℕ) → Bool → Stream → List Recording → Option (List ℕ) → Bool → Stream → List Recording → Type 0
+FollowOn now failed items recorders later failed_later items_later recorders_later =
+    (s : Roster) (limits : Bounds) (turns : ℕ) (start : Option (List ℕ)) → Follows s limits turns (used start now failed) items recorders → Follows s limits turns (used start later failed_later) items_later recorders_later
+
 -- recorders have recorded what the items told of a text, under a limit of as many threads as there are recorders; each takes as many events
 -- as there may be
 pub record IsRecording (now : Option (List ℕ)) (failed : Bool) (items : Stream) (recorders : List Recording) : Type 0 where
-  pub s : Seating
+  pub s : Roster
   pub limits : Bounds
   pub turns : ℕ
   pub start : Option (List ℕ)
@@ -97,6 +103,11 @@ pub record Stops (limits : Bounds) (turns : ℕ) (input : Use) (items : Stream) 
   pub tells : HasTold limits turns input items text told
   pub why : HasFault items fault
 
+-- whatever the recorders followed with this left to read, the items stop with that left, for this fault
+abbrev pub StopsAfter : Option (List ℕ) → Bool → Stream → List Recording → Option (List ℕ) → Bool → Stream → LinesFault → Type 0
+StopsAfter now failed items recorders later failed_later items_later fault =
+    (s : Roster) (limits : Bounds) (turns : ℕ) (start : Option (List ℕ)) → Follows s limits turns (used start now failed) items recorders → Stops limits turns (used start later failed_later) items_later fault
+
 -- what a session of so many threads leaves where the items told this trace: receipts for the trace's lists, and for an empty one of each
 -- thread that the trace doesn't have; or why there is no report
 abbrev pub LeavesAll : ℕ → Stream → Trace → Result Ran StreamFault → Type 0
@@ -109,3 +120,8 @@ pub record HasStreamed (limits : Bounds) (turns : ℕ) (input : Use) (threads : 
   pub told : Trace
   pub tells : HasTold limits turns input items text told
   pub leaves : LeavesAll threads items told ran
+
+-- where nothing was told yet with this left to read, a session of so many threads has recorded what was told with that left
+abbrev pub StreamsOn : Option (List ℕ) → Bool → Stream → Option (List ℕ) → Bool → ℕ → Stream → Result Ran StreamFault → Type 0
+StreamsOn now failed items later failed_later threads items_later ran =
+    (limits : Bounds) (turns : ℕ) (start : Option (List ℕ)) → HasTold limits turns (used start now failed) items [] nothing → HasStreamed limits turns (used start later failed_later) threads items_later ran

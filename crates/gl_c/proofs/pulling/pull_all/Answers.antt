@@ -64,6 +64,6 @@ returns c =
       ends = record {
         answers = refl;
         broken = λ answer. absurd (omega arith);
-        whole = λ _ few. whole_all c.loop-number.number now (omega (arith, threads, c.loop-number.running.rows)) (c.loop-number.invariant.whole few);
+        whole = λ _ few. whole_all c.loop-number.number now (omega (arith, threads, c.loop-number.running.inputs)) (c.loop-number.invariant.whole few);
       };
     }

@@ -4,7 +4,7 @@ use Rattle.std.specs.Prelude.{IfErr, IfOk}
 use Rattle.gl_edges.specs.Edges.{edges}
 use Rattle.gl_findings.specs.Reports.{IsReportListing}
 use Rattle.gl_live.specs.Faults.{IsLiveFault}
-use Rattle.gl_live.specs.bodies.Seats.{gathered_from, IsReceiptOf}
+use Rattle.gl_live.specs.bodies.Rosters.{gathered_from, IsReceiptOf}
 use Rattle.gl_live.proofs.live.conclude.Goals as goal
 
 pub returns-in-Ok-settle_workers-clause-report : goal.returns-in-Ok-settle_workers-clause-report

@@ -1,7 +1,7 @@
 use Rattle.std.proofs.Common.{sym, ◌∙◌}
 use Rattle.std.proofs.lemmas.List.{length-map}
 use Rattle.gl_segments.specs.Orders.{lists_of}
-use Rattle.gl_live.specs.bodies.Seats.{gathered_from}
+use Rattle.gl_live.specs.bodies.Rosters.{gathered_from}
 use Rattle.gl_live.proofs.Leaving.{are_receipts}
 use Rattle.gl_live.proofs.live.live_listing.Goals as goal
 

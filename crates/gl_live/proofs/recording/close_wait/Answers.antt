@@ -1,5 +1,5 @@
 use Rattle.std.proofs.Common.{◌∙◌}
-use Rattle.gl_live.proofs.Seated.{recorded_closed}
+use Rattle.gl_live.proofs.Rostered.{recorded_closed}
 use Rattle.gl_live.proofs.recording.close_wait.Goals as goal
 
 pub returns-in-Ok-clause-all : goal.returns-in-Ok-clause-all

@@ -1,12 +1,12 @@
 use Rattle.std.proofs.Common.{◌≡◌}
 use Rattle.gl_engine.specs.Recording.{recorded}
-use Rattle.gl_live.specs.bodies.Seats.{seat_of}
+use Rattle.gl_live.specs.bodies.Rosters.{identity_of}
 use Rattle.gl_live.proofs.recording.close_wait.Given as goal
 
 -- the lane was full so far, and the recorder is as it was
 abbrev pub invariant-loop : goal.invariant-loop
 invariant-loop g l =
-    (seat_of l.recorder ≡ seat_of l.fn.recorder)
+    (identity_of l.recorder ≡ identity_of l.fn.recorder)
     × (recorded l.recorder ≡ recorded l.fn.recorder)
     × (goal.iterator-loop g).can_next l.iterator'
     × (goal.iterator-loop g).is_finite l.iterator'

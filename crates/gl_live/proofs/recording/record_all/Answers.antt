@@ -1,7 +1,7 @@
 use Rattle.std.proofs.Common.{length, ap, arith}
 use Rattle.gl_segments.specs.Orders.{lists_of}
-use Rattle.gl_live.specs.bodies.Seats.{IsRecorderOf}
-use Rattle.gl_live.proofs.Seated.{first_of_all, rest_of_all, receipts_more}
+use Rattle.gl_live.specs.bodies.Rosters.{IsRecorderOf}
+use Rattle.gl_live.proofs.Rostered.{first_of_all, rest_of_all, receipts_more}
 use Rattle.gl_live.proofs.recording.record_all.Goals as goal
 
 pub loop-recorder-preserved-in-Some-record_own : goal.loop-recorder-preserved-in-Some-record_own

@@ -1,8 +1,8 @@
 use Rattle.std.proofs.Common.{◌∙◌, ◌++◌, ◌∷◌, [], sym, ap, append_assoc, take, arith}
 use Rattle.gl_world.proofs.Lists.{take_more, get_at}
 use Rattle.gl_engine.specs.Recording.{recorded}
-use Rattle.gl_live.specs.bodies.Seats.{seat_of}
-use Rattle.gl_live.proofs.Seated.{recorded_more}
+use Rattle.gl_live.specs.bodies.Rosters.{identity_of}
+use Rattle.gl_live.proofs.Rostered.{recorded_more}
 use Rattle.gl_live.proofs.recording.record_each.Goals as goal
 
 pub loop-event-preserved : goal.loop-event-preserved
@@ -10,7 +10,7 @@ loop-event-preserved g c =
     let was = c.loop-event in
     let event = c.event-item.result in
     let list = c.args.list.now in record {
-      seat = ap seat_of c.in-Ok.ensures.pushed ∙ was.invariant.seat;
+      identity = ap identity_of c.in-Ok.ensures.pushed ∙ was.invariant.identity;
       all =
           recorded_more was.recorder c.record_wait.new.self event c.record_wait.new.self.room c.in-Ok.ensures.pushed
           ∙ ap (λ es. es ++ event ∷ []) was.invariant.all

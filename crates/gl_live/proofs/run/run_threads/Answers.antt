@@ -2,7 +2,7 @@ use Rattle.std.proofs.Common.{refl, sym, ap, ◌≤◌, length, subst, ◌∙◌
 use Rattle.gl_segments.specs.Orders.{lists_of}
 use Rattle.gl_shards.specs.declared.shard.TheConstants.{MAX_SHARDS}
 use Rattle.gl_event.specs.Bounds.{Bounds}
-use Rattle.gl_live.proofs.Leaving.{unsent_at, as_long, seating_same}
+use Rattle.gl_live.proofs.Leaving.{unsent_at, as_long, roster_same}
 use Rattle.gl_live.proofs.run.run_threads.Goals as goal
 
 pub run-gathered-requires-clause-unsent : goal.run-gathered-requires-clause-unsent
@@ -26,5 +26,5 @@ returns-clause-threads g c = c.join_threads.ensures.threads (length c.args.lists
 pub returns-clause-receipts : goal.returns-clause-receipts
 returns-clause-receipts g c =
     c.join_threads.ensures.receipts c.args.session.collector (lists_of c.args.lists.now)
-    (sym (seating_same c.run-gathered.result c.args.session.collector c.run-gathered.ensures.session c.run-gathered.ensures.limits c.run-gathered.ensures.lanes))
+    (sym (roster_same c.run-gathered.result c.args.session.collector c.run-gathered.ensures.session c.run-gathered.ensures.limits c.run-gathered.ensures.lanes))
     (c.if-not-start_threads.ensures.lists refl) c.requires.ready.no_receipt

@@ -3,8 +3,8 @@ use Rattle.std.specs.List.{All}
 use Rattle.std.proofs.lemmas.List.{length-set}
 use Rattle.std.proofs.lemmas.List.Elements.{All-set}
 use Rattle.std.proofs.lemmas.Nat.{mod_below}
-use Rattle.gl_live.specs.bodies.Seats.{IsRecorderOf}
-use Rattle.gl_live.proofs.Seated.{first_all, rest_all, all_more, all_at}
+use Rattle.gl_live.specs.bodies.Rosters.{IsRecorderOf}
+use Rattle.gl_live.proofs.Rostered.{first_all, rest_all, all_more, all_at}
 use Rattle.gl_live.proofs.session.grouped.Goals as goal
 
 pub loop-recorder-preserved : goal.loop-recorder-preserved

@@ -3,7 +3,7 @@ use Rattle.std.specs.List.{All}
 use Rattle.std.specs.Vec.{vec_len, vec_capacity}
 use Rattle.std.specs.Vec.Iter.{into_iter_items, into_iter_len}
 use Rattle.gl_event.specs.declared.events.Event.{Event}
-use Rattle.gl_live.specs.bodies.Seats.{Seating, IsReceiptOf}
+use Rattle.gl_live.specs.bodies.Rosters.{Roster, IsReceiptOf}
 use Rattle.gl_live.specs.bodies.Streams.{HasTaken}
 use Rattle.gl_live.proofs.streaming.close_all.Given as goal
 
@@ -14,6 +14,6 @@ invariant-loop-recorder g l = record {
   finite : (goal.iterator-loop-recorder g).is_finite l.recorder-iterator;
   counted : into_iter_len l.recorder-iterator ≡ length (into_iter_items l.recorder-iterator);
   room : vec_len l.receipts + length (into_iter_items l.recorder-iterator) ≤ vec_capacity l.receipts;
-  left : (s : Seating) (lists : List (List Event)) → All (HasTaken s lists) l.fn.recorders.items → All (HasTaken s lists) (into_iter_items l.recorder-iterator);
-  kept : (s : Seating) (lists : List (List Event)) → All (HasTaken s lists) l.fn.recorders.items → All (IsReceiptOf s lists) l.fn.receipts.items → All (IsReceiptOf s lists) l.receipts.items;
+  left : (s : Roster) (lists : List (List Event)) → All (HasTaken s lists) l.fn.recorders.items → All (HasTaken s lists) (into_iter_items l.recorder-iterator);
+  kept : (s : Roster) (lists : List (List Event)) → All (HasTaken s lists) l.fn.recorders.items → All (IsReceiptOf s lists) l.fn.receipts.items → All (IsReceiptOf s lists) l.receipts.items;
 }

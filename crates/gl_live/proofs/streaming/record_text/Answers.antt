@@ -1,7 +1,7 @@
 use Rattle.std.proofs.Common.{sym, ap, ◌∙◌, length, arith}
 use Rattle.gl_event.specs.Bounds.{Bounds}
 use Rattle.gl_io.specs.Uses.{used}
-use Rattle.gl_live.specs.bodies.Seats.{seating_of}
+use Rattle.gl_live.specs.bodies.Rosters.{roster_of}
 use Rattle.gl_live.specs.declared.run.Ran.{Ran}
 use Rattle.gl_live.proofs.Leaving.{as_long}
 use Rattle.gl_live.proofs.Streamings.{begins, has_gathered, ours_streamed, streamed, unstreamed}
@@ -15,7 +15,7 @@ pub record_items-read-requires-clause-recording : goal.record_items-read-require
 record_items-read-requires-clause-recording g c =
     let session = c.args.session in
     let unread = c.requires.unread in record {
-      s = seating_of session.collector;
+      s = roster_of session.collector;
       limits = unread.limits;
       turns = unread.turns;
       start = unread.start;
@@ -44,13 +44,13 @@ returns-in-Ok-read-clause-streamed g c = λ limits turns start told.
     let gathered = has_gathered _ _ _ _ c.join-gathered.result c.in-Some.ensures.collector c.in-Some.ensures.outlets c.join-gathered.ensures in
     streamed limits turns _ _ _ session.collector session.outlets.items c.record_items-read.new.recorders.items session.receipts.items _ gathered c.requires.ready.no_receipt c.record_items-read.ensures.count c.in-Ok-read.ensures.done
     c.close_all.ensures
-    (c.in-Ok-read.ensures.follows (seating_of session.collector) limits turns start (begins session.collector limits turns _ _ session.recorders.items c.requires.ready.unused told))
+    (c.in-Ok-read.ensures.follows (roster_of session.collector) limits turns start (begins session.collector limits turns _ _ session.recorders.items c.requires.ready.unused told))
 
 pub returns-in-Err-clause-streamed : goal.returns-in-Err-clause-streamed
 returns-in-Err-clause-streamed g c = λ limits turns start told.
     let session = c.args.session in
     unstreamed limits turns _ _ _ c.in-Err.fault
-    (c.in-Err.ensures.stops (seating_of session.collector) limits turns start (begins session.collector limits turns _ _ session.recorders.items c.requires.ready.unused told))
+    (c.in-Err.ensures.stops (roster_of session.collector) limits turns start (begins session.collector limits turns _ _ session.recorders.items c.requires.ready.unused told))
 
 pub returns-in-Ok-read-clause-ours : goal.returns-in-Ok-read-clause-ours
 returns-in-Ok-read-clause-ours g c =
@@ -65,4 +65,4 @@ returns-in-Ok-read-clause-ours g c =
     ours_streamed unread.limits unread.turns (used unread.start now failed) threads items ran unread.as_many
     (streamed unread.limits unread.turns (used unread.start now failed) threads items session.collector session.outlets.items c.record_items-read.new.recorders.items session.receipts.items ran gathered c.requires.ready.no_receipt c.record_items-read.ensures.count c.in-Ok-read.ensures.done
     c.close_all.ensures
-    (c.in-Ok-read.ensures.follows (seating_of session.collector) unread.limits unread.turns unread.start (begins session.collector unread.limits unread.turns _ _ session.recorders.items c.requires.ready.unused unread.tells)))
+    (c.in-Ok-read.ensures.follows (roster_of session.collector) unread.limits unread.turns unread.start (begins session.collector unread.limits unread.turns _ _ session.recorders.items c.requires.ready.unused unread.tells)))

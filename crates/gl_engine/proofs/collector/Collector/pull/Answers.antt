@@ -6,40 +6,33 @@ use Rattle.gl_engine.specs.Keeping.{BreaksForCause}
 use Rattle.gl_engine.proofs.Sides.{collector_after, pull_tells, lanes_still}
 use Rattle.gl_engine.proofs.collector.Collector.pull.Goals as goal
 
-pub pull-requires-clause-follows : goal.pull-requires-clause-follows
-pull-requires-clause-follows c =
-    let here = rw c.number.ensures at c.index_mut-row.ensures.value in
-    let known : c.args.thread < c.self.inside.limits.threads = subst (λ (s : Collecting). c.args.thread < s.limits.threads) (sym c.self.view_is) c.requires.known in
-    let within : c.args.thread < length c.self.inside.rows.items = omega (arith, known, c.self.invariant.rows_are.count) in
-    c.self.invariant.rows_are.follows c.args.thread c.index_mut-row.result.now (get_at c.self.inside.rows.items c.args.thread c.index_mut-row.result.now within here)
-
 pub invariant_of-self : goal.invariant_of-self
 invariant_of-self c =
-    let here = rw c.number.ensures at c.index_mut-row.ensures.value in
+    let here = rw c.number.ensures at c.index_mut-input.ensures.value in
     let known : c.args.thread < c.self.inside.limits.threads = subst (λ (s : Collecting). c.args.thread < s.limits.threads) (sym c.self.view_is) c.requires.known in
-    let within : c.args.thread < length c.self.inside.rows.items = omega (arith, known, c.self.invariant.rows_are.count) in
-    let row_at = get_at c.self.inside.rows.items c.args.thread c.index_mut-row.result.now within here in
-    let before = subst (λ (b : Bounds). BreaksForCause b c.args.thread c.self.inside.intake.stream c.index_mut-row.result.now) (sym c.self.invariant.same_limits) (c.self.invariant.rows_are.cause c.args.thread c.index_mut-row.result.now row_at) in
+    let within : c.args.thread < length c.self.inside.inputs.items = omega (arith, known, c.self.invariant.inputs_are.count) in
+    let input_at = get_at c.self.inside.inputs.items c.args.thread c.index_mut-input.result.now within here in
+    let before = subst (λ (b : Bounds). BreaksForCause b c.args.thread c.self.inside.intake.stream c.index_mut-input.result.now) (sym c.self.invariant.same_limits) (c.self.invariant.inputs_are.cause c.args.thread c.index_mut-input.result.now input_at) in
     let cause = subst (λ (b : Bounds). BreaksForCause b c.args.thread c.pull.new.intake.stream c.pull.new.self) c.self.invariant.same_limits (c.pull.ensures.cause before) in
     rw (c.number.ensures, c.pull.ensures.limits)
-    (collector_after c.self.inside.limits c.self.inside.rows.items c.self.inside.intake.stream c.self.inside.made.items c.self.inside.intake.limits c.self.invariant
-    c.args.thread c.index_mut-row.result.now c.pull.new.self within here c.pull.new.intake.stream c.pull.new.made.items c.pull.ensures.follows cause c.pull.result c.pull.ensures.pull)
+    (collector_after c.self.inside.limits c.self.inside.inputs.items c.self.inside.intake.stream c.self.inside.made.items c.self.inside.intake.limits c.self.invariant
+    c.args.thread c.index_mut-input.result.now c.pull.new.self within here c.pull.new.intake.stream c.pull.new.made.items cause c.pull.result c.pull.ensures.pull)
 
 pub returns-clause-tells : goal.returns-clause-tells
 returns-clause-tells c =
-    let here = rw c.number.ensures at c.index_mut-row.ensures.value in
+    let here = rw c.number.ensures at c.index_mut-input.ensures.value in
     let known : c.args.thread < c.self.inside.limits.threads = subst (λ (s : Collecting). c.args.thread < s.limits.threads) (sym c.self.view_is) c.requires.known in
-    let within : c.args.thread < length c.self.inside.rows.items = omega (arith, known, c.self.invariant.rows_are.count) in
+    let within : c.args.thread < length c.self.inside.inputs.items = omega (arith, known, c.self.invariant.inputs_are.count) in
     rw c.number.ensures
-    (pull_tells c.self.inside.limits c.self.inside.rows.items c.self.inside.intake.stream c.self.inside.made.items c.self.inside.intake.limits c.self.invariant
-    c.args.thread c.index_mut-row.result.now c.pull.new.self within here c.pull.new.intake.stream c.pull.new.made.items c.pull.ensures.follows
+    (pull_tells c.self.inside.limits c.self.inside.inputs.items c.self.inside.intake.stream c.self.inside.made.items c.self.inside.intake.limits c.self.invariant
+    c.args.thread c.index_mut-input.result.now c.pull.new.self within here c.pull.new.intake.stream c.pull.new.made.items
     c.self.inside.session c.pull.result c.pull.ensures.pull c.args.self.now c.self.view_is)
 
 pub returns-clause-lanes : goal.returns-clause-lanes
 returns-clause-lanes c =
-    let here = rw c.number.ensures at c.index_mut-row.ensures.value in
+    let here = rw c.number.ensures at c.index_mut-input.ensures.value in
     let known : c.args.thread < c.self.inside.limits.threads = subst (λ (s : Collecting). c.args.thread < s.limits.threads) (sym c.self.view_is) c.requires.known in
-    let within : c.args.thread < length c.self.inside.rows.items = omega (arith, known, c.self.invariant.rows_are.count) in
+    let within : c.args.thread < length c.self.inside.inputs.items = omega (arith, known, c.self.invariant.inputs_are.count) in
     rw (c.number.ensures, ← c.self.view_is)
-    (lanes_still c.self.inside.limits c.self.inside.rows.items c.self.inside.intake.stream c.self.inside.made.items c.self.inside.intake.limits c.self.invariant
-    c.args.thread c.index_mut-row.result.now c.pull.new.self within here c.pull.new.intake.stream c.pull.new.made.items c.pull.ensures.follows c.pull.result c.pull.ensures.pull)
+    (lanes_still c.self.inside.limits c.self.inside.inputs.items c.self.inside.intake.stream c.self.inside.made.items c.self.inside.intake.limits c.self.invariant
+    c.args.thread c.index_mut-input.result.now c.pull.new.self within here c.pull.new.intake.stream c.pull.new.made.items c.pull.result c.pull.ensures.pull)

@@ -8,11 +8,11 @@ collect_all-gathered-requires-clause-unsent g c = unsent_dealt c.args.outlets.it
 
 pub invariant_of-result : goal.invariant_of-result
 invariant_of-result g c =
-    rw c.collect_all-gathered.ensures.limits
-    (gathered_all c.self.inside.limits c.self.inside.intake.limits c.self.invariant.same_limits c.self.inside.rows.items c.collect_all-gathered.new.rows.items c.self.invariant.rows_are.count c.collect_all-gathered.ensures.lanes
-    c.collect_all-gathered.new.intake.stream c.args.outlets.items c.collect_all-gathered.new.outlets.items c.end_all-ended.new.sent.items c.requires.some c.collect_all-gathered.ensures.feeds
-    c.collect_all-gathered.result c.end_all-ended.result c.collect_all-gathered.ensures.keeps c.collect_all-gathered.ensures.ended c.end_all-ended.ensures.sent c.collect_all-gathered.ensures.blamed c.first_fault.result c.first_fault.ensures.none c.first_fault.ensures.some)
+    rw c.collect_all-gathered.ensures.goes_on.limits
+    (gathered_all c.self.inside.limits c.self.inside.intake.limits c.self.invariant.same_limits c.self.inside.inputs.items c.collect_all-gathered.new.inputs.items c.self.invariant.inputs_are.count c.collect_all-gathered.ensures.goes_on.lanes
+    c.collect_all-gathered.new.intake.stream c.args.outlets.items c.collect_all-gathered.new.outlets.items c.end_all-ended.new.sent.items c.requires.some c.collect_all-gathered.ensures.goes_on.feeds
+    c.collect_all-gathered.result c.end_all-ended.result c.collect_all-gathered.ensures.goes_on.keeps c.collect_all-gathered.ensures.ended c.end_all-ended.ensures.sent c.collect_all-gathered.ensures.goes_on.blamed c.first_fault.result c.first_fault.ensures.none c.first_fault.ensures.some)
 
 pub returns-clause-lanes : goal.returns-clause-lanes
 returns-clause-lanes g c =
-    c.collect_all-gathered.ensures.lanes ∙ sym (lanes_shown c.self.inside.rows.items) ∙ ap (λ (s : Collecting). map (λ (row : Pulling). row.lane) s.rows) c.self.view_is
+    c.collect_all-gathered.ensures.goes_on.lanes ∙ sym (lanes_shown c.self.inside.inputs.items) ∙ ap (λ (s : Collecting). map (λ (input : Pulling). input.lane) s.inputs) c.self.view_is

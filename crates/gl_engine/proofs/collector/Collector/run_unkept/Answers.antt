@@ -5,4 +5,4 @@ use Rattle.gl_engine.proofs.collector.Collector.run_unkept.Goals as goal
 
 pub returns-clause-lanes : goal.returns-clause-lanes
 returns-clause-lanes g c =
-    c.throw_away.ensures.lanes ∙ sym (lanes_shown c.self.inside.rows.items) ∙ ap (λ (s : Collecting). map (λ (row : Pulling). row.lane) s.rows) c.self.view_is
+    c.discard_all.ensures.lanes ∙ sym (lanes_shown c.self.inside.inputs.items) ∙ ap (λ (s : Collecting). map (λ (input : Pulling). input.lane) s.inputs) c.self.view_is

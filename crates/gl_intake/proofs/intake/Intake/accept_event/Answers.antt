@@ -14,23 +14,23 @@ index_mut-requires c =
 pub index_mut-requires-2 : goal.index_mut-requires-2
 index_mut-requires-2 c =
     let next = next_of_none c.self.inside.limits c.self.inside.stream.items c.args.note.now (rw (← c.self.view_is) at c.requires.next) in
-    omega (arith, next.known, c.number-index.ensures, c.self.invariant.rows_are.count)
+    omega (arith, next.known, c.number-index.ensures, c.self.invariant.cursors_are.count)
 
 pub advance-requires : goal.advance-requires
 advance-requires c =
     let next = next_of_none c.self.inside.limits c.self.inside.stream.items c.args.note.now (rw (← c.self.view_is) at c.requires.next) in
-    let row_here = rw c.number-index.ensures at c.index_mut-2.ensures.value in
-    may_follow c.self.inside.limits c.self.inside.stream.items c.self.inside.rows.items c.self.invariant.rows_are c.args.note.now next c.args.event.now c.requires.told c.index_mut-2.result.now row_here
+    let cursor_here = rw c.number-index.ensures at c.index_mut-2.ensures.value in
+    may_follow c.self.inside.limits c.self.inside.stream.items c.self.inside.cursors.items c.self.invariant.cursors_are c.args.note.now next c.args.event.now c.requires.told c.index_mut-2.result.now cursor_here
 
 pub invariant_of-self-2 : goal.invariant_of-self-2
 invariant_of-self-2 c =
     let next = next_of_none c.self.inside.limits c.self.inside.stream.items c.args.note.now (rw (← c.self.view_is) at c.requires.next) in
     let log_here = rw c.number-index.ensures at c.index_mut.ensures.value in
-    let row_here = rw c.number-index.ensures at c.index_mut-2.ensures.value in
+    let cursor_here = rw c.number-index.ensures at c.index_mut-2.ensures.value in
     rw (c.in_ok-append_both.ensures.second, c.number-index.ensures)
-    (kept_event c.self.inside.limits c.self.inside.stream.items c.self.inside.logs.items c.self.inside.rows.items c.self.invariant c.args.note.now next
+    (kept_event c.self.inside.limits c.self.inside.stream.items c.self.inside.logs.items c.self.inside.cursors.items c.self.invariant c.args.note.now next
     c.args.event.now c.requires.told c.index_mut.result.now c.append_both.new.xs log_here c.in_ok-append_both.ensures.first
-    c.index_mut-2.result.now _ row_here refl c.advance.ensures)
+    c.index_mut-2.result.now _ cursor_here refl c.advance.ensures)
 
 pub returns-in_err-append_both : goal.returns-in_err-append_both
 returns-in_err-append_both c =

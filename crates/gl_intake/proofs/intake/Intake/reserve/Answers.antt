@@ -9,7 +9,7 @@ invariant_of-self c =
     let known = subst (λ (k : Collected). c.args.thread < k.limits.threads) (sym c.self.view_is) c.requires in
     let here = rw c.number-index.ensures at c.index_mut.ensures.value in
     rw (c.make_room.ensures.second, c.number-index.ensures)
-    (kept_room c.self.inside.limits c.self.inside.stream.items c.self.inside.logs.items c.self.inside.rows.items c.self.invariant c.args.thread known c.index_mut.result.now c.make_room.new.xs here c.make_room.ensures.first)
+    (kept_room c.self.inside.limits c.self.inside.stream.items c.self.inside.logs.items c.self.inside.cursors.items c.self.invariant c.args.thread known c.index_mut.result.now c.make_room.new.xs here c.make_room.ensures.first)
 
 pub returns-clause-reserved : goal.returns-clause-reserved
 returns-clause-reserved c =

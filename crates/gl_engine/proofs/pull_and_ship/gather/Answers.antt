@@ -1,0 +1,63 @@
+use Rattle.std.proofs.Common.{rules, ◌∙◌}
+use Rattle.std.proofs.lemmas.Result.{err_from_is_err_and}
+use Rattle.gl_engine.proofs.Handing.{prefix_on}
+use Rattle.gl_engine.proofs.pull_and_ship.gather.Goals as goal
+
+pub round-requires-clause-kept : goal.round-requires-clause-kept
+round-requires-clause-kept g c = rw (c.loop.invariant.limits) c.loop.invariant.keeps
+
+pub loop-preserved-then-branch : goal.loop-preserved-then-branch
+loop-preserved-then-branch g c = record {
+  keeps = rw (c.loop.invariant.limits) at c.in_ok-round.ensures.keeps;
+  limits = c.round.ensures.limits ∙ c.loop.invariant.limits;
+  lanes = c.round.ensures.lanes ∙ c.loop.invariant.lanes;
+  feeds = c.round.ensures.feeds ∙ c.loop.invariant.feeds;
+  grown = prefix_on _ _ _ c.loop.invariant.grown c.round.ensures.grown;
+  next = search rules;
+  finite = search rules;
+}
+
+pub loop-preserved : goal.loop-preserved
+loop-preserved g c = record {
+  keeps = rw (c.loop.invariant.limits) at c.in_ok-round.ensures.keeps;
+  limits = c.round.ensures.limits ∙ c.loop.invariant.limits;
+  lanes = c.round.ensures.lanes ∙ c.loop.invariant.lanes;
+  feeds = c.round.ensures.feeds ∙ c.loop.invariant.feeds;
+  grown = prefix_on _ _ _ c.loop.invariant.grown c.round.ensures.grown;
+  next = search rules;
+  finite = search rules;
+}
+
+pub returns-in_err-ship-clause-goes_on : goal.returns-in_err-ship-clause-goes_on
+returns-in_err-ship-clause-goes_on g c =
+    let p = err_from_is_err_and c.from_residual.result c.from_residual.ensures.1 in
+    record {
+      keeps = rw p.1 tt;
+      limits = search rules;
+      lanes = search rules;
+      feeds = search rules;
+      grown = search rules;
+      blamed = search rules;
+    }
+
+pub returns-in_err-ship-clause-ended : goal.returns-in_err-ship-clause-ended
+returns-in_err-ship-clause-ended g c =
+    let p = err_from_is_err_and c.from_residual.result c.from_residual.ensures.1 in
+    rw p.1 tt
+
+pub returns-in_err-round-clause-goes_on : goal.returns-in_err-round-clause-goes_on
+returns-in_err-round-clause-goes_on g c =
+    let p = err_from_is_err_and c.from_residual-in_err-round.result c.from_residual-in_err-round.ensures.1 in
+    record {
+      keeps = rw p.1 tt;
+      limits = c.round.ensures.limits ∙ c.loop.invariant.limits;
+      lanes = c.round.ensures.lanes ∙ c.loop.invariant.lanes;
+      feeds = c.round.ensures.feeds ∙ c.loop.invariant.feeds;
+      grown = prefix_on _ _ _ c.loop.invariant.grown c.round.ensures.grown;
+      blamed = search rules;
+    }
+
+pub returns-in_err-round-clause-ended : goal.returns-in_err-round-clause-ended
+returns-in_err-round-clause-ended g c =
+    let p = err_from_is_err_and c.from_residual-in_err-round.result c.from_residual-in_err-round.ensures.1 in
+    rw p.1 tt

@@ -1,0 +1,34 @@
+use Rattle.std.proofs.Common.{◌<◌, length, arith}
+use Rattle.std.proofs.lemmas.Result.{IfErr-weaker}
+use Rattle.gl_world.proofs.Lists.{get_at}
+use Rattle.gl_engine.specs.bodies.Breaking.{IsBlamed, IsKeptFor}
+use Rattle.gl_engine.proofs.Handing.{on_ok_anyway}
+use Rattle.gl_engine.proofs.Running.{due_later, kept_later, lanes_later, grown_later, blamed_now}
+use Rattle.gl_engine.proofs.pull_and_ship.pull_at.Goals as goal
+
+pub returns : goal.returns
+returns c =
+    let here = rw c.number.ensures at c.index_mut-input.ensures.value in
+    let within : c.args.thread < length c.args.inputs.now.items = omega (arith, c.requires.known, c.requires.keeps.inputs_are.count) in
+    let tells = rw c.requires.none at c.pull-pulled.ensures.pull in
+    let input_at = get_at c.args.inputs.now.items c.args.thread c.index_mut-input.result.now within here in
+    let cause = c.pull-pulled.ensures.cause (c.requires.keeps.inputs_are.cause c.args.thread c.index_mut-input.result.now input_at) in
+    record {
+      keeps = rw c.number.ensures
+          (kept_later c.args.intake.now.limits c.args.inputs.now.items c.args.intake.now.stream c.requires.keeps c.args.thread c.index_mut-input.result.now c.pull-pulled.new.self within here
+          c.pull-pulled.new.intake.stream c.pull-pulled.new.made.items cause c.pull-pulled.result tells);
+      made = on_ok_anyway c.has_pulled.result
+          (due_later c.args.intake.now.limits c.args.inputs.now.items c.args.intake.now.stream c.requires.keeps c.args.thread c.index_mut-input.result.now c.pull-pulled.new.self within here
+          c.pull-pulled.new.intake.stream c.pull-pulled.new.made.items cause c.pull-pulled.result tells);
+      limits = c.pull-pulled.ensures.limits;
+      lanes = rw c.number.ensures
+          (lanes_later c.args.intake.now.limits c.args.inputs.now.items c.args.intake.now.stream c.requires.keeps c.args.thread c.index_mut-input.result.now c.pull-pulled.new.self within here
+          c.pull-pulled.new.intake.stream c.pull-pulled.new.made.items cause c.pull-pulled.result tells);
+      grown = grown_later c.args.intake.now.limits c.args.inputs.now.items c.args.intake.now.stream c.requires.keeps c.args.thread c.index_mut-input.result.now c.pull-pulled.new.self within here
+          c.pull-pulled.new.intake.stream c.pull-pulled.new.made.items cause c.pull-pulled.result tells;
+      blamed = rw c.number.ensures
+          (IfErr-weaker c.has_pulled.result (IsKeptFor c.args.thread c.pull-pulled.result) (IsBlamed c.args.intake.now.limits _ c.pull-pulled.new.intake.stream)
+          (blamed_now c.args.intake.now.limits c.args.inputs.now.items c.args.intake.now.stream c.requires.keeps c.args.thread c.index_mut-input.result.now c.pull-pulled.new.self within here
+          c.pull-pulled.new.intake.stream c.pull-pulled.new.made.items cause c.pull-pulled.result tells)
+          c.has_pulled.ensures);
+    }

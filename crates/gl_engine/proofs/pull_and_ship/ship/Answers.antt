@@ -1,0 +1,27 @@
+use Rattle.std.proofs.Common.{◌≡◌, [], ◌∷◌, ◌++◌, length, map, sym, ap, ◌∙◌, append_assoc, arith}
+use Rattle.std.specs.Vec.Iter.{into_iter_items}
+use Rattle.gl_edges.specs.declared.edge.Edge.{Edge}
+use Rattle.gl_edges.specs.declared.edge.Sample.{Sample}
+use Rattle.gl_shards.specs.Feeds.{Sending}
+use Rattle.gl_engine.specs.Dealing.{dealt}
+use Rattle.gl_engine.proofs.Running.{as_long}
+use Rattle.gl_engine.proofs.pull_and_ship.ship.Goals as goal
+
+pub loop-edge-preserved : goal.loop-edge-preserved
+loop-edge-preserved g c =
+    let was = c.loop-edge.invariant in
+    let pair : Edge × Sample = (c.in-Some.edge, c.in-Some.sample) in
+    let steps : into_iter_items c.loop-edge.edge-iterator ≡ pair ∷ into_iter_items c.next.new.self = c.in-Some.ensures.steps.0 in
+    let count : length c.loop-edge.outlets.items ≡ length c.args.outlets.now.items = as_long (λ (o : Sending). o.feed) (λ (o : Sending). o.feed) c.loop-edge.outlets.items c.args.outlets.now.items was.feeds in
+    record {
+      next = tt;
+      finite = tt;
+      all = append_assoc c.loop-edge.yielded (pair ∷ []) _ ∙ ap (λ rest. c.loop-edge.yielded ++ rest) (sym steps) ∙ was.all;
+      counted = (let before = was.counted in let gone = c.in-Some.ensures.steps.1 in let short = ap length steps in omega arith);
+      shipped = λ before are.
+          (let so_far : map (λ (o : Sending). o.sent) c.loop-edge.outlets.items ≡ dealt (length c.loop-edge.outlets.items) (before ++ c.loop-edge.yielded) = was.shipped before are ∙ ap (λ n. dealt n (before ++ c.loop-edge.yielded)) (sym count) in
+          c.in_default.ensures.shipped (before ++ c.loop-edge.yielded) so_far
+          ∙ ap (λ n. dealt n ((before ++ c.loop-edge.yielded) ++ pair ∷ [])) count
+          ∙ ap (dealt (length c.args.outlets.now.items)) (append_assoc before c.loop-edge.yielded (pair ∷ [])));
+      feeds = c.ship_one.ensures.feeds ∙ was.feeds;
+    }

@@ -1,0 +1,16 @@
+use Rattle.std.proofs.Common.{◌≡◌, length, ap, ◌∙◌, arith}
+use Rattle.gl_shards.specs.Shards.{shard_of}
+use Rattle.gl_engine.proofs.Running.{shipped_more, feeds_same}
+use Rattle.gl_engine.proofs.pull_and_ship.ship_one.Goals as goal
+
+pub returns-clause-shipped : goal.returns-clause-shipped
+returns-clause-shipped g c before are =
+    let count : c.len.result ≡ length c.args.outlets.now.items = omega (arith, c.len.ensures) in
+    shipped_more c.args.outlets.now.items c.shard_of-shard.result c.index_mut.result.now c.send.new.self c.index_mut.ensures.value (c.args.edge, c.args.sample) c.requires.some
+    (c.shard_of-shard.ensures.value ∙ ap (shard_of c.args.edge) count) (omega (arith, c.shard_of-shard.ensures.within, count)) c.in-Ok.ensures.sent before are
+
+pub returns-clause-feeds : goal.returns-clause-feeds
+returns-clause-feeds g c = feeds_same c.args.outlets.now.items c.shard_of-shard.result c.index_mut.result.now c.send.new.self c.index_mut.ensures.value c.send.ensures.feed.0
+
+pub returns-in_default-clause-feeds : goal.returns-in_default-clause-feeds
+returns-in_default-clause-feeds g c = feeds_same c.args.outlets.now.items c.shard_of-shard.result c.index_mut.result.now c.send.new.self c.index_mut.ensures.value c.send.ensures.feed.0

@@ -1,0 +1,210 @@
+//! The run of a collector: it collects all, ships all edges, and ends the feeds.
+ghost use Rattle.std.specs.Prelude.{◌≡◌, ◌⊎◌, Err, IfSome, ◌<◌, ◌≤◌, ◌+◌, [], ◌∷◌, ◌++◌, ℕ, true, None, Some, List, map, length, slice_get, IsOk, OnOk};
+ghost use mathlib.Core.List.{IsPrefix};
+ghost use Rattle.std.specs.Vec.{vec_len, vec_capacity};
+ghost use Rattle.gl_intake.specs.Stream.{has_ended, AreInOrder};
+ghost use Rattle.gl_shards.specs.Feeds.{Sending};
+ghost use Rattle.gl_shards.specs.declared.shard.TheConstants.{MAX_SHARDS};
+ghost use Rattle.gl_engine.specs.bodies.Breaking.{IsGone};
+ghost use Rattle.gl_engine.specs.Dealing.{dealt, made_by};
+ghost use Rattle.gl_engine.specs.declared.faults.RunFault.TheVariants.{Memory};
+
+use crate::collector::Collector;
+use crate::discarding::discard_all;
+use crate::faults::RunFault;
+use crate::gathered::Gathered;
+use crate::pull_and_ship::collect_all;
+use gl_shards::{Gone, Outlet, Sent};
+use std::sync::Wait;
+
+// Keeps a feed that was ended, in the room that is there for it.
+fn keep(sent: &mut Vec<Sent>, ended: Sent)
+    requires room { vec_len sent.old < vec_capacity sent.old }
+    ensures items { sent.new.items ≡ sent.old.items ++ ended ∷ [] }
+    ensures len { vec_len sent.new ≡ vec_len sent.old + 1 }
+    ensures capacity { vec_capacity sent.old ≤ vec_capacity sent.new }
+{
+    let Ok(()) = sent.push(ended) else {
+        unreachable!()
+    };
+}
+
+// Ends the outlet, and keeps the feed where its worker is there. Whether it is.
+fn end_one<R: Wait>(rt: &R, outlet: Outlet, sent: &mut Vec<Sent>) -> bool
+    requires room { vec_len sent.old < vec_capacity sent.old }
+    ensures feeds { result ≡ true
+        → map (λ s. s.feed) sent.new.items ≡ map (λ s. s.feed) sent.old.items ++ outlet.feed ∷ [] }
+    ensures sent { result ≡ true
+        → map (λ s. s.sent) sent.new.items ≡ map (λ s. s.sent) sent.old.items ++ outlet.sent ∷ [] }
+    ensures len { vec_len sent.new ≤ vec_len sent.old + 1 }
+    ensures capacity { vec_capacity sent.old ≤ vec_capacity sent.new }
+{
+    match outlet.end(rt) {
+        Ok(ended) => {
+            keep(sent, ended);
+            true
+        }
+        Err(Gone) => false,
+    }
+}
+
+// Ends all outlets, and keeps the feeds whose workers are there. Err with the first that has none.
+fn end_all<R: Wait>(rt: &R, outlets: Vec<Outlet>, sent: &mut Vec<Sent>) -> Result<(), u32>
+    requires fit { length outlets.items ≤ MAX_SHARDS }
+    requires empty { sent.old.items ≡ [] }
+    requires room { vec_len sent.old + length outlets.items ≤ vec_capacity sent.old }
+    ensures feeds { OnOk result
+        (map (λ s. s.feed) sent.new.items ≡ map (λ o. o.feed) outlets.items) }
+    ensures sent { OnOk result
+        (map (λ s. s.sent) sent.new.items ≡ map (λ o. o.sent) outlets.items) }
+{
+    let mut gone = None;
+    let mut shard = 0;
+    for outlet in outlets {
+        if !end_one(rt, outlet, sent) && gone.is_none() {
+            gone = Some(shard);
+        }
+        shard += 1;
+    }
+    match gone {
+        None => Ok(()),
+        Some(shard) => Err(shard),
+    }
+}
+
+// Ends all outlets, where there is no room to keep the feeds.
+fn end_unkept<R: Wait>(rt: &R, outlets: Vec<Outlet>) {
+    for outlet in outlets {
+        let _ = outlet.end(rt);
+    }
+}
+
+// What went wrong first, if something did.
+fn first_fault(gathered: Result<(), RunFault>, ended: Result<(), u32>) -> Option<RunFault>
+    ensures none { result ≡ None → IsOk gathered × IsOk ended }
+    ensures some { IfSome result (λ fault. (gathered ≡ Err fault) ⊎ IsGone fault) }
+{
+    match gathered {
+        Err(fault) => Some(fault),
+        Ok(()) => match ended {
+            Err(shard) => Some(RunFault::Gone { shard }),
+            Ok(()) => None,
+        },
+    }
+}
+
+impl Collector {
+    /// Pulls until every thread's end mark came, ships each edge to the outlet of its shard before it looks
+    /// at the next lane, first those of the pulls before, and ends the outlets. Through these nothing may
+    /// have been sent yet, and there is one for each shard, 1 to 16 of them.
+    ///
+    /// At the first thing that goes wrong, it ships no more, goes on popping and throws away until every end
+    /// mark came, and still ends the outlets: no recorder and no worker waits for ever.
+    ///
+    /// It waits for the recorders and for the workers: it returns only if every recorder closes, and as
+    /// long as a worker's feed is full it waits for that. It looks at the lanes in turn, up to 64 notes of each,
+    /// and after a round in which no lane had a note it spins or sleeps for a moment. The list for the
+    /// [`Sent`]s is made before the first pull.
+    pub fn run<R: Wait>(self, rt: &R, outlets: Vec<Outlet>) -> Gathered
+        requires some { 1 ≤ length outlets.items }
+        requires fit { length outlets.items ≤ MAX_SHARDS }
+        requires unsent { (shard : ℕ) (o : Sending) → slice_get outlets.items shard ≡ Some o
+            → o.sent ≡ [] }
+        ensures session { result.session ≡ self.session }
+        ensures limits { result.limits ≡ self.limits }
+        ensures lanes { result.lanes ≡ map (λ input. input.lane) self.inputs }
+        ensures grown { IsPrefix self.stream result.stream }
+        ensures ended { result.fault ≡ None → (thread : ℕ) → thread < self.limits.threads
+            → has_ended thread result.stream ≡ true }
+        ensures in_order { result.fault ≡ None → AreInOrder self.limits result.stream }
+        ensures feeds { result.fault ≡ None
+            → map (λ s. s.feed) result.sent ≡ map (λ o. o.feed) outlets.items }
+        ensures shipped { result.fault ≡ None
+            → map (λ s. s.sent) result.sent ≡ dealt (length outlets.items) (made_by result.stream) }
+    {
+        match Vec::with_capacity(self.alloc, outlets.len()) {
+            Ok(sent) => self.run_into(rt, outlets, sent),
+            Err(_) => self.run_unkept(rt, outlets),
+        }
+    }
+
+    // The run, with room for the feeds.
+    fn run_into<R: Wait>(self, rt: &R, outlets: Vec<Outlet>, sent: Vec<Sent>) -> Gathered
+        requires some { 1 ≤ length outlets.items }
+        requires fit { length outlets.items ≤ MAX_SHARDS }
+        requires unsent { (shard : ℕ) (o : Sending) → slice_get outlets.items shard ≡ Some o
+            → o.sent ≡ [] }
+        requires empty { sent.items ≡ [] }
+        requires room { vec_len sent + length outlets.items ≤ vec_capacity sent }
+        ensures session { result.session ≡ self.session }
+        ensures limits { result.limits ≡ self.limits }
+        ensures lanes { result.lanes ≡ map (λ input. input.lane) self.inputs }
+        ensures grown { IsPrefix self.stream result.stream }
+        ensures ended { result.fault ≡ None → (thread : ℕ) → thread < self.limits.threads
+            → has_ended thread result.stream ≡ true }
+        ensures in_order { result.fault ≡ None → AreInOrder self.limits result.stream }
+        ensures feeds { result.fault ≡ None
+            → map (λ s. s.feed) result.sent ≡ map (λ o. o.feed) outlets.items }
+        ensures shipped { result.fault ≡ None
+            → map (λ s. s.sent) result.sent ≡ dealt (length outlets.items) (made_by result.stream) }
+    {
+        let Collector {
+            alloc,
+            session,
+            limits,
+            mut intake,
+            mut inputs,
+            made,
+        } = self;
+        let (mut outlets, mut sent) = (outlets, sent);
+        let threads = limits.threads();
+        let gathered = collect_all(
+            rt,
+            alloc,
+            threads,
+            &mut inputs,
+            &mut intake,
+            made,
+            &mut outlets,
+        );
+        let ended = end_all(rt, outlets, &mut sent);
+        Gathered {
+            alloc,
+            session,
+            limits,
+            intake,
+            inputs,
+            sent,
+            fault: first_fault(gathered, ended),
+        }
+    }
+
+    // The run, where there is no room for the feeds.
+    fn run_unkept<R: Wait>(self, rt: &R, outlets: Vec<Outlet>) -> Gathered
+        ensures session { result.session ≡ self.session }
+        ensures limits { result.limits ≡ self.limits }
+        ensures lanes { result.lanes ≡ map (λ input. input.lane) self.inputs }
+        ensures stream { result.stream ≡ self.stream }
+        ensures fault { result.fault ≡ Some Memory }
+    {
+        let Collector {
+            alloc,
+            session,
+            limits,
+            intake,
+            mut inputs,
+            ..
+        } = self;
+        discard_all(rt, &mut inputs, &intake, limits.threads());
+        end_unkept(rt, outlets);
+        Gathered {
+            alloc,
+            session,
+            limits,
+            intake,
+            inputs,
+            sent: Vec::new(alloc),
+            fault: Some(RunFault::Memory),
+        }
+    }
+}

@@ -1,0 +1,139 @@
+//! What a collector keeps of one thread, and what a pull does with it.
+ghost use Rattle.std.specs.Prelude.{◌≡◌, ◌<◌, ◌≤◌, None, ℕ, List, [], ◌∷◌, ◌++◌, length, IfOk, IfErr, IfSome, OnOk, OnErr};
+ghost use mathlib.Core.List.{IsPrefix};
+ghost use Rattle.gl_event.specs.States.{StandsAfter};
+ghost use Rattle.gl_event.specs.declared.events.Event.{Event};
+ghost use Rattle.gl_event.specs.declared.notes.Note.{Note};
+ghost use Rattle.gl_intake.specs.Stream.{events_of, note_refusal, accepted_as, spare_of, IsRefusedFor};
+ghost use Rattle.gl_world.specs.Keeping.{with_body};
+ghost use Rattle.gl_world.specs.Machine.{edges_due};
+ghost use Rattle.gl_engine.specs.Collecting.{as_of, pulled_of, IsSidePull};
+ghost use Rattle.gl_engine.specs.Keeping.{pulling_of, BreaksForCause};
+
+use crate::pulled::{PullFault, Pulled};
+use gl_edges::{Edge, Sample, next_edges};
+use gl_event::{Body, Memory, Note, ThreadId, ThreadState};
+use gl_intake::{Accepted, Intake, Refused};
+use gl_lane::LaneOut;
+use std::alloc::Global;
+
+/// The collector's end of a thread's lane, and why the lane's front note was refused, if it was.
+#[derive(Drop)]
+pub struct LaneInput {
+    pub lane: LaneOut,
+    pub broken: Option<Refused>,
+}
+
+// What the pull of an accepted note is answered.
+fn pulled(accepted: &Accepted) -> Pulled
+    ensures { result ≡ pulled_of accepted.now }
+{
+    match *accepted {
+        Accepted::Event { place } => Pulled::Event { place },
+        Accepted::Ended { count } => Pulled::Ended { count },
+    }
+}
+
+// The edges that the body makes, whose note is the next one of the thread of which this is known,
+// ascending.
+fn due(
+    alloc: Global,
+    thread: ThreadId,
+    state: &ThreadState,
+    body: &Body,
+) -> Result<Vec<(Edge, Sample)>, Memory>
+    ensures { (es : List Event) → StandsAfter es state.now
+        → IfOk result
+        (λ edges. edges.items ≡ edges_due thread (with_body es body.now) (length es) body.now) }
+{
+    match *body {
+        Body::Happened(event) => next_edges(alloc, thread, state, &event),
+        Body::Ended { .. } => Ok(Vec::new(alloc)),
+    }
+}
+
+// Makes every growth that the note wants, where it may come next: room for it in the intake, and its
+// edges among those made.
+fn prepare(
+    alloc: Global,
+    intake: &mut Intake,
+    made: &mut Vec<(Edge, Sample)>,
+    note: &Note,
+) -> Result<(), Refused>
+    ensures next { OnOk result (note_refusal intake.old.limits intake.old.stream note.now ≡ None) }
+    ensures reserved { OnOk result (1 ≤ spare_of intake.new note.now.thread) }
+    ensures grown { OnOk result
+        (made.new.items
+        ≡ made.old.items ++ edges_due note.now.thread
+        (events_of note.now.thread
+        (intake.old.stream ++ note.now ∷ [])) note.now.place note.now.body) }
+    ensures refused { IfErr result
+        (λ why. IsRefusedFor intake.old.limits intake.old.stream note.now why) }
+    ensures unchanged { OnErr result (made.new.items ≡ made.old.items) }
+    ensures limits { intake.new.limits ≡ intake.old.limits }
+    ensures stream { intake.new.stream ≡ intake.old.stream }
+{
+    intake.ready(note)?;
+    let mut edges = due(alloc, note.thread, intake.state(note.thread), &note.body)?;
+    made.append(&mut edges)?;
+    Ok(())
+}
+
+// Pops the front note, and accepts it as the thread's: every growth was made.
+fn accept(lane: &mut LaneOut, intake: &mut Intake, note: &Note) -> Pulled
+    requires seen { 0 < length lane.old.left }
+    requires next { note_refusal intake.old.limits intake.old.stream note.now ≡ None }
+    requires reserved { 1 ≤ spare_of intake.old note.now.thread }
+    ensures lane { lane.new.lane ≡ lane.old.lane }
+    ensures popped { (front : Note) → IsPrefix (front ∷ []) lane.old.left
+        → lane.new.popped ≡ lane.old.popped ++ front ∷ [] }
+    ensures stream { intake.new.stream ≡ intake.old.stream ++ note.now ∷ [] }
+    ensures limits { intake.new.limits ≡ intake.old.limits }
+    ensures answer { result ≡ pulled_of (accepted_as note.now.place note.now.body) }
+{
+    lane.pop_known();
+    pulled(&intake.accept(note))
+}
+
+impl LaneInput {
+    /// Pulls the front note off the lane, read as one of the thread: accepts it, and adds its edges to
+    /// those made.
+    pub fn pull(
+        &mut self,
+        alloc: Global,
+        thread: ThreadId,
+        intake: &mut Intake,
+        made: &mut Vec<(Edge, Sample)>,
+    ) -> Result<Pulled, PullFault>
+        ensures pull { IsSidePull intake.old.limits thread
+            (record {
+              input = pulling_of self.old;
+              stream = intake.old.stream;
+              made = made.old.items;
+            }) result
+            (record {
+              input = pulling_of self.new;
+              stream = intake.new.stream;
+              made = made.new.items;
+            }) }
+        ensures limits { intake.new.limits ≡ intake.old.limits }
+        ensures cause { BreaksForCause intake.old.limits thread intake.old.stream self.old
+            → BreaksForCause intake.old.limits thread intake.new.stream self.new }
+    {
+        if let Some(refused) = self.broken {
+            return Err(PullFault::Broken(refused));
+        }
+        let Some(front) = self.lane.peek() else {
+            return Ok(Pulled::Empty);
+        };
+        let note = Note { thread, ..front };
+        match prepare(alloc, intake, made, &note) {
+            Ok(()) => Ok(accept(&mut self.lane, intake, &note)),
+            Err(Refused::Memory) => Err(PullFault::Memory),
+            Err(refused) => {
+                self.broken = Some(refused);
+                Err(PullFault::Broken(refused))
+            }
+        }
+    }
+}

@@ -1,0 +1,254 @@
+//! How a run goes on as long as nothing goes wrong: it pulls, and ships the edges.
+ghost use Rattle.std.specs.Prelude.{◌≡◌, ◌<◌, ◌≤◌, ◌++◌, [], ◌∷◌, ℕ, true, List, map, length, OnOk, IfErr};
+ghost use mathlib.Core.List.{IsPrefix};
+ghost use Rattle.gl_edges.specs.declared.edge.Edge.{Edge};
+ghost use Rattle.gl_edges.specs.declared.edge.Sample.{Sample};
+ghost use Rattle.gl_intake.specs.Stream.{has_ended};
+ghost use Rattle.gl_shards.specs.declared.shard.TheConstants.{MAX_SHARDS};
+ghost use Rattle.gl_engine.specs.bodies.Breaking.{IsBlamed, IsGone, IsKeptFor};
+ghost use Rattle.gl_engine.specs.Dealing.{dealt, made_by};
+ghost use Rattle.gl_engine.specs.Keeping.{IsCollector};
+ghost use Rattle.gl_engine.specs.bodies.Whole.{GoesOn, KeepsUp, PullsOn};
+
+use crate::discarding::discard_all;
+use crate::faults::RunFault;
+use crate::lane_input::LaneInput;
+use crate::pulled::{PullFault, Pulled};
+use gl_edges::{Edge, Sample};
+use gl_event::ThreadId;
+use gl_intake::Intake;
+use gl_shards::{Outlet, pause, shard_of};
+use std::alloc::Global;
+use std::sync::Wait;
+
+// The most notes that are pulled off a lane before their edges are shipped, so that a worker that waits
+// finds several at once.
+const BURST: u32 = 64;
+
+// Ships an edge to its shard, or answers the shard whose worker is gone.
+fn ship_one<R: Wait>(
+    rt: &R,
+    outlets: &mut Vec<Outlet>,
+    edge: Edge,
+    sample: Sample,
+) -> Result<(), u32>
+    requires some { 1 ≤ length outlets.old.items }
+    requires fit { length outlets.old.items ≤ MAX_SHARDS }
+    ensures shipped { (before : List (Edge × Sample))
+        → map (λ o. o.sent) outlets.old.items ≡ dealt (length outlets.old.items) before
+        → OnOk result
+        (map (λ o. o.sent) outlets.new.items
+        ≡ dealt (length outlets.old.items) (before ++ (edge, sample) ∷ [])) }
+    ensures feeds { map (λ o. o.feed) outlets.new.items ≡ map (λ o. o.feed) outlets.old.items }
+    ensures gone { IfErr result (λ shard. shard < length outlets.old.items) }
+{
+    let shard = shard_of(&edge, outlets.len() as u32);
+    let Ok(()) = outlets[shard as usize].send(rt, edge, sample) else {
+        return Err(shard);
+    };
+    Ok(())
+}
+
+// Ships the edges to their shards, in order.
+fn ship<R: Wait>(
+    rt: &R,
+    outlets: &mut Vec<Outlet>,
+    made: Vec<(Edge, Sample)>,
+) -> Result<(), RunFault>
+    requires some { 1 ≤ length outlets.old.items }
+    requires fit { length outlets.old.items ≤ MAX_SHARDS }
+    ensures shipped { (before : List (Edge × Sample))
+        → map (λ o. o.sent) outlets.old.items ≡ dealt (length outlets.old.items) before
+        → OnOk result
+        (map (λ o. o.sent) outlets.new.items
+        ≡ dealt (length outlets.old.items) (before ++ made.items)) }
+    ensures feeds { map (λ o. o.feed) outlets.new.items ≡ map (λ o. o.feed) outlets.old.items }
+    ensures gone { IfErr result IsGone }
+{
+    for (edge, sample) in made {
+        if let Err(shard) = ship_one(rt, outlets, edge, sample) {
+            return Err(RunFault::Gone { shard });
+        }
+    }
+    Ok(())
+}
+
+// Whether a pull from the thread's lane gave a note.
+fn has_pulled(thread: ThreadId, pulled: &Result<Pulled, PullFault>) -> Result<bool, RunFault>
+    ensures { IfErr result (λ fault. IsKeptFor thread pulled.now fault) }
+{
+    match *pulled {
+        Ok(Pulled::Empty) => Ok(false),
+        Ok(_) => Ok(true),
+        Err(PullFault::Memory) => Err(RunFault::Memory),
+        Err(PullFault::Broken(refused)) => Err(RunFault::Broken { thread, refused }),
+    }
+}
+
+// Pulls the next note off the thread's lane, if there is one, and makes its edges. Whether there was one.
+fn pull_at(
+    alloc: Global,
+    thread: ThreadId,
+    inputs: &mut Vec<LaneInput>,
+    intake: &mut Intake,
+    made: &mut Vec<(Edge, Sample)>,
+) -> Result<bool, RunFault>
+    requires known { thread < intake.old.limits.threads }
+    requires none { made.old.items ≡ [] }
+    requires keeps { IsCollector intake.old.limits inputs.old.items intake.old.stream
+        (made_by intake.old.stream) intake.old.limits }
+    ensures { PullsOn intake.old intake.new inputs.old.items inputs.new.items
+        made.new.items result }
+{
+    let input = &mut inputs[thread.number() as usize];
+    let pulled = input.pull(alloc, thread, intake, made);
+    has_pulled(thread, &pulled)
+}
+
+// Pulls the next notes off the thread's lane, as many as a turn may at most, and makes their edges.
+// Whether there was one.
+fn pull_some(
+    alloc: Global,
+    thread: ThreadId,
+    inputs: &mut Vec<LaneInput>,
+    intake: &mut Intake,
+    made: &mut Vec<(Edge, Sample)>,
+) -> Result<bool, RunFault>
+    requires known { thread < intake.old.limits.threads }
+    requires none { made.old.items ≡ [] }
+    requires keeps { IsCollector intake.old.limits inputs.old.items intake.old.stream
+        (made_by intake.old.stream) intake.old.limits }
+    ensures { PullsOn intake.old intake.new inputs.old.items inputs.new.items
+        made.new.items result }
+{
+    let mut moved = false;
+    for _ in 0..BURST {
+        let mut next = Vec::new(alloc);
+        let pulled = pull_at(alloc, thread, inputs, intake, &mut next)?;
+        let Ok(()) = made.append(&mut next) else {
+            return Err(RunFault::Memory);
+        };
+        if !pulled {
+            return Ok(moved);
+        }
+        moved = true;
+    }
+    Ok(moved)
+}
+
+// Pulls notes off the thread's lane, if there are any, and ships their edges. Whether there was one.
+fn turn<R: Wait>(
+    rt: &R,
+    alloc: Global,
+    thread: ThreadId,
+    inputs: &mut Vec<LaneInput>,
+    intake: &mut Intake,
+    outlets: &mut Vec<Outlet>,
+) -> Result<bool, RunFault>
+    requires known { thread < intake.old.limits.threads }
+    requires some { 1 ≤ length outlets.old.items }
+    requires fit { length outlets.old.items ≤ MAX_SHARDS }
+    requires kept { KeepsUp intake.old.limits inputs.old.items intake.old.stream outlets.old.items }
+    ensures { GoesOn intake.old intake.new inputs.old.items inputs.new.items
+        outlets.old.items outlets.new.items result }
+{
+    let mut made = Vec::new(alloc);
+    let pulled = pull_some(alloc, thread, inputs, intake, &mut made)?;
+    ship(rt, outlets, made)?;
+    Ok(pulled)
+}
+
+// A turn of each thread. Whether a note was pulled.
+fn round<R: Wait>(
+    rt: &R,
+    alloc: Global,
+    threads: u32,
+    inputs: &mut Vec<LaneInput>,
+    intake: &mut Intake,
+    outlets: &mut Vec<Outlet>,
+) -> Result<bool, RunFault>
+    requires all { threads ≡ intake.old.limits.threads }
+    requires some { 1 ≤ length outlets.old.items }
+    requires fit { length outlets.old.items ≤ MAX_SHARDS }
+    requires kept { KeepsUp intake.old.limits inputs.old.items intake.old.stream outlets.old.items }
+    ensures { GoesOn intake.old intake.new inputs.old.items inputs.new.items
+        outlets.old.items outlets.new.items result }
+{
+    let mut moved = false;
+    for number in 0..threads {
+        let pulled = turn(rt, alloc, ThreadId::new(number), inputs, intake, outlets)?;
+        moved = moved || pulled;
+    }
+    Ok(moved)
+}
+
+// Ships the edges made before; then pulls and ships, round by round, until every thread's end mark was
+// pulled. It waits a little after a round in which no note was seen.
+fn gather<R: Wait>(
+    rt: &R,
+    alloc: Global,
+    threads: u32,
+    inputs: &mut Vec<LaneInput>,
+    intake: &mut Intake,
+    made: Vec<(Edge, Sample)>,
+    outlets: &mut Vec<Outlet>,
+) -> Result<(), RunFault>
+    requires all { threads ≡ intake.old.limits.threads }
+    requires some { 1 ≤ length outlets.old.items }
+    requires fit { length outlets.old.items ≤ MAX_SHARDS }
+    requires unsent { map (λ o. o.sent) outlets.old.items ≡ dealt (length outlets.old.items) [] }
+    requires collector { IsCollector intake.old.limits inputs.old.items intake.old.stream made.items
+        intake.old.limits }
+    ensures goes_on { GoesOn intake.old intake.new inputs.old.items inputs.new.items
+        outlets.old.items outlets.new.items result }
+    ensures ended { OnOk result
+        ((thread : ℕ) → thread < intake.old.limits.threads
+        → has_ended thread intake.new.stream ≡ true) }
+{
+    ship(rt, outlets, made)?;
+    let mut looks: u32 = 0;
+    for _ in rt.forever() {
+        if intake.all_ended() {
+            return Ok(());
+        }
+        if round(rt, alloc, threads, inputs, intake, outlets)? {
+            looks = 0;
+        } else {
+            pause(rt, looks);
+            looks = looks.saturating_add(1);
+        }
+    }
+    unreachable!()
+}
+
+/// Collects and ships all. Where something goes wrong, it throws away what comes, until every thread's end
+/// mark came.
+pub(crate) fn collect_all<R: Wait>(
+    rt: &R,
+    alloc: Global,
+    threads: u32,
+    inputs: &mut Vec<LaneInput>,
+    intake: &mut Intake,
+    made: Vec<(Edge, Sample)>,
+    outlets: &mut Vec<Outlet>,
+) -> Result<(), RunFault>
+    requires all { threads ≡ intake.old.limits.threads }
+    requires some { 1 ≤ length outlets.old.items }
+    requires fit { length outlets.old.items ≤ MAX_SHARDS }
+    requires unsent { map (λ o. o.sent) outlets.old.items ≡ dealt (length outlets.old.items) [] }
+    requires collector { IsCollector intake.old.limits inputs.old.items intake.old.stream made.items
+        intake.old.limits }
+    ensures goes_on { GoesOn intake.old intake.new inputs.old.items inputs.new.items
+        outlets.old.items outlets.new.items result }
+    ensures ended { OnOk result
+        ((thread : ℕ) → thread < intake.old.limits.threads
+        → has_ended thread intake.new.stream ≡ true) }
+{
+    match gather(rt, alloc, threads, inputs, intake, made, outlets) {
+        Ok(()) => Ok(()),
+        Err(fault) => {
+            discard_all(rt, inputs, intake, threads);
+            Err(fault)
+        }
+    }
+}

@@ -1,0 +1,16 @@
+-- The recorders of one thread, with room for their receipts.
+use Rattle.std.specs.Prelude.{◌≡◌, ◌+◌, ◌≤◌, [], length}
+use Rattle.std.specs.List.{All}
+use Rattle.std.specs.Vec.{vec_len, vec_capacity}
+use Rattle.gl_live.specs.bodies.Rosters.{Roster, IsRecorderOf}
+use Rattle.gl_live.specs.declared.recording.Workload.{Workload}
+
+-- the workload has room for a receipt of each of its recorders
+abbrev pub HasRoom : Workload → Type 0
+HasRoom workload = vec_len workload.receipts + length workload.recorders.items ≤ vec_capacity workload.receipts
+
+-- the recorders are of the session, and there is room for a receipt of each
+pub record IsWorkloadOf (s : Roster) (workload : Workload) : Type 0 where
+  pub ours : All (IsRecorderOf s) workload.recorders.items
+  pub unused : workload.receipts.items ≡ []
+  pub room : HasRoom workload

@@ -1,0 +1,46 @@
+//! The gate at which recorder threads wait until all threads of a run are started.
+use std::sync::Wait;
+use std::sync::atomic::{AtomicU64, Ordering};
+use std::thread;
+
+const WAITING: u64 = 0;
+
+const STARTED: u64 = 1;
+
+const CALLED_OFF: u64 = 2;
+
+/// Whether a run has begun, or was called off. Threads that share it wait for either.
+#[derive(Drop)]
+pub struct StartGate {
+    state: AtomicU64,
+}
+
+impl StartGate {
+    /// Neither was decided.
+    pub fn new() -> StartGate {
+        StartGate {
+            state: AtomicU64::new(WAITING),
+        }
+    }
+
+    /// The run begins.
+    pub fn begin(&self) {
+        self.state.store(STARTED, Ordering::SeqCst);
+    }
+
+    /// The run is called off.
+    pub fn call_off(&self) {
+        self.state.store(CALLED_OFF, Ordering::SeqCst);
+    }
+
+    /// Waits until the run begins or is called off. Whether it begins.
+    pub fn wait<R: Wait>(&self, rt: &R) -> bool {
+        for _ in rt.forever() {
+            match self.state.load(Ordering::SeqCst) {
+                WAITING => thread::yield_now(),
+                state => return state == STARTED,
+            }
+        }
+        unreachable!()
+    }
+}
