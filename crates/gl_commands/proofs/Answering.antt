@@ -25,7 +25,7 @@ use Rattle.gl_commands.specs.bodies.Halves.{EndsWith, HasHeardAll}
 use Rattle.gl_commands.specs.Ending.HasEndedUnder.{ended_so}
 use Rattle.gl_commands.specs.Ending.HasEndedLive.{confirmed, unconfirmed}
 use Rattle.gl_commands.specs.Ending.HasEndedStreamed.{confirmed as as_any}
-use Rattle.gl_commands.specs.bodies.Stops.{EndsUnwritten, HasAnswer, IfRefused, IfStopped, IsFaultIn, IsLoopOf, IsReportOf, SaysWhyNoReport}
+use Rattle.gl_commands.specs.bodies.Stops.{EndsUnwritten, HasAnswer, IfRefused, IfStopped, IsFaultIn, IsReportOf, SaysWhyNoReport}
 use Rattle.gl_commands.specs.declared.answer.Printed.{Printed}
 use Rattle.gl_commands.specs.declared.ended.Ended.{Ended}
 use Rattle.gl_commands.specs.declared.ended.Ended.TheVariants as variant

@@ -3,7 +3,7 @@ use Rattle.std.proofs.Common.{◌≡◌, ◌∙◌, ◌⊎◌, ◌++◌, inl, in
 use Rattle.gl_event.specs.Bounds.{Bounds}
 use Rattle.gl_event.specs.declared.events.Segment.{Segment}
 use Rattle.gl_io.specs.Reads.{HasRead}
-use Rattle.gl_std.specs.Feeding.{HasGiven}
+use Rattle.gl_std.specs.LineReading.{HasGiven}
 use Rattle.gl_segments.specs.Segments.{IsLeastInRing}
 use Rattle.gl_std.specs.Lines.{ended_lines}
 use Rattle.gl_std.specs.Names.{NameLists}
@@ -52,7 +52,7 @@ record IsWhole (limits : Bounds) (turns : ℕ) (input : Use) (items : Stream) (t
 whole_at_end : (limits : Bounds) (turns : ℕ) (input : Use) (items : Stream) (text : List ℕ) (told : Trace)
     → HasTold limits turns input items text told → IsDone items → IsWhole limits turns input items text told
 whole_at_end limits turns input items text told tells done =
-    let at_end = subst (λ (stage : Stage). HasToldAt stage limits turns input items.feed text told) done tells in
+    let at_end = subst (λ (stage : Stage). HasToldAt stage limits turns input items.reader text told) done tells in
     record {
       read = at_end.0;
       trace = at_end.1;
@@ -128,10 +128,10 @@ refused_at printed limits turns input left text number kind variant.Unconfirmed 
 -- this fault of the text was met
 pub ends_at_fault : (printed : (Segment → Segment → Bool) → Trace → Answer) (limits : Bounds) (turns : ℕ) (input : Use) (items : Stream) (text : List ℕ) (told : Trace) (fault : LinesFault) (ended : Ended)
     → HasTold limits turns input items text told → HasFault items fault → IsEndOfText fault ended → EndsUnwritten limits (IsAnswerUnder limits printed) turns input ended
-ends_at_fault printed limits turns input items text told fault ended tells has is = go fault (subst (λ (stage : Stage). HasToldAt stage limits turns input items.feed text told) has tells) is
+ends_at_fault printed limits turns input items text told fault ended tells has is = go fault (subst (λ (stage : Stage). HasToldAt stage limits turns input items.reader text told) has tells) is
   where
-    go : (f : LinesFault) → HasToldAt (Faulty f) limits turns input items.feed text told → IsEndOfText f ended → EndsUnwritten limits (IsAnswerUnder limits printed) turns input ended
-    go (Line number kind) was so = refused_at printed limits turns input items.feed.turns text number kind ended so was
+    go : (f : LinesFault) → HasToldAt (Faulty f) limits turns input items.reader text told → IsEndOfText f ended → EndsUnwritten limits (IsAnswerUnder limits printed) turns input ended
+    go (Line number kind) was so = refused_at printed limits turns input items.reader.turns text number kind ended so was
     go Read was so = subst (EndsUnwritten limits (IsAnswerUnder limits printed) turns input) (sym so)
         (λ output kept sound. confirmed variant.ReadFailed (early variant.ReadFailed (cut_short text variant.ReadFailed was.0 (no_fault_before limits text told was.1)) kept sound))
     go NoMemory was so = subst (EndsUnwritten limits (IsAnswerUnder limits printed) turns input) (sym so) (ends_without_memory limits (IsAnswerUnder limits printed) turns input)

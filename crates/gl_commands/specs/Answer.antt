@@ -6,7 +6,7 @@ use Rattle.gl_event.specs.declared.events.Event.{Event}
 use Rattle.gl_event.specs.declared.events.Segment.{Segment}
 use Rattle.gl_std.specs.Names.{NameLists}
 use Rattle.gl_std.specs.Trace.{trace_of}
-use Rattle.gl_std.specs.Written.{written}
+use Rattle.gl_writing.specs.Written.{written}
 use Rattle.gl_std.specs.declared.faults.StdKind.{StdKind}
 use Rattle.gl_std.specs.declared.faults.ReadFault.TheVariants.{Line}
 use Rattle.gl_std.specs.declared.trace.Trace.{Trace}

@@ -4,7 +4,7 @@ use Rattle.std.specs.Io.KnownBytes.{Appends, Keeps}
 use Rattle.gl_event.specs.Bounds.{Bounds, greatest}
 use Rattle.gl_io.specs.Reads.{HasRead}
 use Rattle.gl_io.specs.Uses.{Use}
-use Rattle.gl_std.specs.Feeding.{HasGiven}
+use Rattle.gl_std.specs.LineReading.{HasGiven}
 use Rattle.gl_std.specs.Lines.{ended_lines}
 use Rattle.gl_std.specs.Trace.{trace_of}
 use Rattle.gl_std.specs.declared.faults.StdKind.{StdKind}

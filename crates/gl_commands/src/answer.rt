@@ -23,7 +23,8 @@ use gl_findings::{Listing, listing_by_parallel};
 use gl_options::Form;
 use gl_report::{Stats, findings_json_text, findings_text, json_text, stats_text, text};
 use gl_segments::{Order, OrderFault};
-use gl_std::{Names, ReadFault, Trace, write_trace};
+use gl_std::{Names, ReadFault, Trace};
+use gl_writing::write_trace;
 use std::alloc::Global;
 use std::thread::Threads;
 

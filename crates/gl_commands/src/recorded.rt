@@ -3,6 +3,8 @@ ghost use Rattle.std.specs.Prelude.{◌≡◌, ℕ, Ok, List, IfOk, IfErr};
 ghost use Rattle.gl_event.specs.Bounds.{greatest};
 ghost use Rattle.gl_edges.specs.Edges.{edges};
 ghost use Rattle.gl_findings.specs.Reports.{IsReportListing};
+ghost use Rattle.gl_live.specs.Faults.{IsLiveFault};
+ghost use Rattle.gl_live.specs.declared.faults.LiveFault.TheVariants.{Memory as OutOfMemory, Unconfirmed as NotConfirmed};
 ghost use Rattle.gl_std.specs.Trace.{trace_of, IsTraceOver};
 ghost use Rattle.gl_options.specs.Sessions.{AreOfSession};
 ghost use Rattle.gl_commands.specs.Answer.{IsAnswer};
@@ -14,6 +16,7 @@ use crate::answer::{Printed, printed_in, trace_or_line};
 use crate::ended::Ended;
 use crate::refusal_lines::inconsistent_line;
 use gl_cycles::Report;
+use gl_event::Memory;
 use gl_findings::Listing;
 use gl_live::{LiveFault, SessionOptions, live_listing};
 use gl_options::LiveOptions;
@@ -31,6 +34,25 @@ pub(crate) fn listing_of(options: &LiveOptions) -> Listing
         return Listing::Findings;
     }
     Listing::Cycles
+}
+
+// How the command ends where a session over the trace gives no report for this reason.
+fn ended_for(alloc: Global, trace: &Trace, fault: LiveFault) -> Ended
+    requires fault { IsLiveFault trace.now.lists fault }
+    ensures stopped { IfStopped result (IsLoopOf trace.now) }
+    ensures memory { fault ≡ OutOfMemory → result ≡ Ended.Memory }
+    ensures unconfirmed { fault ≡ NotConfirmed → result ≡ Ended.Unconfirmed }
+{
+    match fault {
+        LiveFault::Inconsistent { at, ring: _ring } => {
+            match inconsistent_line(alloc, &trace.names, at) {
+                Ok(line) => Ended::Refused(line),
+                Err(Memory) => Ended::Memory,
+            }
+        }
+        LiveFault::Memory => Ended::Memory,
+        LiveFault::Unconfirmed => Ended::Unconfirmed,
+    }
 }
 
 // The report of a trace by a session, or why there is none.
@@ -71,12 +93,7 @@ fn session_report<R: Threads + Wait + Sync, G: Gate + Sync>(
         gate,
     ) {
         Ok(report) => Ok(report),
-        Err(LiveFault::Inconsistent { at, ring: _ring }) => {
-            let line = inconsistent_line(alloc, &trace.names, at)?;
-            Err(Ended::Refused(line))
-        }
-        Err(LiveFault::Memory) => Err(Ended::Memory),
-        Err(LiveFault::Unconfirmed) => Err(Ended::Unconfirmed),
+        Err(fault) => Err(ended_for(alloc, trace, fault)),
     }
 }
 

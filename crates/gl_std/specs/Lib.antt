@@ -1,9 +1,9 @@
 pub mod Faults
-pub mod Feeding
 pub mod Heard
 pub mod Judging
 pub mod Laws
 pub mod Line
+pub mod LineReading
 pub mod Lines
 pub mod Listed
 pub mod Names
@@ -12,5 +12,4 @@ pub mod Sourced
 pub mod Standings
 pub mod Streaming
 pub mod Trace
-pub mod Written
 pub mod bodies

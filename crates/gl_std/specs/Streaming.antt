@@ -4,7 +4,7 @@ use Rattle.gl_event.specs.Bounds.{Bounds}
 use Rattle.gl_event.specs.declared.events.Event.{Event as EventOf}
 use Rattle.gl_io.specs.Reads.{HasRead}
 use Rattle.gl_io.specs.Uses.{Use}
-use Rattle.gl_std.specs.Feeding.{Feed, HasGiven, IsFit, ReadsOn}
+use Rattle.gl_std.specs.LineReading.{LineReader, HasGiven, IsFit, ReadsOn}
 use Rattle.gl_std.specs.Judging.{HasJudged}
 use Rattle.gl_std.specs.Lines.{ended_lines}
 use Rattle.gl_std.specs.Listed.{listed}
@@ -28,11 +28,11 @@ pub data Stage : Type 0 where
 -- the items of a text: what the next one comes from, and what is known of the text
 pub record Stream : Type 0 where
   pub stage : Stage
-  pub feed : Feed
+  pub reader : LineReader
 
 -- the names so far
 abbrev pub names_of : Stream → NameLists
-names_of i = i.feed.judge.names
+names_of i = i.reader.judge.names
 
 -- the end was answered, or the item before it
 abbrev pub IsDone : Stream → Type 0
@@ -47,18 +47,18 @@ abbrev pub HasNoFault : Stream → Type 0
 HasNoFault i = (fault : LinesFault) → ¬ HasFault i fault
 
 -- while reading goes on the source hasn't failed, and nothing is counted beyond what numbers hold
-abbrev pub CanReadOn : Stage → Bool → Feed → Type 0
+abbrev pub CanReadOn : Stage → Bool → LineReader → Type 0
 CanReadOn Reading failed f = (failed ≡ false) × IsFit f
 CanReadOn Done failed f = Unit {0}
 CanReadOn (Faulty fault) failed f = Unit {0}
 
 -- the next item can be asked for
 abbrev pub CanBeAsked : Stream → Bool → Type 0
-CanBeAsked i failed = CanReadOn i.stage failed i.feed
+CanBeAsked i failed = CanReadOn i.stage failed i.reader
 
 -- what the text told where the items so far are these of the trace: while reading goes on, its lines so far; at the end, all of
 -- it; at a fault, that its first line at fault is that one, or the trace of the lines that LF has ended where a read failed
-abbrev pub HasToldAt : Stage → Bounds → ℕ → Use → Feed → List ℕ → Trace → Type 0
+abbrev pub HasToldAt : Stage → Bounds → ℕ → Use → LineReader → List ℕ → Trace → Type 0
 HasToldAt Reading limits turns input f text told = ReadsOn limits turns input.before input.after f text told
 HasToldAt Done limits turns input f text told = HasRead turns input.before input.after input.failed text true × (trace_of limits text ≡ Ok told) × HasJudged f.judge told
 HasToldAt (Faulty (Line number kind)) limits turns input f text told = (HasGiven turns input.before input.after f.turns text × IsFaulty limits text number kind) ⊎ (HasRead turns input.before input.after input.failed text true × (trace_of limits text ≡ Err (LineFault number kind)))
@@ -67,7 +67,7 @@ HasToldAt (Faulty Memory) limits turns input f text told = Unit {0}
 
 -- the reads so far gave this text, and the items so far told this trace of it
 abbrev pub HasTold : Bounds → ℕ → Use → Stream → List ℕ → Trace → Type 0
-HasTold limits turns input i text told = HasToldAt i.stage limits turns input i.feed text told
+HasTold limits turns input i text told = HasToldAt i.stage limits turns input i.reader text told
 
 -- no line at fault was answered, nor was memory refused
 abbrev pub CanBeNamed : Stream → Type 0

@@ -2,9 +2,8 @@
 ghost use Rattle.std.specs.Prelude.{◌≡◌, ℕ, ◌^◌, ◌<◌, ◌≤◌, List, [], Option, Ok, IfOk, OnOk, length, vec_len, false, true};
 ghost use Rattle.gl_event.specs.Bounds.{Bounds};
 ghost use Rattle.gl_io.specs.declared.source.TheConstants.{CHUNK};
-ghost use Rattle.gl_std.specs.Feeding.{HasGiven};
+ghost use Rattle.gl_std.specs.LineReading.{HasGiven};
 ghost use Rattle.gl_std.specs.bodies.States.{IsFit, IsOver, ReadsOn};
-ghost use Rattle.gl_std.specs.bodies.Telling.{with_judged, IsKnown};
 ghost use Rattle.gl_std.specs.bodies.Stepping.{fuel};
 ghost use Rattle.gl_std.specs.Heard.{HasHeard};
 ghost use Rattle.gl_std.specs.bodies.Hearing.{listed_by, Meets};
@@ -14,8 +13,7 @@ ghost use Rattle.gl_std.specs.declared.faults.StdKind.{StdKind as Kind};
 ghost use Rattle.gl_std.specs.declared.trace.Trace.{Trace};
 
 use crate::faults::{LinesFault, ReadFault, StdKind};
-use crate::feed::{Feed, Step};
-use crate::judge::Judged;
+use crate::line_reader::{LineReader, Step};
 use crate::lists::Lists;
 use crate::seed::Seed;
 use crate::trace::Trace;
@@ -37,7 +35,7 @@ pub struct Heard {
 #[derive(Drop)]
 pub(crate) struct Listing {
     alloc: Global,
-    feed: Feed,
+    reader: LineReader,
     lists: Lists,
 }
 
@@ -54,41 +52,41 @@ impl Listing {
     /// No line was read.
     fn new(alloc: Global, limits: &Limits, turns: u64, seed: Seed) -> Result<Listing, AllocError>
         requires few_turns { turns ≤ 2 ^ 40 }
-        ensures fit { IfOk result (λ l. IsFit l.feed) }
+        ensures fit { IfOk result (λ l. IsFit l.reader) }
         ensures reads { IfOk result
             (λ l. (start : Option (List ℕ))
-            → ReadsOn limits.now turns start start l.feed [] nothing) }
+            → ReadsOn limits.now turns start start l.reader [] nothing) }
         ensures none { IfOk result (λ l. l.lists ≡ []) }
     {
         Ok(Listing {
             alloc,
-            feed: Feed::new(alloc, limits, turns, seed)?,
+            reader: LineReader::new(alloc, limits, turns, seed)?,
             lists: Lists::new(Vec::new(alloc)),
         })
     }
 
     /// One line, or one read.
     fn take<R: Source>(&mut self, input: &mut R) -> Result<Progress, AllocError>
-        requires fit { IsFit self.old.feed }
+        requires fit { IsFit self.old.reader }
         requires not_failed { R.failed input.old ≡ false }
         ensures meets { IfOk result
             (λ progress. (limits : Bounds) (turns : ℕ) (start : Option (List ℕ)) (text : List ℕ)
-            → ReadsOn limits turns start (R.remaining input.old) self.old.feed text
+            → ReadsOn limits turns start (R.remaining input.old) self.old.reader text
             (listed_by self.old)
             → Meets limits turns start (R.remaining input.new)
             (R.failed input.new) self.new text progress) }
-        ensures fit { result ≡ Ok Progress.More → IsFit self.new.feed }
-        ensures fit_end { result ≡ Ok Progress.End → IsFit self.new.feed }
-        ensures smaller { result ≡ Ok Progress.More → fuel self.new.feed < fuel self.old.feed }
+        ensures fit { result ≡ Ok Progress.More → IsFit self.new.reader }
+        ensures fit_end { result ≡ Ok Progress.End → IsFit self.new.reader }
+        ensures smaller { result ≡ Ok Progress.More → fuel self.new.reader < fuel self.old.reader }
         ensures sound { result ≡ Ok Progress.More → R.failed input.new ≡ false }
         ensures sound_at_fault { (line : ℕ) (kind : Kind) → result ≡ Ok (Progress.Fault line kind)
             → R.failed input.new ≡ false }
-        ensures room { vec_len self.new.feed.buffer ≡ vec_len self.old.feed.buffer }
+        ensures room { vec_len self.new.reader.buffer ≡ vec_len self.old.reader.buffer }
     {
-        match self.feed.step(input) {
+        match self.reader.step(input) {
             Ok(Step::More) => Ok(Progress::More),
             Ok(Step::Told(judged)) => {
-                self.put(judged)?;
+                self.lists.add(self.alloc, self.reader.names(), judged)?;
                 Ok(Progress::More)
             }
             Ok(Step::End) => Ok(Progress::End),
@@ -98,36 +96,17 @@ impl Listing {
         }
     }
 
-    // Puts an event into its thread's list.
-    fn put(&mut self, judged: Judged) -> Result<(), AllocError>
-        requires known { IsKnown judged (length self.old.feed.judge.names.threads) }
-        ensures lists { OnOk result
-            ((told : Trace) → told.lists ≡ self.old.lists
-            → self.new.lists ≡ (with_judged judged self.old.feed.judge.names told).lists) }
-        ensures same { self.new.feed ≡ self.old.feed }
-    {
-        match judged {
-            Judged::Blank => Ok(()),
-            Judged::Skipped => Ok(()),
-            Judged::Stray => Ok(()),
-            Judged::Event { thread, event } => {
-                let threads = self.feed.threads();
-                self.lists.put(self.alloc, threads, thread, event)
-            }
-        }
-    }
-
     /// What was heard, where the source has ended.
     fn finish(mut self) -> Result<Heard, AllocError>
-        requires fit { IsFit self.feed }
+        requires fit { IsFit self.reader }
         ensures trace { IfOk result
-            (λ h. (text : List ℕ) → IsOver self.feed text (listed_by self)
-            → trace_of self.feed.judge.limits text ≡ h.trace) }
+            (λ h. (text : List ℕ) → IsOver self.reader text (listed_by self)
+            → trace_of self.reader.judge.limits text ≡ h.trace) }
         ensures whole { IfOk result (λ h. h.is_whole ≡ true) }
     {
-        match self.feed.last() {
+        match self.reader.last() {
             Ok(judged) => {
-                self.put(judged)?;
+                self.lists.add(self.alloc, self.reader.names(), judged)?;
                 Ok(Heard {
                     trace: Ok(self.into_trace()),
                     is_whole: true,
@@ -143,14 +122,14 @@ impl Listing {
 
     /// What was heard, where a line is at fault. The source is still read to its end.
     fn drain<R: Source>(mut self, input: &mut R, line: u64, kind: StdKind) -> Heard
-        requires room { vec_len self.feed.buffer ≡ CHUNK }
+        requires room { vec_len self.reader.buffer ≡ CHUNK }
         requires not_failed { R.failed input.old ≡ false }
         ensures { (limits : Bounds) (turns : ℕ) (start : Option (List ℕ)) (text : List ℕ)
-            → HasGiven turns start (R.remaining input.old) self.feed.turns text
+            → HasGiven turns start (R.remaining input.old) self.reader.turns text
             → IsFaulty limits text line kind
             → HasHeard limits turns start (R.remaining input.new) (R.failed input.new) result }
     {
-        let is_whole = self.feed.drain(input);
+        let is_whole = self.reader.drain(input);
         Heard {
             trace: Err(ReadFault::Line { line, kind }),
             is_whole,
@@ -161,7 +140,7 @@ impl Listing {
     fn into_trace(self) -> Trace
         ensures { result ≡ listed_by self }
     {
-        let (names, skipped, stray) = self.feed.into_parts();
+        let (names, skipped, stray) = self.reader.into_parts();
         Trace {
             names,
             lists: self.lists,

@@ -308,11 +308,11 @@ impl Judge {
         (self.names, self.skipped, self.stray)
     }
 
-    /// How many threads have names.
-    pub(crate) fn threads(&self) -> usize
-        ensures { result ≡ length self.now.names.threads }
+    /// The names of the lines so far.
+    pub(crate) fn names(&self) -> &Names
+        ensures { result.now ≡ self.now.names }
     {
-        self.names.threads() as usize
+        &self.names
     }
 }
 

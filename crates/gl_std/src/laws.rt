@@ -2,7 +2,6 @@
 ghost use Rattle.gl_std.specs.Laws.{FaultsComeFirst, ReadingGoesOn, TracesGrow, TracesObeyLimits, TracesTellLines};
 ghost use Rattle.gl_std.specs.Line.{LinesSayOneThing};
 ghost use Rattle.gl_std.specs.Lines.{LinesAreUnique, LinesFollowLines};
-ghost use Rattle.gl_std.specs.Written.{WrittenLinesSayEvents, WrittenTextsAreReadAgain, WrittenTextsSayTraces};
 
 /// A text has one list of lines.
 pub fn lines_are_unique()
@@ -46,23 +45,4 @@ pub fn traces_tell_lines()
 /// thread holds, then the limits.
 pub fn faults_come_first()
     ensures { FaultsComeFirst }
-{}
-
-/// What is written of an event is one line, and read again that line says the same operation of the
-/// same thread, operand and location, where a line can tell these names.
-pub fn written_lines_say_events()
-    ensures { WrittenLinesSayEvents }
-{}
-
-/// What is written of a trace that was read is lines that say, thread by thread, the events of its
-/// lists: the same operations, in the same order, of the same threads, operands and locations.
-pub fn written_texts_say_traces()
-    ensures { WrittenTextsSayTraces }
-{}
-
-/// What is written of a trace that was read is read again under the same limits, with no line
-/// skipped and no event a stray, and tells the same names and of each thread the same events. Only
-/// numbers may differ: they go by first mention, and what is written goes thread by thread.
-pub fn written_texts_are_read_again()
-    ensures { WrittenTextsAreReadAgain }
 {}

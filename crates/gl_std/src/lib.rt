@@ -28,26 +28,24 @@
 //! [`Lines`] gives the lines of such a text one at a time, each as an [`Item`], and keeps no events;
 //! [`Items`] does so with a source that is lent to each call.
 //! Both are given a [`Seed`] for the hash of names: with one that was drawn at random, names can't be
-//! chosen to make reading slow. [`write_trace`] writes a trace as a text, thread by thread.
+//! chosen to make reading slow.
 //!
 //! The definitions go from bytes to lines (`specs/Lines`), from a line alone to what it says
 //! (`specs/Line`), and from lines to the trace (`specs/Trace`), one step a line; `specs/Heard` says
-//! what was read of a source, `specs/Streaming` what was told of it so far where it is read item by
-//! item, and `specs/Written` what is written of a trace. Above them stand
-//! the laws (`specs/Laws`): a text has one list of lines, a line says one thing, a text is read
-//! piece by piece, its trace tells the kept lines and obeys the limits, the first fault in the order
-//! of the reasons decides, a line that is written says its event, and a text that is written of a
-//! trace is read again, and tells the same ([`written_texts_are_read_again`]).
+//! what was read of a source, and `specs/Streaming` what was told of it so far where it is read item by
+//! item. Above them stand the laws (`specs/Laws`): a text has one list of lines, a line says one thing,
+//! a text is read piece by piece, its trace tells the kept lines and obeys the limits, and the first
+//! fault in the order of the reasons decides. gl_writing writes a trace as a text.
 #![tactic(auto)]
 
 mod faults;
-mod feed;
 mod from_source;
 mod guess;
 mod judge;
 mod laws;
 mod line;
 mod line_ends;
+mod line_reader;
 mod lists;
 mod name;
 mod names;
@@ -56,22 +54,19 @@ mod standing;
 mod stream;
 mod trace;
 mod whole_text;
-mod writing;
 
 pub use faults::{LinesFault, ReadFault, StdKind};
 pub use from_source::{Heard, read_source};
 pub use gl_io::{Failed, FromStd, Sink, Source};
 pub use laws::{
     faults_come_first, lines_are_unique, lines_follow_lines, lines_say_one_thing, reading_goes_on,
-    traces_grow, traces_obey_limits, traces_tell_lines, written_lines_say_events,
-    written_texts_are_read_again, written_texts_say_traces,
+    traces_grow, traces_obey_limits, traces_tell_lines,
 };
 pub use line::{MAX_LINE, limits_in_numbers};
-pub use line_ends::ended_lines;
+pub use line_ends::{ended_lines, without_cr};
 pub use lists::Lists;
 pub use names::{Names, NamesFault};
 pub use seed::Seed;
 pub use stream::{Item, Items, Lines};
 pub use trace::Trace;
 pub use whole_text::{read_seeded, read_trace};
-pub use writing::write_trace;

@@ -25,8 +25,8 @@ pub(crate) fn next_line(text: &[u8]) -> Option<(&[u8], &[u8])>
     }
 }
 
-/// The line without the CR at its end, if it has one.
-pub(crate) fn without_cr(line: &[u8]) -> &[u8]
+/// The line without the CR at its end, if it has one. Looks at its last byte alone.
+pub fn without_cr(line: &[u8]) -> &[u8]
     ensures { result.now ≡ without_cr line.now }
 {
     if line.is_empty() {

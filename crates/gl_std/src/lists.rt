@@ -1,6 +1,8 @@
 //! The lists of events of a trace.
 ghost use Rattle.std.specs.Prelude.{◌≡◌, ◌<◌, ◌-◌, [], ◌++◌, OnOk, map, replicate, vec_len};
 
+use crate::judge::Judged;
+use crate::names::Names;
 use gl_event::{Event, ThreadId};
 use std::alloc::{AllocError, Global};
 use std::marker::Model;
@@ -21,7 +23,10 @@ impl Model for Lists {
 }
 
 impl Lists {
+    ghost use Rattle.std.specs.Prelude.{length};
     ghost use Rattle.gl_std.specs.Listed.{listed};
+    ghost use Rattle.gl_std.specs.bodies.Telling.{with_judged, IsKnown};
+    ghost use Rattle.gl_std.specs.declared.trace.Trace.{Trace};
 
     /// The lists of this `Vec`. Takes no memory.
     pub fn new(lists: Vec<Vec<Event>>) -> Lists
@@ -45,8 +50,31 @@ impl Lists {
         lists
     }
 
-    /// Puts the event at the end of its thread's list, where so many threads have a list.
-    pub(crate) fn put(
+    /// Puts what a line is at the end of its thread's list, where it tells an event. These are the names
+    /// after the line.
+    pub(crate) fn add(
+        &mut self,
+        alloc: Global,
+        names: &Names,
+        judged: Judged,
+    ) -> Result<(), AllocError>
+        requires known { IsKnown judged (length names.now.threads) }
+        ensures { OnOk result
+            ((told : Trace) → told.lists ≡ self.old
+            → self.new ≡ (with_judged judged names.now told).lists) }
+    {
+        match judged {
+            Judged::Blank => Ok(()),
+            Judged::Skipped => Ok(()),
+            Judged::Stray => Ok(()),
+            Judged::Event { thread, event } => {
+                self.put(alloc, names.threads() as usize, thread, event)
+            }
+        }
+    }
+
+    // Puts the event at the end of its thread's list, where so many threads have a list.
+    fn put(
         &mut self,
         alloc: Global,
         threads: usize,

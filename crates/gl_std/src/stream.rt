@@ -4,7 +4,7 @@ ghost use Rattle.gl_event.specs.Bounds.{Bounds};
 ghost use Rattle.gl_event.specs.declared.events.Event.{Event as EventOf};
 ghost use Rattle.gl_io.specs.Reads.{HasRead};
 ghost use Rattle.gl_io.specs.Uses.{Use, used};
-ghost use Rattle.gl_std.specs.Feeding.{IsFit, ReadsOn};
+ghost use Rattle.gl_std.specs.LineReading.{IsFit, ReadsOn};
 ghost use Rattle.gl_std.specs.bodies.Lasts.{IsOver};
 ghost use Rattle.gl_std.specs.Sourced.{items_of, source_of};
 ghost use Rattle.gl_std.specs.Streaming.{event_in, names_of, with_answer, CanBeAsked, CanBeNamed, GoesOn, HasFault, HasNoFault, HasTold, IsDone};
@@ -15,8 +15,8 @@ ghost use Rattle.gl_std.specs.declared.faults.LinesFault.{LinesFault};
 ghost use Rattle.gl_std.specs.declared.trace.Trace.{Trace};
 
 use crate::faults::{LinesFault, ReadFault};
-use crate::feed::{Feed, Step};
 use crate::judge::Judged;
+use crate::line_reader::{LineReader, Step};
 use crate::names::Names;
 use crate::seed::Seed;
 use gl_event::{Event, Limits, ThreadId};
@@ -64,7 +64,7 @@ enum Stage {
 /// Contracts see what the next item comes from, and what is known of the text.
 #[derive(Drop)]
 pub struct Items {
-    feed: Feed,
+    reader: LineReader,
     stage: Stage,
 }
 
@@ -74,9 +74,9 @@ impl Model for Items {
 
     ghost Value = { Stream };
 
-    ghost view = { λ i. stream_of i.stage i.feed };
+    ghost view = { λ i. stream_of i.stage i.reader };
 
-    ghost invariant = { λ i. IsHeld i.stage i.feed };
+    ghost invariant = { λ i. IsHeld i.stage i.reader };
 }
 
 impl Items {
@@ -89,9 +89,9 @@ impl Items {
             → HasTold limits.now turns (used start start false) i [] nothing) }
         ensures usable { IfOk result (λ i. CanBeAsked i false) }
     {
-        let feed = Feed::new(alloc, limits, turns, seed)?;
+        let reader = LineReader::new(alloc, limits, turns, seed)?;
         Ok(Items {
-            feed,
+            reader,
             stage: Stage::Reading,
         })
     }
@@ -129,11 +129,11 @@ impl Items {
     // `next`, while reading goes on.
     fn read_on<R: Source>(&mut self, input: &mut R) -> Result<Item, LinesFault>
         requires reading { self.old.stage ≡ Reading }
-        requires fit { IsFit self.old.feed }
+        requires fit { IsFit self.old.reader }
         requires not_failed { R.failed input.old ≡ false }
         ensures tells { (limits : Bounds) (turns : ℕ) (start : Option (List ℕ)) (text : List ℕ)
             (told : Trace)
-            → ReadsOn limits turns start (R.remaining input.old) self.old.feed text told
+            → ReadsOn limits turns start (R.remaining input.old) self.old.reader text told
             → GoesOn limits turns
             (used start (R.remaining input.new) (R.failed input.new)) self.new text told result }
         ensures known { (thread : ℕ) (event : EventOf) → result ≡ Ok (Item.Event thread event)
@@ -143,7 +143,7 @@ impl Items {
         ensures item { OnOk result (HasNoFault self.new) }
         ensures fault { IfErr result (HasFault self.new) }
     {
-        match self.feed.next(input) {
+        match self.reader.next(input) {
             Ok(Step::Told(judged)) => Ok(item_of(judged)),
             Ok(Step::End) => self.finish(),
             Ok(Step::More) => unreachable!(),
@@ -156,10 +156,10 @@ impl Items {
 
     // `next`, where the source has ended.
     fn finish(&mut self) -> Result<Item, LinesFault>
-        requires fit { IsFit self.old.feed }
+        requires fit { IsFit self.old.reader }
         ensures tells { (limits : Bounds) (turns : ℕ) (input : Use) (text : List ℕ) (told : Trace)
             → HasRead turns input.before input.after input.failed text true
-            → self.old.feed.judge.limits ≡ limits → IsOver self.old.feed text told
+            → self.old.reader.judge.limits ≡ limits → IsOver self.old.reader text told
             → HasTold limits turns input self.new text
             (with_answer result (names_of self.new) told) }
         ensures known { (thread : ℕ) (event : EventOf) → result ≡ Ok (Item.Event thread event)
@@ -168,7 +168,7 @@ impl Items {
         ensures end { OnOk result (IsDone self.new) }
         ensures fault { IfErr result (HasFault self.new) }
     {
-        match self.feed.last() {
+        match self.reader.last() {
             Ok(judged) => {
                 self.stage = Stage::Done;
                 Ok(item_of(judged))
@@ -195,7 +195,7 @@ impl Items {
         ensures stray { (limits : Bounds) (turns : ℕ) (input : Use) (text : List ℕ) (told : Trace)
             → CanBeNamed self → HasTold limits turns input self text told → result.2 ≡ told.stray }
     {
-        self.feed.into_parts()
+        self.reader.into_parts()
     }
 }
 

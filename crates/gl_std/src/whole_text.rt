@@ -6,7 +6,7 @@ ghost use Rattle.gl_std.specs.declared.faults.StdKind.{StdKind};
 ghost use Rattle.gl_std.specs.declared.faults.ReadFault.TheVariants.{Line};
 
 use crate::faults::ReadFault;
-use crate::judge::{Judge, Judged};
+use crate::judge::Judge;
 use crate::line_ends::next_line;
 use crate::lists::Lists;
 use crate::seed::Seed;
@@ -51,16 +51,9 @@ impl Reader {
         ensures limits { self.new.judge.limits ≡ self.old.judge.limits }
         ensures line { OnOk result (self.new.judge.line ≡ self.old.judge.line + 1) }
     {
-        match self.judge.take(line)? {
-            Judged::Blank => Ok(()),
-            Judged::Skipped => Ok(()),
-            Judged::Stray => Ok(()),
-            Judged::Event { thread, event } => {
-                let threads = self.judge.threads();
-                self.lists.put(self.alloc, threads, thread, event)?;
-                Ok(())
-            }
-        }
+        let judged = self.judge.take(line)?;
+        self.lists.add(self.alloc, self.judge.names(), judged)?;
+        Ok(())
     }
 
     /// The trace of all lines.

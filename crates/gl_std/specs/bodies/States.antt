@@ -2,13 +2,13 @@
 use Rattle.std.specs.Prelude.{◌≡◌, ◌+◌, ◌*◌, ◌^◌, ◌<◌, ◌≤◌, ℕ, List, Option, drop, length, take, vec_len}
 use Rattle.gl_event.specs.Bounds.{Bounds}
 use Rattle.gl_io.specs.declared.source.TheConstants.{CHUNK}
-use Rattle.gl_std.specs.Feeding as feeding
+use Rattle.gl_std.specs.LineReading as line_reading
 use Rattle.gl_std.specs.Judging as judging
 use Rattle.gl_std.specs.Streaming.{Stage as StageOf, Stream}
 use Rattle.gl_std.specs.bodies.Lasts as lasts
 use Rattle.gl_std.specs.Streaming.Stage.{Reading as ReadingOn, Done as AtEnd, Faulty as AtFault}
-use Rattle.gl_std.specs.declared.feed.Feed.{Feed}
-use Rattle.gl_std.specs.declared.feed.TheConstants.{KEPT}
+use Rattle.gl_std.specs.declared.line_reader.LineReader.{LineReader}
+use Rattle.gl_std.specs.declared.line_reader.TheConstants.{KEPT}
 use Rattle.gl_std.specs.declared.judge.Judge.{Judge}
 use Rattle.gl_std.specs.declared.stream.Stage.{Stage}
 use Rattle.gl_std.specs.declared.stream.Stage.TheVariants.{Reading, Done, Faulty}
@@ -26,36 +26,36 @@ HasJudged j told = judging.HasJudged (judge_of j) told
 abbrev pub IsSound : Judge → Type 0
 IsSound j = judging.IsSound (judge_of j)
 
--- ---- a feed
+-- ---- a reader
 
 -- what is left of the latest read
-abbrev pub left_of : Feed → List ℕ
+abbrev pub left_of : LineReader → List ℕ
 left_of f = drop f.start (take f.end f.buffer.items)
 
--- what a feed knows
-abbrev pub feed_of : Feed → feeding.Feed
-feed_of f = record { judge = judge_of f.judge; beginning = f.unfinished.items; left = left_of f; turns = f.turns }
+-- what a reader knows
+abbrev pub reader_of : LineReader → line_reading.LineReader
+reader_of f = record { judge = judge_of f.judge; beginning = f.unfinished.items; left = left_of f; turns = f.turns }
 
 abbrev pub Reaches : Judge → List ℕ → List ℕ → Trace → Type 0
-Reaches j beginning seen told = feeding.Reaches (judge_of j) beginning seen told
+Reaches j beginning seen told = line_reading.Reaches (judge_of j) beginning seen told
 
-abbrev pub IsAt : Feed → List ℕ → Trace → Type 0
-IsAt f text told = feeding.IsAt (feed_of f) text told
+abbrev pub IsAt : LineReader → List ℕ → Trace → Type 0
+IsAt f text told = line_reading.IsAt (reader_of f) text told
 
-abbrev pub ReadsOn : Bounds → ℕ → Option (List ℕ) → Option (List ℕ) → Feed → List ℕ → Trace → Type 0
-ReadsOn limits turns start now f text told = feeding.ReadsOn limits turns start now (feed_of f) text told
+abbrev pub ReadsOn : Bounds → ℕ → Option (List ℕ) → Option (List ℕ) → LineReader → List ℕ → Trace → Type 0
+ReadsOn limits turns start now f text told = line_reading.ReadsOn limits turns start now (reader_of f) text told
 
-abbrev pub IsOver : Feed → List ℕ → Trace → Type 0
-IsOver f text told = lasts.IsOver (feed_of f) text told
+abbrev pub IsOver : LineReader → List ℕ → Trace → Type 0
+IsOver f text told = lasts.IsOver (reader_of f) text told
 
 -- what is left of the latest read lies in the buffer
-pub record IsBuffered (f : Feed) : Type 0 where
+pub record IsBuffered (f : LineReader) : Type 0 where
   pub order : f.start ≤ f.end
   pub within : f.end ≤ CHUNK
   pub room : vec_len f.buffer ≡ CHUNK
 
--- the feed is fit to read on, where what is left lies in the buffer
-pub record IsFit (f : Feed) : Type 0 where
+-- the reader is fit to read on, where what is left lies in the buffer
+pub record IsFit (f : LineReader) : Type 0 where
   pub sound : IsSound f.judge
   pub order : f.start ≤ f.end
   pub within : f.end ≤ CHUNK
@@ -71,12 +71,12 @@ stage_of Reading = ReadingOn
 stage_of Done = AtEnd
 stage_of (Faulty fault) = AtFault fault
 
--- the items of a text that is at this stage, of which the feed knows this
-abbrev pub stream_of : Stage → Feed → Stream
-stream_of stage f = record { stage = stage_of stage; feed = feed_of f }
+-- the items of a text that is at this stage, of which the reader knows this
+abbrev pub stream_of : Stage → LineReader → Stream
+stream_of stage f = record { stage = stage_of stage; reader = reader_of f }
 
 -- while reading goes on, what is left of the latest read lies in the buffer
-abbrev pub IsHeld : Stage → Feed → Type 0
+abbrev pub IsHeld : Stage → LineReader → Type 0
 IsHeld Reading f = IsBuffered f
 IsHeld Done f = Unit {0}
 IsHeld (Faulty fault) f = Unit {0}

@@ -3,7 +3,7 @@ use Rattle.std.proofs.lemmas.Result.{err_from_is_err_and}
 use Rattle.gl_std.specs.bodies.States.{ReadsOn}
 use Rattle.gl_std.specs.bodies.Hearing.{listed_by, Meets}
 use Rattle.gl_std.specs.Trace.{nothing}
-use Rattle.gl_std.proofs.HeardLemmas.{heard_over, heard_trace_over, heard_whole, listed_is}
+use Rattle.gl_std.proofs.HeardSources.{heard_over, heard_trace_over, heard_whole, listed_is}
 use Rattle.gl_std.proofs.from_source.read_source.Goals as goal
 
 pub lines-init : goal.lines-init
@@ -12,7 +12,7 @@ lines-init g c =
     let reads = c.in_ok-listing.ensures.reads (g.R.Source.remaining c.args.input.now) in
     record {
       text = [];
-      reads = subst (ReadsOn c.args.limits.now c.args.turns _ _ listing.feed []) (sym (listed_is listing nothing reads.at.reaches.judged c.in_ok-listing.ensures.none)) reads;
+      reads = subst (ReadsOn c.args.limits.now c.args.turns _ _ listing.reader []) (sym (listed_is listing nothing reads.at.reaches.judged c.in_ok-listing.ensures.none)) reads;
       fit = c.in_ok-listing.ensures.fit;
       sound = c.requires.not_failed;
     }
@@ -36,7 +36,7 @@ returns-in-End-clause-heard g c =
     let so_far = c.lines.invariant in
     let new = c.take.new in
     let meets = subst (Meets c.args.limits.now c.args.turns (g.R.Source.remaining c.args.input.now) (g.R.Source.remaining new.input) (g.R.Source.failed new.input) new.self so_far.text) c.in-End.is (c.in_ok-take.ensures.meets c.args.limits.now c.args.turns (g.R.Source.remaining c.args.input.now) so_far.text so_far.reads) in
-    heard_whole c.args.limits.now new.self.feed.judge.limits c.args.turns _ _ _ new.self.feed (so_far.text ++ meets.piece) (listed_by new.self) c.finish.result meets.met.1 meets.met.0 meets.met.2 c.finish.ensures.trace c.finish.ensures.whole
+    heard_whole c.args.limits.now new.self.reader.judge.limits c.args.turns _ _ _ new.self.reader (so_far.text ++ meets.piece) (listed_by new.self) c.finish.result meets.met.1 meets.met.0 meets.met.2 c.finish.ensures.trace c.finish.ensures.whole
 
 pub returns-in-End-clause-over : goal.returns-in-End-clause-over
 returns-in-End-clause-over g c = heard_over c.args.limits.now c.args.turns _ _ _ c.finish.result (returns-in-End-clause-heard g c)

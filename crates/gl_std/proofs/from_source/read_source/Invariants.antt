@@ -7,10 +7,10 @@ use Rattle.gl_std.proofs.from_source.read_source.Given as goal
 abbrev pub invariant-lines : goal.invariant-lines
 invariant-lines g l = record {
   text : List ℕ;
-  reads : ReadsOn l.limits l.turns (g.R.Source.remaining l.initial.input) (g.R.Source.remaining l.input) l.listing.feed text (listed_by l.listing);
-  fit : IsFit l.listing.feed;
+  reads : ReadsOn l.limits l.turns (g.R.Source.remaining l.initial.input) (g.R.Source.remaining l.input) l.listing.reader text (listed_by l.listing);
+  fit : IsFit l.listing.reader;
   sound : g.R.Source.failed l.input ≡ false;
 }
 
 abbrev pub decreases-lines : goal.decreases-lines
-decreases-lines g l = fuel l.listing.feed
+decreases-lines g l = fuel l.listing.reader

@@ -2,7 +2,7 @@ use Rattle.std.proofs.Common.{◌≡◌, true, arith}
 use Rattle.std.proofs.lemmas.Grind.{common_steps}
 use Rattle.gl_std.specs.Line.{is_on_thread}
 use Rattle.gl_std.specs.bodies.Shown.{shown_operation}
-use Rattle.gl_std.proofs.JudgingLemmas.{standing_partner}
+use Rattle.gl_std.proofs.JudgedLines.{standing_partner}
 use Rattle.gl_std.proofs.judge.add_partner.Goals as goal
 
 pub returns-in_ok-push-in-None : goal.returns-in_ok-push-in-None

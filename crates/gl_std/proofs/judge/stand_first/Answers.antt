@@ -1,6 +1,6 @@
 use Rattle.std.proofs.Common.{[], ◌∷◌, ◌++◌, refl, sym, subst}
 use Rattle.gl_std.specs.Standings.{AreStanding}
-use Rattle.gl_std.proofs.JudgingLemmas.{standing_push}
+use Rattle.gl_std.proofs.JudgedLines.{standing_push}
 use Rattle.gl_std.proofs.judge.stand_first.Goals as goal
 
 pub returns-in_ok-push-in-Kept-clause-kept : goal.returns-in_ok-push-in-Kept-clause-kept

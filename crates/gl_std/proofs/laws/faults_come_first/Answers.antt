@@ -1,4 +1,4 @@
-use Rattle.gl_std.proofs.FaultLemmas.{trace_of-fault}
+use Rattle.gl_std.proofs.FirstFaults.{trace_of-fault}
 use Rattle.gl_std.proofs.laws.faults_come_first.Goals as goal
 
 pub returns : goal.returns

@@ -1,4 +1,4 @@
-use Rattle.gl_std.proofs.ShapeLemmas.{line_says, says_shape}
+use Rattle.gl_std.proofs.Shapes.{line_says, says_shape}
 use Rattle.gl_std.proofs.laws.lines_say_one_thing.Goals as goal
 
 pub returns : goal.returns

@@ -1,4 +1,4 @@
-use Rattle.gl_std.proofs.GrowthLemmas.{trace_of_grows}
+use Rattle.gl_std.proofs.Growth.{trace_of_grows}
 use Rattle.gl_std.proofs.laws.traces_grow.Goals as goal
 
 pub returns : goal.returns

@@ -1,4 +1,4 @@
-use Rattle.gl_std.proofs.StepLemmas.{trace_of_over}
+use Rattle.gl_std.proofs.WithinLimits.{trace_of_over}
 use Rattle.gl_std.proofs.laws.traces_obey_limits.Goals as goal
 
 pub returns : goal.returns

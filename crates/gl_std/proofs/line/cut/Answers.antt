@@ -1,5 +1,5 @@
 use Rattle.std.proofs.Common.{sym}
-use Rattle.gl_std.proofs.CutLemmas.{cut_at-first, cut_at-none}
+use Rattle.gl_std.proofs.Cutting.{cut_at-first, cut_at-none}
 use Rattle.gl_std.proofs.line.cut.Goals as goal
 
 pub returns-in-Some : goal.returns-in-Some

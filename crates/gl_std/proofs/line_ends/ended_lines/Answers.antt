@@ -1,5 +1,5 @@
 use Rattle.std.proofs.Common.{sym}
-use Rattle.gl_std.proofs.PieceLemmas.{ended-last, ended-nowhere}
+use Rattle.gl_std.proofs.PieceByPiece.{ended-last, ended-nowhere}
 use Rattle.gl_std.proofs.line_ends.ended_lines.Goals as goal
 
 pub returns-in-Some : goal.returns-in-Some

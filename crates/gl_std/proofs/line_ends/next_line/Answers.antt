@@ -1,7 +1,7 @@
 use Rattle.std.proofs.Common.{◌<◌, ◌∷◌, length, sym, ap, ◌∙◌, arith}
 use Rattle.std.proofs.lemmas.Bool.Decides.{nat_tests}
 use Rattle.gl_std.specs.Lines.{lines}
-use Rattle.gl_std.proofs.LinesLemmas.{lines-cut, lines-uncut, rest_at_end}
+use Rattle.gl_std.proofs.LinesOfTexts.{lines-cut, lines-uncut, rest_at_end}
 use Rattle.gl_std.proofs.line_ends.next_line.Goals as goal
 
 pub returns-in-Some : goal.returns-in-Some

@@ -1,6 +1,6 @@
 use Rattle.std.proofs.Common.{◌≡◌, ◌<◌, ◌-◌, length, sym, arith}
 use Rattle.std.proofs.lemmas.Bool.Decides.{nat_tests}
-use Rattle.gl_std.proofs.LinesLemmas.{without_cr-last, without_cr-other, without_cr-nil}
+use Rattle.gl_std.proofs.LinesOfTexts.{without_cr-last, without_cr-other, without_cr-nil}
 use Rattle.gl_std.proofs.line_ends.without_cr.Goals as goal
 
 pub returns-then-is_empty : goal.returns-then-is_empty

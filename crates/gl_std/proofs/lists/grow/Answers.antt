@@ -1,7 +1,7 @@
 use Rattle.std.proofs.Common.{◌+◌, List, [], length, length-append, map, replicate, Vec, Global, ap, inr, arith}
 use Rattle.std.proofs.lemmas.List.{length-map, length-replicate}
 use Rattle.gl_event.specs.declared.events.Event.{Event}
-use Rattle.gl_std.proofs.JudgingLemmas.{grown_more}
+use Rattle.gl_std.proofs.JudgedLines.{grown_more}
 use Rattle.gl_std.proofs.lists.grow.Goals as goal
 
 pub loop-alloc-preserved : goal.loop-alloc-preserved

@@ -2,7 +2,7 @@ use Rattle.std.proofs.Common.{ap, ◌∙◌, arith}
 use Rattle.gl_std.specs.Lines.{lines}
 use Rattle.gl_std.specs.bodies.Reading.{told_by}
 use Rattle.gl_std.specs.Trace.{read_from}
-use Rattle.gl_std.proofs.StepLemmas.{trace_of-lines}
+use Rattle.gl_std.proofs.WithinLimits.{trace_of-lines}
 use Rattle.gl_std.proofs.whole_text.read_seeded.Goals as goal
 
 pub loop-line-init : goal.loop-line-init

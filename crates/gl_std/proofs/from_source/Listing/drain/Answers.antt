@@ -1,5 +1,5 @@
 use Rattle.std.proofs.Common.{◌++◌}
-use Rattle.gl_std.proofs.PieceLemmas.{faulty_judged, faulty_more}
+use Rattle.gl_std.proofs.PieceByPiece.{faulty_judged, faulty_more}
 use Rattle.gl_std.proofs.from_source.Listing.drain.Goals as goal
 
 pub returns : goal.returns

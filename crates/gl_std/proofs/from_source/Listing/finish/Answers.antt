@@ -1,13 +1,13 @@
 use Rattle.std.proofs.Common.{Ok, Err, refl, sym, ap, ◌∙◌}
 use Rattle.gl_std.specs.bodies.Hearing.{listed_by}
-use Rattle.gl_std.proofs.HeardLemmas.{put_is}
+use Rattle.gl_std.proofs.HeardSources.{listed_is}
 use Rattle.gl_std.proofs.from_source.Listing.finish.Goals as goal
 
 pub returns-in-Ok-clause-trace : goal.returns-in-Ok-clause-trace
 returns-in-Ok-clause-trace c = λ text over.
     let told = listed_by c.args.self in
     c.in-Ok.ensures.told text told over
-    ∙ ap (λ t. Ok t) (sym (c.into_trace.ensures ∙ put_is (record { alloc = c.args.self.alloc; feed = c.last.new.self; lists = c.args.self.lists }) c.put.new.self _ (c.in-Ok.ensures.judged text told over) c.put.ensures.same (c.in_ok-put-in-Ok.ensures.lists told refl)))
+    ∙ ap (λ t. Ok t) (sym (c.into_trace.ensures ∙ listed_is (record { alloc = c.args.self.alloc; reader = c.last.new.self; lists = c.add.new.self }) _ (c.in-Ok.ensures.judged text told over) (rw c.names.ensures at (c.in_ok-add-in-Ok.ensures told refl))))
 
 pub returns-in-Err-Line-clause-trace : goal.returns-in-Err-Line-clause-trace
 returns-in-Err-Line-clause-trace c = λ text over.

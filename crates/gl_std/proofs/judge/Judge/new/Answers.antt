@@ -1,8 +1,8 @@
 use Rattle.std.proofs.Common.{[], refl, sym, subst, arith}
 use Rattle.gl_std.specs.Standings.{AreStanding}
 use Rattle.gl_std.specs.Trace.{nothing}
-use Rattle.gl_std.proofs.JudgingLemmas.{sound_of}
-use Rattle.gl_std.proofs.StepLemmas.{nothing_over}
+use Rattle.gl_std.proofs.JudgedLines.{sound_of}
+use Rattle.gl_std.proofs.WithinLimits.{nothing_over}
 use Rattle.gl_std.proofs.judge.Judge.new.Goals as goal
 
 pub returns-clause-sound : goal.returns-clause-sound

@@ -2,8 +2,8 @@ use Rattle.std.proofs.Common.{sym, ap, subst, ◌∙◌, arith}
 use Rattle.gl_event.specs.Bounds.{AreWithinRange}
 use Rattle.gl_std.specs.bodies.Telling.{with_judged}
 use Rattle.gl_std.specs.Trace.{after_shape, IsTraceOver}
-use Rattle.gl_std.proofs.JudgingLemmas.{sound_of}
-use Rattle.gl_std.proofs.StepLemmas.{after_line_over}
+use Rattle.gl_std.proofs.JudgedLines.{sound_of}
+use Rattle.gl_std.proofs.WithinLimits.{after_line_over}
 use Rattle.gl_std.proofs.judge.Judge.take.Goals as goal
 
 pub returns-clause-sound : goal.returns-clause-sound

@@ -5,7 +5,7 @@ use Rattle.gl_std.specs.bodies.Finding.{event_found, operand_number}
 use Rattle.gl_std.specs.bodies.Shown.{shown_operation}
 use Rattle.gl_std.specs.declared.faults.ReadFault.TheVariants.{Line}
 use Rattle.gl_std.specs.declared.standing.Ruling.TheVariants.{Kept, Stray, Fault}
-use Rattle.gl_std.proofs.JudgingLemmas.{call_judged, call_kept, call_listed, call_known, kept_has, same_fault}
+use Rattle.gl_std.proofs.JudgedLines.{call_judged, call_kept, call_listed, call_known, kept_has, same_fault}
 use Rattle.gl_std.proofs.judge.Judge.take_found.Goals as goal
 
 pub returns-in_ok-tell-in-Kept-clause-ok : goal.returns-in_ok-tell-in-Kept-clause-ok

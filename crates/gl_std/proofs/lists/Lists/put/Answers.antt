@@ -2,7 +2,7 @@ use Rattle.std.proofs.Common.{◌≡◌, ◌++◌, ◌-◌, [], length, replicat
 use Rattle.std.proofs.lemmas.List.{length-map}
 use Rattle.gl_event.specs.declared.events.Event.{Event}
 use Rattle.gl_std.specs.Listed.{listed}
-use Rattle.gl_std.proofs.JudgingLemmas.{put_listed}
+use Rattle.gl_std.proofs.JudgedLines.{put_listed}
 use Rattle.gl_std.proofs.lists.Lists.put.Goals as goal
 
 pub returns : goal.returns

@@ -1,4 +1,4 @@
-use Rattle.gl_std.proofs.NameLemmas.{names_added}
+use Rattle.gl_std.proofs.NameBytes.{names_added}
 use Rattle.gl_std.proofs.names.NameList.add.Goals as goal
 
 pub returns-clause-ok : goal.returns-clause-ok

@@ -1,5 +1,5 @@
 use Rattle.std.proofs.Common.{sym, ◌∙◌}
-use Rattle.gl_std.proofs.PlaceLemmas.{number_of}
+use Rattle.gl_std.proofs.Places.{number_of}
 use Rattle.gl_std.proofs.names.NameList.is_name_of.Goals as goal
 
 pub returns : goal.returns

@@ -1,4 +1,4 @@
-use Rattle.gl_std.proofs.NameLemmas.{AllPairs-from_distinct}
+use Rattle.gl_std.proofs.NameBytes.{AllPairs-from_distinct}
 use Rattle.gl_std.proofs.names.NameList.len.Goals as goal
 
 pub returns-clause-distinct : goal.returns-clause-distinct

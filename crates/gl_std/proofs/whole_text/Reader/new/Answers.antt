@@ -2,8 +2,8 @@ use Rattle.std.proofs.Common.{map, Vec, Global, ap, ◌∙◌}
 use Rattle.gl_event.specs.declared.events.Event.{Event}
 use Rattle.gl_std.specs.Trace.{nothing}
 use Rattle.gl_std.specs.declared.whole_text.Reader.{Reader}
-use Rattle.gl_std.proofs.ReadingLemmas.{told_is, ready_of}
-use Rattle.gl_std.proofs.StepLemmas.{nothing_over}
+use Rattle.gl_std.proofs.BetweenLines.{told_is, ready_of}
+use Rattle.gl_std.proofs.WithinLimits.{nothing_over}
 use Rattle.gl_std.proofs.whole_text.Reader.new.Goals as goal
 
 pub returns-clause-told : goal.returns-clause-told

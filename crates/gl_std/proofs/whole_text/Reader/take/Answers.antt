@@ -1,43 +1,21 @@
-use Rattle.std.proofs.Common.{sym, ap, ◌∙◌}
-use Rattle.gl_std.specs.bodies.Telling.{with_judged}
-use Rattle.gl_std.specs.Listed.{listed}
+use Rattle.std.proofs.Common.{refl}
 use Rattle.gl_std.specs.bodies.Reading.{told_by}
-use Rattle.gl_std.proofs.ReadingLemmas.{line_ready}
+use Rattle.gl_std.specs.declared.whole_text.Reader.{Reader}
+use Rattle.gl_std.proofs.BetweenLines.{line_taken, line_ready}
 use Rattle.gl_std.proofs.whole_text.Reader.take.Goals as goal
 
-pub returns-in-Blank-clause-ready : goal.returns-in-Blank-clause-ready
-returns-in-Blank-clause-ready c =
-    let old = c.args.self.now in
+pub returns-clause-ok : goal.returns-clause-ok
+returns-clause-ok c =
     let ready = c.requires.ready in
-    let told = told_by old in
-    let judge = c.take.new.self in
-    line_ready old _ c.args.line.now c.in_ok-take.field-0 ready (c.in_ok-take.ensures.ok told ready.judged) (c.in_ok-take.ensures.judged told ready.judged)
-    (ap (λ j. (with_judged j judge.names told).lists) (sym c.in-Blank.is)) c.in_ok-take.ensures.sound c.take.ensures.limits
+    let told = told_by c.args.self.now in
+    let new : Reader = record { alloc = c.args.self.now.alloc; judge = c.take.new.self; lists = c.add.new.self } in
+    line_taken c.args.self.now new c.args.line.now c.in_ok-judged.judged ready (c.in_ok-judged.ensures.ok told ready.judged) (c.in_ok-judged.ensures.judged told ready.judged)
+    (rw c.names.ensures at (c.in_ok-add.ensures told refl))
 
-pub returns-in-Skipped-clause-ready : goal.returns-in-Skipped-clause-ready
-returns-in-Skipped-clause-ready c =
-    let old = c.args.self.now in
+pub returns-clause-ready : goal.returns-clause-ready
+returns-clause-ready c =
     let ready = c.requires.ready in
-    let told = told_by old in
-    let judge = c.take.new.self in
-    line_ready old _ c.args.line.now c.in_ok-take.field-0 ready (c.in_ok-take.ensures.ok told ready.judged) (c.in_ok-take.ensures.judged told ready.judged)
-    (ap (λ j. (with_judged j judge.names told).lists) (sym c.in-Skipped.is)) c.in_ok-take.ensures.sound c.take.ensures.limits
-
-pub returns-in-Stray-clause-ready : goal.returns-in-Stray-clause-ready
-returns-in-Stray-clause-ready c =
-    let old = c.args.self.now in
-    let ready = c.requires.ready in
-    let told = told_by old in
-    let judge = c.take.new.self in
-    line_ready old _ c.args.line.now c.in_ok-take.field-0 ready (c.in_ok-take.ensures.ok told ready.judged) (c.in_ok-take.ensures.judged told ready.judged)
-    (ap (λ j. (with_judged j judge.names told).lists) (sym c.in-Stray.is)) c.in_ok-take.ensures.sound c.take.ensures.limits
-
-pub returns-in_ok-put-in-Event-clause-ready : goal.returns-in_ok-put-in-Event-clause-ready
-returns-in_ok-put-in-Event-clause-ready c =
-    let old = c.args.self.now in
-    let ready = c.requires.ready in
-    let told = told_by old in
-    let judge = c.take.new.self in
-    line_ready old _ c.args.line.now c.in_ok-take.field-0 ready (c.in_ok-take.ensures.ok told ready.judged) (c.in_ok-take.ensures.judged told ready.judged)
-    (c.in_ok-put-in-Event.ensures ∙ ap (λ n. listed n old.lists c.in-Event.thread c.in-Event.event) c.threads-threads.ensures ∙ ap (λ j. (with_judged j judge.names told).lists) (sym c.in-Event.is))
-    c.in_ok-take.ensures.sound c.take.ensures.limits
+    let told = told_by c.args.self.now in
+    let new : Reader = record { alloc = c.args.self.now.alloc; judge = c.take.new.self; lists = c.add.new.self } in
+    line_ready c.args.self.now new c.args.line.now c.in_ok-judged.judged ready (c.in_ok-judged.ensures.ok told ready.judged) (c.in_ok-judged.ensures.judged told ready.judged)
+    (rw c.names.ensures at (c.in_ok-add.ensures told refl)) c.in_ok-judged.ensures.sound c.take.ensures.limits

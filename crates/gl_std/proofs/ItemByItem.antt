@@ -1,0 +1,121 @@
+-- A trace that is read item by item.
+use Rattle.std.proofs.Common.{◌≡◌, ℕ, ◌+◌, ◌<◌, Bool, true, List, ◌++◌, length, take, Option, Result, Ok, Err, sym, ap, subst, ◌∙◌, inl, arith}
+use Rattle.std.proofs.lemmas.List.{length-drop, length-take-le}
+use Rattle.gl_event.specs.Bounds.{Bounds}
+use Rattle.gl_event.specs.declared.events.Event.{Event as EventOf}
+use Rattle.gl_io.specs.Reads.{HasRead}
+use Rattle.gl_io.specs.Uses.{used}
+use Rattle.gl_std.specs.LineReading as line_reading
+use Rattle.gl_std.specs.bodies.Lasts as lasts
+use Rattle.gl_std.specs.Streaming.{with_item, GoesOn, HasToldAt, Stream}
+use Rattle.gl_std.specs.Streaming.Stage.{Reading, Done, Faulty}
+use Rattle.gl_std.specs.Trace.{trace_of}
+use Rattle.gl_std.specs.bodies.States.{reader_of, left_of, stage_of, stream_of, HasJudged, IsBuffered, IsFit, IsHeld, ReadsOn}
+use Rattle.gl_std.specs.bodies.Stepping.{HasStepped, Steps}
+use Rattle.gl_std.specs.bodies.Telling.{item_in, with_judged, IsKnown}
+use Rattle.gl_std.specs.declared.faults.LinesFault.{LinesFault}
+use Rattle.gl_std.specs.declared.faults.LinesFault.TheVariants.{Line, Read, Memory}
+use Rattle.gl_std.specs.declared.line_reader.LineReader.{LineReader}
+use Rattle.gl_std.specs.declared.line_reader.Step.{Step}
+use Rattle.gl_std.specs.declared.line_reader.Step.TheVariants.{Told}
+use Rattle.gl_std.specs.declared.judge.Judged.{Judged}
+use Rattle.gl_std.specs.declared.judge.Judged.TheVariants.{Blank, Skipped, Stray, Event as EventLine}
+use Rattle.gl_std.specs.declared.stream.Item.{Item}
+use Rattle.gl_std.specs.declared.stream.Item.TheVariants.{Event}
+use Rattle.gl_std.specs.declared.stream.Stage.{Stage}
+use Rattle.gl_std.specs.declared.stream.Stage.TheVariants.{Reading as ReadingStage, Done as DoneStage, Faulty as FaultyStage}
+use Rattle.gl_std.specs.declared.trace.Trace.{Trace}
+
+-- ---- what the code's state shows
+
+-- what is left of the latest read begins and ends in the buffer
+left_long : (f : LineReader) → IsBuffered f → length (left_of f) + f.start ≡ f.end
+left_long f held =
+    let read = length-take-le f.end f.buffer.items (omega (arith, held.within, held.room, f.buffer.ok.0)) in
+    omega (arith, held.order, read, length-drop f.start (take f.end f.buffer.items))
+
+buffered : (f : LineReader) → IsFit f → IsBuffered f
+buffered f fit = record { order = fit.order; within = fit.within; room = fit.room }
+
+pub held_fit : (stage : Stage) (f : LineReader) → IsFit f → IsHeld stage f
+held_fit ReadingStage f fit = buffered f fit
+held_fit DoneStage f fit = tt
+held_fit (FaultyStage fault) f fit = tt
+
+-- a reader that is fit shows one that is
+pub fit_shown : (f : LineReader) → IsFit f → line_reading.IsFit (reader_of f)
+fit_shown f fit =
+    let long = left_long f (buffered f fit) in
+    record {
+      sound = fit.sound;
+      few = fit.few;
+      within = omega (arith, long, fit.within);
+      countable = omega (arith, long, fit.countable);
+    }
+
+-- and the other way round, where what is left lies in the buffer
+fit_held : (f : LineReader) → IsBuffered f → line_reading.IsFit (reader_of f) → IsFit f
+fit_held f held fit =
+    let long = left_long f held in
+    record {
+      sound = fit.sound;
+      order = held.order;
+      within = held.within;
+      room = held.room;
+      few = fit.few;
+      countable = omega (arith, long, fit.countable);
+    }
+
+-- the reader of items that show this stream, while reading goes on
+pub fit_of : (stage : Stage) (f : LineReader) (i : Stream) → stream_of stage f ≡ i → IsHeld stage f → i.stage ≡ Reading → line_reading.IsFit i.reader → IsFit f
+fit_of ReadingStage f i is held reading fit = fit_held f held (subst line_reading.IsFit (sym (ap (λ (s : Stream). s.reader) is)) fit)
+fit_of DoneStage f i is held reading fit = let wrong : Done ≡ Reading = ap (λ (s : Stream). s.stage) is ∙ reading in cc
+fit_of (FaultyStage fault) f i is held reading fit = let wrong : Faulty fault ≡ Reading = ap (λ (s : Stream). s.stage) is ∙ reading in cc
+
+-- what was told, by what the items show
+pub reads_shown : (limits : Bounds) (turns : ℕ) (start now : Option (List ℕ)) (stage : Stage) (f : LineReader) (i : Stream) (text : List ℕ) (told : Trace) → stream_of stage f ≡ i → line_reading.ReadsOn limits turns start now i.reader text told → ReadsOn limits turns start now f text told
+reads_shown limits turns start now stage f i text told is on = subst (λ (s : Stream). line_reading.ReadsOn limits turns start now s.reader text told) (sym is) on
+
+pub over_shown : (stage : Stage) (f : LineReader) (i : Stream) (text : List ℕ) (told : Trace) → stream_of stage f ≡ i → lasts.IsOver i.reader text told → lasts.IsOver (reader_of f) text told
+over_shown stage f i text told is over = subst (λ (s : Stream). lasts.IsOver s.reader text told) (sym is) over
+
+-- ---- items
+
+-- the last line, which isn't at fault
+pub last_told : (limits : Bounds) (turns : ℕ) (start now : Option (List ℕ)) (failed : Bool) (old f : LineReader) (text : List ℕ) (told : Trace) (judged : Judged) (item : Item) → item ≡ item_in judged → old.judge.limits ≡ limits → HasRead turns start now failed text true → trace_of old.judge.limits text ≡ Ok (with_judged judged f.judge.names told) → HasJudged f.judge (with_judged judged f.judge.names told) → HasToldAt Done limits turns (used start now failed) (reader_of f) text (with_item item f.judge.names told)
+last_told limits turns start now failed old f text told judged item is same read trace has =
+    subst (λ x. HasToldAt Done limits turns (used start now failed) (reader_of f) text (with_item x f.judge.names told)) (sym is)
+    (read, ap (λ l. trace_of l text) (sym same) ∙ trace, has)
+
+-- a line that LF ended
+pub told_item : (limits : Bounds) (turns : ℕ) (start now : Option (List ℕ)) (failed : Bool) (stage : Stage) (f : LineReader) (text : List ℕ) (told : Trace) (step : Step) (judged : Judged) (item : Item) → stage_of stage ≡ Reading → step ≡ Told judged → item ≡ item_in judged → Steps limits turns start now failed f text told (Ok step) → GoesOn limits turns (used start now failed) (stream_of stage f) text told (Ok item)
+told_item limits turns start now failed stage f text told step judged item reading is line steps =
+    record {
+      piece = steps.piece;
+      tells =
+          let stepped = subst (λ s. HasStepped limits turns start now failed f (text ++ steps.piece) told (Ok s)) is steps.stepped in
+          subst (λ at. HasToldAt at limits turns (used start now failed) (reader_of f) (text ++ steps.piece) (with_item item f.judge.names told)) (sym reading)
+          (subst (λ x. HasToldAt Reading limits turns (used start now failed) (reader_of f) (text ++ steps.piece) (with_item x f.judge.names told)) (sym line) stepped);
+    }
+
+-- a fault
+pub stopped : (limits : Bounds) (turns : ℕ) (start now : Option (List ℕ)) (failed : Bool) (f : LineReader) (text : List ℕ) (told : Trace) (fault : LinesFault) → HasStepped limits turns start now failed f text told (Err fault) → HasToldAt (Faulty fault) limits turns (used start now failed) (reader_of f) text told
+stopped limits turns start now failed f text told (Line number kind) is = inl is
+stopped limits turns start now failed f text told Read is = is
+stopped limits turns start now failed f text told Memory is = tt
+
+same_ok : (a b : Item) → (let x : Result Item LinesFault = Ok a in x) ≡ Ok b → a ≡ b
+same_ok a b same = cc
+
+-- an event that was answered is of a thread that has a name
+pub known_item : (item : Item) (judged : Judged) (threads : ℕ) → item ≡ item_in judged → IsKnown judged threads → (thread : ℕ) (event : EventOf) → (let x : Result Item LinesFault = Ok item in x) ≡ Ok (Event thread event) → thread < threads
+known_item item judged threads is known thread event same = by judged known (sym is ∙ same_ok item (Event thread event) same)
+  where
+    by : (j : Judged) → IsKnown j threads → item_in j ≡ Event thread event → thread < threads
+    by Blank known is = cc
+    by Skipped known is = cc
+    by Stray known is = cc
+    by (EventLine t e) known is = subst (λ n. n < threads) (own t e is) known
+      where
+        own : (t : ℕ) (e : EventOf) → Event t e ≡ Event thread event → t ≡ thread
+        own t e is = cc

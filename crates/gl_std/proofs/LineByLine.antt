@@ -1,0 +1,398 @@
+-- A text that is judged line by line as it comes.
+use Rattle.std.proofs.Common.{◌≡◌, ◌≢◌, ℕ, zero, suc, ◌+◌, ◌-◌, ◌<◌, ◌≤◌, inr, nat_lt, Option, Bool, true, false, ◌&&◌, cond, eqb, List, [], ◌∷◌, ◌++◌, length, Contains, Some, Result, Ok, Err, take, drop, refl, sym, ap, subst, ◌∙◌, append_assoc, length-append, arith}
+use Rattle.std.specs.Prelude.{nat_le, None, IfNone, IfOk, IfSome, OnOk}
+use Rattle.std.specs.Io.KnownBytes.{Consumes, IsAtEnd}
+use Rattle.std.proofs.KnownBytes.{Consumes-nil, Consumes-trans, Consumes-whole}
+use Rattle.std.proofs.lemmas.Bool.{false≢true}
+use Rattle.std.proofs.Math.Nat.{min-le_left}
+use Rattle.std.proofs.Math.Seq.{take-append-add, drop-append-add}
+use Rattle.std.proofs.lemmas.Bool.Decides.{nat_tests}
+use Rattle.std.proofs.lemmas.List.{take_all, drop-drop, length-take, length-take-le, length-drop}
+use Rattle.gl_event.specs.Bounds.{Bounds}
+use Rattle.gl_io.specs.Reads.{HasRead}
+use Rattle.gl_io.specs.declared.source.TheConstants.{CHUNK}
+use Rattle.gl_std.specs.LineReading as line_reading
+use Rattle.gl_std.specs.LineReading.{HasGiven}
+use Rattle.gl_std.specs.Judging as judging
+use Rattle.gl_std.specs.bodies.States.{left_of, HasJudged, IsAt, IsOver, Reaches, ReadsOn}
+use Rattle.gl_std.specs.bodies.Telling.{with_judged}
+use Rattle.gl_std.specs.bodies.Stepping.{is_idle, HasFilled, HasStepped, Steps}
+use Rattle.gl_std.specs.Lines.{LF, CR, ended_lines, without_cr}
+use Rattle.gl_std.specs.Pieces.{IsFaulty}
+use Rattle.gl_std.specs.Trace.{after_line, after_shape, and_then, nothing, trace_of}
+use Rattle.gl_std.specs.declared.faults.LinesFault.{LinesFault}
+use Rattle.gl_std.specs.declared.faults.ReadFault.{ReadFault}
+use Rattle.gl_std.specs.declared.faults.ReadFault.TheVariants.{Line}
+use Rattle.gl_std.specs.declared.faults.StdKind.{StdKind}
+use Rattle.gl_std.specs.declared.faults.StdKind.TheVariants.{TooLong}
+use Rattle.gl_std.specs.declared.line_reader.LineReader.{LineReader}
+use Rattle.gl_std.specs.declared.line_reader.Step.{Step}
+use Rattle.gl_std.specs.declared.line_reader.Step.TheVariants.{More, Told, End}
+use Rattle.gl_std.specs.declared.line_reader.TheConstants.{KEPT}
+use Rattle.gl_std.specs.declared.judge.Judge.{Judge}
+use Rattle.gl_std.specs.declared.judge.Judged.{Judged}
+use Rattle.gl_std.specs.declared.judge.Judged.TheVariants.{Blank, Skipped, Stray, Event}
+use Rattle.gl_std.specs.declared.trace.Trace.{Trace}
+use Rattle.gl_std.proofs.PieceByPiece.{with_end, told_front, told_last, told_line, told_nothing, told_whole, faulty_line, told_more, faulty_more, more_read, nil_of}
+use Rattle.gl_std.proofs.Shapes.{shape_of-long}
+
+-- ---- tests of numbers
+
+within_of : (n m : ℕ) → nat_le n m ≡ true → n ≤ m
+within_of n m e = grind (arith, nat_tests, e)
+
+below_of : (n m : ℕ) → nat_le n m ≡ false → m < n
+below_of n m e = grind (arith, nat_tests, e)
+
+some_of : (n : ℕ) → nat_lt 0 n ≡ true → 0 < n
+some_of n e = grind (arith, nat_tests, e)
+
+none_of : (n : ℕ) → nat_lt 0 n ≡ false → n ≡ 0
+none_of n e = grind (arith, nat_tests, e)
+
+-- ---- the beginning of a line
+
+-- what is added to so many bytes, or to more
+pub take_added : (n : ℕ) (xs ys : List ℕ) → take n (take n xs ++ ys) ≡ take n (xs ++ ys)
+take_added zero [] ys = refl
+take_added zero (x ∷ xs) ys = refl
+take_added (suc n) [] ys = refl
+take_added (suc n) (x ∷ xs) ys = ap (λ zs. x ∷ zs) (take_added n xs ys)
+
+-- all of it is kept
+pub kept_all : (n : ℕ) (xs ys zs : List ℕ) → zs ≡ xs ++ ys → length xs + length ys ≤ n → zs ≡ take n (xs ++ ys)
+kept_all n xs ys zs is few = is ∙ sym (take_all n (xs ++ ys) (omega (arith, few, length-append xs ys)))
+
+-- the front of it is kept
+pub kept_front : (n room : ℕ) (xs ys zs : List ℕ) → zs ≡ xs ++ take room ys → length xs + room ≡ n → zs ≡ take n (xs ++ ys)
+kept_front n room xs ys zs is size = is ∙ sym (take-append-add xs ys room) ∙ ap (λ k. take k (xs ++ ys)) size
+
+-- ---- lines that begin alike
+
+-- at most one byte is dropped from a line
+length-without_cr : (line : List ℕ) → length line ≤ length (without_cr line) + 1
+length-without_cr [] = omega arith
+length-without_cr (b ∷ []) = by (eqb b CR && true)
+  where
+    by : (v : Bool) → 1 ≤ length (cond v [] (b ∷ [])) + 1
+    by true = omega arith
+    by false = omega arith
+length-without_cr (b ∷ c ∷ line) = by (eqb b CR) (length-without_cr (c ∷ line))
+  where
+    by : (v : Bool) → length (c ∷ line) ≤ length (without_cr (c ∷ line)) + 1 → length (b ∷ c ∷ line) ≤ length (cond (v && false) [] (b ∷ without_cr (c ∷ line))) + 1
+    by true few = omega (arith, few)
+    by false few = omega (arith, few)
+
+long_line : (limits : Bounds) (number : ℕ) (told : Trace) (line : List ℕ) → KEPT ≤ length line + 1 → after_line limits number told line ≡ Err (Line number TooLong)
+long_line limits number told line long = ap (after_shape limits number told) (sym (shape_of-long line (omega (arith, long))))
+
+-- lines of which the same is kept are the same, or too long
+alike : (xs ys : List ℕ) → take KEPT xs ≡ take KEPT ys → nat_le KEPT (length xs) ≡ false → xs ≡ ys
+alike xs ys same short = by (nat_le KEPT (length ys)) refl
+  where
+    first : take KEPT xs ≡ xs
+    first = let less = below_of KEPT (length xs) short in take_all KEPT xs (omega (arith, less))
+
+    by : (v : Bool) → nat_le KEPT (length ys) ≡ v → xs ≡ ys
+    by false e = let less = below_of KEPT (length ys) e in sym first ∙ same ∙ take_all KEPT ys (omega (arith, less))
+    by true e =
+        let more = within_of KEPT (length ys) e in
+        let less = below_of KEPT (length xs) short in
+        let size : length xs ≡ KEPT = ap length (sym first ∙ same) ∙ length-take-le KEPT ys more in
+        absurd (omega (arith, size, less))
+
+both_long : (xs ys : List ℕ) → take KEPT xs ≡ take KEPT ys → nat_le KEPT (length xs) ≡ true → KEPT ≤ length ys
+both_long xs ys same long = by (nat_le KEPT (length ys)) refl
+  where
+    by : (v : Bool) → nat_le KEPT (length ys) ≡ v → KEPT ≤ length ys
+    by true e = within_of KEPT (length ys) e
+    by false e =
+        let more = within_of KEPT (length xs) long in
+        let less = below_of KEPT (length ys) e in
+        let size : length ys ≡ KEPT = ap length (sym (take_all KEPT ys (omega (arith, less))) ∙ sym same) ∙ length-take-le KEPT xs more in
+        absurd (omega (arith, size, less))
+
+-- they are judged alike, where LF ends them
+pub ended_alike : (limits : Bounds) (number : ℕ) (told : Trace) (xs ys : List ℕ) → take KEPT xs ≡ take KEPT ys → after_line limits number told (without_cr xs) ≡ after_line limits number told (without_cr ys)
+ended_alike limits number told xs ys same = by (nat_le KEPT (length xs)) refl
+  where
+    by : (v : Bool) → nat_le KEPT (length xs) ≡ v → after_line limits number told (without_cr xs) ≡ after_line limits number told (without_cr ys)
+    by false e = ap (λ line. after_line limits number told (without_cr line)) (alike xs ys same e)
+    by true e =
+        let more = within_of KEPT (length xs) e in
+        let more2 = both_long xs ys same e in
+        long_line limits number told (without_cr xs) (omega (arith, more, length-without_cr xs)) ∙ sym (long_line limits number told (without_cr ys) (omega (arith, more2, length-without_cr ys)))
+
+-- and where the text ends there
+pub last_alike : (limits : Bounds) (number : ℕ) (told : Trace) (xs ys : List ℕ) → take KEPT xs ≡ take KEPT ys → after_line limits number told xs ≡ after_line limits number told ys
+last_alike limits number told xs ys same = by (nat_le KEPT (length xs)) refl
+  where
+    by : (v : Bool) → nat_le KEPT (length xs) ≡ v → after_line limits number told xs ≡ after_line limits number told ys
+    by false e = ap (after_line limits number told) (alike xs ys same e)
+    by true e =
+        let more = within_of KEPT (length xs) e in
+        let more2 = both_long xs ys same e in
+        long_line limits number told xs (omega (arith, more)) ∙ sym (long_line limits number told ys (omega (arith, more2)))
+
+-- ---- a line that LF ends
+
+-- what is kept of a line, with its end
+kept_end : (kept unfinished end raw : List ℕ) → kept ≡ take KEPT unfinished → take KEPT raw ≡ take KEPT (kept ++ end) → take KEPT raw ≡ take KEPT (unfinished ++ end)
+kept_end kept unfinished end raw is same = same ∙ ap (λ k. take KEPT (k ++ end)) is ∙ take_added KEPT unfinished end
+
+-- a line that was judged by as much as is kept of it
+pub reached_line : (j j2 : Judge) (kept kept2 end raw seen : List ℕ) (told : Trace) (judged : Judged) → Reaches j kept seen told → ¬ Contains end LF → take KEPT raw ≡ take KEPT (kept ++ end) → after_line j.limits j.line told (without_cr raw) ≡ Ok (with_judged judged j2.names told) → HasJudged j2 (with_judged judged j2.names told) → j2.limits ≡ j.limits → j2.line ≡ j.line + 1 → kept2 ≡ [] → Reaches j2 kept2 (with_end seen end) (with_judged judged j2.names told)
+reached_line j j2 kept kept2 end raw seen told judged reaches one same after has limits line empty =
+    let alike = kept_end kept reaches.unfinished end raw reaches.kept same in
+    let is = sym (ended_alike j.limits j.line told raw (reaches.unfinished ++ end) alike) ∙ after in
+    record {
+      unfinished = [];
+      is = told_line j.limits j2.limits j.line j2.line told (with_judged judged j2.names told) reaches.unfinished [] end seen (without_cr (reaches.unfinished ++ end)) reaches.is one refl is limits line refl;
+      kept = empty;
+      judged = has;
+    }
+
+-- and one at fault
+pub reached_fault : (j : Judge) (kept end raw seen : List ℕ) (told : Trace) (number : ℕ) (kind : StdKind) → Reaches j kept seen told → ¬ Contains end LF → take KEPT raw ≡ take KEPT (kept ++ end) → after_line j.limits j.line told (without_cr raw) ≡ Err (Line number kind) → IsFaulty j.limits (with_end seen end) number kind
+reached_fault j kept end raw seen told number kind reaches one same after =
+    let alike = kept_end kept reaches.unfinished end raw reaches.kept same in
+    faulty_line j.limits j.line told reaches.unfinished end seen (without_cr (reaches.unfinished ++ end)) number kind reaches.is one refl (sym (ended_alike j.limits j.line told raw (reaches.unfinished ++ end) alike) ∙ after)
+
+-- bytes that end no line
+pub reached_more : (j : Judge) (kept kept2 more seen : List ℕ) (told : Trace) → Reaches j kept seen told → ¬ Contains more LF → kept2 ≡ take KEPT (kept ++ more) → Reaches j kept2 (seen ++ more) told
+reached_more j kept kept2 more seen told reaches one is =
+    record {
+      unfinished = reaches.unfinished ++ more;
+      is = told_more j.limits j.line told reaches.unfinished more seen reaches.is one;
+      kept = is ∙ ap (λ k. take KEPT (k ++ more)) reaches.kept ∙ take_added KEPT reaches.unfinished more;
+      judged = reaches.judged;
+    }
+
+-- ---- what is left of a read
+
+-- what is left behind the end of a line
+pub left_after : (buffer end after : List ℕ) (start stop : ℕ) → drop start (take stop buffer) ≡ end ++ LF ∷ after → drop (start + (length end + 1)) (take stop buffer) ≡ after
+left_after buffer end after start stop is =
+    sym (drop-drop (length end + 1) start (take stop buffer)) ∙ ap (drop (length end + 1)) is ∙ drop-append-add end (LF ∷ after) 1
+
+pub append_nil : (xs : List ℕ) → xs ++ [] ≡ xs
+append_nil [] = refl
+append_nil (x ∷ xs) = ap (λ ys. x ∷ ys) (append_nil xs)
+
+-- nothing is left at the end
+pub left_none : (buffer : List ℕ) (stop : ℕ) → drop stop (take stop buffer) ≡ []
+left_none [] zero = refl
+left_none [] (suc stop) = refl
+left_none (b ∷ buffer) zero = refl
+left_none (b ∷ buffer) (suc stop) = left_none buffer stop
+
+-- the place behind a line
+pub at_line : (old new : line_reading.LineReader) (end after text : List ℕ) (told more : Trace) (at : line_reading.IsAt old text told) → old.left ≡ end ++ LF ∷ after → new.left ≡ after → line_reading.Reaches new.judge new.beginning (with_end at.seen end) more → line_reading.IsAt new text more
+at_line old new end after text told more at is left reaches =
+    record {
+      seen = with_end at.seen end;
+      parts = more_read text at.seen old.left end after at.parts is ∙ ap (λ l. with_end at.seen end ++ l) (sym left);
+      reaches = reaches;
+    }
+
+-- the place at the end of a read
+pub at_end : (old new : line_reading.LineReader) (text : List ℕ) (told : Trace) (at : line_reading.IsAt old text told) → new.left ≡ [] → line_reading.Reaches new.judge new.beginning (at.seen ++ old.left) told → line_reading.IsAt new text told
+at_end old new text told at left reaches =
+    record {
+      seen = at.seen ++ old.left;
+      parts = at.parts ∙ sym (append_nil (at.seen ++ old.left)) ∙ ap (λ l. (at.seen ++ old.left) ++ l) (sym left);
+      reaches = reaches;
+    }
+
+-- a fault in a line of the text is one of the text
+pub fault_at : (limits : Bounds) (old : LineReader) (end after text : List ℕ) (told : Trace) (number : ℕ) (kind : StdKind) (at : IsAt old text told) → left_of old ≡ end ++ LF ∷ after → IsFaulty limits (with_end at.seen end) number kind → IsFaulty limits text number kind
+fault_at limits old end after text told number kind at is faulty =
+    subst (λ t. IsFaulty limits t number kind) (sym (more_read text at.seen (left_of old) end after at.parts is)) (faulty_more limits (with_end at.seen end) after number kind faulty)
+
+-- a line that was judged, in whichever way
+pub reached_result : (j j2 : Judge) (kept kept2 end raw line : List ℕ) (r : Result Judged ReadFault) → ¬ Contains end LF → take KEPT raw ≡ take KEPT (kept ++ end) → line ≡ without_cr raw → IfOk r (λ judged. (told : Trace) → HasJudged j told → after_line j.limits j.line told line ≡ Ok (with_judged judged j2.names told)) → IfOk r (λ judged. (told : Trace) → HasJudged j told → HasJudged j2 (with_judged judged j2.names told)) → j2.limits ≡ j.limits → OnOk r (j2.line ≡ j.line + 1) → kept2 ≡ [] → IfOk r (λ judged. (seen : List ℕ) (told : Trace) → Reaches j kept seen told → Reaches j2 kept2 (with_end seen end) (with_judged judged j2.names told))
+reached_result j j2 kept kept2 end raw line (Err e) one same is after has limits next empty = tt
+reached_result j j2 kept kept2 end raw line (Ok judged) one same is after has limits next empty =
+    λ seen told reaches. reached_line j j2 kept kept2 end raw seen told judged reaches one same (ap (after_line j.limits j.line told) (sym is) ∙ after told reaches.judged) (has told reaches.judged) limits next empty
+
+-- no more is kept
+pub few_kept : (n : ℕ) (xs ys : List ℕ) → xs ≡ take n ys → length xs ≤ n
+few_kept n xs ys is = let size = ap length is ∙ length-take n ys in omega (arith, size, min-le_left n (length ys))
+
+-- a line ends before the read does
+pub line_fits : (buffer end after : List ℕ) (start stop : ℕ) → drop start (take stop buffer) ≡ end ++ LF ∷ after → start ≤ stop → start + (length end + 1) ≤ stop
+line_fits buffer end after start stop is order =
+    let left = sym (length-drop start (take stop buffer)) ∙ ap length is ∙ length-append end (LF ∷ after) in
+    let most = few_kept stop (take stop buffer) buffer refl in
+    omega (arith, left, most, order)
+
+-- what `xs[i..]` is
+pub slice_rest : (xs : List ℕ) (i : ℕ) → take (length xs - i) (drop i xs) ≡ drop i xs
+slice_rest xs i = take_all (length xs - i) (drop i xs) (omega (arith, length-drop i xs))
+
+-- ---- reads
+
+drop_none : (xs : List ℕ) → drop 0 xs ≡ xs
+drop_none [] = refl
+drop_none (x ∷ xs) = refl
+
+-- before the first read
+pub given_nothing : (turns left : ℕ) (start : Option (List ℕ)) → left ≡ turns → HasGiven turns start start left []
+given_nothing turns left start is = record { bytes = Consumes-nil start; used = 0; spent = omega (arith, is); some = omega arith; within = omega arith }
+
+-- a read of so many bytes
+pub filled_by : (more : Bool) (count : ℕ) (turns : ℕ) (start now new : Option (List ℕ)) (failed : Bool) (old f : LineReader) (piece text : List ℕ) → nat_lt 0 count ≡ more → f.start ≡ 0 → take f.end f.buffer.items ≡ piece → length piece ≡ count → count ≤ CHUNK → 0 < old.turns → f.turns + 1 ≡ old.turns → failed ≡ false → Consumes now new piece → (count ≡ 0 → IsAtEnd new) → HasGiven turns start now old.turns text → HasFilled more turns start new failed f text
+filled_by more count turns start now new failed old f piece text test begin is size most left turn sound gave end given =
+    by more test
+  where
+    all : left_of f ≡ piece
+    all = ap (λ n. drop n (take f.end f.buffer.items)) begin ∙ drop_none (take f.end f.buffer.items) ∙ is
+
+    by : (more : Bool) → nat_lt 0 count ≡ more → HasFilled more turns start new failed f text
+    by true test =
+        let some = some_of count test in
+        let long = length-append text piece in
+        subst (λ l. HasGiven turns start new f.turns (text ++ l)) (sym all) (record {
+          bytes = Consumes-trans start now new text piece given.bytes gave;
+          used = given.used + 1;
+          spent = omega (arith, given.spent, turn);
+          some = omega (arith, given.some, long, size, some);
+          within = omega (arith, given.within, long, size, most);
+        })
+    by false test =
+        let none = none_of count test in
+        let bytes : Consumes start new text = subst (Consumes start new) (ap (λ l. text ++ l) (nil_of piece (size ∙ none)) ∙ append_nil text) (Consumes-trans start now new text piece given.bytes gave) in
+        record {
+          bytes = bytes;
+          all = λ e. Consumes-whole start new text (λ everything. text ≡ everything) bytes (end none) refl;
+          ended = λ e. end none;
+          sound = λ e. sound;
+          cut = λ e. absurd (false≢true (sym e));
+          within = omega (arith, given.spent, given.within, left);
+        }
+
+-- the turns are used up
+pub used_up : (turns left : ℕ) (start now : Option (List ℕ)) (failed : Bool) (text : List ℕ) → left ≡ 0 → HasGiven turns start now left text → HasRead turns start now failed text false
+used_up turns left start now failed text none given =
+    record {
+      bytes = given.bytes;
+      all = λ e. absurd (false≢true e);
+      ended = λ e. absurd (false≢true e);
+      sound = λ e. absurd (false≢true e);
+      cut = λ e. inr (omega (arith, given.spent, given.some, none));
+      within = omega (arith, given.spent, given.within);
+    }
+
+-- ---- steps
+
+-- what holds of the value that is there
+pub at_some : {X : Type 0} (P : X → Type 0) (o : Option X) (x : X) → o ≡ Some x → IfSome o P → P x
+at_some P o x is holds = subst (λ o. IfSome o P) is holds
+
+pub at_none : {X : Type 0} (P : Type 0) (o : Option X) → o ≡ None → IfNone o P → P
+at_none P o is holds = subst (λ o. IfNone o P) is holds
+
+-- a text of which nothing is left
+all_seen : (old : LineReader) (text : List ℕ) (told : Trace) (at : IsAt old text told) → left_of old ≡ [] → text ≡ at.seen
+all_seen old text told at none = at.parts ∙ ap (λ l. at.seen ++ l) none ∙ append_nil at.seen
+
+alike_reaches : (old f : LineReader) (seen : List ℕ) (told : Trace) → f.judge ≡ old.judge → f.unfinished.items ≡ old.unfinished.items → Reaches old.judge old.unfinished.items seen told → Reaches f.judge f.unfinished.items seen told
+alike_reaches old f seen told judge kept reaches =
+    subst (λ u. Reaches f.judge u seen told) (sym kept) (subst (λ j. Reaches j old.unfinished.items seen told) (sym judge) reaches)
+
+-- more was read
+pub read_more : (limits : Bounds) (turns : ℕ) (start now new : Option (List ℕ)) (old f : LineReader) (text : List ℕ) (told : Trace) → ReadsOn limits turns start now old text told → left_of old ≡ [] → f.judge ≡ old.judge → f.unfinished.items ≡ old.unfinished.items → HasGiven turns start new f.turns (text ++ left_of f) → ReadsOn limits turns start new f (text ++ left_of f) told
+read_more limits turns start now new old f text told is none judge kept given =
+    record {
+      given = given;
+      same = ap (λ j. j.limits) judge ∙ is.same;
+      at = record {
+        seen = is.at.seen;
+        parts = ap (λ t. t ++ left_of f) (all_seen old text told is.at none);
+        reaches = alike_reaches old f is.at.seen told judge kept is.at.reaches;
+      };
+    }
+
+-- the source has ended
+pub over_of : (old f : LineReader) (text : List ℕ) (told : Trace) (at : IsAt old text told) → left_of old ≡ [] → f.judge ≡ old.judge → f.unfinished.items ≡ old.unfinished.items → IsOver f text told
+over_of old f text told at none judge kept =
+    subst (λ t. Reaches f.judge f.unfinished.items t told) (sym (all_seen old text told at none)) (alike_reaches old f at.seen told judge kept at.reaches)
+
+-- the trace of the lines that were ended
+pub front_of : (limits : Bounds) (old : LineReader) (text : List ℕ) (told : Trace) (at : IsAt old text told) → left_of old ≡ [] → old.judge.limits ≡ limits → trace_of limits (ended_lines text) ≡ Ok told
+front_of limits old text told at none same =
+    ap (λ t. trace_of limits (ended_lines t)) (all_seen old text told at none) ∙ ap (λ l. trace_of l (ended_lines at.seen)) (sym same) ∙ told_front old.judge.limits old.judge.line told at.reaches.unfinished at.seen at.reaches.is
+
+-- a step that reads nothing
+pub stepped_here : (limits : Bounds) (turns : ℕ) (start now : Option (List ℕ)) (failed : Bool) (f : LineReader) (text : List ℕ) (told : Trace) (r : Result Step LinesFault) → HasStepped limits turns start now failed f text told r → Steps limits turns start now failed f text told r
+stepped_here limits turns start now failed f text told r is =
+    record { piece = []; stepped = subst (λ t. HasStepped limits turns start now failed f t told r) (sym (append_nil text)) is }
+
+-- ---- the last line
+
+-- what is kept of a last line that is none
+pub take_none : (n : ℕ) (xs : List ℕ) → 0 < n → take n xs ≡ [] → xs ≡ []
+take_none zero xs some none = absurd (omega (arith, some))
+take_none (suc n) [] some none = refl
+take_none (suc n) (b ∷ xs) some none = absurd (omega (arith, ap length none))
+
+none_kept : (kept unfinished : List ℕ) → kept ≡ take KEPT unfinished → kept ≡ [] → unfinished ≡ []
+none_kept kept unfinished is none = take_none KEPT unfinished (omega arith) (sym is ∙ none)
+
+pub whole_over : (f : LineReader) (text : List ℕ) (told : Trace) → f.unfinished.items ≡ [] → IsOver f text told → trace_of f.judge.limits text ≡ Ok told
+whole_over f text told none over = told_whole f.judge.limits f.judge.line told over.unfinished text over.is (none_kept f.unfinished.items over.unfinished over.kept none)
+
+pub last_over : (f : LineReader) (text line : List ℕ) (told : Trace) (r : Result Trace ReadFault) → f.unfinished.items ≢ [] → IsOver f text told → line ≡ f.unfinished.items → after_line f.judge.limits f.judge.line told line ≡ r → trace_of f.judge.limits text ≡ and_then r (λ more. Ok more)
+last_over f text line told r some over is after =
+    let same : take KEPT over.unfinished ≡ take KEPT line = sym over.kept ∙ sym (take_all KEPT f.unfinished.items (few_kept KEPT f.unfinished.items over.unfinished over.kept)) ∙ ap (take KEPT) (sym is) in
+    told_last f.judge.limits f.judge.line told over.unfinished text r over.is (λ none. some (over.kept ∙ ap (take KEPT) none))
+    (last_alike f.judge.limits f.judge.line told over.unfinished line same ∙ after)
+
+-- ---- the beginning
+
+-- nothing was read
+pub begun : (limits : Bounds) (turns : ℕ) (start : Option (List ℕ)) (f : line_reading.LineReader) → f.judge.limits ≡ limits → f.judge.line ≡ 1 → judging.HasJudged f.judge nothing → f.beginning ≡ [] → f.left ≡ [] → f.turns ≡ turns → line_reading.ReadsOn limits turns start start f [] nothing
+begun limits turns start f same line judged none left turn =
+    record {
+      given = given_nothing turns f.turns start turn;
+      same = same;
+      at = record {
+        seen = [];
+        parts = sym left;
+        reaches = record {
+          unfinished = [];
+          is = told_nothing f.judge.limits f.judge.line nothing [] line refl refl;
+          kept = none;
+          judged = judged;
+        };
+      };
+    }
+
+-- a last line that was judged, in whichever way
+pub last_result : (f : LineReader) (j : Judge) (line : List ℕ) (r : Result Judged ReadFault) → f.unfinished.items ≢ [] → line ≡ f.unfinished.items → IfOk r (λ judged. (told : Trace) → HasJudged f.judge told → after_line f.judge.limits f.judge.line told line ≡ Ok (with_judged judged j.names told)) → IfOk r (λ judged. (text : List ℕ) (told : Trace) → IsOver f text told → trace_of f.judge.limits text ≡ Ok (with_judged judged j.names told))
+last_result f j line (Err e) some is after = after
+last_result f j line (Ok judged) some is after = λ text told over. last_over f text line told (Ok (with_judged judged j.names told)) some over is (after told over.judged)
+
+pub last_judged : (f : LineReader) (j : Judge) (r : Result Judged ReadFault) → IfOk r (λ judged. (told : Trace) → HasJudged f.judge told → HasJudged j (with_judged judged j.names told)) → IfOk r (λ judged. (text : List ℕ) (told : Trace) → IsOver f text told → HasJudged j (with_judged judged j.names told))
+last_judged f j (Err e) has = has
+last_judged f j (Ok judged) has = λ text told over. has told over.judged
+
+-- ---- steps in a row
+
+-- a step that told nothing leaves the trace as it was
+idle_on : (limits : Bounds) (turns : ℕ) (start now : Option (List ℕ)) (failed : Bool) (f : LineReader) (text : List ℕ) (told : Trace) (step : Step) → is_idle step ≡ true → HasStepped limits turns start now failed f text told (Ok step) → ReadsOn limits turns start now f text told
+idle_on limits turns start now failed f text told More idle is = is
+idle_on limits turns start now failed f text told (Told Blank) idle is = is
+idle_on limits turns start now failed f text told (Told Skipped) idle is = absurd (false≢true idle)
+idle_on limits turns start now failed f text told (Told Stray) idle is = absurd (false≢true idle)
+idle_on limits turns start now failed f text told (Told (Event thread event)) idle is = absurd (false≢true idle)
+idle_on limits turns start now failed f text told End idle is = absurd (false≢true idle)
+
+-- a step after one that told nothing
+pub steps_after : (limits : Bounds) (turns : ℕ) (start now new : Option (List ℕ)) (failed failed2 : Bool) (f f2 : LineReader) (text : List ℕ) (told : Trace) (step : Step) (r : Result Step LinesFault) → is_idle step ≡ true → Steps limits turns start now failed f text told (Ok step) → ((t : List ℕ) → ReadsOn limits turns start now f t told → Steps limits turns start new failed2 f2 t told r) → Steps limits turns start new failed2 f2 text told r
+steps_after limits turns start now new failed failed2 f f2 text told step r idle first next =
+    let second = next (text ++ first.piece) (idle_on limits turns start now failed f (text ++ first.piece) told step idle first.stepped) in
+    record {
+      piece = first.piece ++ second.piece;
+      stepped = subst (λ t. HasStepped limits turns start new failed2 f2 t told r) (append_assoc text first.piece second.piece) second.stepped;
+    }

@@ -1,0 +1,19 @@
+use Rattle.std.proofs.Common.{◌≡◌, length, take, refl, sym, ap, ◌∙◌, arith}
+use Rattle.std.proofs.lemmas.List.{length-take-le, with_items_is}
+use Rattle.gl_io.specs.declared.source.TheConstants.{CHUNK}
+use Rattle.gl_std.proofs.LineByLine.{filled_by}
+use Rattle.gl_std.proofs.line_reader.LineReader.fill.Goals as goal
+
+pub returns-clause-filled : goal.returns-clause-filled
+returns-clause-filled g c = λ turns start text given.
+    let old = c.args.self.now in
+    let piece = take c.in_ok-count.count c.read.new.buffer in
+    let room : length c.read.new.buffer ≡ CHUNK = omega (arith, c.read.auto.buffer, c.as_mut_slice.ensures.len, c.requires.room) in
+    let gave = c.in_ok-count.ensures.bytes in
+    filled_by _ c.in_ok-count.count turns start _ _ _ old _ piece text refl refl
+    (ap (take c.in_ok-count.count) (with_items_is old.buffer c.read.new.buffer (room ∙ sym c.requires.room)))
+    (length-take-le c.in_ok-count.count c.read.new.buffer c.in_ok-count.ensures.bound.0)
+    (omega (arith, c.in_ok-count.ensures.bound.0, room))
+    c.requires.left (omega (arith, c.requires.left)) c.in_ok-count.ensures.failed gave.0
+    (λ none. gave.1 none (omega (arith, room)))
+    given
