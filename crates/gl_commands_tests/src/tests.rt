@@ -1,26 +1,16 @@
 //! How commands end over whole traces, and what they write.
-use calls::predict;
-use gl_commands::Ended;
-use gl_filters::{Mode, Query};
-use gl_io::FromStd;
-use gl_options::Form;
-use gl_std::Seed;
-use std::process::Abort;
-use std::test::Fail;
-use std::thread::Threads;
-
-mod calls;
+mod asks;
 mod checks;
 mod counts;
 mod cuts;
 mod faults;
-mod json;
+mod gates;
+mod runs;
 mod sessions;
 mod streams;
 mod tables;
+mod texts;
 mod traces;
-
-const TURNS: u64 = 1_000_000_000;
 
 const OPPOSITE_ORDER: &[u8] =
     b"T0|acq(a)|1\nT0|acq(b)|2\nT0|rel(b)|3\nT0|rel(a)|4\nT1|acq(b)|5\nT1|acq(a)|6\n";
@@ -30,68 +20,24 @@ const OPPOSITE_ORDER_REPORT: &[u8] =
 
 const NO_CYCLES: &[u8] = b"cycles: 0\n";
 
-fn full() -> Result<Query, Fail> {
-    Ok(Query::new(Mode::Full, 4, 1_000)?)
-}
+// The same trace with lines that end in CR LF and lines that are skipped, and its report.
+const SKIPPED: &[u8] =
+    b"T0|acq(a)|1\r\n\r\nT0|r(x)|9\r\nT0|acq(b)|A.java:7|x\r\nT0|rel(b)|3\r\nT0|rel(a)|4\r\nT0|begin|3\r\nT1|acq(b)|5\r\nT1|acq(a)|6";
 
-fn query(mode: Mode, len: u32, max: u32) -> Result<Query, Fail> {
-    Ok(Query::new(mode, len, max)?)
-}
+const SKIPPED_REPORT: &[u8] =
+    b"cycle 1: 2 edges\n  T0 holds a since 1 wants b at A.java:7|x\n  T1 holds b since 5 wants a at 6\ncycles: 1\n";
 
-// The text's report is this one, and it lists cycles or doesn't.
-fn expect_report<R: Abort + AllocGlobal + Threads + Sync>(
-    rt: &R,
-    query: &Query,
-    text: &[u8],
-    lists_cycle: bool,
-    report: &[u8],
-) {
-    let mut input = FromStd::new(text);
-    let mut output = FromStd::new(Vec::new(rt.alloc()));
-    match predict(
-        rt,
-        &mut input,
-        &mut output,
-        TURNS,
-        Seed::fixed(),
-        query,
-        Form::Text,
-    ) {
-        Ended::Cycles => assert!(rt; lists_cycle),
-        Ended::Clean => assert!(rt; !lists_cycle),
-        other => assert!(rt; false, "{other:?}"),
-    }
-    assert_eq!(rt; output.into_inner().as_slice(), report);
-}
+// A release of a lock that isn't held.
+const STRAY: &[u8] = b"T0|rel(a)|1\nT0|acq(b)|2\n";
 
-// The text is refused with this line, and nothing is written.
-fn expect_refused<R: Abort + AllocGlobal + Threads + Sync>(
-    rt: &R,
-    query: &Query,
-    text: &[u8],
-    said: &[u8],
-) {
-    let mut input = FromStd::new(text);
-    let mut output = FromStd::new(Vec::new(rt.alloc()));
-    match predict(
-        rt,
-        &mut input,
-        &mut output,
-        TURNS,
-        Seed::fixed(),
-        query,
-        Form::Text,
-    ) {
-        Ended::Refused(line) => assert_eq!(rt; line.as_slice(), said),
-        other => assert!(rt; false, "{other:?}"),
-    }
-    assert!(rt; output.into_inner().is_empty());
-}
+// Two threads that wait for one another to end, and what is said of them.
+const JOIN_LOOP: &[u8] = b"T0|join(T1)|1\nT1|join(T0)|2\n";
 
-// Neither is counted nor replayed: this line says why.
-fn expect_line<R: Abort>(rt: &R, ended: Ended, said: &[u8]) {
-    match ended {
-        Ended::Refused(line) => assert_eq!(rt; line.as_slice(), said),
-        other => assert!(rt; false, "{other:?}"),
-    }
-}
+const INCONSISTENT: &[u8] = b"goodlock: inconsistent: T0.1 precedes itself\n";
+
+// Two cycles.
+const TWO_CYCLES: &[u8] =
+    b"T0|acq(a)|1\nT0|acq(b)|2\nT0|rel(b)|3\nT0|rel(a)|4\nT0|acq(c)|5\nT0|acq(d)|6\nT0|rel(d)|7\nT0|rel(c)|8\nT1|acq(b)|9\nT1|acq(a)|10\nT1|rel(a)|11\nT1|rel(b)|12\nT1|acq(d)|13\nT1|acq(c)|14\n";
+
+// An acquire by a forked thread while its maker holds a lock.
+const FORKED: &[u8] = b"M|acq(a)|1\nM|fork(T1)|2\nM|acq(b)|3\nT1|acq(b)|4\nT1|acq(a)|5\n";

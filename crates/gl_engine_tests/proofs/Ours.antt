@@ -6,7 +6,7 @@ use Rattle.std.specs.Option.{option_to_list}
 use Rattle.std.specs.Prelude.{slice_get}
 use Rattle.gl_event.specs.Bounds.{Bounds}
 use Rattle.gl_event.proofs.Depths.{slice_get_last}
-use Rattle.gl_engine.specs.Collecting.{Collecting, IsOpened, Pulling, fresh_row, lanes_of}
+use Rattle.gl_engine.specs.Collecting.{Collecting, IsOpened, Pulling, fresh_input, lanes_of}
 use Rattle.gl_engine.specs.Recording.{Closed, Recording, IsFresh}
 use Rattle.gl_engine_tests.specs.Sessions.{Owner, left_by, owner_of, AreOursOf}
 
@@ -52,7 +52,7 @@ alike_at f g (w ∷ xs) (y ∷ ys) same (suc at) x here =
     alike_at f g xs ys rest at x here
 
 -- the lane in a place of these lanes
-lane_at : (recorders : List Recording) (at : ℕ) (q : Recording) → slice_get recorders at ≡ Some q → slice_get (map (λ (row : Pulling). row.lane) (map fresh_row (map (λ (r : Recording). r.lane) recorders))) at ≡ Some q.lane
+lane_at : (recorders : List Recording) (at : ℕ) (q : Recording) → slice_get recorders at ≡ Some q → slice_get (map (λ (input : Pulling). input.lane) (map fresh_input (map (λ (r : Recording). r.lane) recorders))) at ≡ Some q.lane
 lane_at [] at q here = absurd (cc)
 lane_at (r ∷ recorders) zero q here = ap (λ (x : Recording). Some x.lane) (same_some r q here)
 lane_at (r ∷ recorders) (suc at) q here = lane_at recorders at q here
@@ -64,7 +64,7 @@ all_ours session limits recorders c receipts opened same at r here own lane foun
     let q = other.0 in
     let fresh : IsFresh session limits at q = opened.fresh at q other.1 in
     let thread : r.thread ≡ at = ap (λ (o : Owner). o.thread) other.2 ∙ ap (λ (x : Recording). x.thread) fresh in
-    let lanes = ap (λ (x : Collecting). map (λ (row : Pulling). row.lane) x.rows) opened.collects in
+    let lanes = ap (λ (x : Collecting). map (λ (input : Pulling). input.lane) x.inputs) opened.collects in
     let its : Some lane ≡ Some q.lane = sym found ∙ ap (slice_get (lanes_of c)) thread ∙ ap (λ ls. slice_get ls at) lanes ∙ lane_at recorders at q other.1 in
     let bounds : r.limits ≡ limits = ap (λ (o : Owner). o.limits) other.2 ∙ ap (λ (x : Recording). x.limits) fresh in
     (ap (λ (o : Owner). o.lane) other.2 ∙ sym (same_some lane q.lane its), bounds ∙ sym (ap (λ (x : Collecting). x.limits) opened.collects))

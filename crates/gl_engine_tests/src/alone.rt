@@ -5,9 +5,10 @@ ghost use Rattle.gl_engine.specs.Settling.{IsUnsettledFault};
 ghost use Rattle.gl_engine.specs.Collecting.{Collecting};
 ghost use Rattle.gl_engine_tests.specs.Sessions.{AreOursOf, IsSameSession};
 
-use crate::closing::closed;
+use crate::closing::{Why, closed};
 use gl_engine::{Collector, Pulled, Receipt, Settled, UnsettledFault};
-use gl_event::{Event, ThreadId};
+use gl_event::ThreadId;
+use gl_worked::ops::Op;
 use std::alloc::Global;
 use std::marker::Model;
 
@@ -44,16 +45,8 @@ impl Drop for Unrun {
     }
 }
 
-/// Why a session isn't settled.
-#[derive(Clone, Copy, Debug, PartialEq, Eq)]
-pub enum Why {
-    Strange(usize),
-    Missing(u32),
-    Unended(u32),
-}
-
 /// A session with a thread for each list, that has recorded it and closed. Nothing is pulled.
-pub fn unrun_of(alloc: Global, lists: &[&[Event]]) -> Option<Unrun> {
+pub fn unrun_of(alloc: Global, lists: &[&[Op]]) -> Option<Unrun> {
     let threads = u32::try_from(lists.len()).ok()?;
     let (receipts, collector) = closed(alloc, NUMBER, lists)?;
     Some(Unrun {

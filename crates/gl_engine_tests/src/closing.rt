@@ -3,16 +3,17 @@ ghost use Rattle.std.specs.Prelude.{◌≡◌, length, map, IfSome};
 ghost use Rattle.gl_engine_tests.specs.Sessions.{left_by, owner_of, AreOursOf};
 
 use gl_engine::{Collector, Receipt, Recorder, open};
-use gl_event::{Event, Limits};
+use gl_event::Limits;
+use gl_worked::ops::{Op, event_of};
 use std::alloc::Global;
 
 // Records the events and closes.
-fn close_one(recorder: Recorder, events: &[Event]) -> Option<Receipt>
+fn close_one(recorder: Recorder, events: &[Op]) -> Option<Receipt>
     ensures { IfSome result (λ receipt. left_by receipt ≡ owner_of recorder) }
 {
     let mut recorder = recorder;
     for event in events {
-        let Ok(_) = recorder.record(*event) else {
+        let Ok(_) = recorder.record(event_of(*event)) else {
             return None;
         };
     }
@@ -20,7 +21,7 @@ fn close_one(recorder: Recorder, events: &[Event]) -> Option<Receipt>
 }
 
 // Each recorder records its list and closes.
-fn close_all(alloc: Global, recorders: Vec<Recorder>, lists: &[&[Event]]) -> Option<Vec<Receipt>>
+fn close_all(alloc: Global, recorders: Vec<Recorder>, lists: &[&[Op]]) -> Option<Vec<Receipt>>
     ensures { IfSome result
         (λ receipts. map left_by receipts.items ≡ map owner_of recorders.items) }
 {
@@ -35,9 +36,18 @@ fn close_all(alloc: Global, recorders: Vec<Recorder>, lists: &[&[Event]]) -> Opt
     Some(receipts)
 }
 
+/// Why a session isn't settled.
+#[derive(Clone, Copy, PartialEq)]
+pub enum Why {
+    Strange(usize),
+    Missing(u32),
+    Unended(u32),
+    Gone(u32),
+}
+
 /// A session of this number, with a thread for each list, that has recorded it and closed: the receipts, in
 /// the order of thread numbers, and the collector.
-pub fn closed(alloc: Global, number: u64, lists: &[&[Event]]) -> Option<(Vec<Receipt>, Collector)>
+pub fn closed(alloc: Global, number: u64, lists: &[&[Op]]) -> Option<(Vec<Receipt>, Collector)>
     ensures number { IfSome result (λ session. session.1.session ≡ number) }
     ensures threads { IfSome result (λ session. session.1.limits.threads ≡ length lists.now) }
     ensures ours { IfSome result (λ session. AreOursOf session.1 session.0.items) }

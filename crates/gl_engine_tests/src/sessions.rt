@@ -1,9 +1,14 @@
 //! Sessions that have run, and are settled with their receipts or with others.
-use crate::closing::closed;
+ghost use Rattle.std.specs.Prelude.{◌≡◌, List, IfSome};
+ghost use Rattle.gl_engine.specs.Gathering.{Gathering, AreOurs};
+ghost use Rattle.gl_engine.specs.Recording.{Closed};
+ghost use Rattle.gl_engine.specs.Settling.{IsSettleFault};
+
+use crate::closing::{Why, closed};
 use crate::feeds::{feeds, tables_of};
 use gl_engine::{Gathered, Receipt, SettleFault, Settled};
-use gl_event::Event;
-use gl_shards::{Inlet, MAX_SHARDS, Sent, Table};
+use gl_shards::{Inlet, MAX_SHARDS, Table};
+use gl_worked::ops::Op;
 use std::alloc::Global;
 use std::marker::Model;
 use std::sync::Wait;
@@ -11,7 +16,6 @@ use std::sync::Wait;
 /// A session that has run, with receipts, some of which may be put aside, and the feeds for its workers.
 ///
 /// Each receipt is that of its thread's recorder, or another session's.
-#[derive(Drop)]
 pub struct Session {
     number: u64,
     gathered: Gathered,
@@ -32,13 +36,26 @@ impl Model for Session {
     ghost invariant = { λ s. IsSession s.number s.gathered s.receipts.items s.aside.items s.inlets.items s.served };
 }
 
+impl Drop for Session {
+    fn drop(self) {
+        let Session {
+            number: _,
+            gathered: _,
+            receipts: _,
+            aside: _,
+            inlets: _,
+            served: _,
+        } = self;
+    }
+}
+
 /// A session of this number, with a thread for each list, that has recorded it and closed, run with so
 /// many workers, 1 to 16, whose feeds have room for all that is sent.
 pub fn session_of<R: Wait>(
     rt: &R,
     alloc: Global,
     number: u64,
-    lists: &[&[Event]],
+    lists: &[&[Op]],
     workers: u32,
 ) -> Option<Session> {
     if workers == 0 || workers > MAX_SHARDS {
@@ -61,7 +78,7 @@ pub fn session_unserved<R: Wait>(
     rt: &R,
     alloc: Global,
     number: u64,
-    lists: &[&[Event]],
+    lists: &[&[Op]],
 ) -> Option<Session> {
     let (receipts, collector) = closed(alloc, number, lists)?;
     let (outlets, inlets) = feeds(alloc, 1)?;
@@ -82,46 +99,102 @@ pub fn receipt_of(alloc: Global, number: u64) -> Option<Receipt> {
     receipts.pop()
 }
 
-// The number of the thread that has no receipt.
-fn missing_in(answer: &Result<(Settled, Vec<Sent>), SettleFault>) -> Option<u32> {
-    match answer {
-        Err(SettleFault::Missing { thread, .. }) => Some(thread.number()),
+// Why it isn't settled, and what was gathered, where that is handed back.
+fn why_of(fault: SettleFault) -> Option<(Why, Option<Gathered>)>
+    ensures { (g : Gathering) (receipts : List Closed) → IsSettleFault g receipts fault
+        → IfSome result (λ refused. IfSome refused.1 (λ back. back ≡ g)) }
+{
+    match fault {
+        SettleFault::Strange { at, gathered } => Some((Why::Strange(at), Some(gathered))),
+        SettleFault::Missing { thread, gathered } => {
+            Some((Why::Missing(thread.number()), Some(gathered)))
+        }
+        SettleFault::Gone { shard } => Some((Why::Gone(shard), None)),
         _ => None,
+    }
+}
+
+// Why the receipts don't settle what was gathered, and that as it was, where it is handed back.
+fn refused(gathered: Gathered, receipts: &mut [Receipt]) -> Option<(Why, Option<Gathered>)>
+    requires ours { AreOurs gathered receipts.old }
+    ensures receipts { receipts.new ≡ receipts.old }
+    ensures same { IfSome result (λ refused. IfSome refused.1 (λ back. back ≡ gathered)) }
+{
+    match gathered.settle(receipts) {
+        Ok(_) => None,
+        Err(fault) => why_of(fault),
     }
 }
 
 impl Session {
     /// Puts the last receipt aside.
     pub fn put_aside(self) -> Option<Session> {
-        let mut session = self;
-        let Some(receipt) = session.receipts.pop() else {
+        let Session {
+            number,
+            gathered,
+            mut receipts,
+            mut aside,
+            inlets,
+            served,
+        } = self;
+        let receipt = receipts.pop()?;
+        let Ok(()) = aside.push(receipt) else {
             return None;
         };
-        let Ok(()) = session.aside.push(receipt) else {
-            return None;
-        };
-        Some(session)
+        Some(Session {
+            number,
+            gathered,
+            receipts,
+            aside,
+            inlets,
+            served,
+        })
     }
 
     /// Takes the receipts that were put aside, and puts those it had aside.
     pub fn exchanged(self) -> Session {
+        let Session {
+            number,
+            gathered,
+            receipts,
+            aside,
+            inlets,
+            served,
+        } = self;
         Session {
-            receipts: self.aside,
-            aside: self.receipts,
-            ..self
+            number,
+            gathered,
+            receipts: aside,
+            aside: receipts,
+            inlets,
+            served,
         }
     }
 
     /// Takes a receipt of another session as the last one.
     pub fn with_foreign(self, foreign: Receipt) -> Option<Session> {
-        let mut session = self;
-        if foreign.session() == session.number {
+        let Session {
+            number,
+            gathered,
+            mut receipts,
+            aside,
+            inlets,
+            served,
+        } = self;
+        if foreign.session() == number {
             return None;
         }
-        let Ok(()) = session.receipts.push(foreign) else {
+        let Ok(()) = receipts.push(foreign) else {
             return None;
         };
-        Some(session)
+        Some(Session {
+            number,
+            gathered,
+            receipts,
+            aside,
+            inlets,
+            served,
+        })
     }
 
     /// Drops the last receipt.
@@ -131,66 +204,46 @@ impl Session {
         session
     }
 
-    /// The session as it was, where a thread has no receipt.
-    pub fn missing(self) -> Option<Session> {
-        let mut receipts = self.receipts;
-        match self.gathered.settle(receipts.as_mut_slice()) {
-            Err(SettleFault::Missing { gathered, .. }) => Some(Session {
-                gathered,
-                receipts,
-                number: self.number,
-                aside: self.aside,
-                inlets: self.inlets,
-                served: self.served,
-            }),
-            _ => None,
-        }
-    }
-
-    /// The number of the first thread that has no receipt.
-    pub fn missing_thread(self) -> Option<u32> {
-        let mut receipts = self.receipts;
-        missing_in(&self.gathered.settle(receipts.as_mut_slice()))
-    }
-
-    /// The place of the first strange receipt, and the session as it was.
-    pub fn strange(self) -> Option<(usize, Session)> {
-        let mut receipts = self.receipts;
-        match self.gathered.settle(receipts.as_mut_slice()) {
-            Err(SettleFault::Strange { at, gathered }) => Some((
-                at,
-                Session {
-                    gathered,
-                    receipts,
-                    number: self.number,
-                    aside: self.aside,
-                    inlets: self.inlets,
-                    served: self.served,
-                },
-            )),
-            _ => None,
-        }
-    }
-
-    /// The shard whose worker is gone.
-    pub fn gone(self) -> Option<u32> {
-        let mut receipts = self.receipts;
-        match self.gathered.settle(receipts.as_mut_slice()) {
-            Err(SettleFault::Gone { shard }) => Some(shard),
-            _ => None,
-        }
+    /// Why it isn't settled, and the session as it was, unless a worker is gone.
+    pub fn refused(self) -> Option<(Why, Option<Session>)> {
+        let Session {
+            number,
+            gathered,
+            mut receipts,
+            aside,
+            inlets,
+            served,
+        } = self;
+        let (why, back) = refused(gathered, receipts.as_mut_slice())?;
+        let Some(gathered) = back else {
+            return Some((why, None));
+        };
+        let session = Session {
+            number,
+            gathered,
+            receipts,
+            aside,
+            inlets,
+            served,
+        };
+        Some((why, Some(session)))
     }
 
     /// The lists, and the tables of the workers, which make them now.
     pub fn settled<R: Wait>(self, rt: &R, alloc: Global) -> Option<(Settled, Vec<Table>)> {
-        if !self.served {
+        let Session {
+            number: _,
+            gathered,
+            mut receipts,
+            aside: _,
+            inlets,
+            served,
+        } = self;
+        if !served {
             return None;
         }
-        let mut receipts = self.receipts;
-        let Ok((settled, sent)) = self.gathered.settle(receipts.as_mut_slice()) else {
-            return None;
-        };
-        let tables = tables_of(rt, alloc, sent, self.inlets)?;
+        let (settled, sent) = gathered.settle(receipts.as_mut_slice()).ok()?;
+        let tables = tables_of(rt, alloc, sent, inlets)?;
         Some((settled, tables))
     }
 }

@@ -3,43 +3,15 @@ mod settling;
 
 use crate::asking::{Asked, opened};
 use gl_engine::{CloseFault, Pulled, Receipt, RecordFault, Recorder};
-use gl_event::{Event, Limits, LocId, LockId, LockMode, Refusal, ThreadId};
+use gl_event::{Event, Limits, Refusal};
 use gl_filters::{Mode, Query};
+use gl_worked::ops::Op::{self, Acq, Fork, Join, Rel};
+use gl_worked::ops::event_of;
 use std::alloc::Global;
 use std::process::Abort;
 use std::sync::Wait;
 use std::thread;
 use std::thread::Threads;
-
-fn acquire(lock: u32, loc: u32) -> Event {
-    Event::Acquire {
-        lock: LockId::new(lock),
-        mode: LockMode::Exclusive,
-        loc: LocId::new(loc),
-    }
-}
-
-fn release(lock: u32, loc: u32) -> Event {
-    Event::Release {
-        lock: LockId::new(lock),
-        mode: LockMode::Exclusive,
-        loc: LocId::new(loc),
-    }
-}
-
-fn fork(thread: u32, loc: u32) -> Event {
-    Event::Fork {
-        thread: ThreadId::new(thread),
-        loc: LocId::new(loc),
-    }
-}
-
-fn join(thread: u32, loc: u32) -> Event {
-    Event::Join {
-        thread: ThreadId::new(thread),
-        loc: LocId::new(loc),
-    }
-}
 
 // The recorder answers this. Nothing is told of it, so that what is known doesn't grow with each call of a
 // long test; so it is with the next one.
@@ -98,12 +70,12 @@ fn unconfirmed(answer: &Result<Receipt, CloseFault>) -> Option<u32> {
 }
 
 // The last recorder records the events one after the other, and is dropped. Whether each was taken.
-fn last_records(recorders: &mut Vec<Recorder>, events: &[Event]) -> bool {
+fn last_records(recorders: &mut Vec<Recorder>, events: &[Op]) -> bool {
     let Some(mut recorder) = recorders.pop() else {
         return false;
     };
     for event in events {
-        if recorder.record(*event).is_err() {
+        if recorder.record(event_of(*event)).is_err() {
             return false;
         }
     }
@@ -112,13 +84,13 @@ fn last_records(recorders: &mut Vec<Recorder>, events: &[Event]) -> bool {
 
 // The last two threads take two locks in opposite orders.
 fn opposite_recorded(recorders: &mut Vec<Recorder>) -> bool {
-    last_records(recorders, &[acquire(1, 3), acquire(0, 4)])
-        && last_records(recorders, &[acquire(0, 1), acquire(1, 2)])
+    last_records(recorders, &[Acq(1, 3), Acq(0, 4)])
+        && last_records(recorders, &[Acq(0, 1), Acq(1, 2)])
 }
 
 // The first thread joins the second one before it forks the third one.
 fn forks_recorded(recorders: &mut Vec<Recorder>) -> bool {
-    last_records(recorders, &[fork(1, 5), join(1, 6), fork(2, 7)])
+    last_records(recorders, &[Fork(1, 5), Join(1, 6), Fork(2, 7)])
 }
 
 // Whether the thread's next notes are its first events, so many of them.
@@ -142,62 +114,109 @@ fn cycles_so_far(collector: &Asked) -> Option<(usize, bool)> {
 #[test]
 fn ring_of_one(rt: HostRuntime) {
     let (mut recorder, mut collector) = session_of_one(rt.alloc(), 1).expect(&rt, "a session");
-    expect_record(&rt, &mut recorder, acquire(0, 0), Ok(0));
+    expect_record(&rt, &mut recorder, event_of(Acq(0, 0)), Ok(0));
     expect_record(
         &rt,
         &mut recorder,
-        acquire(1, 1),
-        Err(RecordFault::Full(acquire(1, 1))),
+        event_of(Acq(1, 1)),
+        Err(RecordFault::Full(event_of(Acq(1, 1)))),
     );
     let mut recorder = handed_back(recorder.close()).expect(&rt, "a full lane");
     expect_pull(&rt, &mut collector, Pulled::Event { place: 0 });
-    expect_record(&rt, &mut recorder, acquire(1, 1), Ok(1));
+    expect_record(&rt, &mut recorder, event_of(Acq(1, 1)), Ok(1));
     expect_pull(&rt, &mut collector, Pulled::Event { place: 1 });
     assert_eq!(rt; counts_of(recorder.close()), Some((7, 2)));
     expect_pull(&rt, &mut collector, Pulled::Ended { count: 2 });
     expect_pull(&rt, &mut collector, Pulled::Empty);
-    assert!(rt; has_collected(&collector, &[acquire(0, 0), acquire(1, 1)], 3));
+    assert!(rt; has_collected(&collector, &[event_of(Acq(0, 0)), event_of(Acq(1, 1))], 3));
 }
 
-// A release of a lock that isn't held leaves the recorder as it was.
-#[test]
-fn stray_release(rt: HostRuntime) {
-    let (mut recorder, _) = session_of_one(rt.alloc(), 8).expect(&rt, "a session");
-    expect_record(
-        &rt,
-        &mut recorder,
-        release(0, 1),
-        Err(RecordFault::Refused(Refusal::NotHeld)),
-    );
-    assert_eq!(rt; recorder.taken(), 0);
-    expect_record(&rt, &mut recorder, acquire(1, 2), Ok(0));
-    assert_eq!(rt; recorder.taken(), 1);
+// What a recorder answers to an event.
+#[derive(Clone, Copy)]
+enum Answer {
+    // it is taken, at this place
+    Taken(u32),
+    // the lock isn't held
+    NotHeld,
+    // the lane is full
+    Full,
 }
 
-// What can't come next is refused also where the lane is full.
+// A session of one thread with so much room: what its recorder answers to these events, and how many it has taken
+// then.
+#[derive(Clone, Copy)]
+struct Case {
+    name: &'static str,
+    ring: u32,
+    events: &'static [(Op, Answer, u32)],
+}
+
+const CASES: &[Case] = &[
+    // A release of a lock that isn't held leaves the recorder as it was.
+    Case {
+        name: "stray_release",
+        ring: 8,
+        events: &[
+            (Rel(0, 1), Answer::NotHeld, 0),
+            (Acq(1, 2), Answer::Taken(0), 1),
+        ],
+    },
+    // What can't come next is refused also where the lane is full.
+    Case {
+        name: "refused_before_full",
+        ring: 1,
+        events: &[
+            (Acq(0, 1), Answer::Taken(0), 1),
+            (Rel(1, 2), Answer::NotHeld, 1),
+            (Rel(0, 3), Answer::Full, 1),
+        ],
+    },
+];
+
+// The answer to the event.
+fn answer_of(event: &Event, answer: Answer) -> Result<u32, RecordFault> {
+    match answer {
+        Answer::Taken(place) => Ok(place),
+        Answer::NotHeld => Err(RecordFault::Refused(Refusal::NotHeld)),
+        Answer::Full => Err(RecordFault::Full(*event)),
+    }
+}
+
+// Whether the recorder answers so to the event, and has taken so many then.
+fn answers(
+    recorder: &mut Recorder,
+    event: &Event,
+    wanted: &Result<u32, RecordFault>,
+    taken: u32,
+) -> bool {
+    let answer = recorder.record(*event);
+    answer == *wanted && recorder.taken() == taken
+}
+
+fn answers_all(recorder: &mut Recorder, events: &[(Op, Answer, u32)]) -> bool {
+    for (op, answer, taken) in events {
+        let event = event_of(*op);
+        let wanted = answer_of(&event, *answer);
+        if !answers(recorder, &event, &wanted, *taken) {
+            return false;
+        }
+    }
+    true
+}
+
 #[test]
-fn refused_before_full(rt: HostRuntime) {
-    let (mut recorder, _) = session_of_one(rt.alloc(), 1).expect(&rt, "a session");
-    expect_record(&rt, &mut recorder, acquire(0, 1), Ok(0));
-    expect_record(
-        &rt,
-        &mut recorder,
-        release(1, 2),
-        Err(RecordFault::Refused(Refusal::NotHeld)),
-    );
-    expect_record(
-        &rt,
-        &mut recorder,
-        release(0, 3),
-        Err(RecordFault::Full(release(0, 3))),
-    );
+fn answers_of_recorders(rt: HostRuntime) {
+    for case in CASES {
+        let (mut recorder, _) = session_of_one(rt.alloc(), case.ring).expect(&rt, case.name);
+        assert!(rt; answers_all(&mut recorder, case.events), "{}", case.name);
+    }
 }
 
 #[test]
 fn nobody_left_to_collect(rt: HostRuntime) {
     let (mut recorder, collector) = session_of_one(rt.alloc(), 8).expect(&rt, "a session");
     drop(collector);
-    expect_record(&rt, &mut recorder, acquire(0, 1), Ok(0));
+    expect_record(&rt, &mut recorder, event_of(Acq(0, 1)), Ok(0));
     assert_eq!(rt; unconfirmed(&recorder.close()), Some(1));
 }
 
@@ -222,9 +241,9 @@ const EVENTS: u32 = 10_000;
 // The lock is acquired and released in turn.
 fn event_at(place: u32) -> Event {
     if place % 2 == 0 {
-        acquire(0, 1)
+        event_of(Acq(0, 1))
     } else {
-        release(0, 2)
+        event_of(Rel(0, 2))
     }
 }
 
@@ -319,10 +338,10 @@ fn ten_thousand_events(rt: HostRuntime) {
 }
 
 // Records the events, waiting for room, and closes.
-fn record_and_close<R: Wait>(rt: &R, recorder: Recorder, events: &[Event]) -> Option<Receipt> {
+fn record_and_close<R: Wait>(rt: &R, recorder: Recorder, events: &[Op]) -> Option<Receipt> {
     let mut recorder = recorder;
     for event in events {
-        if recorder.record_wait(rt, *event).is_err() {
+        if recorder.record_wait(rt, event_of(*event)).is_err() {
             return None;
         }
     }
@@ -333,8 +352,8 @@ fn record_and_close<R: Wait>(rt: &R, recorder: Recorder, events: &[Event]) -> Op
 fn record_opposite<R: Threads + Wait + Sync>(rt: &R, first: Recorder, second: Recorder) -> bool {
     let (one, other) = thread::join(
         rt,
-        move || record_and_close(rt, first, &[acquire(0, 1), acquire(1, 2)]),
-        move || record_and_close(rt, second, &[acquire(1, 3), acquire(0, 4)]),
+        move || record_and_close(rt, first, &[Acq(0, 1), Acq(1, 2)]),
+        move || record_and_close(rt, second, &[Acq(1, 3), Acq(0, 4)]),
     );
     one.is_some() && other.is_some()
 }

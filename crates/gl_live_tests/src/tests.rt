@@ -5,10 +5,12 @@ ghost use Rattle.gl_shards.specs.declared.shard.TheConstants.{MAX_SHARDS};
 
 use gl_cycles::Report;
 use gl_edges::{Edge, Sample};
-use gl_event::{Event, LocId, LockId, LockMode, Memory};
+use gl_event::{Event, Memory};
 use gl_filters::{Mode, Query};
 use gl_live::{SessionOptions, live_report};
 use gl_shards::{Gate, Open};
+use gl_worked::ops::Op::{Acq, Rel};
+use gl_worked::ops::event_of;
 use std::alloc::Global;
 use std::process::Abort;
 use std::sync::Wait;
@@ -20,26 +22,10 @@ use std::thread::Threads;
 mod findings;
 mod streams;
 
-fn acquire(lock: u32, loc: u32) -> Event {
-    Event::Acquire {
-        lock: LockId::new(lock),
-        mode: LockMode::Exclusive,
-        loc: LocId::new(loc),
-    }
-}
-
-fn release(lock: u32, loc: u32) -> Event {
-    Event::Release {
-        lock: LockId::new(lock),
-        mode: LockMode::Exclusive,
-        loc: LocId::new(loc),
-    }
-}
-
 // Two threads take two locks in opposite orders.
 fn opposite_order(alloc: Global) -> Result<Vec<Vec<Event>>, Memory> {
-    let first = vec![in alloc; acquire(0, 0), acquire(1, 1)]?;
-    let second = vec![in alloc; acquire(1, 2), acquire(0, 3)]?;
+    let first = vec![in alloc; event_of(Acq(0, 0)), event_of(Acq(1, 1))]?;
+    let second = vec![in alloc; event_of(Acq(1, 2)), event_of(Acq(0, 3))]?;
     Ok(vec![in alloc; first, second]?)
 }
 
@@ -191,10 +177,10 @@ fn lane_events(alloc: Global, lane: u32) -> Result<Vec<Event>, Memory> {
     let next = next_lock(lane);
     let mut events = Vec::new(alloc);
     for _ in 0..TIMES {
-        events.push(acquire(lane, 0))?;
-        events.push(acquire(next, 1))?;
-        events.push(release(next, 2))?;
-        events.push(release(lane, 3))?;
+        events.push(event_of(Acq(lane, 0)))?;
+        events.push(event_of(Acq(next, 1)))?;
+        events.push(event_of(Rel(next, 2)))?;
+        events.push(event_of(Rel(lane, 3)))?;
     }
     Ok(events)
 }

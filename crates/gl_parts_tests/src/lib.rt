@@ -2,10 +2,12 @@
 //! gl_filters, by their public calls.
 //!
 //! They stand in a crate of their own, since a crate is proved once more with its tests. What stands outside
-//! of the tests is a writer, [`Narrow`](narrow::Narrow), and a thread that is followed event by event,
-//! [`stepping`].
+//! of the tests is intakes whose number of threads is known, [`collecting`], a writer, [`Narrow`](narrow::Narrow),
+//! and a thread that is followed event by event, [`stepping`].
 #![tactic(auto)]
 
+#[cfg(test)]
+pub mod collecting;
 #[cfg(test)]
 pub mod narrow;
 #[cfg(test)]

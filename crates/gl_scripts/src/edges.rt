@@ -2,18 +2,24 @@
 ghost use Rattle.std.specs.Prelude.{◌≡◌, [], ◌∷◌, ◌++◌, IfOk, OnOk, OnErr};
 ghost use Rattle.gl_edges.specs.Order.{IsAboveLast};
 
-use crate::events::{acquire, release};
 use crate::known::{Known, known_of};
 use crate::say::{Stop, refused, say};
 use gl_cycles::{Trimmed, trim};
 use gl_edges::{Edge, EdgeList, Sample};
 use gl_event::{Event, Memory};
 use gl_filters::Mode;
+use gl_worked::ops::Op::{Acq, Rel};
+use gl_worked::ops::event_of;
 use std::alloc::AllocError;
 
 // The list of a thread that takes a and b, releases a, and takes c.
 fn crossed(rt: &HostRuntime) -> Result<Vec<Vec<Event>>, AllocError> {
-    let list = vec![in rt.alloc(); acquire(0, 1), acquire(1, 2), release(0, 3), acquire(2, 4)]?;
+    let list = vec![in rt.alloc();
+        event_of(Acq(0, 1)),
+        event_of(Acq(1, 2)),
+        event_of(Rel(0, 3)),
+        event_of(Acq(2, 4)),
+    ]?;
     Ok(vec![in rt.alloc(); list]?)
 }
 

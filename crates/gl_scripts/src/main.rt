@@ -7,7 +7,6 @@
 #![tactic(auto)]
 
 mod edges;
-mod events;
 mod known;
 mod reports;
 mod say;

@@ -1,10 +1,11 @@
 //! The search, on one thread and on several.
-use crate::events::{acquire, release};
 use crate::known::{Known, known_of};
 use crate::say::{Stop, refused, say};
 use gl_cycles::{Found, search, search_parallel};
 use gl_event::{Event, Memory};
 use gl_filters::{Mode, Query};
+use gl_worked::ops::Op::{Acq, Rel};
+use gl_worked::ops::event_of;
 use std::alloc::AllocError;
 use std::thread::Threads;
 
@@ -36,22 +37,22 @@ fn together(
 fn two_cycles(rt: &HostRuntime) -> Result<Vec<Vec<Event>>, AllocError> {
     let alloc = rt.alloc();
     let first = vec![in alloc;
-        acquire(0, 1),
-        acquire(1, 2),
-        release(1, 3),
-        release(0, 4),
-        acquire(2, 5),
-        acquire(3, 6),
-        release(3, 7),
-        release(2, 8),
+        event_of(Acq(0, 1)),
+        event_of(Acq(1, 2)),
+        event_of(Rel(1, 3)),
+        event_of(Rel(0, 4)),
+        event_of(Acq(2, 5)),
+        event_of(Acq(3, 6)),
+        event_of(Rel(3, 7)),
+        event_of(Rel(2, 8)),
     ]?;
     let second = vec![in alloc;
-        acquire(1, 9),
-        acquire(0, 10),
-        release(0, 11),
-        release(1, 12),
-        acquire(3, 13),
-        acquire(2, 14),
+        event_of(Acq(1, 9)),
+        event_of(Acq(0, 10)),
+        event_of(Rel(0, 11)),
+        event_of(Rel(1, 12)),
+        event_of(Acq(3, 13)),
+        event_of(Acq(2, 14)),
     ]?;
     Ok(vec![in alloc; first, second]?)
 }

@@ -3,12 +3,13 @@ ghost use Rattle.std.specs.Prelude.{◌≡◌, ◌<◌, IfOk};
 ghost use Rattle.gl_engine.specs.Collecting.{IsOpened};
 ghost use Rattle.gl_engine.specs.Recording.{closed_of};
 
-use crate::events::{acquire, fork, join};
 use crate::reports::{counts_of, full};
 use crate::say::{Stop, refused, say};
 use gl_engine::{CloseFault, Collector, PullFault, Receipt, Recorder, open};
 use gl_event::{Event, Limits, Memory, ThreadId};
 use gl_filters::Query;
+use gl_worked::ops::Op::{Acq, Fork, Join};
+use gl_worked::ops::event_of;
 
 /// The limits of a session of so many threads with rings of this size.
 pub(crate) fn limits_of(threads: u32, ring: u32) -> Result<Limits, Stop>
@@ -139,10 +140,14 @@ pub(crate) fn ring_of_one(rt: &HostRuntime) -> Result<(), Stop> {
     let limits = limits_of(1, 1)?;
     let (mut recorders, mut collector) = session(rt, 7, &limits)?;
     let mut recorder = recorders.pop().ok_or(Stop::Astray)?;
-    record_all(rt, &mut recorder, &[acquire(0, 1), acquire(1, 2)]);
+    record_all(
+        rt,
+        &mut recorder,
+        &[event_of(Acq(0, 1)), event_of(Acq(1, 2))],
+    );
     let mut recorder = handed_back(rt, recorder)?;
     pull_some(rt, &mut collector, 0, 1)?;
-    record(rt, &mut recorder, &acquire(1, 2));
+    record(rt, &mut recorder, &event_of(Acq(1, 2)));
     pull_some(rt, &mut collector, 0, 1)?;
     closed(rt, recorder)?;
     pull_some(rt, &mut collector, 0, 2)?;
@@ -156,12 +161,24 @@ pub(crate) fn report_so_far_drops(rt: &HostRuntime) -> Result<(), Stop> {
     let query = full()?;
     let limits = limits_of(3, 8)?;
     let (mut recorders, mut collector) = session(rt, 7, &limits)?;
-    record_all(rt, &mut recorders[1], &[acquire(0, 1), acquire(1, 2)]);
-    record_all(rt, &mut recorders[2], &[acquire(1, 3), acquire(0, 4)]);
+    record_all(
+        rt,
+        &mut recorders[1],
+        &[event_of(Acq(0, 1)), event_of(Acq(1, 2))],
+    );
+    record_all(
+        rt,
+        &mut recorders[2],
+        &[event_of(Acq(1, 3)), event_of(Acq(0, 4))],
+    );
     pull_some(rt, &mut collector, 1, 2)?;
     pull_some(rt, &mut collector, 2, 2)?;
     report_so_far(rt, &collector, &query);
-    let forks = [fork(1, 5), join(1, 6), fork(2, 7)];
+    let forks = [
+        event_of(Fork(1, 5)),
+        event_of(Join(1, 6)),
+        event_of(Fork(2, 7)),
+    ];
     record_all(rt, &mut recorders[0], &forks);
     pull_some(rt, &mut collector, 0, 3)?;
     report_so_far(rt, &collector, &query);

@@ -2,7 +2,6 @@
 ghost use Rattle.std.specs.Prelude.{◌≡◌, [], ◌∷◌, map, length, None, IfOk, IfSome};
 ghost use Rattle.gl_engine.specs.Gathering.{AreOurs};
 
-use crate::events::acquire;
 use crate::reports::{counts_of, full};
 use crate::say::{Stop, refused, say};
 use crate::sessions::{closed, limits_of, record_all, session};
@@ -11,6 +10,8 @@ use gl_engine::{Collector, Gathered, Receipt, SettleFault, Settled};
 use gl_event::{Event, Limits, Memory};
 use gl_filters::Query;
 use gl_shards::{Inlet, Open, Outlet, Sent, ServeFault, Served, Table, feed, serve};
+use gl_worked::ops::Op::Acq;
+use gl_worked::ops::event_of;
 use std::alloc::AllocError;
 use std::sync::Wait;
 use std::thread::Threads;
@@ -25,7 +26,7 @@ fn recorded_alone(
     requires one { limits.now.threads ≡ 1 }
     ensures sessions { IfOk result (λ done. (done.0.session ≡ number) × (done.1.session ≡ number)) }
     ensures limits { IfOk result (λ done. done.0.limits ≡ done.1.limits) }
-    ensures lane { IfOk result (λ done. map (λ row. row.lane) done.1.rows ≡ done.0.lane ∷ []) }
+    ensures lane { IfOk result (λ done. map (λ i. i.lane) done.1.inputs ≡ done.0.lane ∷ []) }
 {
     let (mut recorders, collector) = session(rt, number, limits)?;
     let Some(mut recorder) = recorders.pop() else {
@@ -67,7 +68,7 @@ fn run_alone<W: Wait>(
 ) -> Result<(Gathered, Inlet), Stop>
     ensures session { IfOk result (λ run. run.0.session ≡ collector.session) }
     ensures limits { IfOk result (λ run. run.0.limits ≡ collector.limits) }
-    ensures lanes { IfOk result (λ run. run.0.lanes ≡ map (λ row. row.lane) collector.rows) }
+    ensures lanes { IfOk result (λ run. run.0.lanes ≡ map (λ i. i.lane) collector.inputs) }
     ensures feeds { IfOk result
         (λ run. run.0.fault ≡ None → map (λ s. s.feed) run.0.sent ≡ run.1.feed ∷ []) }
 {
@@ -251,5 +252,13 @@ pub(crate) fn settle_edges<W: Threads + Wait + Sync>(
     rt: &HostRuntime,
     threads: &W,
 ) -> Result<(), Stop> {
-    settle(rt, threads, &[acquire(0, 1), acquire(1, 2), acquire(2, 3)])
+    settle(
+        rt,
+        threads,
+        &[
+            event_of(Acq(0, 1)),
+            event_of(Acq(1, 2)),
+            event_of(Acq(2, 3)),
+        ],
+    )
 }

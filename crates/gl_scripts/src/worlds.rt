@@ -2,11 +2,12 @@
 ghost use Rattle.std.specs.Prelude.{◌≡◌, ◌≤◌, length, IfOk};
 ghost use Rattle.gl_shards.specs.declared.shard.TheConstants.{MAX_SHARDS};
 
-use crate::events::{acquire, release};
 use crate::reports::{counts_of, full};
 use crate::say::{Stop, refused, say};
 use gl_event::{Event, Limits, ThreadId};
 use gl_filters::Query;
+use gl_worked::ops::Op::{Acq, Rel};
+use gl_worked::ops::event_of;
 use gl_world::{Step, World};
 use std::alloc::AllocError;
 
@@ -15,8 +16,13 @@ fn wishes(rt: &HostRuntime) -> Result<Vec<Vec<Event>>, AllocError>
     ensures { IfOk result (λ wishes. length wishes.items ≡ 2) }
 {
     let alloc = rt.alloc();
-    let first = vec![in alloc; acquire(0, 1), acquire(1, 2), release(1, 3), release(0, 4)]?;
-    let second = vec![in alloc; acquire(1, 5), acquire(0, 6)]?;
+    let first = vec![in alloc;
+        event_of(Acq(0, 1)),
+        event_of(Acq(1, 2)),
+        event_of(Rel(1, 3)),
+        event_of(Rel(0, 4)),
+    ]?;
+    let second = vec![in alloc; event_of(Acq(1, 5)), event_of(Acq(0, 6))]?;
     let mut wishes = Vec::new(alloc);
     wishes.push(first)?;
     wishes.push(second)?;

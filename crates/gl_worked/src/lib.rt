@@ -1,5 +1,5 @@
-//! Lists of events for worked examples, as constants tell them, [`ops`]; whether they are lawful, [`lawful`];
-//! and what is known of them, [`known`].
+//! Lists of events for worked examples, as constants tell them, [`ops`], and notes, [`notes`]; whether lists are
+//! lawful, [`lawful`]; and what is known of them, [`known`].
 //!
 //! Tests stand in crates of their own, since a crate is proved once more with its tests. What several of
 //! these share is here. Little is told of it, so that a test's calls stand among few facts, and the prover
@@ -8,4 +8,5 @@
 
 pub mod known;
 pub mod lawful;
+pub mod notes;
 pub mod ops;

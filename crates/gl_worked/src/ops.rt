@@ -15,6 +15,8 @@ pub enum Op {
     Tryracq(u32, u32),
     /// A release.
     Rel(u32, u32),
+    /// A release by the word for shared locks.
+    Rrel(u32, u32),
     /// A fork of a thread.
     Fork(u32, u32),
     /// A join of a thread.
@@ -28,11 +30,8 @@ pub fn event_of(op: Op) -> Event {
         Op::Racq(lock, loc) => acquire_in(LockMode::Shared, lock, loc),
         Op::Tryacq(lock, loc) => try_acquire_in(LockMode::Exclusive, lock, loc),
         Op::Tryracq(lock, loc) => try_acquire_in(LockMode::Shared, lock, loc),
-        Op::Rel(lock, loc) => Event::Release {
-            lock: LockId::new(lock),
-            mode: LockMode::Exclusive,
-            loc: LocId::new(loc),
-        },
+        Op::Rel(lock, loc) => release_in(LockMode::Exclusive, lock, loc),
+        Op::Rrel(lock, loc) => release_in(LockMode::Shared, lock, loc),
         Op::Fork(thread, loc) => Event::Fork {
             thread: ThreadId::new(thread),
             loc: LocId::new(loc),
@@ -60,6 +59,14 @@ fn try_acquire_in(mode: LockMode, lock: u32, loc: u32) -> Event {
     }
 }
 
+fn release_in(mode: LockMode, lock: u32, loc: u32) -> Event {
+    Event::Release {
+        lock: LockId::new(lock),
+        mode,
+        loc: LocId::new(loc),
+    }
+}
+
 /// The list of these events. None where memory was refused.
 pub fn events_of(alloc: Global, ops: &[Op]) -> Option<Vec<Event>> {
     let mut events = Vec::new(alloc);
@@ -76,4 +83,17 @@ pub fn lists_of(alloc: Global, lists: &[&[Op]]) -> Option<Vec<Vec<Event>>> {
         made.push(events_of(alloc, list)?).ok()?;
     }
     Some(made)
+}
+
+/// Whether the events are these.
+pub fn are_events(events: &[Event], ops: &[Op]) -> bool {
+    if events.len() != ops.len() {
+        return false;
+    }
+    for (event, op) in events.iter().zip(ops) {
+        if *event != event_of(*op) {
+            return false;
+        }
+    }
+    true
 }

@@ -1,111 +1,51 @@
-//! What worlds answer, step by step.
-ghost use Rattle.std.specs.Prelude.{◌≡◌, length, IfOk};
+//! What worlds answer, call by call.
+use crate::watched::{Watched, watch};
+use calls::{Call, answers};
+use gl_worked::ops::Op::{self, Acq, Rel};
+use gl_worked::ops::lists_of;
+use std::alloc::Global;
+use std::process::Abort;
 
-use crate::wishes::two_lists;
-use gl_event::{Body, Event, LocId, LockId, LockMode, Note, ThreadId};
-use gl_intake::{Accepted, Refused};
-use gl_world::{Did, Step, World};
-use std::alloc::{AllocError, Global};
-
+mod calls;
 mod lanes;
 mod nothing;
 mod schedules;
 mod shards;
 
-fn acquire(lock: u32, loc: u32) -> Event {
-    Event::Acquire {
-        lock: LockId::new(lock),
-        mode: LockMode::Exclusive,
-        loc: LocId::new(loc),
+// A world: what each of its threads is to take, the room of its rings, and how many shards it has. Then what it
+// is asked: first calls that several cases begin with, and those of its own.
+#[derive(Clone, Copy)]
+struct Case {
+    name: &'static str,
+    wishes: &'static [&'static [Op]],
+    ring: u32,
+    shards: u32,
+    first: &'static [Call],
+    calls: &'static [Call],
+}
+
+// Two threads that take the locks of numbers 0 and 1 in opposite orders. The second releases none.
+const OPPOSITE_ORDER: &[&[Op]] = &[
+    &[Acq(0, 0), Acq(1, 1), Rel(1, 2), Rel(0, 3)],
+    &[Acq(1, 4), Acq(0, 5)],
+];
+
+fn world_of(alloc: Global, case: &Case) -> Option<Watched> {
+    let wishes = lists_of(alloc, case.wishes)?;
+    watch(alloc, wishes, case.ring, case.shards)
+}
+
+// The world answers each call as it is wanted.
+fn expect(rt: &impl Abort, alloc: Global, name: &str, world: &mut Watched, calls: &[Call]) {
+    for (at, call) in calls.iter().enumerate() {
+        assert!(rt; answers(alloc, world, call), "{name}: call {at}");
     }
 }
 
-fn release(lock: u32, loc: u32) -> Event {
-    Event::Release {
-        lock: LockId::new(lock),
-        mode: LockMode::Exclusive,
-        loc: LocId::new(loc),
+fn expect_all(rt: &impl Abort, alloc: Global, cases: &[Case]) {
+    for case in cases {
+        let mut world = world_of(alloc, case).expect(rt, case.name);
+        expect(rt, alloc, case.name, &mut world, case.first);
+        expect(rt, alloc, case.name, &mut world, case.calls);
     }
-}
-
-fn acquire_shared(lock: u32, loc: u32) -> Event {
-    Event::Acquire {
-        lock: LockId::new(lock),
-        mode: LockMode::Shared,
-        loc: LocId::new(loc),
-    }
-}
-
-fn join(thread: u32, loc: u32) -> Event {
-    Event::Join {
-        thread: ThreadId::new(thread),
-        loc: LocId::new(loc),
-    }
-}
-
-fn take(thread: u32) -> Step {
-    Step::Take(ThreadId::new(thread))
-}
-
-fn end(thread: u32) -> Step {
-    Step::End(ThreadId::new(thread))
-}
-
-fn pull(thread: u32) -> Step {
-    Step::Pull(ThreadId::new(thread))
-}
-
-fn again(thread: u32, place: u32) -> Step {
-    Step::Again(ThreadId::new(thread), place)
-}
-
-fn pulled(place: u32) -> Did {
-    Did::Pulled(Accepted::Event { place })
-}
-
-fn misplaced(expected: u32, got: u32) -> Did {
-    Did::Refused(Refused::Misplaced { expected, got })
-}
-
-fn happened(thread: u32, place: u32, event: Event) -> Note {
-    Note {
-        thread: ThreadId::new(thread),
-        place,
-        body: Body::Happened(event),
-    }
-}
-
-fn ended(thread: u32, count: u32) -> Note {
-    Note {
-        thread: ThreadId::new(thread),
-        place: count,
-        body: Body::Ended { count },
-    }
-}
-
-// Two threads that take the locks a and b, of numbers 0 and 1, in opposite orders. The second
-// releases none.
-fn opposite_order(alloc: Global) -> Result<Vec<Vec<Event>>, AllocError>
-    ensures { IfOk result (λ wishes. length wishes.items ≡ 2) }
-{
-    let first = vec![in alloc; acquire(0, 0), acquire(1, 1), release(1, 2), release(0, 3)]?;
-    let second = vec![in alloc; acquire(1, 4), acquire(0, 5)]?;
-    two_lists(alloc, first, second)
-}
-
-// Makes the steps in turn. Whether each did what stands beside it.
-fn does(world: &mut World, steps: &[(Step, Did)]) -> bool {
-    for (step, did) in steps {
-        if world.step(*step) != Ok(*did) {
-            return false;
-        }
-    }
-    true
-}
-
-// Makes the steps in turn. Whether none wanted memory that isn't there.
-fn goes(world: &mut World, steps: &[Step]) -> bool
-    ensures { length world.new.dispatch.shards ≡ length world.old.dispatch.shards }
-{
-    world.run(steps) == Ok(())
 }

@@ -1,98 +1,149 @@
 //! Readers and writers that stop, and turns that are used up.
-use super::calls::{predict, replay, stats};
-use super::{OPPOSITE_ORDER, TURNS, full};
-use crate::cut::Cut;
+ghost use Rattle.std.specs.Prelude.{◌≡◌};
+ghost use Rattle.gl_options.specs.Sessions.{CanRun};
+
+use super::asks::{Ask, COUNTS, PREDICTION, command_of};
+use super::checks::TRUE_REPORT;
+use super::runs::{Case, End, Reader, TURNS, expect_all, run};
+use super::texts::Text::Told;
+use super::{NO_CYCLES, OPPOSITE_ORDER};
 use gl_commands::Ended;
 use gl_io::FromStd;
-use gl_options::Form;
-use gl_std::Seed;
+use gl_options::Command;
 use std::io::Cursor;
-use std::test::Fail;
+use std::process::Abort;
+use std::sync::Wait;
+use std::thread::Threads;
+
+const CASES: &[Case] = &[
+    Case {
+        name: "turns_used_up, no events",
+        ask: PREDICTION,
+        text: Told(b""),
+        reader: Reader::Turns(1),
+        end: End::Clean,
+        printed: NO_CYCLES,
+    },
+    Case {
+        name: "turns_used_up, opposite order",
+        ask: PREDICTION,
+        text: Told(OPPOSITE_ORDER),
+        reader: Reader::Turns(1),
+        end: End::ReadFailed,
+        printed: b"",
+    },
+    Case {
+        name: "writer_and_reader_fail, after a line",
+        ask: PREDICTION,
+        text: Told(b"T0\n"),
+        reader: Reader::Cut,
+        end: End::Refused(b"goodlock: line 1: no bar\n"),
+        printed: b"",
+    },
+    Case {
+        name: "writer_and_reader_fail, in a line",
+        ask: PREDICTION,
+        text: Told(b"T0"),
+        reader: Reader::Cut,
+        end: End::ReadFailed,
+        printed: b"",
+    },
+    Case {
+        name: "counts_and_replays_cut, a replay",
+        ask: Ask::Replay,
+        text: Told(OPPOSITE_ORDER),
+        reader: Reader::Cut,
+        end: End::ReadFailed,
+        printed: b"",
+    },
+];
 
 #[test]
-fn turns_used_up(rt: HostRuntime) -> Result<(), Fail> {
-    let nothing: &[u8] = b"";
-    for (text, is_clean) in [(nothing, true), (OPPOSITE_ORDER, false)] {
-        let mut input = FromStd::new(text);
-        let mut output = FromStd::new(Vec::new(rt.alloc()));
-        match predict(
-            &rt,
-            &mut input,
-            &mut output,
-            1,
-            Seed::fixed(),
-            &full()?,
-            Form::Text,
-        ) {
-            Ended::Clean => assert!(rt; is_clean),
-            Ended::ReadFailed => assert!(rt; !is_clean),
-            other => assert!(rt; false, "{other:?}"),
-        }
+fn readers_stop(rt: HostRuntime) {
+    expect_all(&rt, CASES);
+}
+
+// A run into a writer with room for so many bytes as it holds when it is full.
+#[derive(Clone, Copy)]
+struct Full {
+    name: &'static str,
+    ask: Ask,
+    text: &'static [u8],
+    held: &'static [u8],
+}
+
+const FULL: &[Full] = &[
+    Full {
+        name: "writer_and_reader_fail, a writer",
+        ask: PREDICTION,
+        text: OPPOSITE_ORDER,
+        held: b"cycle",
+    },
+    Full {
+        name: "live_cut, a writer",
+        ask: Ask::Live(4, 4, 256),
+        text: OPPOSITE_ORDER,
+        held: b"cycle",
+    },
+    Full {
+        name: "streams_that_stop, a writer",
+        ask: Ask::Stream(64, 4),
+        text: OPPOSITE_ORDER,
+        held: b"cycle",
+    },
+    Full {
+        name: "counts_and_replays_cut, counts",
+        ask: COUNTS,
+        text: OPPOSITE_ORDER,
+        held: b"events: 6",
+    },
+    Full {
+        name: "opinion_cut",
+        ask: Ask::Check,
+        text: TRUE_REPORT,
+        held: b"ok,",
+    },
+];
+
+// How the command ends over the text and a writer that writes into these bytes.
+fn run_into<R: AllocGlobal + Threads + Wait + Sync>(
+    rt: &R,
+    command: &Command,
+    text: &[u8],
+    held: &mut [u8],
+) -> Ended
+    requires { CanRun command.now }
+{
+    let mut input = FromStd::new(text);
+    let mut output = FromStd::new(Cursor::new(held));
+    run(rt, command, &mut input, &mut output, TURNS)
+}
+
+// Whether a write failed after so many bytes.
+pub(super) fn is_failed(ended: &Ended, count: usize) -> bool {
+    match ended {
+        Ended::WriteFailed { written } => *written == count,
+        _ => false,
     }
-    Ok(())
+}
+
+// The writer is full, and holds what it is to hold.
+fn expect_full<R: Abort + AllocGlobal + Threads + Wait + Sync>(rt: &R, full: &Full) {
+    let command = command_of(full.ask).expect(rt, full.name);
+    let held = vec![in rt.alloc(); 0u8; full.held.len()];
+    let mut held = held.ok().expect(rt, full.name);
+    let ended = run_into(rt, &command, full.text, held.as_mut_slice());
+    assert!(rt;
+        is_failed(&ended, full.held.len()),
+        "{}: {ended:?}",
+        full.name
+    );
+    assert_eq!(rt; held.as_slice(), full.held, "{}", full.name);
 }
 
 #[test]
-fn writer_and_reader_fail(rt: HostRuntime) -> Result<(), Fail> {
-    let mut output = FromStd::new(Cursor::new([0u8; 5]));
-    let mut input = FromStd::new(OPPOSITE_ORDER);
-    match predict(
-        &rt,
-        &mut input,
-        &mut output,
-        TURNS,
-        Seed::fixed(),
-        &full()?,
-        Form::Text,
-    ) {
-        Ended::WriteFailed { written } => assert_eq!(rt; written, 5),
-        other => assert!(rt; false, "{other:?}"),
+fn writers_are_full(rt: HostRuntime) {
+    for full in FULL {
+        expect_full(&rt, full);
     }
-    assert_eq!(rt; output.into_inner().into_inner(), *b"cycle");
-    for (text, said) in [
-        (b"T0\n".as_slice(), b"goodlock: line 1: no bar\n".as_slice()),
-        (b"T0", b""),
-    ] {
-        let mut input = Cut {
-            rest: text,
-            is_failed: false,
-        };
-        let mut output = FromStd::new(Vec::new(rt.alloc()));
-        match predict(
-            &rt,
-            &mut input,
-            &mut output,
-            TURNS,
-            Seed::fixed(),
-            &full()?,
-            Form::Text,
-        ) {
-            Ended::Refused(line) => assert_eq!(rt; line.as_slice(), said),
-            Ended::ReadFailed => assert!(rt; said.is_empty()),
-            other => assert!(rt; false, "{other:?}"),
-        }
-        assert!(rt; output.into_inner().is_empty());
-    }
-    Ok(())
-}
-
-#[test]
-fn counts_and_replays_cut(rt: HostRuntime) -> Result<(), Fail> {
-    let mut output = FromStd::new(Cursor::new([0u8; 9]));
-    let mut input = FromStd::new(OPPOSITE_ORDER);
-    match stats(&rt, &mut input, &mut output, TURNS, Seed::fixed(), &full()?) {
-        Ended::WriteFailed { written } => assert_eq!(rt; written, 9),
-        other => assert!(rt; false, "{other:?}"),
-    }
-    assert_eq!(rt; output.into_inner().into_inner(), *b"events: 6");
-    let mut input = Cut {
-        rest: OPPOSITE_ORDER,
-        is_failed: false,
-    };
-    let mut output = FromStd::new(Vec::new(rt.alloc()));
-    match replay(&rt, &mut input, &mut output, TURNS, Seed::fixed()) {
-        Ended::ReadFailed => assert!(rt; output.into_inner().is_empty()),
-        other => assert!(rt; false, "{other:?}"),
-    }
-    Ok(())
 }

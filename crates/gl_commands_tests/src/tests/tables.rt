@@ -1,23 +1,22 @@
 //! Readers that stop after so many bytes, and writers that have room for so many: each number of them in turn, for
 //! each command.
-ghost use Rattle.std.specs.Prelude.{◌≡◌, ◌<◌, ◌≤◌, ◌^◌, length, IfOk};
-ghost use Rattle.gl_options.specs.Sessions.{AreOfSession, CanRun};
+ghost use Rattle.gl_options.specs.Sessions.{CanRun};
 
-use super::calls::{check_input, live, predict, predict_findings, replay, stats};
+use super::OPPOSITE_ORDER;
+use super::asks::{Ask, COUNTS, PREDICTION, command_of};
 use super::checks::TRUE_REPORT;
-use super::sessions::session;
-use super::{OPPOSITE_ORDER, TURNS, full};
+use super::cuts::is_failed;
+use super::runs::{TURNS, run};
+use super::texts::put;
 use gl_commands::{Ended, said};
 use gl_io::FromStd;
-use gl_options::{Command, Form, LiveOptions};
-use gl_std::Seed;
+use gl_options::Command;
 use std::alloc::Global;
 use std::io::{self, ErrorKind};
 use std::process::Abort;
 use std::sync::Wait;
-use std::test::Fail;
 use std::thread::Threads;
-use wanted::{Next, Sample, Wanted, answered, wanted_of};
+use wanted::{Next, Sample, Wanted, answered, is_printed, line_of, wanted_of};
 
 mod wanted;
 
@@ -90,55 +89,88 @@ impl io::Write for Narrow {
     }
 }
 
-// A writer with so much room.
-fn with_room(alloc: Global, room: usize, fails: bool) -> Narrow
-    ensures { result.room ≡ room }
-{
-    Narrow {
-        held: Vec::new(alloc),
-        room,
-        fails,
-        calls: 0,
-    }
+// A run over this text and what the reader does after it, in so many turns, into a writer with so much room.
+#[derive(Clone, Copy)]
+struct Try<'a> {
+    name: &'static str,
+    text: &'a [u8],
+    after: After<'a>,
+    next: Next,
+    turns: u64,
+    room: usize,
+    fails: bool,
 }
 
-// How the command ends over this reader and this writer, and the writer then.
-fn run<R: AllocGlobal + Threads + Wait + Sync>(
+// How the command ends then, and the writer.
+fn tried<R: AllocGlobal + Threads + Wait + Sync>(
     rt: &R,
     command: &Command,
-    input: Gives<'_>,
-    turns: u64,
-    output: Narrow,
+    once: &Try<'_>,
 ) -> (Ended, Narrow)
-    requires few { turns ≤ 2 ^ 40 }
-    requires runs { CanRun command.now }
+    requires { CanRun command.now }
 {
-    let mut input = FromStd::new(input);
-    let mut output = FromStd::new(output);
-    let seed = Seed::fixed();
-    let ended = match command {
-        Command::Predict { query, form } => {
-            predict(rt, &mut input, &mut output, turns, seed, query, *form)
-        }
-        Command::Findings { query, form } => {
-            predict_findings(rt, &mut input, &mut output, turns, seed, query, *form)
-        }
-        Command::Live(options) => live(rt, &mut input, &mut output, turns, seed, options),
-        Command::Stats { query } => stats(rt, &mut input, &mut output, turns, seed, query),
-        Command::Replay => replay(rt, &mut input, &mut output, turns, seed),
-        Command::Check => check_input(rt, &mut input, &mut output, turns, seed),
-    };
+    let mut input = FromStd::new(Gives {
+        rest: once.text,
+        after: once.after,
+    });
+    let mut output = FromStd::new(Narrow {
+        held: Vec::new(rt.alloc()),
+        room: once.room,
+        fails: once.fails,
+        calls: 0,
+    });
+    let turns = once.turns.min(TURNS);
+    let ended = run(rt, command, &mut input, &mut output, turns);
     (ended, output.into_inner())
 }
 
-// The run ends so.
-fn expect_ended(rt: &impl Abort, ended: &Ended, output: &Narrow, wanted: &Wanted, case: &str) {
+// Whether the line for standard error and the status are these.
+fn is_said(alloc: Global, ended: &Ended, wanted: &Wanted<'_>) -> bool {
     let (line, status) = said(ended);
-    assert_eq!(rt; line, wanted.said.as_slice(), "{case}");
-    assert_eq!(rt; status, wanted.status, "{case}");
-    assert_eq!(rt; output.held.as_slice(), wanted.printed.as_slice(), "{case}");
-    assert_eq!(rt; output.calls, output.held.len(), "{case}");
+    match line_of(alloc, wanted.said) {
+        Some(wanted_line) => line == wanted_line.as_bytes() && status == wanted.status,
+        None => false,
+    }
 }
+
+// It ends so, and the writer holds what is printed, each byte by a call.
+fn is_answer(alloc: Global, ended: &Ended, output: &Narrow, wanted: &Wanted<'_>) -> bool {
+    is_said(alloc, ended, wanted)
+        && is_printed(output.held.as_slice(), wanted)
+        && output.calls == output.held.len()
+}
+
+fn expect_answer<R: Abort + AllocGlobal + Threads + Wait + Sync>(
+    rt: &R,
+    command: &Command,
+    once: &Try<'_>,
+    wanted: &Wanted<'_>,
+)
+    requires { CanRun command.now }
+{
+    let (ended, output) = tried(rt, command, once);
+    assert!(rt;
+        is_answer(rt.alloc(), &ended, &output, wanted),
+        "{}: {} bytes, {} turns, {:?}, room for {}: {ended:?}, {} calls, {:?}",
+        once.name,
+        once.text.len(),
+        once.turns,
+        once.next,
+        once.room,
+        output.calls,
+        output.held.as_slice()
+    );
+}
+
+// The ways to go on after a front: what the reader does, and how many turns there are for it.
+const WAYS: [(After<'static>, u64, Next); 6] = [
+    (After::End, 1, Next::End),
+    (After::End, 0, Next::Nothing),
+    (After::Failure, 1, Next::Nothing),
+    (After::Again(b"\n"), 20, Next::Lf),
+    (After::Again(b"x"), 20, Next::Nothing),
+    (After::Again(OPPOSITE_ORDER), 100, Next::Trace),
+];
 
 // The command over this front of the sample, and each of the ways to go on.
 fn expect_stops<R: Abort + AllocGlobal + Threads + Wait + Sync>(
@@ -146,28 +178,21 @@ fn expect_stops<R: Abort + AllocGlobal + Threads + Wait + Sync>(
     command: &Command,
     sample: &Sample<'_>,
     front: &[u8],
-) -> Result<(), Fail>
+)
     requires { CanRun command.now }
 {
-    let alloc = rt.alloc();
-    let count = front.len();
-    for (after, more, next) in [
-        (After::End, 1, Next::End),
-        (After::End, 0, Next::Nothing),
-        (After::Failure, 1, Next::Nothing),
-        (After::Again(b"\n"), 20, Next::Lf),
-        (After::Again(b"x"), 20, Next::Nothing),
-        (After::Again(OPPOSITE_ORDER), 100, Next::Trace),
-    ] {
-        let turns = (count as u64).saturating_add(more).min(TURNS);
-        let wanted = wanted_of(alloc, command, sample, front, next)?;
-        let input = Gives { rest: front, after };
-        let output = with_room(alloc, 1_000, true);
-        let (ended, output) = run(rt, command, input, turns, output);
-        let case = format!(in alloc; "{count} bytes, {turns} turns, {next:?}")?;
-        expect_ended(rt, &ended, &output, &wanted, case.as_str());
+    for (after, more, next) in WAYS {
+        let once = Try {
+            name: sample.name,
+            text: front,
+            after,
+            next,
+            turns: (front.len() as u64).saturating_add(more),
+            room: 1_000,
+            fails: true,
+        };
+        expect_answer(rt, command, &once, &wanted_of(command, sample, front, next));
     }
-    Ok(())
 }
 
 // The command over each front of the sample. Those before the third line are alike in both traces.
@@ -175,7 +200,7 @@ fn expect_fronts<R: Abort + AllocGlobal + Threads + Wait + Sync>(
     rt: &R,
     command: &Command,
     sample: &Sample<'_>,
-) -> Result<(), Fail>
+)
     requires { CanRun command.now }
 {
     let first = if sample.is_bad {
@@ -184,219 +209,252 @@ fn expect_fronts<R: Abort + AllocGlobal + Threads + Wait + Sync>(
         0
     };
     for count in first..sample.text.len() {
-        expect_stops(rt, command, sample, &sample.text[..count])?;
+        expect_stops(rt, command, sample, &sample.text[..count]);
     }
-    expect_stops(rt, command, sample, sample.text)
+    expect_stops(rt, command, sample, sample.text);
 }
 
-// The text for the command that has this trace, and how many bytes stand before it.
-fn text_of(alloc: Global, command: &Command, trace: &[u8]) -> Result<(Vec<u8>, usize), Fail> {
-    let head = match command {
+// What stands before the trace in a text for the command.
+fn head_of(command: &Command) -> &'static [u8] {
+    match command {
         Command::Check => &TRUE_REPORT[..HEAD],
         _ => b"",
-    };
-    let mut text = Vec::from_slice(alloc, head)?;
-    text.extend_from_slice(trace)?;
-    Ok((text, head.len()))
+    }
 }
 
-fn expect_readers<R: Abort + AllocGlobal + Threads + Wait + Sync>(
+// The text of these two parts.
+fn joined(alloc: Global, head: &[u8], trace: &[u8]) -> Option<Vec<u8>> {
+    let mut text = Vec::new(alloc);
+    put(&mut text, &[head, trace])?;
+    Some(text)
+}
+
+// The row's command over the fronts of this trace, whose third line is at fault or isn't.
+fn expect_trace<R: Abort + AllocGlobal + Threads + Wait + Sync>(
     rt: &R,
-    command: &Command,
-) -> Result<(), Fail>
-    requires { CanRun command.now }
-{
-    for (trace, is_bad) in [(OPPOSITE_ORDER, false), (BAD_THIRD, true)] {
-        let (text, head) = text_of(rt.alloc(), command, trace)?;
-        let text = text.as_slice();
-        expect_fronts(rt, command, &Sample { text, head, is_bad })?;
-    }
-    Ok(())
+    row: &Row,
+    trace: &[u8],
+    is_bad: bool,
+) {
+    let command = command_of(row.ask).expect(rt, row.name);
+    let head = head_of(&command);
+    let text = joined(rt.alloc(), head, trace).expect(rt, row.name);
+    let sample = Sample {
+        name: row.name,
+        text: text.as_slice(),
+        head: head.len(),
+        is_bad,
+    };
+    expect_fronts(rt, &command, &sample);
 }
 
 // The writer stops before what is printed is whole, and holds its first bytes.
 fn expect_full<R: Abort + AllocGlobal + Threads + Wait + Sync>(
     rt: &R,
     command: &Command,
-    text: &[u8],
+    once: &Try<'_>,
     printed: &[u8],
-    output: Narrow,
 )
-    requires runs { CanRun command.now }
-    requires room { output.room < length printed.now }
+    requires { CanRun command.now }
 {
-    let room = output.room;
-    let input = Gives {
-        rest: text,
-        after: After::End,
-    };
-    let (ended, output) = run(rt, command, input, TURNS, output);
-    match ended {
-        Ended::WriteFailed { written } => assert_eq!(rt; written, room),
-        other => assert!(rt; false, "room for {room}: {other:?}"),
-    }
-    assert_eq!(rt; output.held.as_slice(), &printed[..room], "room for {room}");
-    assert_eq!(rt; output.calls, room + 1, "room for {room}");
+    let (ended, output) = tried(rt, command, once);
+    let room = once.room;
+    assert!(rt;
+        is_failed(&ended, room)
+            && printed.get(..room) == Some(output.held.as_slice())
+            && output.calls == room.saturating_add(1),
+        "{}: room for {room}: {ended:?}, {} calls, {:?}",
+        once.name,
+        output.calls,
+        output.held.as_slice()
+    );
 }
 
-// The writer has room for all.
-fn expect_whole<R: Abort + AllocGlobal + Threads + Wait + Sync>(
+// The writer, with so much room, fails when it is full, or takes no byte.
+fn expect_room<R: Abort + AllocGlobal + Threads + Wait + Sync>(
     rt: &R,
     command: &Command,
-    text: &[u8],
-    wanted: &Wanted,
+    asked: &Try<'_>,
     room: usize,
+    printed: &[u8],
 )
     requires { CanRun command.now }
 {
-    let input = Gives {
-        rest: text,
-        after: After::End,
-    };
-    let output = with_room(rt.alloc(), room, true);
-    let (ended, output) = run(rt, command, input, TURNS, output);
-    expect_ended(rt, &ended, &output, wanted, "room for all");
+    for fails in [false, true] {
+        let once = Try {
+            room,
+            fails,
+            ..*asked
+        };
+        expect_full(rt, command, &once, printed);
+    }
 }
 
-fn expect_writers<R: Abort + AllocGlobal + Threads + Wait + Sync>(
+// The command over the text that is asked, into writers with each number of bytes of room.
+fn expect_rooms<R: Abort + AllocGlobal + Threads + Wait + Sync>(
     rt: &R,
     command: &Command,
-) -> Result<(), Fail>
+    asked: &Try<'_>,
+    wanted: &Wanted<'_>,
+)
     requires { CanRun command.now }
 {
-    let alloc = rt.alloc();
-    let (text, _head) = text_of(alloc, command, OPPOSITE_ORDER)?;
-    let text = text.as_slice();
-    let wanted = answered(alloc, command, OPPOSITE_ORDER)?;
-    let printed = wanted.printed.as_slice();
-    for room in 0..printed.len() {
-        expect_full(rt, command, text, printed, with_room(alloc, room, false));
-        expect_full(rt, command, text, printed, with_room(alloc, room, true));
+    let whole = wanted.printed.len();
+    for room in 0..whole {
+        expect_room(rt, command, asked, room, wanted.printed);
     }
-    expect_whole(rt, command, text, &wanted, printed.len());
-    expect_whole(rt, command, text, &wanted, 1_000);
-    Ok(())
-}
-
-fn prediction() -> Result<Command, Fail>
-    ensures { IfOk result CanRun }
-{
-    Ok(Command::Predict {
-        query: full()?,
-        form: Form::Text,
-    })
-}
-
-#[test]
-fn predict_from_readers(rt: HostRuntime) -> Result<(), Fail> {
-    expect_readers(&rt, &prediction()?)
-}
-
-#[test]
-fn predict_into_writers(rt: HostRuntime) -> Result<(), Fail> {
-    expect_writers(&rt, &prediction()?)
-}
-
-fn findings() -> Result<Command, Fail>
-    ensures { IfOk result CanRun }
-{
-    Ok(Command::Findings {
-        query: full()?,
-        form: Form::Text,
-    })
-}
-
-#[test]
-fn findings_from_readers(rt: HostRuntime) -> Result<(), Fail> {
-    expect_readers(&rt, &findings()?)
-}
-
-#[test]
-fn findings_into_writers(rt: HostRuntime) -> Result<(), Fail> {
-    expect_writers(&rt, &findings()?)
-}
-
-#[test]
-fn stats_from_readers(rt: HostRuntime) -> Result<(), Fail> {
-    expect_readers(&rt, &Command::Stats { query: full()? })
-}
-
-#[test]
-fn stats_into_writers(rt: HostRuntime) -> Result<(), Fail> {
-    expect_writers(&rt, &Command::Stats { query: full()? })
-}
-
-#[test]
-fn replay_from_readers(rt: HostRuntime) -> Result<(), Fail> {
-    expect_readers(&rt, &Command::Replay)
-}
-
-#[test]
-fn replay_into_writers(rt: HostRuntime) -> Result<(), Fail> {
-    expect_writers(&rt, &Command::Replay)
-}
-
-#[test]
-fn live_from_readers(rt: HostRuntime) -> Result<(), Fail> {
-    expect_readers(&rt, &Command::Live(session(full()?, 2, 2, 1)))
-}
-
-#[test]
-fn live_into_writers(rt: HostRuntime) -> Result<(), Fail> {
-    expect_writers(&rt, &Command::Live(session(full()?, 2, 2, 1)))
-}
-
-// A session that lists findings.
-fn listing_findings() -> Result<LiveOptions, Fail>
-    ensures { IfOk result AreOfSession }
-{
-    Ok(LiveOptions {
-        findings: true,
-        ..session(full()?, 2, 2, 1)
-    })
-}
-
-#[test]
-fn live_findings_from_readers(rt: HostRuntime) -> Result<(), Fail> {
-    expect_readers(&rt, &Command::Live(listing_findings()?))
-}
-
-// A session over a text as it comes.
-fn streaming() -> Result<LiveOptions, Fail>
-    ensures { IfOk result AreOfSession }
-{
-    Ok(LiveOptions {
-        stream: true,
-        threads: 4,
-        ..session(full()?, 2, 2, 1)
-    })
-}
-
-#[test]
-fn stream_from_readers(rt: HostRuntime) -> Result<(), Fail> {
-    expect_readers(&rt, &Command::Live(streaming()?))
-}
-
-#[test]
-fn stream_findings_from_readers(rt: HostRuntime) -> Result<(), Fail> {
-    let options = LiveOptions {
-        findings: true,
-        ..streaming()?
+    let fits = Try {
+        room: whole,
+        ..*asked
     };
-    expect_readers(&rt, &Command::Live(options))
+    expect_answer(rt, command, &fits, wanted);
+    let roomy = Try {
+        room: 1_000,
+        ..*asked
+    };
+    expect_answer(rt, command, &roomy, wanted);
 }
 
-#[test]
-fn stream_into_writers(rt: HostRuntime) -> Result<(), Fail> {
-    expect_writers(&rt, &Command::Live(streaming()?))
+// The row's command into writers.
+fn expect_writers<R: Abort + AllocGlobal + Threads + Wait + Sync>(rt: &R, row: &Row) {
+    let command = command_of(row.ask).expect(rt, row.name);
+    let text = joined(rt.alloc(), head_of(&command), OPPOSITE_ORDER).expect(rt, row.name);
+    let asked = Try {
+        name: row.name,
+        text: text.as_slice(),
+        after: After::End,
+        next: Next::End,
+        turns: TURNS,
+        room: 0,
+        fails: true,
+    };
+    let wanted = answered(&command, OPPOSITE_ORDER);
+    expect_rooms(rt, &command, &asked, &wanted);
 }
 
-#[test]
-fn check_from_readers(rt: HostRuntime) -> Result<(), Fail> {
-    expect_readers(&rt, &Command::Check)
+// A command that is tried.
+#[derive(Clone, Copy)]
+struct Row {
+    name: &'static str,
+    ask: Ask,
 }
 
+fn expect_readers<R: Abort + AllocGlobal + Threads + Wait + Sync>(rt: &R, rows: &[Row]) {
+    for row in rows {
+        expect_trace(rt, row, OPPOSITE_ORDER, false);
+        expect_trace(rt, row, BAD_THIRD, true);
+    }
+}
+
+// A test has a minute, so a few commands are tried at a time.
+const PREDICTED: &[Row] = &[
+    Row {
+        name: "predict_from_readers",
+        ask: PREDICTION,
+    },
+    Row {
+        name: "findings_from_readers",
+        ask: Ask::Findings,
+    },
+];
+
 #[test]
-fn check_into_writers(rt: HostRuntime) -> Result<(), Fail> {
-    expect_writers(&rt, &Command::Check)
+fn predictions_from_readers(rt: HostRuntime) {
+    expect_readers(&rt, PREDICTED);
+}
+
+const COUNTED: &[Row] = &[
+    Row {
+        name: "stats_from_readers",
+        ask: COUNTS,
+    },
+    Row {
+        name: "replay_from_readers",
+        ask: Ask::Replay,
+    },
+];
+
+#[test]
+fn counts_and_replays_from_readers(rt: HostRuntime) {
+    expect_readers(&rt, COUNTED);
+}
+
+const CHECKED: &[Row] = &[Row {
+    name: "check_from_readers",
+    ask: Ask::Check,
+}];
+
+#[test]
+fn checks_from_readers(rt: HostRuntime) {
+    expect_readers(&rt, CHECKED);
+}
+
+const LIVE: &[Row] = &[
+    Row {
+        name: "live_from_readers",
+        ask: Ask::Live(2, 2, 1),
+    },
+    Row {
+        name: "live_findings_from_readers",
+        ask: Ask::LiveFindings(2, 2, 1),
+    },
+];
+
+#[test]
+fn sessions_from_readers(rt: HostRuntime) {
+    expect_readers(&rt, LIVE);
+}
+
+const STREAMED: &[Row] = &[
+    Row {
+        name: "stream_from_readers",
+        ask: Ask::Stream(4, 2),
+    },
+    Row {
+        name: "stream_findings_from_readers",
+        ask: Ask::StreamFindings(4, 2),
+    },
+];
+
+#[test]
+fn streams_from_readers(rt: HostRuntime) {
+    expect_readers(&rt, STREAMED);
+}
+
+const INTO_WRITERS: &[Row] = &[
+    Row {
+        name: "predict_into_writers",
+        ask: PREDICTION,
+    },
+    Row {
+        name: "findings_into_writers",
+        ask: Ask::Findings,
+    },
+    Row {
+        name: "stats_into_writers",
+        ask: COUNTS,
+    },
+    Row {
+        name: "replay_into_writers",
+        ask: Ask::Replay,
+    },
+    Row {
+        name: "live_into_writers",
+        ask: Ask::Live(2, 2, 1),
+    },
+    Row {
+        name: "stream_into_writers",
+        ask: Ask::Stream(4, 2),
+    },
+    Row {
+        name: "check_into_writers",
+        ask: Ask::Check,
+    },
+];
+
+#[test]
+fn into_writers(rt: HostRuntime) {
+    for row in INTO_WRITERS {
+        expect_writers(&rt, row);
+    }
 }

@@ -1,7 +1,7 @@
 //! Sessions that list findings.
 ghost use Rattle.std.specs.Prelude.{◌≡◌, ◌≤◌};
 
-use super::{acquire, counts, reported};
+use super::{counts, reported};
 use crate::texts::unread_items;
 use gl_cycles::Report;
 use gl_event::{Event, Memory};
@@ -12,6 +12,8 @@ use gl_live::{
     LiveFault, SessionOptions, StreamFault, StreamOptions, live_listing, stream_listing,
 };
 use gl_shards::Open;
+use gl_worked::ops::Op::Acq;
+use gl_worked::ops::event_of;
 use std::alloc::Global;
 use std::process::Abort;
 use std::sync::Wait;
@@ -65,8 +67,8 @@ fn shows(report: &Report, edges: usize, wanted: &[&[usize]], more: bool) -> bool
 // of the first with each of the others makes a cycle, and all four are one finding, shown by the first.
 #[test]
 fn crossed_by_four_threads(rt: HostRuntime) -> Result<(), Fail> {
-    let one = [acquire(0, 0), acquire(1, 1)];
-    let other = [acquire(1, 2), acquire(0, 3)];
+    let one = [event_of(Acq(0, 0)), event_of(Acq(1, 1))];
+    let other = [event_of(Acq(1, 2)), event_of(Acq(0, 3))];
     let lists = lists_of(rt.alloc(), &[&one, &one, &other, &other])?;
     let report = reported(&rt, lists.as_slice(), 2, 3, 1, &Open);
     let report = report.expect(&rt, "the session is confirmed");
@@ -80,9 +82,9 @@ fn crossed_by_four_threads(rt: HostRuntime) -> Result<(), Fail> {
 // two findings, of which one is listed where no more are asked for.
 #[test]
 fn two_findings(rt: HostRuntime) -> Result<(), Fail> {
-    let one = [acquire(0, 0), acquire(1, 1)];
-    let second = [acquire(1, 2), acquire(0, 3)];
-    let third = [acquire(1, 4), acquire(0, 5)];
+    let one = [event_of(Acq(0, 0)), event_of(Acq(1, 1))];
+    let second = [event_of(Acq(1, 2)), event_of(Acq(0, 3))];
+    let third = [event_of(Acq(1, 4)), event_of(Acq(0, 5))];
     let lists = lists_of(rt.alloc(), &[&one, &one, &second, &third])?;
     let report = found(&rt, lists.as_slice(), 2).expect(&rt, "the session is confirmed");
     assert!(rt; shows(&report, 4, &[&[0, 2], &[0, 3]], false));
@@ -94,7 +96,7 @@ fn two_findings(rt: HostRuntime) -> Result<(), Fail> {
 // One edge is in no cycle: trimming takes it away, as a report of cycles says, and one of findings doesn't.
 #[test]
 fn no_finding(rt: HostRuntime) -> Result<(), Fail> {
-    let one = [acquire(0, 0), acquire(1, 1)];
+    let one = [event_of(Acq(0, 0)), event_of(Acq(1, 1))];
     let lists = lists_of(rt.alloc(), &[&one])?;
     let report = reported(&rt, lists.as_slice(), 2, 3, 1, &Open);
     let report = report.expect(&rt, "the session is confirmed");

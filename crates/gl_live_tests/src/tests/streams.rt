@@ -3,7 +3,7 @@ ghost use Rattle.std.specs.Prelude.{◌≡◌, ◌≤◌, None, false};
 ghost use Rattle.gl_event.specs.declared.limits.TheConstants.{MAX_RING, MAX_THREADS};
 ghost use Rattle.gl_shards.specs.declared.shard.TheConstants.{MAX_SHARDS};
 
-use super::{Meeting, acquire, counts, release, reported};
+use super::{Meeting, counts, reported};
 use crate::texts::unread_items;
 use gl_cycles::Report;
 use gl_event::{Event, Memory, Segment, ThreadId};
@@ -12,6 +12,8 @@ use gl_io::FromStd;
 use gl_live::{LiveFault, StreamFault, StreamOptions, stream_report};
 use gl_shards::{Gate, Open};
 use gl_std::{Failed, Items, LinesFault, Source, StdKind};
+use gl_worked::ops::Op::{Acq, Rel};
+use gl_worked::ops::event_of;
 use std::alloc::Global;
 use std::process::Abort;
 use std::sync::Wait;
@@ -24,8 +26,13 @@ const OPPOSITE_ORDER: &[u8] =
 
 // The events of that text.
 fn opposite_lists(alloc: Global) -> Result<Vec<Vec<Event>>, Memory> {
-    let first = vec![in alloc; acquire(0, 0), acquire(1, 1), release(1, 2), release(0, 3)]?;
-    let second = vec![in alloc; acquire(1, 4), acquire(0, 5)]?;
+    let first = vec![in alloc;
+        event_of(Acq(0, 0)),
+        event_of(Acq(1, 1)),
+        event_of(Rel(1, 2)),
+        event_of(Rel(0, 3)),
+    ]?;
+    let second = vec![in alloc; event_of(Acq(1, 4)), event_of(Acq(0, 5))]?;
     Ok(vec![in alloc; first, second]?)
 }
 

@@ -1,5 +1,4 @@
 //! The edges of lists of events, and the numbers of their guard sets.
-ghost use Rattle.std.specs.Prelude.{◌<◌, length};
 ghost use Rattle.gl_edges.specs.Numbered.{guards_in, AreNumbered};
 
 use crate::stepping::stepped;
@@ -7,20 +6,13 @@ use gl_edges::{Edge, EdgeList, Guard, GuardSets, Guards, Sample};
 use gl_event::{Event, LockId, LockMode, Memory, ThreadId};
 use gl_worked::known::lawful_edges;
 use gl_worked::lawful::is_lawful;
-use gl_worked::ops::Op::{self, Acq, Fork, Racq, Rel, Tryacq};
-use gl_worked::ops::{events_of, lists_of};
+use gl_worked::ops::Op::{Acq, Fork, Racq, Rel, Tryacq};
+use lists::Lists::{self, Parts, ThousandTurns, Told};
+use lists::{NEST, made};
 use std::alloc::Global;
 use std::process::Abort;
 
-mod long;
-
-// Lists of events, which have to be lawful, and their edges.
-#[derive(Clone, Copy)]
-struct Case {
-    name: &'static str,
-    lists: &'static [&'static [Op]],
-    wants: &'static [Want],
-}
+mod lists;
 
 // An edge and its sample, as they are wanted: the mode of the held lock and of all guards; the thread, the
 // held lock and the wanted one; the first and the last segment; the guards' locks; and the place, the held
@@ -28,25 +20,54 @@ struct Case {
 #[derive(Clone, Copy)]
 struct Want(LockMode, [u32; 3], (u32, u32), &'static [u32], [u32; 3]);
 
+// What is asked of the edges of lists, and the answer.
+#[derive(Clone, Copy)]
+enum Ask {
+    // they are these, and copies of them make the same list once more
+    Edges(&'static [Want]),
+    // there are so many
+    Count(usize),
+    // so many of them want the lock
+    CountTo(u32, usize),
+    // they are those of other lists, with the same samples
+    Same(Lists),
+    // of the first list, event by event, there are so many, and these are the last ones
+    Stepped(usize, &'static [Want]),
+    // the number of the guard set of the edge at a position
+    Number(usize, usize),
+    // whether the guard sets at two positions clash
+    Clash(usize, usize, bool),
+}
+
+use Ask::{Clash, Count, CountTo, Edges, Number, Same, Stepped};
+
+// Lists of events, which have to be lawful, and what is asked of their edges.
+#[derive(Clone, Copy)]
+struct Case {
+    name: &'static str,
+    lists: Lists,
+    asks: &'static [Ask],
+}
+
 const X: LockMode = LockMode::Exclusive;
 
 const CASES: &[Case] = &[
     // Two threads take two locks in opposite orders.
     Case {
         name: "opposite_order",
-        lists: &[
+        lists: Told(&[
             &[Acq(0, 1), Acq(1, 2), Rel(1, 3), Rel(0, 4)],
             &[Acq(1, 5), Acq(0, 6)],
-        ],
-        wants: &[
+        ]),
+        asks: &[Edges(&[
             Want(X, [0, 0, 1], (0, 0), &[0], [1, 1, 2]),
             Want(X, [1, 1, 0], (0, 0), &[1], [1, 5, 6]),
-        ],
+        ])],
     },
     // Both threads hold lock 0 while they take locks 1 and 2 in opposite orders.
     Case {
         name: "gate_lock",
-        lists: &[
+        lists: Told(&[
             &[
                 Acq(0, 1),
                 Acq(1, 2),
@@ -56,53 +77,53 @@ const CASES: &[Case] = &[
                 Rel(0, 6),
             ],
             &[Acq(0, 7), Acq(2, 8), Acq(1, 9)],
-        ],
-        wants: &[
+        ]),
+        asks: &[Edges(&[
             Want(X, [0, 0, 1], (0, 0), &[0], [1, 1, 2]),
             Want(X, [0, 0, 2], (0, 0), &[0, 1], [2, 1, 3]),
             Want(X, [0, 1, 2], (0, 0), &[0, 1], [2, 2, 3]),
             Want(X, [1, 0, 1], (0, 0), &[0, 2], [2, 7, 9]),
             Want(X, [1, 0, 2], (0, 0), &[0], [1, 7, 8]),
             Want(X, [1, 2, 1], (0, 0), &[0, 2], [2, 8, 9]),
-        ],
+        ])],
     },
     // A fork closes a segment while a lock is held.
     Case {
         name: "fork_while_holding",
-        lists: &[&[Acq(0, 1), Fork(1, 2), Acq(1, 3)], &[Acq(1, 4), Acq(0, 5)]],
-        wants: &[
+        lists: Told(&[&[Acq(0, 1), Fork(1, 2), Acq(1, 3)], &[Acq(1, 4), Acq(0, 5)]]),
+        asks: &[Edges(&[
             Want(X, [0, 0, 1], (0, 1), &[0], [2, 1, 3]),
             Want(X, [1, 1, 0], (0, 0), &[1], [1, 4, 5]),
-        ],
+        ])],
     },
     // A lock that is acquired twice and released once is still held, and was opened by the first acquire.
     Case {
         name: "reentrant_acquire",
-        lists: &[
+        lists: Told(&[
             &[Acq(0, 1), Acq(0, 2), Acq(1, 3), Rel(0, 4), Acq(2, 5)],
             &[Acq(2, 6), Acq(0, 7)],
-        ],
-        wants: &[
+        ]),
+        asks: &[Edges(&[
             Want(X, [0, 0, 1], (0, 0), &[0], [2, 1, 3]),
             Want(X, [0, 0, 2], (0, 0), &[0, 1], [4, 1, 5]),
             Want(X, [0, 1, 2], (0, 0), &[0, 1], [4, 3, 5]),
             Want(X, [1, 2, 0], (0, 0), &[2], [1, 6, 7]),
-        ],
+        ])],
     },
     // Locks that are not released in the opposite order of their acquires.
     Case {
         name: "crossed_releases",
-        lists: &[&[Acq(0, 1), Acq(1, 2), Rel(0, 3), Acq(2, 4)]],
-        wants: &[
+        lists: Told(&[&[Acq(0, 1), Acq(1, 2), Rel(0, 3), Acq(2, 4)]]),
+        asks: &[Edges(&[
             Want(X, [0, 0, 1], (0, 0), &[0], [1, 1, 2]),
             Want(X, [0, 1, 2], (0, 0), &[1], [3, 2, 4]),
-        ],
+        ])],
     },
     // The mode of a held lock is that of its outermost acquire, and edges of shared locks come after those
     // of exclusive ones.
     Case {
         name: "mode_orders_edges",
-        lists: &[&[
+        lists: Told(&[&[
             Racq(0, 1),
             Racq(0, 2),
             Acq(1, 3),
@@ -112,20 +133,105 @@ const CASES: &[Case] = &[
             Acq(0, 7),
             Racq(0, 8),
             Acq(1, 9),
-        ]],
-        wants: &[
+        ]]),
+        asks: &[Edges(&[
             Want(X, [0, 0, 1], (0, 0), &[0], [8, 7, 9]),
             Want(LockMode::Shared, [0, 0, 1], (0, 0), &[0], [2, 1, 3]),
-        ],
+        ])],
     },
     // A lock that is tried is held and a guard, but never wanted.
     Case {
         name: "tried_locks",
-        lists: &[&[Acq(0, 1), Tryacq(1, 2), Acq(2, 3)]],
-        wants: &[
+        lists: Told(&[&[Acq(0, 1), Tryacq(1, 2), Acq(2, 3)]]),
+        asks: &[Edges(&[
             Want(X, [0, 0, 2], (0, 0), &[0, 1], [2, 1, 3]),
             Want(X, [0, 1, 2], (0, 0), &[0, 1], [2, 2, 3]),
+        ])],
+    },
+    // Locks that are not released in the opposite order of their acquires, event by event.
+    Case {
+        name: "tracker_steps",
+        lists: Told(&[&[Acq(0, 1), Acq(1, 2), Rel(0, 3), Acq(2, 4)]]),
+        asks: &[Stepped(
+            2,
+            &[
+                Want(X, [0, 0, 1], (0, 0), &[0], [1, 1, 2]),
+                Want(X, [0, 1, 2], (0, 0), &[1], [3, 2, 4]),
+            ],
+        )],
+    },
+    // Two of four edges have one guard set; it clashes with the first one, and not with the last one.
+    Case {
+        name: "interned_guards",
+        lists: Told(&[
+            &[Acq(0, 1), Acq(0, 2), Acq(1, 3), Rel(0, 4), Acq(2, 5)],
+            &[Acq(2, 6), Acq(0, 7)],
+        ]),
+        asks: &[
+            Number(0, 0),
+            Number(1, 1),
+            Number(2, 1),
+            Number(3, 2),
+            Clash(0, 1, true),
+            Clash(1, 3, false),
         ],
+    },
+    // Locks that are taken one inside the other make the same edges with the same samples, however often
+    // it happens.
+    Case {
+        name: "repeated_nesting",
+        lists: Parts(&[(NEST, 3)]),
+        asks: &[Count(10), Same(Parts(&[(NEST, 1)]))],
+    },
+    // In another segment they make other edges.
+    Case {
+        name: "nesting_after_fork",
+        lists: Parts(&[(NEST, 1), (&[Fork(1, 3)], 1), (NEST, 1)]),
+        asks: &[Count(20)],
+    },
+    // Lock 3 is opened once more, in another segment than before: that makes one edge more to lock 4,
+    // while those from the locks that stayed held are there already.
+    Case {
+        name: "opened_again",
+        lists: Told(&[&[
+            Acq(0, 1),
+            Acq(1, 1),
+            Acq(2, 1),
+            Acq(3, 1),
+            Fork(1, 2),
+            Acq(4, 3),
+            Rel(4, 4),
+            Rel(3, 5),
+            Acq(3, 6),
+            Acq(4, 7),
+        ]]),
+        asks: &[CountTo(4, 5)],
+    },
+    // An edge that a thread makes a thousand times keeps its first sample.
+    Case {
+        name: "least_sample",
+        lists: ThousandTurns(&[&[Acq(1, 4_001), Acq(0, 4_002)]]),
+        asks: &[Edges(&[
+            Want(X, [0, 0, 1], (0, 0), &[0], [1, 1, 2]),
+            Want(X, [1, 1, 0], (0, 0), &[1], [1, 4_001, 4_002]),
+        ])],
+    },
+    // Lock 1 is taken inside lock 0 again and again, and then, at place 10,000, lock 3 inside the locks 0 and
+    // 2: a step there makes its edges as a first one does.
+    Case {
+        name: "ten_thousand_steps",
+        lists: Parts(&[
+            (&[Acq(0, 1)], 1),
+            (&[Acq(1, 2), Rel(1, 3)], 4_999),
+            (&[Acq(2, 4), Acq(3, 5)], 1),
+        ]),
+        asks: &[Stepped(
+            5_002,
+            &[
+                Want(X, [0, 0, 3], (0, 0), &[0, 2], [10_000, 1, 5]),
+                Want(X, [0, 2, 3], (0, 0), &[0, 2], [10_000, 4, 5]),
+            ],
+        )],
     },
 ];
 
@@ -185,12 +291,6 @@ fn are_as_wanted(pairs: &[(Edge, Sample)], wants: &[Want]) -> bool {
     true
 }
 
-// The edges of the lists of these events, which have to be lawful.
-fn found_in(alloc: Global, lists: &[&[Op]]) -> Option<EdgeList> {
-    let lists = lists_of(alloc, lists)?;
-    lawful_edges(alloc, &lists)
-}
-
 // The list, by copies of its edges.
 fn copied(alloc: Global, list: &EdgeList) -> Result<EdgeList, Memory> {
     let mut copies = EdgeList::new(alloc);
@@ -202,44 +302,131 @@ fn copied(alloc: Global, list: &EdgeList) -> Result<EdgeList, Memory> {
     Ok(copies)
 }
 
-// The edges are these, and copies of them make the same list once more.
-fn expect(rt: &impl Abort, alloc: Global, found: &EdgeList, case: &Case) {
-    assert!(rt; are_as_wanted(found.entries(), case.wants), "{}", case.name);
-    let copies = copied(alloc, found).ok().expect(rt, case.name);
-    assert!(rt;
-        are_as_wanted(copies.entries(), case.wants),
-        "copied {}",
-        case.name
-    );
-}
-
-#[test]
-fn edges_of_lists(rt: HostRuntime) {
-    for case in CASES {
-        let found = found_in(rt.alloc(), case.lists).expect(&rt, case.name);
-        expect(&rt, rt.alloc(), &found, case);
+// Whether the edges are these, and so are copies of them.
+fn has_edges(alloc: Global, edges: &EdgeList, wants: &[Want]) -> bool {
+    match copied(alloc, edges) {
+        Ok(copies) => {
+            are_as_wanted(edges.entries(), wants) && are_as_wanted(copies.entries(), wants)
+        }
+        Err(_) => false,
     }
 }
 
-// The edges of one thread's events, event by event, where they are lawful.
-fn stepped_edges(alloc: Global, list: &[Event]) -> Option<Vec<(Edge, Sample)>> {
+// How many of the edges want the lock.
+fn count_to(pairs: &[(Edge, Sample)], lock: u32) -> usize {
+    let mut count: usize = 0;
+    for pair in pairs {
+        if pair.0.wanted == LockId::new(lock) {
+            count = count.saturating_add(1);
+        }
+    }
+    count
+}
+
+// Whether two lists have the same edges with the same samples.
+fn are_equal(pairs: &[(Edge, Sample)], others: &[(Edge, Sample)]) -> bool {
+    if pairs.len() != others.len() {
+        return false;
+    }
+    for (pair, other) in pairs.iter().zip(others) {
+        if pair != other {
+            return false;
+        }
+    }
+    true
+}
+
+// Whether these are the edges of the lists.
+fn is_same(alloc: Global, edges: &EdgeList, lists: Lists) -> bool {
+    match edges_in(alloc, lists) {
+        Some(others) => are_equal(edges.entries(), others.entries()),
+        None => false,
+    }
+}
+
+// The edges of the first list, event by event, where it is lawful.
+fn stepped_edges(alloc: Global, lists: &[Vec<Event>]) -> Option<Vec<(Edge, Sample)>> {
+    let list = lists.first()?;
     if is_lawful(ThreadId::new(0), list) {
         return stepped(alloc, ThreadId::new(0), list).ok();
     }
     None
 }
 
-// Locks that are not released in the opposite order of their acquires, event by event.
+// Whether there are so many, and these are the last ones.
+fn ends_with(pairs: &[(Edge, Sample)], count: usize, wants: &[Want]) -> bool {
+    pairs.len() == count
+        && wants.len() <= count
+        && are_as_wanted(&pairs[count - wants.len()..], wants)
+}
+
+fn is_stepped(alloc: Global, lists: &[Vec<Event>], count: usize, wants: &[Want]) -> bool {
+    match stepped_edges(alloc, lists) {
+        Some(pairs) => ends_with(&pairs, count, wants),
+        None => false,
+    }
+}
+
+// The number of the guard set at a position.
+fn number_at(alloc: Global, edges: &EdgeList, position: usize) -> Option<usize> {
+    let sets = GuardSets::of(alloc, edges).ok()?;
+    if position >= edges.entries().len() {
+        return None;
+    }
+    Some(sets.id(position))
+}
+
+// Whether the guard sets at two positions clash.
+fn clash_of(edges: &EdgeList, sets: &GuardSets, i: usize, j: usize) -> Option<bool>
+    requires { AreNumbered (guards_in edges.now) sets.now }
+{
+    if i >= edges.entries().len() || j >= edges.entries().len() {
+        return None;
+    }
+    let one = sets.id(i);
+    let other = sets.id(j);
+    Some(sets.clash(one, other))
+}
+
+// The same, where there is memory for the guard sets.
+fn clash_at(alloc: Global, edges: &EdgeList, i: usize, j: usize) -> Option<bool> {
+    let sets = GuardSets::of(alloc, edges).ok()?;
+    clash_of(edges, &sets, i, j)
+}
+
+// Whether it is answered so.
+fn answers(alloc: Global, lists: &[Vec<Event>], edges: &EdgeList, ask: &Ask) -> bool {
+    match *ask {
+        Edges(wants) => has_edges(alloc, edges, wants),
+        Count(count) => edges.entries().len() == count,
+        CountTo(lock, count) => count_to(edges.entries(), lock) == count,
+        Same(lists) => is_same(alloc, edges, lists),
+        Stepped(count, wants) => is_stepped(alloc, lists, count, wants),
+        Number(position, number) => number_at(alloc, edges, position) == Some(number),
+        Clash(i, j, wanted) => clash_at(alloc, edges, i, j) == Some(wanted),
+    }
+}
+
+// The edges of the lists.
+fn edges_in(alloc: Global, lists: Lists) -> Option<EdgeList> {
+    let lists = made(alloc, lists)?;
+    lawful_edges(alloc, &lists)
+}
+
+// Each that is asked is answered as it is wanted.
+fn expect(rt: &impl Abort, alloc: Global, lists: &[Vec<Event>], case: &Case) {
+    let edges = lawful_edges(alloc, lists).expect(rt, case.name);
+    for (at, ask) in case.asks.iter().enumerate() {
+        assert!(rt; answers(alloc, lists, &edges, ask), "{}: {at}", case.name);
+    }
+}
+
 #[test]
-fn tracker_steps(rt: HostRuntime) {
-    let ops = [Acq(0, 1), Acq(1, 2), Rel(0, 3), Acq(2, 4)];
-    let list = events_of(rt.alloc(), &ops).expect(&rt, "events");
-    let found = stepped_edges(rt.alloc(), &list).expect(&rt, "edges");
-    let wants = [
-        Want(X, [0, 0, 1], (0, 0), &[0], [1, 1, 2]),
-        Want(X, [0, 1, 2], (0, 0), &[1], [3, 2, 4]),
-    ];
-    assert!(rt; are_as_wanted(&found, &wants));
+fn edges_of_lists(rt: HostRuntime) {
+    for case in CASES {
+        let lists = made(rt.alloc(), case.lists).expect(&rt, case.name);
+        expect(&rt, rt.alloc(), &lists, case);
+    }
 }
 
 // The guards of these locks and modes.
@@ -258,67 +445,5 @@ fn guards_of_locks(rt: HostRuntime) {
     let locks = [(3, shared), (1, X), (3, X), (3, shared)];
     let guards = guards_of(rt.alloc(), &locks).expect(&rt, "guards");
     let wanted = [guard(1, X), guard(3, X), guard(3, shared)];
-    assert_eq!(rt;
-        Guards::new(guards).into_vec().as_slice(),
-        wanted.as_slice()
-    );
-}
-
-// The number of the guard set at a position.
-fn id_at(edges: &EdgeList, sets: &GuardSets, position: usize) -> Option<usize>
-    requires { AreNumbered (guards_in edges.now) sets.now }
-{
-    if position >= edges.entries().len() {
-        return None;
-    }
-    Some(sets.id(position))
-}
-
-// Whether the guard sets at two positions clash.
-fn clash_at(edges: &EdgeList, sets: &GuardSets, i: usize, j: usize) -> Option<bool>
-    requires { AreNumbered (guards_in edges.now) sets.now }
-{
-    if i >= edges.entries().len() || j >= edges.entries().len() {
-        return None;
-    }
-    let one = sets.id(i);
-    let other = sets.id(j);
-    Some(sets.clash(one, other))
-}
-
-// The numbers of the first four guard sets.
-fn first_ids(edges: &EdgeList, sets: &GuardSets) -> [Option<usize>; 4]
-    requires { AreNumbered (guards_in edges.now) sets.now }
-{
-    [
-        id_at(edges, sets, 0),
-        id_at(edges, sets, 1),
-        id_at(edges, sets, 2),
-        id_at(edges, sets, 3),
-    ]
-}
-
-// Whether the sets of the first edge and the second clash, and those of the second and the fourth.
-fn clashes(edges: &EdgeList, sets: &GuardSets) -> [Option<bool>; 2]
-    requires { AreNumbered (guards_in edges.now) sets.now }
-{
-    [clash_at(edges, sets, 0, 1), clash_at(edges, sets, 1, 3)]
-}
-
-// Two of four edges have one guard set; it clashes with the first one, and not with the last one.
-fn expect_interned(rt: &impl Abort, alloc: Global, edges: &EdgeList) {
-    let sets = GuardSets::of(alloc, edges).ok().expect(rt, "memory");
-    assert_eq!(rt;
-        first_ids(edges, &sets),
-        [Some(0), Some(1), Some(1), Some(2)]
-    );
-    assert_eq!(rt; clashes(edges, &sets), [Some(true), Some(false)]);
-}
-
-#[test]
-fn interned_guards(rt: HostRuntime) {
-    let first = [Acq(0, 1), Acq(0, 2), Acq(1, 3), Rel(0, 4), Acq(2, 5)];
-    let second = [Acq(2, 6), Acq(0, 7)];
-    let edges = found_in(rt.alloc(), &[&first, &second]).expect(&rt, "edges");
-    expect_interned(&rt, rt.alloc(), &edges);
+    assert!(rt; Guards::new(guards).into_vec().as_slice() == wanted.as_slice());
 }

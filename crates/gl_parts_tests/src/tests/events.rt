@@ -2,27 +2,24 @@
 use gl_event::{BadLimits, Held, HeldFault, Limits, LocId, LockId, LockMode, MAX_DEPTH, NotHeld};
 use std::process::Abort;
 
-#[test]
-fn limits_refused(rt: HostRuntime) {
-    for (threads, ring, events, names, want) in [
-        (0, 0, 1, 1, BadLimits::Threads),
-        (1_025, 1, 1, 1, BadLimits::Threads),
-        (1, 65_537, 0, 1, BadLimits::Ring),
-        (1, 1, 0, 0, BadLimits::Events),
-        (1, 1, 4_000_000_001, 1, BadLimits::Events),
-        (1, 1, 1, 0, BadLimits::Names),
-    ] {
-        assert!(rt;
-            Limits::new(threads, ring, events, names).err() == Some(want),
-            "{want:?}"
-        );
-    }
-}
+// Numbers of threads, of notes in a ring, of events and of names, and what their limits are, or why there are
+// none.
+const LIMITS: &[([u32; 4], Result<[u32; 4], BadLimits>)] = &[
+    ([0, 0, 1, 1], Err(BadLimits::Threads)),
+    ([1_025, 1, 1, 1], Err(BadLimits::Threads)),
+    ([1, 65_537, 0, 1], Err(BadLimits::Ring)),
+    ([1, 1, 0, 0], Err(BadLimits::Events)),
+    ([1, 1, 4_000_000_001, 1], Err(BadLimits::Events)),
+    ([1, 1, 1, 0], Err(BadLimits::Names)),
+    (
+        [1_024, 65_536, 4_000_000_000, 7],
+        Ok([1_024, 65_536, 4_000_000_000, 7]),
+    ),
+];
 
-// What the limits of these numbers are: of threads, of notes in a ring, of events and of names.
-fn kept(threads: u32, ring: u32, events: u32, names: u32) -> Option<[u32; 4]> {
-    let limits = Limits::new(threads, ring, events, names).ok()?;
-    Some([
+fn limits_of(numbers: [u32; 4]) -> Result<[u32; 4], BadLimits> {
+    let limits = Limits::new(numbers[0], numbers[1], numbers[2], numbers[3])?;
+    Ok([
         limits.threads(),
         limits.ring(),
         limits.events(),
@@ -31,9 +28,10 @@ fn kept(threads: u32, ring: u32, events: u32, names: u32) -> Option<[u32; 4]> {
 }
 
 #[test]
-fn limits_kept(rt: HostRuntime) {
-    let wanted = [1_024, 65_536, 4_000_000_000, 7];
-    assert!(rt; kept(1_024, 65_536, 4_000_000_000, 7) == Some(wanted));
+fn limits_at_their_bounds(rt: HostRuntime) {
+    for (numbers, wanted) in LIMITS {
+        assert!(rt; limits_of(*numbers) == *wanted, "{numbers:?}");
+    }
 }
 
 // A call, and its answer.

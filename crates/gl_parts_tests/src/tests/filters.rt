@@ -1,103 +1,128 @@
 //! Queries, and what edges go on from each other in a cycle.
-ghost use Rattle.gl_edges.specs.Numbered.{guards_in, AreNumbered};
-
 use gl_edges::{Edge, GuardSets};
 use gl_event::LockId;
 use gl_filters::{
     BadQuery, MAX_CYCLES, MAX_LEN, Mode, Query, Verdict, compatible, compatible_at, goes_with,
     judge,
 };
-use gl_segments::Order;
 use gl_worked::known::{Known, known_in};
 use gl_worked::ops::Op::{self, Acq, Fork, Join};
 use std::alloc::Global;
 use std::process::Abort;
 
-// What the query for these is: its mode, and its most edges and most cycles.
-fn asked(mode: Mode, len: u32, max: u32) -> Result<(Mode, u32, u32), BadQuery> {
-    match Query::new(mode, len, max) {
-        Ok(query) => Ok((query.mode(), query.len(), query.max())),
-        Err(fault) => Err(fault),
-    }
+// What a query is for: its mode, and its most edges and most cycles.
+type For = (Mode, u32, u32);
+
+// What queries are asked for, and what they are then, or why there are none. The length is looked at before the
+// number of cycles.
+const QUERIES: &[(For, Result<For, BadQuery>)] = &[
+    ((Mode::Basic, 1, 0), Err(BadQuery::Len)),
+    ((Mode::Basic, 2, 0), Err(BadQuery::Max)),
+    ((Mode::Full, 17, 1), Err(BadQuery::Len)),
+    ((Mode::Full, 16, 100_001), Err(BadQuery::Max)),
+    ((Mode::Basic, 2, 1), Ok((Mode::Basic, 2, 1))),
+    (
+        (Mode::Guarded, MAX_LEN, MAX_CYCLES),
+        Ok((Mode::Guarded, 16, 100_000)),
+    ),
+];
+
+fn query_of(asked: For) -> Result<For, BadQuery> {
+    let query = Query::new(asked.0, asked.1, asked.2)?;
+    Ok((query.mode(), query.len(), query.max()))
 }
 
-// Whether these are the same answer.
-fn are_same(
-    found: Result<(Mode, u32, u32), BadQuery>,
-    wanted: Result<(Mode, u32, u32), BadQuery>,
-) -> bool {
-    match (found, wanted) {
-        (Ok(found), Ok(wanted)) => found == wanted,
-        (Err(found), Err(wanted)) => found == wanted,
-        _ => false,
-    }
-}
-
-// The length is looked at before the number of cycles.
 #[test]
-fn query_refused(rt: HostRuntime) {
-    for (mode, len, max, wanted) in [
-        (Mode::Basic, 1, 0, Err(BadQuery::Len)),
-        (Mode::Basic, 2, 0, Err(BadQuery::Max)),
-        (Mode::Full, 17, 1, Err(BadQuery::Len)),
-        (Mode::Full, 16, 100_001, Err(BadQuery::Max)),
-        (Mode::Basic, 2, 1, Ok((Mode::Basic, 2, 1))),
-        (
-            Mode::Guarded,
-            MAX_LEN,
-            MAX_CYCLES,
-            Ok((Mode::Guarded, 16, 100_000)),
-        ),
-    ] {
-        assert!(rt;
-            are_same(asked(mode, len, max), wanted),
-            "{mode:?} {len} {max}"
-        );
+fn queries(rt: HostRuntime) {
+    for (asked, wanted) in QUERIES {
+        assert!(rt; query_of(*asked) == *wanted, "{asked:?}");
     }
 }
 
-// Whether the query for these is the same as the one for mode Full, 4 edges and 9 cycles.
-fn is_first(mode: Mode, len: u32, max: u32) -> bool {
-    match (Query::new(Mode::Full, 4, 9), Query::new(mode, len, max)) {
-        (Ok(first), Ok(other)) => first == other,
+const FIRST_QUERY: For = (Mode::Full, 4, 9);
+
+// What queries are asked for, and whether they are the same as the first one: only where all three parts are.
+const SAME_QUERIES: &[(For, bool)] = &[
+    ((Mode::Full, 4, 9), true),
+    ((Mode::Guarded, 4, 9), false),
+    ((Mode::Full, 5, 9), false),
+    ((Mode::Full, 4, 8), false),
+];
+
+fn are_same_queries(one: For, other: For) -> bool {
+    match (
+        Query::new(one.0, one.1, one.2),
+        Query::new(other.0, other.1, other.2),
+    ) {
+        (Ok(one), Ok(other)) => one == other,
         _ => false,
     }
 }
 
-// Queries are the same only where all three of their parts are.
 #[test]
 fn queries_differ(rt: HostRuntime) {
-    for (mode, len, max, wanted) in [
-        (Mode::Full, 4, 9, true),
-        (Mode::Guarded, 4, 9, false),
-        (Mode::Full, 5, 9, false),
-        (Mode::Full, 4, 8, false),
-    ] {
-        assert!(rt; is_first(mode, len, max) == wanted, "{mode:?} {len} {max}");
+    for (asked, wanted) in SAME_QUERIES {
+        assert!(rt;
+            are_same_queries(FIRST_QUERY, *asked) == *wanted,
+            "{asked:?}"
+        );
     }
 }
 
 // Each mode asks more than the one before.
 #[test]
 fn modes_ascend(rt: HostRuntime) {
-    assert!(rt; Mode::Basic < Mode::Guarded);
-    assert!(rt; Mode::Guarded < Mode::Full);
-    assert!(rt; Mode::Basic != Mode::Full);
+    assert!(rt;
+        Mode::Basic < Mode::Guarded && Mode::Guarded < Mode::Full && Mode::Basic != Mode::Full
+    );
 }
 
-// Verdicts are the same only where the fault and its places are.
+// A verdict, as constants tell it.
+#[derive(Clone, Copy)]
+enum Says {
+    TooShort,
+    TooLong,
+    NotClosed(usize),
+    SameLock(usize, usize),
+    SameThread(usize, usize),
+    NotLeast(usize),
+    SharedGuard(usize, usize, u32),
+    Ordered(usize, usize),
+    Valid,
+}
+
+use Says::{
+    NotClosed, NotLeast, Ordered, SameLock, SameThread, SharedGuard, TooLong, TooShort, Valid,
+};
+
+fn verdict(says: Says) -> Verdict {
+    match says {
+        TooShort => Verdict::TooShort,
+        TooLong => Verdict::TooLong,
+        NotClosed(place) => Verdict::NotClosed(place),
+        SameLock(one, other) => Verdict::SameLock(one, other),
+        SameThread(one, other) => Verdict::SameThread(one, other),
+        NotLeast(place) => Verdict::NotLeast(place),
+        SharedGuard(one, other, lock) => Verdict::SharedGuard(one, other, LockId::new(lock)),
+        Ordered(one, other) => Verdict::Ordered(one, other),
+        Valid => Verdict::Valid,
+    }
+}
+
+// Verdicts, and whether they are the same: only where the fault and its places are.
+const VERDICTS: &[(Says, Says, bool)] = &[
+    (SharedGuard(0, 1, 5), SharedGuard(0, 1, 5), true),
+    (SharedGuard(0, 1, 5), SharedGuard(0, 1, 6), false),
+    (SameLock(0, 1), SameThread(0, 1), false),
+    (Ordered(0, 1), Ordered(0, 2), false),
+    (NotClosed(1), NotLeast(1), false),
+    (TooShort, Valid, false),
+];
+
 #[test]
 fn verdicts_differ(rt: HostRuntime) {
-    let guard = |lock| Verdict::SharedGuard(0, 1, LockId::new(lock));
-    assert!(rt; guard(5) == guard(5));
-    assert!(rt; guard(5) != guard(6));
-    for (one, other) in [
-        (Verdict::SameLock(0, 1), Verdict::SameThread(0, 1)),
-        (Verdict::Ordered(0, 1), Verdict::Ordered(0, 2)),
-        (Verdict::NotClosed(1), Verdict::NotLeast(1)),
-        (Verdict::TooShort, Verdict::Valid),
-    ] {
-        assert!(rt; one != other, "{one:?} {other:?}");
+    for (at, (one, other, wanted)) in VERDICTS.iter().enumerate() {
+        assert!(rt; (verdict(*one) == verdict(*other)) == *wanted, "row {at}");
     }
 }
 
@@ -122,58 +147,115 @@ const FOUR_EDGES: &[&[Op]] = &[
     &[Acq(2, 5), Acq(0, 6)],
 ];
 
-// So many edges, which go on from each other, or don't: the mode, the positions, and whether.
+// What is asked of the edges of lists, by their positions, and the answer.
 #[derive(Clone, Copy)]
-struct Pairs {
-    name: &'static str,
-    lists: &'static [&'static [Op]],
-    count: usize,
-    follow: &'static [(Mode, usize, usize, bool)],
-    go: &'static [(Mode, usize, usize, bool)],
+enum Ask {
+    // there are so many edges
+    Count(usize),
+    // whether the second one may follow the first one in the mode
+    Follow(Mode, usize, usize, bool),
+    // the same, by the numbers of their guard sets
+    FollowByNumber(Mode, usize, usize, bool),
+    // whether the two can be in one cycle
+    Go(Mode, usize, usize, bool),
+    // the verdict on these edges, where a cycle of the mode has at most so many
+    Judge(Mode, u32, &'static [usize], Says),
 }
 
-const PAIRS: &[Pairs] = &[
+use Ask::{Count, Follow, FollowByNumber, Go, Judge};
+
+#[derive(Clone, Copy)]
+struct Case {
+    name: &'static str,
+    lists: &'static [&'static [Op]],
+    asks: &'static [Ask],
+}
+
+const CASES: &[Case] = &[
     // Two edges go on from each other until the order of segments is looked at.
-    Pairs {
+    Case {
         name: "ordered",
         lists: ORDERED,
-        count: 2,
-        follow: &[
-            (Mode::Basic, 0, 1, true),
-            (Mode::Guarded, 0, 1, true),
-            (Mode::Guarded, 1, 0, true),
-            (Mode::Full, 0, 1, false),
-            (Mode::Full, 1, 0, false),
+        asks: &[
+            Count(2),
+            Follow(Mode::Basic, 0, 1, true),
+            Follow(Mode::Guarded, 0, 1, true),
+            Follow(Mode::Guarded, 1, 0, true),
+            Follow(Mode::Full, 0, 1, false),
+            Follow(Mode::Full, 1, 0, false),
+            Go(Mode::Guarded, 0, 1, true),
+            Go(Mode::Full, 0, 1, false),
         ],
-        go: &[(Mode::Guarded, 0, 1, true), (Mode::Full, 0, 1, false)],
     },
     // Two edges go on from each other until guards are looked at. The edges 4 and 5 are of one thread,
     // and 2 leads on to no edge from lock 0, as 4 is.
-    Pairs {
+    Case {
         name: "gate_lock",
         lists: GATE_LOCK,
-        count: 6,
-        follow: &[
-            (Mode::Basic, 2, 5, true),
-            (Mode::Basic, 5, 2, true),
-            (Mode::Guarded, 2, 5, false),
-            (Mode::Full, 2, 5, false),
-            (Mode::Basic, 4, 5, false),
-            (Mode::Basic, 2, 4, false),
+        asks: &[
+            Count(6),
+            Follow(Mode::Basic, 2, 5, true),
+            Follow(Mode::Basic, 5, 2, true),
+            Follow(Mode::Guarded, 2, 5, false),
+            Follow(Mode::Full, 2, 5, false),
+            Follow(Mode::Basic, 4, 5, false),
+            Follow(Mode::Basic, 2, 4, false),
+            Go(Mode::Basic, 2, 4, true),
+            Go(Mode::Basic, 4, 5, false),
         ],
-        go: &[(Mode::Basic, 2, 4, true), (Mode::Basic, 4, 5, false)],
+    },
+    Case {
+        name: "compatible_by_position",
+        lists: FOUR_EDGES,
+        asks: &[
+            FollowByNumber(Mode::Full, 1, 3, true),
+            FollowByNumber(Mode::Full, 2, 3, true),
+            FollowByNumber(Mode::Full, 3, 0, true),
+            FollowByNumber(Mode::Full, 3, 2, false),
+            FollowByNumber(Mode::Basic, 0, 2, false),
+        ],
+    },
+    // By position too a gate lock keeps two edges apart from Guarded on.
+    Case {
+        name: "gate_lock_by_position",
+        lists: GATE_LOCK,
+        asks: &[
+            FollowByNumber(Mode::Basic, 2, 5, true),
+            FollowByNumber(Mode::Guarded, 2, 5, false),
+        ],
+    },
+    Case {
+        name: "ordered_or_shared_guard",
+        lists: ORDERED,
+        asks: &[
+            Judge(Mode::Full, 4, &[0, 1], Ordered(0, 1)),
+            Judge(Mode::Guarded, 4, &[0, 1], Valid),
+        ],
+    },
+    Case {
+        name: "gate_lock_judged",
+        lists: GATE_LOCK,
+        asks: &[
+            Judge(Mode::Guarded, 4, &[2, 5], SharedGuard(0, 1, 0)),
+            Judge(Mode::Basic, 4, &[2, 5], Valid),
+        ],
+    },
+    Case {
+        name: "judge_by_cases",
+        lists: FOUR_EDGES,
+        asks: &[
+            Judge(Mode::Full, 4, &[], TooShort),
+            Judge(Mode::Full, 4, &[1], TooShort),
+            Judge(Mode::Full, 4, &[0, 3], NotClosed(0)),
+            Judge(Mode::Full, 4, &[2, 3], NotClosed(1)),
+            Judge(Mode::Full, 4, &[1, 3, 1, 3], SameLock(0, 2)),
+            Judge(Mode::Full, 4, &[0, 2, 3], SameThread(0, 1)),
+            Judge(Mode::Full, 4, &[3, 1], NotLeast(1)),
+            Judge(Mode::Full, 4, &[1, 3], Valid),
+            Judge(Mode::Full, 2, &[0, 2, 3], TooLong),
+        ],
     },
 ];
-
-// Whether the edge at the second position may follow the one at the first.
-fn follows(order: &Order, edges: (&Edge, &Edge), mode: Mode) -> bool {
-    compatible(mode, order, edges.0, edges.1)
-}
-
-// Whether the two can be in one cycle.
-fn goes(order: &Order, edges: (&Edge, &Edge), mode: Mode) -> bool {
-    goes_with(mode, order, edges.0, edges.1)
-}
 
 // The edges at two positions.
 fn two_edges(known: &Known, i: usize, j: usize) -> Option<(&Edge, &Edge)> {
@@ -184,137 +266,60 @@ fn two_edges(known: &Known, i: usize, j: usize) -> Option<(&Edge, &Edge)> {
     }
 }
 
-// Each two edges of these lists may follow, or be in one cycle, as it is wanted.
-fn expect_pairs(rt: &impl Abort, known: &Known, case: &Pairs) {
-    assert!(rt; known.edges.entries().len() == case.count, "{}", case.name);
-    for (at, (mode, i, j, wanted)) in case.follow.iter().enumerate() {
-        let edges = two_edges(known, *i, *j).expect(rt, case.name);
-        assert!(rt;
-            follows(&known.order, edges, *mode) == *wanted,
-            "{}: follow {at}",
-            case.name
-        );
-    }
-    for (at, (mode, i, j, wanted)) in case.go.iter().enumerate() {
-        let edges = two_edges(known, *i, *j).expect(rt, case.name);
-        assert!(rt;
-            goes(&known.order, edges, *mode) == *wanted,
-            "{}: go {at}",
-            case.name
-        );
-    }
+fn follows(known: &Known, mode: Mode, i: usize, j: usize) -> Option<bool> {
+    let (one, other) = two_edges(known, i, j)?;
+    Some(compatible(mode, &known.order, one, other))
 }
 
-#[test]
-fn pairs_of_edges(rt: HostRuntime) {
-    for case in PAIRS {
-        let known = known_in(rt.alloc(), case.lists).expect(&rt, case.name);
-        expect_pairs(&rt, &known, case);
-    }
+fn goes(known: &Known, mode: Mode, i: usize, j: usize) -> Option<bool> {
+    let (one, other) = two_edges(known, i, j)?;
+    Some(goes_with(mode, &known.order, one, other))
 }
 
-// Whether the edge at the second position may follow the one at the first.
-fn may_follow(known: &Known, sets: &GuardSets, mode: Mode, i: usize, j: usize) -> Option<bool>
-    requires { AreNumbered (guards_in known.now.edges) sets.now }
-{
+fn follows_by_number(alloc: Global, known: &Known, mode: Mode, i: usize, j: usize) -> Option<bool> {
     let count = known.edges.entries().len();
     if i >= count || j >= count {
         return None;
     }
-    Some(compatible_at(mode, &known.order, &known.edges, sets, i, j))
+    let sets = GuardSets::of(alloc, &known.edges).ok()?;
+    Some(compatible_at(mode, &known.order, &known.edges, &sets, i, j))
 }
 
-// Each edge at a position may follow another, or not, as it is wanted.
-fn expect_by_position(
-    rt: &impl Abort,
-    alloc: Global,
-    lists: &[&[Op]],
-    wanted: &[(Mode, usize, usize, bool)],
-) {
-    let known = known_in(alloc, lists).expect(rt, "known lists");
-    let sets = GuardSets::of(alloc, &known.edges).ok().expect(rt, "memory");
-    for (mode, i, j, want) in wanted {
-        assert_eq!(rt;
-            may_follow(&known, &sets, *mode, *i, *j),
-            Some(*want),
-            "{mode:?} {i} {j}"
-        );
-    }
-}
-
-#[test]
-fn compatible_by_position(rt: HostRuntime) {
-    let wanted = [
-        (Mode::Full, 1, 3, true),
-        (Mode::Full, 2, 3, true),
-        (Mode::Full, 3, 0, true),
-        (Mode::Full, 3, 2, false),
-        (Mode::Basic, 0, 2, false),
-    ];
-    expect_by_position(&rt, rt.alloc(), FOUR_EDGES, &wanted);
-}
-
-// By position too a gate lock keeps two edges apart from Guarded on.
-#[test]
-fn gate_lock_by_position(rt: HostRuntime) {
-    let wanted = [(Mode::Basic, 2, 5, true), (Mode::Guarded, 2, 5, false)];
-    expect_by_position(&rt, rt.alloc(), GATE_LOCK, &wanted);
-}
-
-// Whether the verdict on the edges at these positions is this one.
-fn is_judged(known: &Known, query: &Query, cycle: &[usize], wanted: Verdict) -> bool {
+fn verdict_on(known: &Known, mode: Mode, len: u32, cycle: &[usize]) -> Option<Verdict> {
+    let query = Query::new(mode, len, 1).ok()?;
     let count = known.edges.entries().len();
     if !cycle.iter().all(|position| *position < count) {
-        return false;
+        return None;
     }
-    judge(query, &known.order, &known.edges, cycle) == wanted
+    Some(judge(&query, &known.order, &known.edges, cycle))
 }
 
-// The verdicts on the edges at these positions, where a cycle of the mode has at most so many.
-fn expect_verdicts(rt: &impl Abort, known: &Known, cases: &[(Mode, u32, &[usize], Verdict)]) {
-    for (mode, len, cycle, wanted) in cases {
-        let query = Query::new(*mode, *len, 1).ok().expect(rt, "a query");
-        assert!(rt;
-            is_judged(known, &query, cycle, *wanted),
-            "{mode:?} {wanted:?}"
-        );
+// Whether it is answered so.
+fn answers(alloc: Global, known: &Known, ask: &Ask) -> bool {
+    match *ask {
+        Count(wanted) => known.edges.entries().len() == wanted,
+        Follow(mode, i, j, wanted) => follows(known, mode, i, j) == Some(wanted),
+        FollowByNumber(mode, i, j, wanted) => {
+            follows_by_number(alloc, known, mode, i, j) == Some(wanted)
+        }
+        Go(mode, i, j, wanted) => goes(known, mode, i, j) == Some(wanted),
+        Judge(mode, len, cycle, says) => {
+            verdict_on(known, mode, len, cycle) == Some(verdict(says))
+        }
+    }
+}
+
+// Each that is asked is answered as it is wanted.
+fn expect(rt: &impl Abort, alloc: Global, known: &Known, case: &Case) {
+    for (at, ask) in case.asks.iter().enumerate() {
+        assert!(rt; answers(alloc, known, ask), "{}: {at}", case.name);
     }
 }
 
 #[test]
-fn ordered_or_shared_guard(rt: HostRuntime) {
-    let known = known_in(rt.alloc(), ORDERED).expect(&rt, "known lists");
-    let cases: [(Mode, u32, &[usize], Verdict); 2] = [
-        (Mode::Full, 4, &[0, 1], Verdict::Ordered(0, 1)),
-        (Mode::Guarded, 4, &[0, 1], Verdict::Valid),
-    ];
-    expect_verdicts(&rt, &known, &cases);
-}
-
-#[test]
-fn gate_lock(rt: HostRuntime) {
-    let known = known_in(rt.alloc(), GATE_LOCK).expect(&rt, "known lists");
-    let gate = Verdict::SharedGuard(0, 1, LockId::new(0));
-    let cases: [(Mode, u32, &[usize], Verdict); 2] = [
-        (Mode::Guarded, 4, &[2, 5], gate),
-        (Mode::Basic, 4, &[2, 5], Verdict::Valid),
-    ];
-    expect_verdicts(&rt, &known, &cases);
-}
-
-#[test]
-fn judge_by_cases(rt: HostRuntime) {
-    let known = known_in(rt.alloc(), FOUR_EDGES).expect(&rt, "known lists");
-    let cases: [(Mode, u32, &[usize], Verdict); 9] = [
-        (Mode::Full, 4, &[], Verdict::TooShort),
-        (Mode::Full, 4, &[1], Verdict::TooShort),
-        (Mode::Full, 4, &[0, 3], Verdict::NotClosed(0)),
-        (Mode::Full, 4, &[2, 3], Verdict::NotClosed(1)),
-        (Mode::Full, 4, &[1, 3, 1, 3], Verdict::SameLock(0, 2)),
-        (Mode::Full, 4, &[0, 2, 3], Verdict::SameThread(0, 1)),
-        (Mode::Full, 4, &[3, 1], Verdict::NotLeast(1)),
-        (Mode::Full, 4, &[1, 3], Verdict::Valid),
-        (Mode::Full, 2, &[0, 2, 3], Verdict::TooLong),
-    ];
-    expect_verdicts(&rt, &known, &cases);
+fn edges_by_position(rt: HostRuntime) {
+    for case in CASES {
+        let known = known_in(rt.alloc(), case.lists).expect(&rt, case.name);
+        expect(&rt, rt.alloc(), &known, case);
+    }
 }

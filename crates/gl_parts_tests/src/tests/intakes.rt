@@ -1,33 +1,12 @@
 //! What an intake answers, note by note.
-ghost use Rattle.std.specs.Prelude.{◌≡◌, ◌<◌, IfSome};
-
-use gl_event::{Body, Event, Limits, Note, Refusal, ThreadId};
-use gl_intake::{Accepted, Intake, Refused};
+use crate::collecting::{Collecting, intake_of};
+use gl_event::{Event, Refusal, ThreadId};
+use gl_intake::{Accepted, Refused};
+use gl_worked::notes::Told::{self, Ended, Happened};
+use gl_worked::notes::{are_notes, note_of};
 use gl_worked::ops::Op::{self, Acq, Rel};
-use gl_worked::ops::event_of;
-use std::alloc::Global;
+use gl_worked::ops::are_events;
 use std::process::Abort;
-
-// A note: its thread and place, and its event or how many it counts.
-#[derive(Clone, Copy)]
-enum Told {
-    Happened(u32, u32, Op),
-    Ended(u32, u32, u32),
-}
-
-use Told::{Ended, Happened};
-
-fn note_of(told: Told) -> Note {
-    let (thread, place, body) = match told {
-        Happened(thread, place, op) => (thread, place, Body::Happened(event_of(op))),
-        Ended(thread, place, count) => (thread, place, Body::Ended { count }),
-    };
-    Note {
-        thread: ThreadId::new(thread),
-        place,
-        body,
-    }
-}
 
 // A call, and its answer.
 #[derive(Clone, Copy)]
@@ -36,11 +15,25 @@ enum Call {
     Offer(Told, Result<Accepted, Refused>),
     // whether there is room for the note, or why not
     Ready(Told, Result<(), Refused>),
+    // so many events of the thread, of which each is accepted once room was made for it
+    Fill(u32, u32),
     // so many notes were accepted
-    Stream(usize),
+    Count(usize),
+    // these notes were accepted
+    Stream(&'static [Told]),
+    // whether the thread has ended
+    HasEnded(u32, bool),
+    // whether all have
+    AllEnded(bool),
+    // the events of the thread
+    Log(u32, &'static [Op]),
+    // the events of each thread
+    Logs(&'static [&'static [Op]]),
+    // how many these are
+    LogSizes(&'static [usize]),
 }
 
-use Call::{Offer, Ready, Stream};
+use Call::{AllEnded, Count, Fill, HasEnded, Log, LogSizes, Logs, Offer, Ready, Stream};
 
 // Why a note of place 0 is refused where place 1 is next.
 const MISPLACED: Refused = Refused::Misplaced {
@@ -56,196 +49,185 @@ const WRONG_COUNT: Refused = Refused::WrongCount {
 
 const UNLAWFUL: Refused = Refused::Unlawful(Refusal::NotHeld);
 
+const FULL: Refused = Refused::Unlawful(Refusal::PlaceFull);
+
 const FIRST: Told = Happened(0, 0, Acq(0, 0));
 
 const END: Told = Ended(0, 1, 1);
 
-const REFUSALS: &[Call] = &[
-    Offer(FIRST, Ok(Accepted::Event { place: 0 })),
-    Offer(FIRST, Err(MISPLACED)),
-    Offer(Ended(0, 1, 2), Err(WRONG_COUNT)),
-    Offer(Happened(0, 1, Rel(5, 0)), Err(UNLAWFUL)),
-    Offer(END, Ok(Accepted::Ended { count: 1 })),
-    Offer(Happened(0, 1, Acq(0, 0)), Err(Refused::Late)),
-    Offer(Happened(7, 0, Acq(0, 0)), Err(Refused::Stranger)),
+// Events of two threads, and the end of the second one.
+const TWO_THREADS: &[Call] = &[
+    Offer(Happened(1, 0, Acq(4, 0)), Ok(Accepted::Event { place: 0 })),
+    Offer(Happened(0, 0, Acq(3, 0)), Ok(Accepted::Event { place: 0 })),
+    Offer(Happened(1, 1, Rel(4, 0)), Ok(Accepted::Event { place: 1 })),
+    Offer(Ended(1, 2, 2), Ok(Accepted::Ended { count: 2 })),
 ];
 
-const READY_THEN_OFFER: &[Call] = &[
-    Ready(FIRST, Ok(())),
-    Stream(0),
-    Offer(FIRST, Ok(Accepted::Event { place: 0 })),
-    Ready(FIRST, Err(MISPLACED)),
-    Ready(Ended(0, 1, 2), Err(WRONG_COUNT)),
-    Ready(Happened(0, 1, Rel(5, 0)), Err(UNLAWFUL)),
-    Ready(END, Ok(())),
-    Stream(1),
-    Offer(END, Ok(Accepted::Ended { count: 1 })),
-    Ready(Happened(0, 1, Acq(0, 0)), Err(Refused::Late)),
-    Ready(Happened(7, 0, Acq(0, 0)), Err(Refused::Stranger)),
+// An intake of so many threads, of so many events each, and what it is asked: first calls that several cases
+// begin with, and those of its own.
+#[derive(Clone, Copy)]
+struct Case {
+    name: &'static str,
+    threads: u32,
+    events: u32,
+    first: &'static [Call],
+    calls: &'static [Call],
+}
+
+const CASES: &[Case] = &[
+    Case {
+        name: "intake_refusals",
+        threads: 1,
+        events: 100,
+        first: &[],
+        calls: &[
+            Offer(FIRST, Ok(Accepted::Event { place: 0 })),
+            Offer(FIRST, Err(MISPLACED)),
+            Offer(Ended(0, 1, 2), Err(WRONG_COUNT)),
+            Offer(Happened(0, 1, Rel(5, 0)), Err(UNLAWFUL)),
+            Offer(END, Ok(Accepted::Ended { count: 1 })),
+            Offer(Happened(0, 1, Acq(0, 0)), Err(Refused::Late)),
+            Offer(Happened(7, 0, Acq(0, 0)), Err(Refused::Stranger)),
+            Stream(&[FIRST, END]),
+            AllEnded(true),
+        ],
+    },
+    Case {
+        name: "ready_then_offer",
+        threads: 1,
+        events: 100,
+        first: &[],
+        calls: &[
+            Ready(FIRST, Ok(())),
+            Count(0),
+            Offer(FIRST, Ok(Accepted::Event { place: 0 })),
+            Ready(FIRST, Err(MISPLACED)),
+            Ready(Ended(0, 1, 2), Err(WRONG_COUNT)),
+            Ready(Happened(0, 1, Rel(5, 0)), Err(UNLAWFUL)),
+            Ready(END, Ok(())),
+            Count(1),
+            Offer(END, Ok(Accepted::Ended { count: 1 })),
+            Ready(Happened(0, 1, Acq(0, 0)), Err(Refused::Late)),
+            Ready(Happened(7, 0, Acq(0, 0)), Err(Refused::Stranger)),
+        ],
+    },
+    Case {
+        name: "ten_thousand_events",
+        threads: 2,
+        events: 10_000,
+        first: &[],
+        calls: &[
+            Fill(1, 10_000),
+            Offer(Ended(0, 0, 0), Ok(Accepted::Ended { count: 0 })),
+            Count(10_001),
+            Ready(Happened(1, 10_000, Acq(0, 0)), Err(FULL)),
+            LogSizes(&[0, 10_000]),
+        ],
+    },
+    Case {
+        name: "two_threads",
+        threads: 2,
+        events: 100,
+        first: TWO_THREADS,
+        calls: &[
+            Count(4),
+            HasEnded(1, true),
+            HasEnded(0, false),
+            HasEnded(9, false),
+            AllEnded(false),
+        ],
+    },
+    // The events of these threads are apart, and each thread's are in order.
+    Case {
+        name: "logs_by_thread",
+        threads: 2,
+        events: 100,
+        first: TWO_THREADS,
+        calls: &[
+            Log(0, &[Acq(3, 0)]),
+            Log(1, &[Acq(4, 0), Rel(4, 0)]),
+            Logs(&[&[Acq(3, 0)], &[Acq(4, 0), Rel(4, 0)]]),
+        ],
+    },
 ];
 
-// Little is told of the answers, so that what is known doesn't grow with each call; so it is below.
-fn offered(intake: &mut Intake, told: Told) -> Result<Accepted, Refused>
-    ensures { intake.new.limits.threads ≡ intake.old.limits.threads }
-{
-    intake.offer(note_of(told))
+// Whether room is made for the event of the thread and place, and it is accepted then.
+fn takes(intake: &mut Collecting, thread: u32, place: u32) -> bool {
+    let op = if place % 2 == 0 { Acq(0, 0) } else { Rel(0, 0) };
+    let note = note_of(Happened(thread, place, op));
+    intake.ready(&note) == Ok(()) && intake.offer(note) == Ok(Accepted::Event { place })
 }
 
-fn readied(intake: &mut Intake, told: Told) -> Result<(), Refused> {
-    intake.ready(&note_of(told))
-}
-
-// Whether the call is answered so.
-fn answers(intake: &mut Intake, call: &Call) -> bool {
-    match call {
-        Offer(told, wanted) => offered(intake, *told) == *wanted,
-        Ready(told, wanted) => readied(intake, *told) == *wanted,
-        Stream(count) => intake.stream().len() == *count,
-    }
-}
-
-// The intake answers each call as it is wanted.
-fn expect(rt: &impl Abort, intake: &mut Intake, calls: &[Call]) {
-    for (at, call) in calls.iter().enumerate() {
-        assert!(rt; answers(intake, call), "call {at}");
-    }
-}
-
-// An intake of so many threads, of so many events each.
-fn intake_of(alloc: Global, threads: u32, events: u32) -> Option<Intake> {
-    let limits = Limits::new(threads, 1, events, 1).ok()?;
-    Intake::new(alloc, &limits).ok()
-}
-
-// Whether the stream is this, and all threads have ended.
-fn has_ended_with(intake: &Intake, stream: &[Note]) -> bool {
-    intake.stream() == stream && intake.all_ended()
-}
-
-#[test]
-fn intake_refusals(rt: HostRuntime) {
-    let mut intake = intake_of(rt.alloc(), 1, 100).expect(&rt, "an intake");
-    expect(&rt, &mut intake, REFUSALS);
-    assert!(rt; has_ended_with(&intake, &[note_of(FIRST), note_of(END)]));
-}
-
-#[test]
-fn ready_then_offer(rt: HostRuntime) {
-    let mut intake = intake_of(rt.alloc(), 1, 100).expect(&rt, "an intake");
-    expect(&rt, &mut intake, READY_THEN_OFFER);
-}
-
-// Offers 10,000 events of thread 1, each after room was made for it. Whether each was accepted.
-fn takes_ten_thousand(intake: &mut Intake) -> bool {
-    for place in 0..10_000 {
-        let op = if place % 2 == 0 { Acq(0, 0) } else { Rel(0, 0) };
-        let told = Happened(1, place, op);
-        if !answers(intake, &Ready(told, Ok(())))
-            || !answers(intake, &Offer(told, Ok(Accepted::Event { place })))
-        {
+fn fills(intake: &mut Collecting, thread: u32, events: u32) -> bool {
+    for place in 0..events {
+        if !takes(intake, thread, place) {
             return false;
         }
     }
     true
 }
 
-// How many threads have logs, and how long the last one is.
-fn logs_of(intake: &Intake) -> (usize, Option<usize>) {
-    let logs = intake.logs();
-    (logs.len(), logs.last().map(|log| log.len()))
-}
-
-#[test]
-fn ten_thousand_events(rt: HostRuntime) {
-    let mut intake = intake_of(rt.alloc(), 2, 10_000).expect(&rt, "an intake");
-    assert!(rt; takes_ten_thousand(&mut intake));
-    let full = Refused::Unlawful(Refusal::PlaceFull);
-    let calls = [
-        Offer(Ended(0, 0, 0), Ok(Accepted::Ended { count: 0 })),
-        Stream(10_001),
-        Ready(Happened(1, 10_000, Acq(0, 0)), Err(full)),
-    ];
-    expect(&rt, &mut intake, &calls);
-    assert!(rt; logs_of(&intake) == (2, Some(10_000)));
-}
-
-// Offers the events of two threads, and the end of the second one. Whether all were accepted.
-fn offers_both(intake: &mut Intake) -> bool
-    ensures { intake.new.limits.threads ≡ intake.old.limits.threads }
-{
-    let answers = [
-        offered(intake, Happened(1, 0, Acq(4, 0))),
-        offered(intake, Happened(0, 0, Acq(3, 0))),
-        offered(intake, Happened(1, 1, Rel(4, 0))),
-        offered(intake, Ended(1, 2, 2)),
-    ];
-    let wanted = [
-        Ok(Accepted::Event { place: 0 }),
-        Ok(Accepted::Event { place: 0 }),
-        Ok(Accepted::Event { place: 1 }),
-        Ok(Accepted::Ended { count: 2 }),
-    ];
-    answers == wanted
-}
-
-// An intake of two threads.
-fn intake_of_two(alloc: Global) -> Option<Intake>
-    ensures { IfSome result (λ intake. intake.limits.threads ≡ 2) }
-{
-    let limits = Limits::new(2, 1, 100, 1).ok()?;
-    Intake::new(alloc, &limits).ok()
-}
-
-// The same where the second one has ended.
-fn two_logs(alloc: Global) -> Option<Intake>
-    ensures { IfSome result (λ intake. intake.limits.threads ≡ 2) }
-{
-    let mut intake = intake_of_two(alloc)?;
-    if offers_both(&mut intake) {
-        return Some(intake);
-    }
-    None
-}
-
-// Whether thread 1 has ended, thread 0, a strange one, and all.
-fn ends_of(intake: &Intake) -> [bool; 4] {
-    [
-        intake.ended(ThreadId::new(1)),
-        intake.ended(ThreadId::new(0)),
-        intake.ended(ThreadId::new(9)),
-        intake.all_ended(),
-    ]
-}
-
-#[test]
-fn two_threads(rt: HostRuntime) {
-    let intake = two_logs(rt.alloc()).expect(&rt, "an intake");
-    assert!(rt; intake.stream().len() == 4);
-    assert!(rt; ends_of(&intake) == [true, false, false, false]);
-}
-
-// Whether the thread's events are these.
-fn log_is(intake: &Intake, thread: u32, events: &[Event]) -> bool
-    requires { thread < intake.now.limits.threads }
-{
-    intake.log(ThreadId::new(thread)) == events
-}
-
-// Whether there are two logs, and the last one is this.
-fn last_of_two_is(intake: &Intake, events: &[Event]) -> bool {
-    match intake.logs() {
-        [_, log] => log.as_slice() == events,
-        _ => false,
+// Whether there is a log, and it is this.
+fn has_log(log: Option<&[Event]>, wanted: &[Op]) -> bool {
+    match log {
+        Some(events) => are_events(events, wanted),
+        None => false,
     }
 }
 
-// The events of these threads are apart, and each thread's are in order.
+fn are_logs(logs: &[Vec<Event>], wanted: &[&[Op]]) -> bool {
+    if logs.len() != wanted.len() {
+        return false;
+    }
+    for (log, want) in logs.iter().zip(wanted) {
+        if !are_events(log, want) {
+            return false;
+        }
+    }
+    true
+}
+
+fn have_sizes(logs: &[Vec<Event>], wanted: &[usize]) -> bool {
+    if logs.len() != wanted.len() {
+        return false;
+    }
+    for (log, want) in logs.iter().zip(wanted) {
+        if log.len() != *want {
+            return false;
+        }
+    }
+    true
+}
+
+// Whether the call is answered so.
+fn answers(intake: &mut Collecting, call: &Call) -> bool {
+    match *call {
+        Offer(told, wanted) => intake.offer(note_of(told)) == wanted,
+        Ready(told, wanted) => intake.ready(&note_of(told)) == wanted,
+        Fill(thread, events) => fills(intake, thread, events),
+        Count(count) => intake.intake().stream().len() == count,
+        Stream(notes) => are_notes(intake.intake().stream(), notes),
+        HasEnded(thread, wanted) => intake.intake().ended(ThreadId::new(thread)) == wanted,
+        AllEnded(wanted) => intake.intake().all_ended() == wanted,
+        Log(thread, ops) => has_log(intake.log(thread), ops),
+        Logs(logs) => are_logs(intake.intake().logs(), logs),
+        LogSizes(sizes) => have_sizes(intake.intake().logs(), sizes),
+    }
+}
+
+// The intake answers each call as it is wanted.
+fn expect(rt: &impl Abort, name: &str, intake: &mut Collecting, calls: &[Call]) {
+    for (at, call) in calls.iter().enumerate() {
+        assert!(rt; answers(intake, call), "{name}: call {at}");
+    }
+}
+
 #[test]
-fn logs_by_thread(rt: HostRuntime) {
-    let intake = two_logs(rt.alloc()).expect(&rt, "an intake");
-    let first = [event_of(Acq(3, 0))];
-    let second = [event_of(Acq(4, 0)), event_of(Rel(4, 0))];
-    assert!(rt; log_is(&intake, 0, &first));
-    assert!(rt; log_is(&intake, 1, &second));
-    assert!(rt; last_of_two_is(&intake, &second));
+fn intakes_answer(rt: HostRuntime) {
+    for case in CASES {
+        let intake = intake_of(rt.alloc(), case.threads, case.events);
+        let mut intake = intake.expect(&rt, case.name);
+        expect(&rt, case.name, &mut intake, case.first);
+        expect(&rt, case.name, &mut intake, case.calls);
+    }
 }

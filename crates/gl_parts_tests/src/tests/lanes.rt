@@ -5,8 +5,82 @@ ghost use Rattle.gl_lane.specs.Rule.{IsPlaced};
 use gl_event::{Body, Event, LocId, LockId, MAX_RING, Memory, Note, ThreadId};
 use gl_lane::{Finished, LaneIn, LaneOut, lane};
 use std::alloc::Global;
-use std::test::Fail;
+use std::process::Abort;
 use std::thread;
+
+// A note of the thread, as constants tell it.
+#[derive(Clone, Copy)]
+enum Told {
+    // an event at this place
+    At(u32),
+    // the end mark with this count
+    End(u32),
+}
+
+// A call, and its answer.
+#[derive(Clone, Copy)]
+enum Call {
+    // a note that is pushed
+    Push(Told),
+    // a note that is handed back
+    Full(Told),
+    // so many events, from place 0 on, which are pushed
+    PushAll(u32),
+    // the note that is popped
+    Pop(Option<Told>),
+    // so many events, from place 0 on, which are popped
+    PopAll(u32),
+    // the note that is oldest
+    Peek(Option<Told>),
+}
+
+use Call::{Full, Peek, Pop, PopAll, Push, PushAll};
+use Told::{At, End};
+
+// Calls of both ends of a lane; and the notes that are left then and popped, where the recorder finishes.
+#[derive(Clone, Copy)]
+struct Case {
+    name: &'static str,
+    ring: u32,
+    calls: &'static [Call],
+    left: Option<&'static [Told]>,
+}
+
+const CASES: &[Case] = &[
+    // A full lane hands the note back, and has room again once its note is popped.
+    Case {
+        name: "ring_of_one",
+        ring: 1,
+        calls: &[
+            Pop(None),
+            Push(At(0)),
+            Full(At(1)),
+            Peek(Some(At(0))),
+            Pop(Some(At(0))),
+            Push(At(1)),
+            Pop(Some(At(1))),
+        ],
+        left: None,
+    },
+    // An end mark wants room as any note does, and can be popped after the recorder has finished.
+    Case {
+        name: "ring_of_one_ended",
+        ring: 1,
+        calls: &[Push(At(0)), Full(End(1)), Pop(Some(At(0))), Push(End(1))],
+        left: Some(&[End(1)]),
+    },
+    Case {
+        name: "greatest_ring",
+        ring: MAX_RING,
+        calls: &[
+            PushAll(MAX_RING),
+            Full(At(MAX_RING)),
+            PopAll(MAX_RING),
+            Pop(None),
+        ],
+        left: None,
+    },
+];
 
 // An event of the thread at this place.
 fn event_at(place: u32) -> Note
@@ -33,35 +107,130 @@ fn end_of(count: u32) -> Note
     }
 }
 
-// A full lane hands the note back, and has room again once its note is popped.
-#[test]
-fn ring_of_one(rt: HostRuntime) -> Result<(), Fail> {
-    let (mut recorder, mut collector) = lane(rt.alloc(), 1)?;
-    assert_eq!(rt; collector.pop(), None);
-    assert_eq!(rt; recorder.push(event_at(0)), Ok(()));
-    assert_eq!(rt; recorder.push(event_at(1)), Err(event_at(1)));
-    assert_eq!(rt; collector.peek(), Some(event_at(0)));
-    assert_eq!(rt; collector.pop(), Some(event_at(0)));
-    assert_eq!(rt; recorder.push(event_at(1)), Ok(()));
-    assert_eq!(rt; collector.pop(), Some(event_at(1)));
-    Ok(())
+fn note_of(told: Told) -> Note
+    ensures { IsPlaced result }
+{
+    match told {
+        At(place) => event_at(place),
+        End(count) => end_of(count),
+    }
 }
 
-// An end mark wants room as any note does, and can be popped after the recorder has finished.
+// Whether so many events are pushed.
+fn pushes(recorder: &mut LaneIn, count: u32) -> bool
+    ensures lane { recorder.new.lane ≡ recorder.old.lane }
+{
+    for place in 0..count {
+        if recorder.push(event_at(place)).is_err() {
+            return false;
+        }
+    }
+    true
+}
+
+// Whether so many events are popped.
+fn pops(collector: &mut LaneOut, count: u32) -> bool
+    ensures lane { collector.new.lane ≡ collector.old.lane }
+{
+    for place in 0..count {
+        if collector.pop() != Some(event_at(place)) {
+            return false;
+        }
+    }
+    true
+}
+
+// Whether the note is pushed, or else is handed back.
+fn is_pushed(recorder: &mut LaneIn, told: Told, has_room: bool) -> bool
+    ensures lane { recorder.new.lane ≡ recorder.old.lane }
+{
+    match recorder.push(note_of(told)) {
+        Ok(()) => has_room,
+        Err(back) => !has_room && back == note_of(told),
+    }
+}
+
+// Whether there is a note, and it is this; or there is none.
+fn is_note(note: Option<Note>, wanted: Option<Told>) -> bool {
+    match (note, wanted) {
+        (Some(note), Some(told)) => note == note_of(told),
+        (None, None) => true,
+        _ => false,
+    }
+}
+
+// Whether the call is answered so.
+fn answers(recorder: &mut LaneIn, collector: &mut LaneOut, call: &Call) -> bool
+    ensures recorder { recorder.new.lane ≡ recorder.old.lane }
+    ensures collector { collector.new.lane ≡ collector.old.lane }
+{
+    match *call {
+        Push(told) => is_pushed(recorder, told, true),
+        Full(told) => is_pushed(recorder, told, false),
+        PushAll(count) => pushes(recorder, count),
+        Pop(wanted) => is_note(collector.pop(), wanted),
+        PopAll(count) => pops(collector, count),
+        Peek(wanted) => is_note(collector.peek(), wanted),
+    }
+}
+
+// Both ends answer each call as it is wanted.
+fn expect_answers(rt: &impl Abort, recorder: &mut LaneIn, collector: &mut LaneOut, case: &Case)
+    ensures recorder { recorder.new.lane ≡ recorder.old.lane }
+    ensures collector { collector.new.lane ≡ collector.old.lane }
+{
+    for (at, call) in case.calls.iter().enumerate() {
+        assert!(rt;
+            answers(recorder, collector, call),
+            "{}: call {at}",
+            case.name
+        );
+    }
+}
+
+// Whether these notes are popped, and then none is left.
+fn pops_left(collector: &mut LaneOut, left: &[Told]) -> bool {
+    for told in left {
+        if collector.pop() != Some(note_of(*told)) {
+            return false;
+        }
+    }
+    collector.peek().is_none()
+}
+
+// Whether the recorder finishes and leaves these notes.
+fn finishes(recorder: LaneIn, collector: LaneOut, left: &[Told]) -> bool
+    requires { recorder.lane ≡ collector.lane }
+{
+    let mut collector = collector;
+    match recorder.finish() {
+        Some(mut finished) => {
+            collector.confirm(&mut finished);
+            pops_left(&mut collector, left)
+        }
+        None => false,
+    }
+}
+
+// The two ends of a lane.
+fn both_ends(alloc: Global, ring: u32) -> Option<(LaneIn, LaneOut)>
+    ensures { IfSome result (λ ends. ends.0.lane ≡ ends.1.lane) }
+{
+    if ring == 0 || ring > MAX_RING {
+        return None;
+    }
+    lane(alloc, ring).ok()
+}
+
 #[test]
-fn ring_of_one_ended(rt: HostRuntime) -> Result<(), Fail> {
-    let (mut recorder, mut collector) = lane(rt.alloc(), 1)?;
-    assert_eq!(rt; recorder.push(event_at(0)), Ok(()));
-    assert_eq!(rt; recorder.push(end_of(1)), Err(end_of(1)));
-    assert_eq!(rt; collector.pop(), Some(event_at(0)));
-    assert_eq!(rt; recorder.push(end_of(1)), Ok(()));
-    let mut finished = recorder
-        .finish()
-        .expect(&rt, "the collector's end is there");
-    collector.confirm(&mut finished);
-    assert_eq!(rt; collector.pop(), Some(end_of(1)));
-    assert_eq!(rt; collector.peek(), None);
-    Ok(())
+fn lanes_answer(rt: HostRuntime) {
+    for case in CASES {
+        let (mut recorder, mut collector) = both_ends(rt.alloc(), case.ring).expect(&rt, case.name);
+        expect_answers(&rt, &mut recorder, &mut collector, case);
+        if let Some(left) = case.left {
+            assert!(rt; finishes(recorder, collector, left), "{}: left", case.name);
+        }
+    }
 }
 
 // What is pushed before the pushing ends is popped in its order, without another look.
@@ -83,33 +252,22 @@ fn through(alloc: Global, first: Note, second: Note) -> Result<Option<(Note, Not
 }
 
 #[test]
-fn confirmed_after_finish(rt: HostRuntime) -> Result<(), Fail> {
-    let popped = through(rt.alloc(), event_at(0), end_of(1))?;
-    assert_eq!(rt; popped, Some((event_at(0), end_of(1))));
-    Ok(())
+fn confirmed_after_finish(rt: HostRuntime) {
+    let popped = through(rt.alloc(), event_at(0), end_of(1));
+    assert!(rt; popped == Ok(Some((event_at(0), end_of(1)))));
+}
+
+// Whether a recorder whose collector is gone can push, and leaves nothing.
+fn leaves_nothing(recorder: LaneIn) -> bool {
+    let mut recorder = recorder;
+    recorder.push(event_at(0)) == Ok(()) && recorder.finish().is_none()
 }
 
 #[test]
-fn nobody_left_to_collect(rt: HostRuntime) -> Result<(), Fail> {
-    let (mut recorder, collector) = lane(rt.alloc(), 1)?;
+fn nobody_left_to_collect(rt: HostRuntime) {
+    let (recorder, collector) = both_ends(rt.alloc(), 1).expect(&rt, "a lane");
     drop(collector);
-    assert_eq!(rt; recorder.push(event_at(0)), Ok(()));
-    assert!(rt; recorder.finish().is_none());
-    Ok(())
-}
-
-#[test]
-fn greatest_ring(rt: HostRuntime) -> Result<(), Fail> {
-    let (mut recorder, mut collector) = lane(rt.alloc(), MAX_RING)?;
-    for place in 0..MAX_RING {
-        assert!(rt; recorder.push(event_at(place)).is_ok());
-    }
-    assert!(rt; recorder.push(event_at(MAX_RING)).is_err());
-    for place in 0..MAX_RING {
-        assert_eq!(rt; collector.pop(), Some(event_at(place)));
-    }
-    assert_eq!(rt; collector.pop(), None);
-    Ok(())
+    assert!(rt; leaves_nothing(recorder));
 }
 
 // How often a thread tries a push or a pop again, at most.
@@ -176,8 +334,8 @@ fn pop_all(collector: LaneOut) -> (LaneOut, bool)
 }
 
 #[test]
-fn ten_thousand_events(rt: HostRuntime) -> Result<(), Fail> {
-    let (recorder, collector) = lane(rt.alloc(), 64)?;
+fn ten_thousand_events(rt: HostRuntime) {
+    let (recorder, collector) = both_ends(rt.alloc(), 64).expect(&rt, "a lane");
     let (finished, (mut collector, in_order)) = thread::join(
         &rt,
         move || -> Option<Finished>
@@ -188,8 +346,6 @@ fn ten_thousand_events(rt: HostRuntime) -> Result<(), Fail> {
         { pop_all(collector) },
     );
     let mut finished = finished.expect(&rt, "every note was pushed");
-    assert!(rt; in_order);
     collector.confirm(&mut finished);
-    assert_eq!(rt; collector.peek(), None);
-    Ok(())
+    assert!(rt; in_order && collector.peek().is_none());
 }

@@ -1,6 +1,8 @@
 //! What recorders answer at their limits.
-use gl_event::{Body, Limits, MAX_DEPTH, Note, ThreadId};
+use gl_event::{Limits, MAX_DEPTH, Note, ThreadId};
 use gl_recorder::{Refusal, Taker};
+use gl_worked::notes::Told::{Ended, Happened};
+use gl_worked::notes::note_of;
 use gl_worked::ops::Op::{self, Acq, Fork, Racq, Rel, Tryacq, Tryracq};
 use gl_worked::ops::event_of;
 use std::process::Abort;
@@ -20,14 +22,17 @@ enum Call {
     Taken(u32),
     // the end mark counts so many
     End(u32),
+    // the recorder is that of this thread
+    Thread(u32),
 }
 
-use Call::{Again, Check, End, Nest, Take, Taken};
+use Call::{Again, Check, End, Nest, Take, Taken, Thread};
 
-// The recorder of thread 0 in a session of so many threads, of so many events at most.
+// The recorder of this thread in a session of so many threads, of so many events at most.
 #[derive(Clone, Copy)]
 struct Case {
     name: &'static str,
+    thread: u32,
     threads: u32,
     events: u32,
     calls: &'static [Call],
@@ -36,6 +41,7 @@ struct Case {
 const CASES: &[Case] = &[
     Case {
         name: "limits_reached",
+        thread: 0,
         threads: 1,
         events: 1,
         calls: &[
@@ -48,6 +54,7 @@ const CASES: &[Case] = &[
     },
     Case {
         name: "most_held_locks",
+        thread: 0,
         threads: 1,
         events: 100,
         calls: &[
@@ -62,6 +69,7 @@ const CASES: &[Case] = &[
     },
     Case {
         name: "deepest_acquire",
+        thread: 0,
         threads: 1,
         events: 4_000_000_000,
         calls: &[
@@ -77,6 +85,7 @@ const CASES: &[Case] = &[
     },
     Case {
         name: "stray_release",
+        thread: 0,
         threads: 2,
         events: 2,
         calls: &[
@@ -90,6 +99,7 @@ const CASES: &[Case] = &[
     },
     Case {
         name: "upgrade_refused",
+        thread: 0,
         threads: 1,
         events: 100,
         calls: &[
@@ -106,16 +116,22 @@ const CASES: &[Case] = &[
             Taken(6),
         ],
     },
+    Case {
+        name: "thread_told",
+        thread: 3,
+        threads: 4,
+        events: 1,
+        calls: &[Thread(3)],
+    },
 ];
 
-// Whether this is the note of the event at the wanted place, or the refusal that is wanted.
+// Whether this is thread 0's note of the event at the wanted place, or the refusal that is wanted.
 fn is_wanted(answer: Result<Note, Refusal>, op: Op, wanted: Result<u32, Refusal>) -> bool {
-    let note = |place| Note {
-        thread: ThreadId::new(0),
-        place,
-        body: Body::Happened(event_of(op)),
-    };
-    answer == wanted.map(note)
+    match (answer, wanted) {
+        (Ok(note), Ok(place)) => note == note_of(Happened(0, place, op)),
+        (Err(found), Err(why)) => found == why,
+        _ => false,
+    }
 }
 
 // Whether acquires of so many locks are taken.
@@ -138,16 +154,6 @@ fn takes_again(taker: &mut Taker, op: Op, times: u32) -> bool {
     true
 }
 
-// Whether the end mark counts so many events.
-fn ends_with(taker: &Taker, count: u32) -> bool {
-    let end = Note {
-        thread: ThreadId::new(0),
-        place: count,
-        body: Body::Ended { count },
-    };
-    taker.end() == end
-}
-
 // Whether the call is answered so.
 fn answers(taker: &mut Taker, call: &Call) -> bool {
     match call {
@@ -156,7 +162,8 @@ fn answers(taker: &mut Taker, call: &Call) -> bool {
         Nest(locks) => nests(taker, *locks),
         Again(op, times) => takes_again(taker, *op, *times),
         Taken(count) => taker.taken() == *count,
-        End(count) => ends_with(taker, *count),
+        End(count) => taker.end() == note_of(Ended(0, *count, *count)),
+        Thread(thread) => taker.thread() == ThreadId::new(*thread),
     }
 }
 
@@ -179,13 +186,7 @@ fn expect(rt: &impl Abort, taker: &mut Taker, case: &Case) {
 #[test]
 fn recorders_answer(rt: HostRuntime) {
     for case in CASES {
-        let mut taker = taker(0, case.threads, case.events).expect(&rt, case.name);
+        let mut taker = taker(case.thread, case.threads, case.events).expect(&rt, case.name);
         expect(&rt, &mut taker, case);
     }
-}
-
-#[test]
-fn thread_told(rt: HostRuntime) {
-    let taker = taker(3, 4, 1).expect(&rt, "a recorder");
-    assert!(rt; taker.thread() == ThreadId::new(3));
 }

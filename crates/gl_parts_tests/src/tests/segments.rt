@@ -3,119 +3,166 @@ use gl_event::{Event, Segment, ThreadId};
 use gl_segments::{Order, OrderFault};
 use gl_worked::known::order_of;
 use gl_worked::ops::Op::{self, Acq, Fork, Join, Rel};
-use gl_worked::ops::{event_of, lists_of};
+use gl_worked::ops::{event_of, events_of, lists_of};
 use std::alloc::Global;
 use std::process::Abort;
 
 // A segment, as constants tell it: its thread and its index.
 type At = (u32, u32);
 
-// Lists of events, which have to be lawful, and the order of their segments.
+// Lists of events, which have to be lawful.
+#[derive(Clone, Copy)]
+enum Lists {
+    Told(&'static [&'static [Op]]),
+    // thread 0 forks the threads from 1 to this one, and then joins them in order
+    Forks(u32),
+}
+
+// What is asked of the order of their segments, and the answer.
+#[derive(Clone, Copy)]
+enum Ask {
+    // whether the first one is before the second one
+    Before(At, At, bool),
+    // how many segments of the thread are before the segment
+    Ahead(At, u32, u32),
+    // of the threads from 1 to this one, none is before another, and each comes after as many segments of
+    // thread 0 as its number
+    Forked(u32),
+    // there is no order: segments wait for each other, the least of them and the ring
+    Loop(&'static [At]),
+}
+
+use Ask::{Ahead, Before, Forked, Loop};
+use Lists::{Forks, Told};
+
 #[derive(Clone, Copy)]
 struct Case {
     name: &'static str,
-    lists: &'static [&'static [Op]],
-    // whether the first one is before the second one
-    befores: &'static [(At, At, bool)],
-    // how many segments of the thread are before the segment
-    aheads: &'static [(At, u32, u32)],
+    lists: Lists,
+    asks: &'static [Ask],
 }
 
 const CASES: &[Case] = &[
     // M (thread 0) joins T0 (thread 1) before it forks T1 (thread 2).
     Case {
         name: "joined_before",
-        lists: &[
+        lists: Told(&[
             &[Fork(1, 1), Join(1, 2), Fork(2, 3)],
             &[Acq(0, 4), Acq(1, 5)],
             &[Acq(1, 6), Acq(0, 7)],
+        ]),
+        asks: &[
+            Before((1, 0), (2, 0), true),
+            Before((2, 0), (1, 0), false),
+            Before((0, 0), (1, 0), true),
+            Before((0, 1), (1, 0), false),
+            Before((1, 0), (0, 1), false),
+            Before((1, 0), (0, 2), true),
+            Before((0, 2), (2, 0), true),
+            Before((0, 0), (0, 3), true),
+            Before((0, 3), (0, 3), false),
+            Before((0, 3), (0, 4), false),
+            Before((0, 4), (0, 3), false),
+            Before((3, 0), (0, 1), false),
         ],
-        befores: &[
-            ((1, 0), (2, 0), true),
-            ((2, 0), (1, 0), false),
-            ((0, 0), (1, 0), true),
-            ((0, 1), (1, 0), false),
-            ((1, 0), (0, 1), false),
-            ((1, 0), (0, 2), true),
-            ((0, 2), (2, 0), true),
-            ((0, 0), (0, 3), true),
-            ((0, 3), (0, 3), false),
-            ((0, 3), (0, 4), false),
-            ((0, 4), (0, 3), false),
-            ((3, 0), (0, 1), false),
-        ],
-        aheads: &[],
     },
     // M (thread 0) forks and joins T0 (thread 1), and then forks T1 (thread 2).
     Case {
         name: "counts_ahead",
-        lists: &[
+        lists: Told(&[
             &[Fork(1, 1), Join(1, 2), Fork(2, 3)],
             &[Acq(0, 4), Acq(1, 5), Rel(1, 6), Rel(0, 7)],
             &[Acq(1, 8), Acq(0, 9)],
-        ],
-        befores: &[],
-        aheads: &[
-            ((2, 0), 0, 3),
-            ((2, 0), 1, 1),
-            ((1, 0), 0, 1),
-            ((1, 0), 2, 0),
-            ((0, 3), 2, 0),
-            ((0, 2), 1, 1),
-            ((0, 1), 1, 0),
-            ((0, 4), 0, 0),
-            ((0, 3), 0, 3),
-            ((3, 0), 0, 0),
-            ((0, 3), 3, 0),
+        ]),
+        asks: &[
+            Ahead((2, 0), 0, 3),
+            Ahead((2, 0), 1, 1),
+            Ahead((1, 0), 0, 1),
+            Ahead((1, 0), 2, 0),
+            Ahead((0, 3), 2, 0),
+            Ahead((0, 2), 1, 1),
+            Ahead((0, 1), 1, 0),
+            Ahead((0, 4), 0, 0),
+            Ahead((0, 3), 0, 3),
+            Ahead((3, 0), 0, 0),
+            Ahead((0, 3), 3, 0),
         ],
     },
     // What a thread does after a fork isn't ordered with what the new thread does.
     Case {
         name: "fork_while_holding",
-        lists: &[&[Acq(0, 1), Fork(1, 2), Acq(1, 3)], &[Acq(1, 4), Acq(0, 5)]],
-        befores: &[
-            ((0, 0), (1, 0), true),
-            ((0, 1), (1, 0), false),
-            ((1, 0), (0, 1), false),
+        lists: Told(&[&[Acq(0, 1), Fork(1, 2), Acq(1, 3)], &[Acq(1, 4), Acq(0, 5)]]),
+        asks: &[
+            Before((0, 0), (1, 0), true),
+            Before((0, 1), (1, 0), false),
+            Before((1, 0), (0, 1), false),
         ],
-        aheads: &[],
     },
-];
-
-// Lists of events, which have to be lawful, whose segments wait for each other: the least of them, and the
-// ring.
-#[derive(Clone, Copy)]
-struct Loop {
-    name: &'static str,
-    lists: &'static [&'static [Op]],
-    ring: &'static [At],
-}
-
-const LOOPS: &[Loop] = &[
+    // A thread forks 200 others and then joins them.
+    Case {
+        name: "two_hundred_forks",
+        lists: Forks(200),
+        asks: &[Forked(200)],
+    },
     // Two threads wait for each other's end.
-    Loop {
+    Case {
         name: "join_loop",
-        lists: &[&[Join(1, 1)], &[Join(0, 2)]],
-        ring: &[(0, 1), (1, 1)],
+        lists: Told(&[&[Join(1, 1)], &[Join(0, 2)]]),
+        asks: &[Loop(&[(0, 1), (1, 1)])],
     },
     // A thread is forked again after it was joined.
-    Loop {
+    Case {
         name: "fork_join_fork",
-        lists: &[&[Fork(1, 1), Join(1, 2), Fork(1, 3)], &[Acq(0, 4)]],
-        ring: &[(0, 2), (1, 0)],
+        lists: Told(&[&[Fork(1, 1), Join(1, 2), Fork(1, 3)], &[Acq(0, 4)]]),
+        asks: &[Loop(&[(0, 2), (1, 0)])],
     },
     // A thread forks three others, and each of these joins the next one round.
-    Loop {
+    Case {
         name: "three_join_round",
-        lists: &[
+        lists: Told(&[
             &[Fork(1, 1), Fork(2, 2), Fork(3, 3)],
             &[Join(2, 4)],
             &[Join(3, 5)],
             &[Join(1, 6)],
-        ],
-        ring: &[(1, 1), (3, 1), (2, 1)],
+        ]),
+        asks: &[Loop(&[(1, 1), (3, 1), (2, 1)])],
     },
 ];
+
+// The list of thread 0, which forks the threads from 1 to this one and then joins them in order.
+fn main_list(alloc: Global, last: u32) -> Option<Vec<Event>> {
+    let mut list = Vec::new(alloc);
+    for thread in 1..=last {
+        list.push(event_of(Fork(thread, thread))).ok()?;
+    }
+    for thread in 1..=last {
+        list.push(event_of(Join(thread, thread))).ok()?;
+    }
+    Some(list)
+}
+
+// That list, and one of each of these threads.
+fn many_forks(alloc: Global, last: u32) -> Option<Vec<Vec<Event>>> {
+    let mut lists = Vec::new(alloc);
+    lists.push(main_list(alloc, last)?).ok()?;
+    for thread in 1..=last {
+        lists.push(events_of(alloc, &[Acq(thread, 400)])?).ok()?;
+    }
+    Some(lists)
+}
+
+fn made(alloc: Global, lists: Lists) -> Option<Vec<Vec<Event>>> {
+    match lists {
+        Told(lists) => lists_of(alloc, lists),
+        Forks(last) => many_forks(alloc, last),
+    }
+}
+
+// The order of the lists' segments, or why there is none. None where they aren't lawful.
+fn ordered(alloc: Global, lists: Lists) -> Option<Result<Order, OrderFault>> {
+    let lists = made(alloc, lists)?;
+    order_of(alloc, &lists)
+}
 
 fn segment(at: At) -> Segment {
     Segment {
@@ -124,144 +171,66 @@ fn segment(at: At) -> Segment {
     }
 }
 
-fn is_segment(found: Segment, wanted: At) -> bool {
-    found.thread.number() == wanted.0 && found.index == wanted.1
-}
-
-// Whether the segments are these.
-fn are_segments(found: &[Segment], wanted: &[At]) -> bool {
-    if found.len() != wanted.len() {
+// Whether there is a first one of the wanted segments, it was found, and the ring is these.
+fn is_ring(at: Segment, ring: &[Segment], wanted: &[At]) -> bool {
+    if wanted.is_empty() || at != segment(wanted[0]) || ring.len() != wanted.len() {
         return false;
     }
-    for (segment, want) in found.iter().zip(wanted) {
-        if !is_segment(*segment, *want) {
+    for (found, want) in ring.iter().zip(wanted) {
+        if *found != segment(*want) {
             return false;
         }
     }
     true
 }
 
-// Whether the lists were refused, with this ring.
-fn is_ring(order: &Result<Order, OrderFault>, wanted: &[At]) -> bool {
-    match order {
-        Err(OrderFault::Inconsistent { at, ring }) => match wanted.first() {
-            Some(first) => is_segment(*at, *first) && are_segments(ring, wanted),
-            None => false,
-        },
-        _ => false,
-    }
-}
-
-// Whether the first segment is before the second one.
-fn is_before(order: &Order, first: At, second: At) -> bool {
-    order.before(segment(first), segment(second))
-}
-
-fn ahead(order: &Order, at: At, thread: u32) -> u32 {
-    order.ahead(segment(at), ThreadId::new(thread))
-}
-
-// The segments are ordered so.
-fn expect_order(rt: &impl Abort, order: &Order, case: &Case) {
-    for (at, (first, second, wanted)) in case.befores.iter().enumerate() {
-        assert!(rt;
-            is_before(order, *first, *second) == *wanted,
-            "{}: before {at}",
-            case.name
-        );
-    }
-    for (at, (segment, thread, wanted)) in case.aheads.iter().enumerate() {
-        assert!(rt;
-            ahead(order, *segment, *thread) == *wanted,
-            "{}: ahead {at}",
-            case.name
-        );
-    }
-}
-
-// The order of lists that have one.
-fn consistent(alloc: Global, lists: &[Vec<Event>]) -> Option<Order> {
-    order_of(alloc, lists)?.ok()
-}
-
-// The order of the lists of these events.
-fn order_in(alloc: Global, lists: &[&[Op]]) -> Option<Order> {
-    let lists = lists_of(alloc, lists)?;
-    consistent(alloc, &lists)
-}
-
-#[test]
-fn orders(rt: HostRuntime) {
-    for case in CASES {
-        let order = order_in(rt.alloc(), case.lists).expect(&rt, case.name);
-        expect_order(&rt, &order, case);
-    }
-}
-
-// Whether the lists are lawful and were refused, with this ring.
-fn is_refused(alloc: Global, lists: &[Vec<Event>], ring: &[At]) -> bool {
-    match order_of(alloc, lists) {
-        Some(order) => is_ring(&order, ring),
-        None => false,
-    }
-}
-
-// Whether the lists of these events are.
-fn is_loop(alloc: Global, case: &Loop) -> bool {
-    match lists_of(alloc, case.lists) {
-        Some(lists) => is_refused(alloc, &lists, case.ring),
-        None => false,
-    }
-}
-
-#[test]
-fn loops(rt: HostRuntime) {
-    for case in LOOPS {
-        assert!(rt; is_loop(rt.alloc(), case), "{}", case.name);
-    }
-}
-
-// The list of thread 0, which forks the threads 1 to 200 and then joins them in order.
-fn main_list(alloc: Global) -> Option<Vec<Event>> {
-    let mut list = Vec::new(alloc);
-    for thread in 1..=200 {
-        list.push(event_of(Fork(thread, thread))).ok()?;
-    }
-    for thread in 1..=200 {
-        list.push(event_of(Join(thread, 200 + thread))).ok()?;
-    }
-    Some(list)
-}
-
-// That list, and one of each of these threads.
-fn many_forks(alloc: Global) -> Option<Vec<Vec<Event>>> {
-    let mut lists = Vec::new(alloc);
-    lists.push(main_list(alloc)?).ok()?;
-    for thread in 1..=200 {
-        let mut list = Vec::new(alloc);
-        list.push(event_of(Acq(thread, 400))).ok()?;
-        lists.push(list).ok()?;
-    }
-    Some(lists)
-}
-
-// Whether one of the threads 1 to 200 is before this one.
-fn is_after_another(order: &Order, thread: u32) -> bool {
-    for other in 1..=200 {
-        if is_before(order, (other, 0), (thread, 0)) {
+// Whether one of the threads from 1 to the last one is before this one.
+fn is_after_another(order: &Order, thread: u32, last: u32) -> bool {
+    for other in 1..=last {
+        if order.before(segment((other, 0)), segment((thread, 0))) {
             return true;
         }
     }
     false
 }
 
-// A thread forks 200 others and then joins them.
+fn ahead(order: &Order, at: At, thread: u32) -> u32 {
+    order.ahead(segment(at), ThreadId::new(thread))
+}
+
+fn are_forked(order: &Order, last: u32) -> bool {
+    for thread in 1..=last {
+        if is_after_another(order, thread, last) || ahead(order, (thread, 0), 0) != thread {
+            return false;
+        }
+    }
+    true
+}
+
+// Whether it is answered so.
+fn answers(order: &Result<Order, OrderFault>, ask: &Ask) -> bool {
+    match (order, *ask) {
+        (Ok(order), Before(first, second, wanted)) => {
+            order.before(segment(first), segment(second)) == wanted
+        }
+        (Ok(order), Ahead(at, thread, wanted)) => ahead(order, at, thread) == wanted,
+        (Ok(order), Forked(last)) => are_forked(order, last),
+        (Err(OrderFault::Inconsistent { at, ring }), Loop(wanted)) => is_ring(*at, ring, wanted),
+        _ => false,
+    }
+}
+
+// Each that is asked is answered as it is wanted.
+fn expect(rt: &impl Abort, order: &Result<Order, OrderFault>, case: &Case) {
+    for (at, ask) in case.asks.iter().enumerate() {
+        assert!(rt; answers(order, ask), "{}: {at}", case.name);
+    }
+}
+
 #[test]
-fn two_hundred_forks(rt: HostRuntime) {
-    let lists = many_forks(rt.alloc()).expect(&rt, "events");
-    let order = consistent(rt.alloc(), &lists).expect(&rt, "an order");
-    for thread in 1..=200 {
-        assert!(rt; !is_after_another(&order, thread), "{thread}");
-        assert!(rt; ahead(&order, (thread, 0), 0) == thread, "{thread}");
+fn orders(rt: HostRuntime) {
+    for case in CASES {
+        let order = ordered(rt.alloc(), case.lists).expect(&rt, case.name);
+        expect(&rt, &order, case);
     }
 }

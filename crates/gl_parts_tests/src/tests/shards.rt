@@ -1,28 +1,65 @@
-//! Worked examples, and each call that takes memory on its happy path.
+//! Tables of edges, the shards that keep them, and tables that are taken together.
 use gl_edges::{Edge, Guard, Guards, Sample};
 use gl_event::{LocId, LockId, LockMode, Memory, ThreadId};
 use gl_shards::{MAX_SHARDS, Table, merge, shard_of};
 use std::alloc::Global;
-use std::test::Fail;
+use std::process::Abort;
 
 mod feeds;
 
-// The edge of a thread between two exclusive locks, with no other lock held.
-fn edge(alloc: Global, thread: u32, held: u32, wanted: u32) -> Result<Edge, Memory> {
+// An edge, as constants tell it: the numbers of its thread, its held lock and its wanted one.
+type Told = (u32, u32, u32);
+
+// Edges that are inserted, each at a place; how many a table has then; and places of edges in it, or none.
+#[derive(Clone, Copy)]
+struct Case {
+    name: &'static str,
+    rows: &'static [(Told, u32)],
+    count: usize,
+    samples: &'static [(Told, Option<u32>)],
+}
+
+const CASES: &[Case] = &[
+    Case {
+        name: "no_edges",
+        rows: &[],
+        count: 0,
+        samples: &[],
+    },
+    // An edge that is inserted three times is there once, with the least of its samples.
+    Case {
+        name: "least_sample",
+        rows: &[((0, 1, 2), 5), ((0, 1, 2), 2), ((0, 1, 2), 9)],
+        count: 1,
+        samples: &[((0, 1, 2), Some(2))],
+    },
+    // Edges that differ in their threads are apart, and one that wasn't inserted isn't there.
+    Case {
+        name: "two_edges",
+        rows: &[((1, 1, 2), 7), ((0, 1, 2), 8)],
+        count: 2,
+        samples: &[
+            ((0, 1, 2), Some(8)),
+            ((1, 1, 2), Some(7)),
+            ((1, 2, 1), None),
+        ],
+    },
+];
+
+// The edge between two exclusive locks, with no other lock held.
+fn edge(alloc: Global, told: Told) -> Result<Edge, Memory> {
     let mode = LockMode::Exclusive;
-    let guard = Guard {
-        lock: LockId::new(held),
-        mode,
-    };
+    let held = LockId::new(told.1);
+    let guards = vec![in alloc; Guard { lock: held, mode }]?;
     Ok(Edge {
-        thread: ThreadId::new(thread),
-        held: LockId::new(held),
+        thread: ThreadId::new(told.0),
+        held,
         held_mode: mode,
-        wanted: LockId::new(wanted),
+        wanted: LockId::new(told.2),
         wanted_mode: mode,
         first: 0,
         second: 0,
-        guards: Guards::new(vec![in alloc; guard]?),
+        guards: Guards::new(guards),
     })
 }
 
@@ -35,24 +72,112 @@ fn at(place: u32) -> Sample {
     }
 }
 
-// A table of edges of thread 0: from this lock to that one, at a place each.
-fn table_of(alloc: Global, rows: &[(u32, u32, u32)]) -> Result<Table, Memory> {
+fn table_of(alloc: Global, rows: &[(Told, u32)]) -> Result<Table, Memory> {
     let mut table = Table::new(alloc);
-    for (held, wanted, place) in rows {
-        table.insert(edge(alloc, 0, *held, *wanted)?, at(*place))?;
+    for (told, place) in rows {
+        table.insert(edge(alloc, *told)?, at(*place))?;
     }
     Ok(table)
 }
 
 // The sample that the table has of an edge.
-fn sample_of(
-    alloc: Global,
-    table: &Table,
-    thread: u32,
-    held: u32,
-    wanted: u32,
-) -> Result<Option<Sample>, Memory> {
-    Ok(table.get(&edge(alloc, thread, held, wanted)?))
+fn sample_of(alloc: Global, table: &Table, told: Told) -> Result<Option<Sample>, Memory> {
+    let edge = edge(alloc, told)?;
+    Ok(table.get(&edge))
+}
+
+// Whether the table has these samples.
+fn has_samples(alloc: Global, table: &Table, samples: &[(Told, Option<u32>)]) -> bool {
+    for (told, place) in samples {
+        if sample_of(alloc, table, *told) != Ok(place.map(at)) {
+            return false;
+        }
+    }
+    true
+}
+
+// The table has so many edges and these samples.
+fn expect(rt: &impl Abort, alloc: Global, table: &Table, case: &Case) {
+    assert!(rt;
+        table.len() == case.count && has_samples(alloc, table, case.samples),
+        "{}",
+        case.name
+    );
+}
+
+// So it is with a table, and with a copy of it.
+#[test]
+fn tables(rt: HostRuntime) {
+    for case in CASES {
+        let table = table_of(rt.alloc(), case.rows).ok().expect(&rt, case.name);
+        expect(&rt, rt.alloc(), &table, case);
+        let copy = table.copy(rt.alloc()).ok().expect(&rt, case.name);
+        expect(&rt, rt.alloc(), &copy, case);
+    }
+}
+
+// Edges, how many shards there are, and which one keeps the edge: that of the held lock, whatever else the edge
+// has.
+const SHARDS: &[(Told, u32, u32)] = &[
+    ((3, 0, 7), 1, 0),
+    ((3, 7, 0), 4, 3),
+    ((5, 7, 1), 4, 3),
+    ((0, 32, 1), 16, 0),
+    ((0, 31, 1), 16, 15),
+];
+
+// The shard that keeps the edge, where there are so many.
+fn shard(alloc: Global, told: Told, shards: u32) -> Option<u32> {
+    let edge = edge(alloc, told).ok()?;
+    if shards == 0 || shards > MAX_SHARDS {
+        return None;
+    }
+    Some(shard_of(&edge, shards))
+}
+
+#[test]
+fn shards(rt: HostRuntime) {
+    assert!(rt; MAX_SHARDS == 16);
+    for (told, shards, wanted) in SHARDS {
+        assert!(rt;
+            shard(rt.alloc(), *told, *shards) == Some(*wanted),
+            "{told:?}"
+        );
+    }
+}
+
+// Tables that are taken together, and the edges then: the number of each one's held lock, and its place.
+#[derive(Clone, Copy)]
+struct Merge {
+    name: &'static str,
+    tables: &'static [&'static [(Told, u32)]],
+    wants: &'static [(u32, u32)],
+}
+
+const MERGES: &[Merge] = &[
+    // No tables have no edges.
+    Merge {
+        name: "merge_of_none",
+        tables: &[],
+        wants: &[],
+    },
+    // An edge of two tables is there once, with the lesser sample, and the edges ascend.
+    Merge {
+        name: "merge_of_two",
+        tables: &[
+            &[((0, 5, 6), 3), ((0, 2, 3), 9)],
+            &[((0, 4, 5), 1), ((0, 2, 3), 6), ((0, 5, 6), 8)],
+        ],
+        wants: &[(2, 6), (4, 1), (5, 3)],
+    },
+];
+
+fn tables_of(alloc: Global, tables: &[&[(Told, u32)]]) -> Result<Vec<Table>, Memory> {
+    let mut made = Vec::new(alloc);
+    for rows in tables {
+        made.push(table_of(alloc, rows)?)?;
+    }
+    Ok(made)
 }
 
 // Whether the edges are from these held locks, each with its place.
@@ -68,83 +193,20 @@ fn are_as_wanted(pairs: &[(Edge, Sample)], wants: &[(u32, u32)]) -> bool {
     true
 }
 
-// An edge that is inserted three times is there once, with the least of its samples.
+// Whether the tables make these edges.
+fn make(alloc: Global, tables: Vec<Table>, wants: &[(u32, u32)]) -> bool {
+    match merge(alloc, tables) {
+        Ok(list) => are_as_wanted(list.entries(), wants),
+        Err(_) => false,
+    }
+}
+
 #[test]
-fn least_sample(rt: HostRuntime) -> Result<(), Fail> {
-    let alloc = rt.alloc();
-    let table = table_of(alloc, &[(1, 2, 5), (1, 2, 2), (1, 2, 9)])?;
-    assert!(rt; Table::new(alloc).len() == 0);
-    assert!(rt; table.len() == 1);
-    assert!(rt; sample_of(alloc, &table, 0, 1, 2)? == Some(at(2)));
-
-    let copy = table.copy(alloc)?;
-    assert!(rt; copy.len() == 1);
-    assert!(rt; sample_of(alloc, &copy, 0, 1, 2)? == Some(at(2)));
-    Ok(())
-}
-
-// A table with two edges that differ in their threads.
-fn two_threads(alloc: Global) -> Result<Table, Memory> {
-    let mut table = Table::new(alloc);
-    table.insert(edge(alloc, 1, 1, 2)?, at(7))?;
-    table.insert(edge(alloc, 0, 1, 2)?, at(8))?;
-    Ok(table)
-}
-
-// Whether the table has these two, and not one that wasn't inserted.
-fn has_both(alloc: Global, table: &Table) -> Result<bool, Memory> {
-    let first = sample_of(alloc, table, 0, 1, 2)?;
-    let second = sample_of(alloc, table, 1, 1, 2)?;
-    let none = sample_of(alloc, table, 1, 2, 1)?;
-    Ok(table.len() == 2 && first == Some(at(8)) && second == Some(at(7)) && none.is_none())
-}
-
-// Edges that differ are apart, and one that wasn't inserted isn't there.
-#[test]
-fn two_edges(rt: HostRuntime) -> Result<(), Fail> {
-    let alloc = rt.alloc();
-    let table = two_threads(alloc)?;
-    assert!(rt; has_both(alloc, &table)?);
-    assert!(rt; has_both(alloc, &table.copy(alloc)?)?);
-    Ok(())
-}
-
-// The shard is that of the held lock, whatever else the edge has.
-#[test]
-fn shards(rt: HostRuntime) -> Result<(), Fail> {
-    let alloc = rt.alloc();
-    assert!(rt; MAX_SHARDS == 16);
-    assert!(rt; shard_of(&edge(alloc, 3, 0, 7)?, 1) == 0);
-    assert!(rt; shard_of(&edge(alloc, 3, 7, 0)?, 4) == 3);
-    assert!(rt; shard_of(&edge(alloc, 5, 7, 1)?, 4) == 3);
-    Ok(())
-}
-
-// Of the most shards.
-#[test]
-fn sixteen_shards(rt: HostRuntime) -> Result<(), Fail> {
-    let alloc = rt.alloc();
-    assert!(rt; shard_of(&edge(alloc, 0, 32, 1)?, MAX_SHARDS) == 0);
-    assert!(rt; shard_of(&edge(alloc, 0, 31, 1)?, MAX_SHARDS) == 15);
-    Ok(())
-}
-
-// No tables have no edges.
-#[test]
-fn merge_of_none(rt: HostRuntime) -> Result<(), Fail> {
-    let alloc = rt.alloc();
-    let list = merge(alloc, Vec::new(alloc))?;
-    assert!(rt; list.entries().is_empty());
-    Ok(())
-}
-
-// An edge of two tables is there once, with the lesser sample, and the edges ascend.
-#[test]
-fn merge_of_two(rt: HostRuntime) -> Result<(), Fail> {
-    let alloc = rt.alloc();
-    let first = table_of(alloc, &[(5, 6, 3), (2, 3, 9)])?;
-    let second = table_of(alloc, &[(4, 5, 1), (2, 3, 6), (5, 6, 8)])?;
-    let list = merge(alloc, vec![in alloc; first, second]?)?;
-    assert!(rt; are_as_wanted(list.entries(), &[(2, 6), (4, 1), (5, 3)]));
-    Ok(())
+fn merges(rt: HostRuntime) {
+    for case in MERGES {
+        let tables = tables_of(rt.alloc(), case.tables)
+            .ok()
+            .expect(&rt, case.name);
+        assert!(rt; make(rt.alloc(), tables, case.wants), "{}", case.name);
+    }
 }

@@ -1,42 +1,117 @@
 //! Texts that come in pieces.
 ghost use Rattle.std.specs.Prelude.{◌≤◌};
 
-use super::{
-    acquire, expect, expect_acquire, expect_dropped, expect_list, expect_lists, expect_loc, release,
-};
+use super::expect;
+use super::texts::{Named, Told, tells};
 use crate::pieces::{Pieces, hear};
 use gl_std::{Heard, ReadFault, StdKind};
+use gl_worked::ops::Op::{Acq, Rel};
 use std::alloc::Global;
-use std::process::Abort;
 use std::test::Fail;
 
-// Five lines that tell three events of one thread.
-fn expect_five_lines(rt: &impl Abort, heard: &Heard) {
-    expect(rt, &heard.is_whole, &true);
-    match &heard.trace {
-        Ok(trace) => {
-            expect_list(rt, trace, 0, &[acquire(0, 0), acquire(1, 1), release(1, 2)]);
-            expect_lists(rt, trace, 1);
-            expect_loc(rt, &trace.names, b"1", Some(0));
-            expect_dropped(rt, trace, 1, 0);
+// What is heard of a text.
+#[derive(Clone, Copy)]
+enum Wanted {
+    Tells(Told),
+    Bad(u64, StdKind),
+}
+
+// A text that is read in pieces of each of these sizes in turn, and then fails or ends: whether it was read
+// whole, and what is heard of it.
+#[derive(Clone, Copy)]
+struct Case {
+    name: &'static str,
+    text: &'static [u8],
+    pieces: &'static [usize],
+    fails: bool,
+    is_whole: bool,
+    wanted: Wanted,
+}
+
+const CASES: &[Case] = &[
+    Case {
+        name: "pieces_are_joined",
+        text: b"T0|acq(a)|1\r\nT0|acq(b)|2\nT1|r(x)|3\n\nT0|rel(b)|4",
+        pieces: &[1, 7, 1_000],
+        fails: false,
+        is_whole: true,
+        wanted: Wanted::Tells(Told {
+            lists: &[&[Acq(0, 0), Acq(1, 1), Rel(1, 2)]],
+            counts: (1, 2, 3),
+            dropped: (1, 0),
+            names: &[Named::Loc(b"1", Some(0))],
+        }),
+    },
+    Case {
+        name: "lines_before_a_failed_read",
+        text: b"T0|acq(a)|1\nT0",
+        pieces: &[5],
+        fails: true,
+        is_whole: false,
+        wanted: Wanted::Tells(Told {
+            lists: &[&[Acq(0, 0)]],
+            counts: (1, 1, 1),
+            dropped: (0, 0),
+            names: &[],
+        }),
+    },
+    Case {
+        name: "only_ended_lines_are_judged",
+        text: b"T0|acq(a)|1\nT0",
+        pieces: &[5],
+        fails: false,
+        is_whole: true,
+        wanted: Wanted::Bad(2, StdKind::NoBar),
+    },
+    Case {
+        name: "reading_goes_on_after_a_fault",
+        text: b"\nT0|acq(a)\n|acq(a)|1\nT0|acq(a)|1\n",
+        pieces: &[6],
+        fails: false,
+        is_whole: true,
+        wanted: Wanted::Bad(2, StdKind::NoLocation),
+    },
+];
+
+// Whether this is heard.
+fn is_heard(heard: &Heard, is_whole: bool, wanted: &Wanted) -> bool {
+    if heard.is_whole != is_whole {
+        return false;
+    }
+    match (&heard.trace, wanted) {
+        (Ok(trace), Wanted::Tells(told)) => tells(trace, told),
+        (Err(fault), Wanted::Bad(line, kind)) => {
+            *fault
+                == ReadFault::Line {
+                    line: *line,
+                    kind: *kind,
+                }
         }
-        Err(fault) => assert!(rt; false, "{fault}"),
+        _ => false,
     }
 }
 
-// Five lines, read so many bytes at a time.
-fn expect_joined(rt: &impl Abort, alloc: Global, piece: usize) -> Result<(), Fail> {
-    let text = b"T0|acq(a)|1\r\nT0|acq(b)|2\nT1|r(x)|3\n\nT0|rel(b)|4";
-    let mut input = Pieces::new(text, piece, false);
-    expect_five_lines(rt, &hear(alloc, &mut input, 100)?);
-    Ok(())
+// Whether this is heard of the text in pieces of so many bytes, and all of it was read.
+fn is_heard_in(alloc: Global, case: &Case, piece: usize) -> Result<bool, Fail> {
+    let mut input = Pieces::new(case.text, piece, case.fails);
+    let heard = hear(alloc, &mut input, 100)?;
+    Ok(is_heard(&heard, case.is_whole, &case.wanted) && input.rest.is_empty())
+}
+
+// The same, whichever of these pieces it is read in.
+fn is_heard_in_each(alloc: Global, case: &Case) -> Result<bool, Fail> {
+    let mut is = true;
+    for piece in case.pieces {
+        is = is_heard_in(alloc, case, *piece)? && is;
+    }
+    Ok(is)
 }
 
 #[test]
-fn pieces_are_joined(rt: HostRuntime) -> Result<(), Fail> {
-    expect_joined(&rt, rt.alloc(), 1)?;
-    expect_joined(&rt, rt.alloc(), 7)?;
-    expect_joined(&rt, rt.alloc(), 1_000)?;
+fn pieces(rt: HostRuntime) -> Result<(), Fail> {
+    for case in CASES {
+        assert!(rt; is_heard_in_each(rt.alloc(), case)?, "{}", case.name);
+    }
     Ok(())
 }
 
@@ -56,48 +131,5 @@ fn turns_used_up(rt: HostRuntime) -> Result<(), Fail> {
     expect(&rt, &reads_of(rt.alloc(), 2)?, &(2, false));
     expect(&rt, &reads_of(rt.alloc(), 3)?, &(3, true));
     expect(&rt, &reads_of(rt.alloc(), 9)?, &(3, true));
-    Ok(())
-}
-
-// What was heard is one acquire, and not all.
-fn expect_front(rt: &impl Abort, heard: &Heard) {
-    expect(rt, &heard.is_whole, &false);
-    match &heard.trace {
-        Ok(trace) => expect_acquire(rt, trace),
-        Err(fault) => assert!(rt; false, "{fault}"),
-    }
-}
-
-#[test]
-fn lines_before_a_failed_read(rt: HostRuntime) -> Result<(), Fail> {
-    let mut input = Pieces::new(b"T0|acq(a)|1\nT0", 5, true);
-    expect_front(&rt, &hear(rt.alloc(), &mut input, 100)?);
-    Ok(())
-}
-
-// What was heard is all, and has this fault.
-fn expect_bad(rt: &impl Abort, heard: &Heard, line: u64, kind: StdKind) {
-    expect(rt, &heard.is_whole, &true);
-    match &heard.trace {
-        Ok(_) => assert!(rt; false, "a trace"),
-        Err(fault) => expect(rt, fault, &ReadFault::Line { line, kind }),
-    }
-}
-
-#[test]
-fn only_ended_lines_are_judged(rt: HostRuntime) -> Result<(), Fail> {
-    let mut input = Pieces::new(b"T0|acq(a)|1\nT0", 5, false);
-    let heard = hear(rt.alloc(), &mut input, 100)?;
-    expect_bad(&rt, &heard, 2, StdKind::NoBar);
-    Ok(())
-}
-
-#[test]
-fn reading_goes_on_after_a_fault(rt: HostRuntime) -> Result<(), Fail> {
-    let text = b"\nT0|acq(a)\n|acq(a)|1\nT0|acq(a)|1\n";
-    let mut input = Pieces::new(text, 6, false);
-    let heard = hear(rt.alloc(), &mut input, 100)?;
-    expect_bad(&rt, &heard, 2, StdKind::NoLocation);
-    expect(&rt, &input.rest.len(), &0);
     Ok(())
 }

@@ -3,10 +3,12 @@ ghost use Rattle.std.specs.Prelude.{◌≡◌, ◌<◌, ◌≤◌, None, length,
 ghost use Rattle.gl_std.specs.Sourced.{items_of, source_of};
 ghost use Rattle.gl_std.specs.Streaming.{CanBeAsked};
 
-use super::cut_texts::{expect_items, expect_next, told};
-use super::{acquire, expect, greatest, release};
+use super::cut_texts::{Answer, answers, answers_all, lines_of};
+use super::{GREATEST, expect, limits_of};
 use crate::pieces::{Pieces, hear};
+use Answer::{Bad, Broken, End, Told};
 use gl_std::{Failed, Heard, Item, Lines, LinesFault, ReadFault, Seed, Source, StdKind, Trace};
+use gl_worked::ops::Op::{Acq, Rel};
 use std::alloc::Global;
 use std::process::Abort;
 use std::test::Fail;
@@ -16,87 +18,73 @@ const SIX_LINES: &[u8] =
     b"T0|acq(a)|1\nT0|acq(b)|2\nT0|rel(b)|3\nT0|rel(a)|4\nT1|acq(b)|5\nT1|acq(a)|6\n";
 
 // What they tell.
-fn six_items() -> [Item; 6] {
-    [
-        told(0, acquire(0, 0)),
-        told(0, acquire(1, 1)),
-        told(0, release(1, 2)),
-        told(0, release(0, 3)),
-        told(1, acquire(1, 4)),
-        told(1, acquire(0, 5)),
-    ]
-}
+const SIX_ITEMS: [Answer; 6] = [
+    Told(0, Acq(0, 0)),
+    Told(0, Acq(1, 1)),
+    Told(0, Rel(1, 2)),
+    Told(0, Rel(0, 3)),
+    Told(1, Acq(1, 4)),
+    Told(1, Acq(0, 5)),
+];
 
 // Where the text ends after so many bytes of a line: what that line tells, if it is whole but for its
 // location's end, or what it is refused for.
-fn rest_of_line(bytes: usize, line: u64, item: Item) -> Result<Item, LinesFault> {
-    let kind = match bytes {
-        0 => return Ok(Item::End),
-        1 | 2 => StdKind::NoBar,
-        3..=9 => StdKind::NoLocation,
-        _ => return Ok(item),
-    };
-    Err(LinesFault::Line { line, kind })
+fn rest_of_line(bytes: usize, line: u64, item: Answer) -> Answer {
+    match bytes {
+        0 => End,
+        1 | 2 => Bad(line, StdKind::NoBar),
+        3..=9 => Bad(line, StdKind::NoLocation),
+        _ => item,
+    }
 }
 
-// The front of the text, a byte a read, is these items and then this. A fault stays, and else the text has
-// ended.
-fn expect_front(
-    rt: &impl Abort,
+// Whether the front of the text, a byte a read, is these items and then this. A fault stays, and else the
+// text has ended.
+fn is_front(
     alloc: Global,
     front: &[u8],
     fails: bool,
-    items: &[Item],
-    last: &Result<Item, LinesFault>,
-) -> Result<(), Fail> {
-    let input = Pieces::new(front, 1, fails);
-    let mut lines = Lines::new(alloc, input, &greatest()?, 100, Seed::fixed())?;
-    expect_items(rt, &mut lines, items);
-    expect_next(rt, &mut lines, last);
-    if last.is_ok() {
-        expect_next(rt, &mut lines, &Ok(Item::End));
-    } else {
-        expect_next(rt, &mut lines, last);
-    }
-    Ok(())
+    items: &[Answer],
+    last: Answer,
+) -> Result<bool, Fail> {
+    let mut lines = lines_of(alloc, front, 1, fails, 100)?;
+    let are = answers_all(&mut lines, items);
+    let ends = answers(&mut lines, last);
+    let stays = answers(&mut lines, if let Told(..) = last { End } else { last });
+    Ok(are && ends && stays)
 }
 
 // The text after so many lines and so many bytes of the next one: then it ends, or a read fails, whatever
 // that line was to be.
-fn expect_cut_at(
-    rt: &impl Abort,
-    alloc: Global,
-    text: &[u8],
-    lines: usize,
-    bytes: usize,
-) -> Result<(), Fail>
+fn is_cut_at(alloc: Global, text: &[u8], lines: usize, bytes: usize) -> Result<bool, Fail>
     requires text { length text.now ≡ 72 }
     requires lines { lines < 6 }
     requires bytes { bytes < 12 }
 {
-    let items = six_items();
     let front = &text[..12 * lines + bytes];
-    let last = rest_of_line(bytes, lines as u64 + 1, items[lines]);
-    expect_front(rt, alloc, front, false, &items[..lines], &last)?;
-    let failed = Err(LinesFault::Read);
-    expect_front(rt, alloc, front, true, &items[..lines], &failed)
+    let items = &SIX_ITEMS[..lines];
+    let last = rest_of_line(bytes, lines as u64 + 1, SIX_ITEMS[lines]);
+    let ends = is_front(alloc, front, false, items, last)?;
+    let fails = is_front(alloc, front, true, items, Broken)?;
+    Ok(ends && fails)
 }
 
 // The text cut at each byte of this line.
-fn expect_cuts_of_line(rt: &impl Abort, alloc: Global, text: &[u8], line: usize) -> Result<(), Fail>
+fn is_cut_in_line(alloc: Global, text: &[u8], line: usize) -> Result<bool, Fail>
     requires text { length text.now ≡ 72 }
     requires line { line < 6 }
 {
+    let mut is = true;
     for bytes in 0..12 {
-        expect_cut_at(rt, alloc, text, line, bytes)?;
+        is = is_cut_at(alloc, text, line, bytes)? && is;
     }
-    Ok(())
+    Ok(is)
 }
 
 #[test]
 fn cut_line(rt: HostRuntime) -> Result<(), Fail> {
     for line in 0..6 {
-        expect_cuts_of_line(&rt, rt.alloc(), SIX_LINES, line)?;
+        assert!(rt; is_cut_in_line(rt.alloc(), SIX_LINES, line)?, "line {line}");
     }
     Ok(())
 }
@@ -132,11 +120,10 @@ fn expect_heard_at(
     requires bytes { bytes < 12 }
 {
     let front = &text[..12 * lines + bytes];
-    let wanted = match rest_of_line(bytes, lines as u64 + 1, Item::Skipped) {
-        Ok(Item::End) => Ok(lines),
-        Ok(_) => Ok(lines + 1),
-        Err(LinesFault::Line { line, kind }) => Err(ReadFault::Line { line, kind }),
-        Err(_) => Err(ReadFault::Memory),
+    let wanted = match rest_of_line(bytes, lines as u64 + 1, Broken) {
+        End => Ok(lines),
+        Bad(line, kind) => Err(ReadFault::Line { line, kind }),
+        _ => Ok(lines + 1),
     };
     let mut ends = Pieces::new(front, 1, false);
     expect_heard(rt, &hear(alloc, &mut ends, 100)?, true, &wanted);
@@ -203,7 +190,7 @@ fn for_ever<'a>(alloc: Global, line: &'a [u8], turns: u64) -> Result<Lines<Endle
         rest: line,
         is_failed: false,
     };
-    Ok(Lines::new(alloc, input, &greatest()?, turns, Seed::fixed())?)
+    Ok(Lines::new(alloc, input, &limits_of(GREATEST)?, turns, Seed::fixed())?)
 }
 
 // The next answer is this one.
@@ -252,11 +239,8 @@ fn endless_line(rt: HostRuntime) -> Result<(), Fail> {
 fn expect_ended_line(rt: &(impl Abort + AllocGlobal), text: Vec<u8>) -> Result<(), Fail> {
     let mut text = text;
     text.extend_from_slice(b"\n")?;
-    let kind = StdKind::TooLong;
-    let too_long = Err(LinesFault::Line { line: 1, kind });
-    let input = Pieces::new(text.as_slice(), 1_000, true);
-    let mut lines = Lines::new(rt.alloc(), input, &greatest()?, 100, Seed::fixed())?;
-    expect_next(rt, &mut lines, &too_long);
-    expect_next(rt, &mut lines, &too_long);
+    let mut lines = lines_of(rt.alloc(), text.as_slice(), 1_000, true, 100)?;
+    assert!(rt; answers(&mut lines, Bad(1, StdKind::TooLong)));
+    assert!(rt; answers(&mut lines, Bad(1, StdKind::TooLong)));
     Ok(())
 }

@@ -1,136 +1,115 @@
 //! Edges through feeds, in one thread and in several.
-ghost use Rattle.std.specs.Prelude.{◌≡◌, IfSome};
+ghost use Rattle.std.specs.Prelude.{◌≡◌, IfOk, IfSome};
 
-use super::{are_as_wanted, at, edge, sample_of};
+use super::{at, edge, sample_of};
 use gl_edges::{Edge, Sample};
 use gl_event::{MAX_RING, Memory};
-use gl_shards::{Gate, Gone, Inlet, Open, Outlet, Sent, Served, Table, feed, merge, serve};
+use gl_shards::{Gate, Gone, Inlet, Open, Outlet, Sent, Served, Table, feed, serve};
 use std::alloc::Global;
 use std::sync::Wait;
 use std::sync::atomic::{AtomicU64, Ordering};
-use std::test::Fail;
 use std::thread;
 use std::thread::Threads;
 
-// Sends these edges and the end mark.
-fn send_all<R: Wait>(rt: &R, outlet: Outlet, pairs: Vec<(Edge, Sample)>) -> Option<Sent>
-    ensures feed { IfSome result (λ sent. sent.feed ≡ outlet.feed) }
-{
-    let mut outlet = outlet;
-    for (edge, sample) in pairs {
-        if outlet.send(rt, edge, sample).is_err() {
-            return None;
-        }
-    }
-    outlet.end(rt).ok()
+mod meeting;
+
+// How a feed is used, and what is wanted then.
+#[derive(Clone, Copy)]
+enum Course {
+    // an end mark follows the edges, and the worker's table has these
+    Ended,
+    // no end mark follows, and the worker is cut off
+    Cut,
+    // there is no worker, and the sender is told that it is gone
+    Lone,
 }
 
-// An edge from each of so many locks to lock 0, at the place that is the number of the lock.
-fn edges_from(alloc: Global, locks: u32) -> Result<Vec<(Edge, Sample)>, Memory> {
-    let mut pairs = Vec::new(alloc);
-    for lock in 1..=locks {
-        pairs.push((edge(alloc, 0, lock, 0)?, at(lock)))?;
-    }
-    Ok(pairs)
+// A feed with room for so many messages, how many edges are sent through it, its course, and whether both ends run
+// at once, or the worker after the sender. The shard that the worker is told; and what its gate adds up, where it
+// isn't the open one: how often it is passed, how many edges came before, and the shard.
+#[derive(Clone, Copy)]
+struct Case {
+    name: &'static str,
+    room: u32,
+    edges: u32,
+    course: Course,
+    at_once: bool,
+    shard: u32,
+    sums: Option<[u64; 3]>,
 }
 
-// Whether the table has as many edges as these, and the first and the last one of them.
-fn has_edges_from(alloc: Global, table: &Table, locks: u32) -> Result<bool, Memory> {
-    let first = sample_of(alloc, table, 0, 1, 0)?;
-    let last = sample_of(alloc, table, 0, locks, 0)?;
-    Ok(table.len() == locks as usize && first == Some(at(1)) && last == Some(at(locks)))
-}
-
-// Edges that are sent before the worker begins are in its table.
-#[test]
-fn sent_before(rt: HostRuntime) -> Result<(), Fail> {
-    let alloc = rt.alloc();
-    let (outlet, inlet) = feed(alloc, 3)?;
-    let sent = send_all(&rt, outlet, edges_from(alloc, 2)?).expect(&rt, "the inlet is there");
-    let served = serve(&rt, alloc, inlet, 0, &Open);
-    assert!(rt; !served.cut());
-    let table = served
-        .settle(sent)
-        .expect(&rt, "every edge came, and there is memory");
-    assert!(rt; has_edges_from(alloc, &table, 2)?);
-    Ok(())
-}
-
-// Nothing was sent: the table is empty.
-#[test]
-fn nothing_sent(rt: HostRuntime) -> Result<(), Fail> {
-    let alloc = rt.alloc();
-    let (outlet, inlet) = feed(alloc, MAX_RING)?;
-    let sent = outlet.end(&rt).expect(&rt, "the inlet is there");
-    let served = serve(&rt, alloc, inlet, 0, &Open);
-    assert!(rt; !served.cut());
-    let table = served.settle(sent).expect(&rt, "the end mark came");
-    assert!(rt; table.len() == 0);
-    Ok(())
-}
-
-// A sender whose worker is gone gets its edge back, and no `Sent`.
-#[test]
-fn inlet_dropped(rt: HostRuntime) -> Result<(), Fail> {
-    let alloc = rt.alloc();
-    let (mut outlet, inlet) = feed(alloc, 2)?;
-    drop(inlet);
-    let back = outlet.send(&rt, edge(alloc, 0, 1, 2)?, at(7));
-    assert!(rt; back == Err((edge(alloc, 0, 1, 2)?, at(7))));
-    assert!(rt; outlet.end(&rt).err() == Some(Gone));
-    Ok(())
-}
-
-// A worker whose sender is gone without an end mark is cut off, with what had come till then.
-#[test]
-fn outlet_dropped(rt: HostRuntime) -> Result<(), Fail> {
-    let alloc = rt.alloc();
-    let (mut outlet, inlet) = feed(alloc, 2)?;
-    assert!(rt; outlet.send(&rt, edge(alloc, 0, 1, 2)?, at(7)).is_ok());
-    drop(outlet);
-    let served = serve(&rt, alloc, inlet, 0, &Open);
-    assert!(rt; served.cut());
-    Ok(())
-}
-
-// Sends the edge, drops the end without an end mark, and answers whether the edge was sent.
-fn send_one<R: Wait>(rt: &R, outlet: Outlet, edge: Edge, sample: Sample) -> bool {
-    let mut outlet = outlet;
-    outlet.send(rt, edge, sample).is_ok()
-}
-
-// A sender that waits for room, or comes to wait for it, is told that its worker is gone.
-#[test]
-fn inlet_dropped_later(rt: HostRuntime) -> Result<(), Fail> {
-    let alloc = rt.alloc();
-    let (outlet, inlet) = feed(alloc, 1)?;
-    let pairs = edges_from(alloc, 2)?;
-    let handle = &rt;
-    let (sent, ()) = thread::join(
-        handle,
-        move || send_all(handle, outlet, pairs),
-        move || drop(inlet),
-    );
-    assert!(rt; sent.is_none());
-    Ok(())
-}
-
-// A worker that waits for an edge, or comes to wait for it, is told that its sender is gone.
-#[test]
-fn outlet_dropped_later(rt: HostRuntime) -> Result<(), Fail> {
-    let alloc = rt.alloc();
-    let (outlet, inlet) = feed(alloc, 1)?;
-    let lone = edge(alloc, 0, 1, 2)?;
-    let handle = &rt;
-    let (served, was_sent) = thread::join(
-        handle,
-        move || serve(handle, alloc, inlet, 0, &Open),
-        move || send_one(handle, outlet, lone, at(7)),
-    );
-    assert!(rt; was_sent);
-    assert!(rt; served.cut());
-    Ok(())
-}
+const CASES: &[Case] = &[
+    // Edges that are sent before the worker begins are in its table.
+    Case {
+        name: "sent_before",
+        room: 3,
+        edges: 2,
+        course: Course::Ended,
+        at_once: false,
+        shard: 0,
+        sums: None,
+    },
+    // Nothing was sent: the table is empty.
+    Case {
+        name: "nothing_sent",
+        room: MAX_RING,
+        edges: 0,
+        course: Course::Ended,
+        at_once: false,
+        shard: 0,
+        sums: None,
+    },
+    // A worker whose sender is gone without an end mark is cut off.
+    Case {
+        name: "outlet_dropped",
+        room: 2,
+        edges: 1,
+        course: Course::Cut,
+        at_once: false,
+        shard: 0,
+        sums: None,
+    },
+    // A sender that waits for room, or comes to wait for it, is told that its worker is gone.
+    Case {
+        name: "inlet_dropped_later",
+        room: 1,
+        edges: 2,
+        course: Course::Lone,
+        at_once: true,
+        shard: 0,
+        sums: None,
+    },
+    // A worker that waits for an edge, or comes to wait for it, is told that its sender is gone.
+    Case {
+        name: "outlet_dropped_later",
+        room: 1,
+        edges: 1,
+        course: Course::Cut,
+        at_once: true,
+        shard: 0,
+        sums: None,
+    },
+    // The gate is told the shard, and for each edge how many came before it.
+    Case {
+        name: "gate_counts",
+        room: 5,
+        edges: 4,
+        course: Course::Ended,
+        at_once: false,
+        shard: 7,
+        sums: Some([4, 6, 28]),
+    },
+    // One thread sends through a feed with room for one edge, and another one receives.
+    Case {
+        name: "thousand_edges",
+        room: 1,
+        edges: 1_000,
+        course: Course::Ended,
+        at_once: true,
+        shard: 0,
+        sums: None,
+    },
+];
 
 // A gate that counts how often it is passed, and adds up what it is told.
 #[derive(Drop)]
@@ -148,158 +127,209 @@ impl Gate for Counter {
     }
 }
 
-// The gate is told the shard, and for each edge how many came before it.
-#[test]
-fn gate_counts(rt: HostRuntime) -> Result<(), Fail> {
-    let alloc = rt.alloc();
-    let (outlet, inlet) = feed(alloc, 5)?;
-    let sent = send_all(&rt, outlet, edges_from(alloc, 4)?);
-    assert!(rt; sent.is_some());
-    let gate = Counter {
-        passed: AtomicU64::new(0),
-        taken: AtomicU64::new(0),
-        shards: AtomicU64::new(0),
-    };
-    let served = serve(&rt, alloc, inlet, 7, &gate);
-    assert!(rt; !served.cut());
-    assert!(rt; gate.passed.load(Ordering::SeqCst) == 4);
-    assert!(rt; gate.taken.load(Ordering::SeqCst) == 6);
-    assert!(rt; gate.shards.load(Ordering::SeqCst) == 28);
-    Ok(())
-}
-
-// One thread sends through a feed with room for one edge, and another one receives.
-#[test]
-fn thousand_edges(rt: HostRuntime) -> Result<(), Fail> {
-    let alloc = rt.alloc();
-    let (outlet, inlet) = feed(alloc, 1)?;
-    let pairs = edges_from(alloc, 1_000)?;
-    let handle = &rt;
-    let (sent, served) = thread::join(
-        handle,
-        move || -> Option<Sent>
-            ensures { IfSome result (λ sent. sent.feed ≡ outlet.feed) }
-        { send_all(handle, outlet, pairs) },
-        move || -> Served
-            ensures { result.feed ≡ inlet.feed }
-        { serve(handle, alloc, inlet, 0, &Open) },
-    );
-    let sent = sent.expect(&rt, "the inlet is there");
-    let table = served
-        .settle(sent)
-        .expect(&rt, "every edge came, and there is memory");
-    assert!(rt; has_edges_from(alloc, &table, 1_000)?);
-    Ok(())
-}
-
-// How often a worker looks for the other one, at most.
-const TURNS: u32 = 10_000_000;
-
-// A gate at which the workers of two shards meet: each sets its own flag and looks for the other's.
-#[derive(Drop)]
-struct Meeting {
-    first: AtomicU64,
-    second: AtomicU64,
-    passed: AtomicU64,
-    alone: AtomicU64,
-}
-
-impl Meeting {
-    fn new() -> Meeting {
-        Meeting {
-            first: AtomicU64::new(0),
-            second: AtomicU64::new(0),
+impl Counter {
+    fn new() -> Counter {
+        Counter {
             passed: AtomicU64::new(0),
-            alone: AtomicU64::new(0),
+            taken: AtomicU64::new(0),
+            shards: AtomicU64::new(0),
         }
     }
 
-    // Whether each of the two workers passed once, at its first edge, and met the other one.
-    fn is_passed_by_both(&self) -> bool {
-        self.first.load(Ordering::SeqCst) == 1
-            && self.second.load(Ordering::SeqCst) == 1
-            && self.passed.load(Ordering::SeqCst) == 1_001
-            && self.alone.load(Ordering::SeqCst) == 0
-    }
-}
-
-impl Gate for Meeting {
-    // Counts 1 for the first shard's pass before its first edge, and 1,000 for the second's.
-    fn pass(&self, shard: u32, taken: u64) {
-        let (own, other, count) = match shard {
-            0 => (&self.first, &self.second, 1),
-            _ => (&self.second, &self.first, 1_000),
-        };
-        if taken == 0 {
-            self.passed.fetch_add(count, Ordering::SeqCst);
-        }
-        own.fetch_add(1, Ordering::SeqCst);
-        for _ in 0..TURNS {
-            if other.load(Ordering::SeqCst) > 0 {
-                return;
-            }
-            thread::yield_now();
-        }
-        self.alone.fetch_add(1, Ordering::SeqCst);
+    fn has(&self, sums: [u64; 3]) -> bool {
+        self.passed.load(Ordering::SeqCst) == sums[0]
+            && self.taken.load(Ordering::SeqCst) == sums[1]
+            && self.shards.load(Ordering::SeqCst) == sums[2]
     }
 }
 
-// Runs the workers of shards 0 and 1 in threads of their own.
-fn work_at_once<R: Threads + Wait + Sync>(
+// An edge from each of so many locks to lock 0, at the place that is the number of the lock.
+fn edges_from(alloc: Global, locks: u32) -> Result<Vec<(Edge, Sample)>, Memory> {
+    let mut pairs = Vec::new(alloc);
+    for lock in 1..=locks {
+        pairs.push((edge(alloc, (0, lock, 0))?, at(lock)))?;
+    }
+    Ok(pairs)
+}
+
+// Whether the table has as many edges as these, and the first and the last one of them.
+fn has_edges_from(alloc: Global, table: &Table, locks: u32) -> bool {
+    table.len() == locks as usize
+        && (locks == 0
+            || sample_of(alloc, table, (0, 1, 0)) == Ok(Some(at(1)))
+                && sample_of(alloc, table, (0, locks, 0)) == Ok(Some(at(locks))))
+}
+
+// Sends these edges, and answers whether all were sent.
+fn send_each<R: Wait>(rt: &R, outlet: &mut Outlet, pairs: Vec<(Edge, Sample)>) -> bool
+    ensures feed { outlet.new.feed ≡ outlet.old.feed }
+{
+    for (edge, sample) in pairs {
+        if outlet.send(rt, edge, sample).is_err() {
+            return false;
+        }
+    }
+    true
+}
+
+// Sends these edges, and the end mark where it is to follow; else the sender's end is dropped.
+fn send_all<R: Wait>(
+    rt: &R,
+    outlet: Outlet,
+    pairs: Vec<(Edge, Sample)>,
+    course: Course,
+) -> Result<Option<Sent>, Gone>
+    ensures feed { IfOk result (λ left. IfSome left (λ sent. sent.feed ≡ outlet.feed)) }
+{
+    let mut outlet = outlet;
+    if !send_each(rt, &mut outlet, pairs) {
+        return Err(Gone);
+    }
+    if let Course::Cut = course {
+        return Ok(None);
+    }
+    match outlet.end(rt) {
+        Ok(sent) => Ok(Some(sent)),
+        Err(gone) => Err(gone),
+    }
+}
+
+// Serves through the gate, or the open one; where there is no worker, its end is dropped.
+fn work<R: Wait>(
     rt: &R,
     alloc: Global,
-    first: Inlet,
-    second: Inlet,
-    gate: &Meeting,
-) -> (Served, Served)
-    ensures first { result.0.feed ≡ first.feed }
-    ensures second { result.1.feed ≡ second.feed }
+    inlet: Inlet,
+    case: &Case,
+    counter: &Counter,
+) -> Option<Served>
+    ensures feed { IfSome result (λ served. served.feed ≡ inlet.feed) }
 {
+    match (case.course, case.sums) {
+        (Course::Lone, _) => None,
+        (_, Some(_)) => Some(serve(rt, alloc, inlet, case.shard, counter)),
+        (_, None) => Some(serve(rt, alloc, inlet, case.shard, &Open)),
+    }
+}
+
+type Left = (Result<Option<Sent>, Gone>, Option<Served>);
+
+// What both ends leave behind, each of which runs in a thread of its own.
+fn run_at_once<R: Threads + Wait + Sync>(
+    rt: &R,
+    alloc: Global,
+    ends: (Outlet, Inlet),
+    pairs: Vec<(Edge, Sample)>,
+    case: &Case,
+    counter: &Counter,
+) -> Left
+    ensures sent { IfOk result.0 (λ left. IfSome left (λ sent. sent.feed ≡ ends.0.feed)) }
+    ensures served { IfSome result.1 (λ served. served.feed ≡ ends.1.feed) }
+{
+    let (outlet, inlet) = ends;
     thread::join(
         rt,
-        move || -> Served
-            ensures { result.feed ≡ first.feed }
-        { serve(rt, alloc, first, 0, gate) },
-        move || -> Served
-            ensures { result.feed ≡ second.feed }
-        { serve(rt, alloc, second, 1, gate) },
+        move || -> Result<Option<Sent>, Gone>
+            ensures { IfOk result (λ left. IfSome left (λ sent. sent.feed ≡ outlet.feed)) }
+        { send_all(rt, outlet, pairs, case.course) },
+        move || -> Option<Served>
+            ensures { IfSome result (λ served. served.feed ≡ inlet.feed) }
+        { work(rt, alloc, inlet, case, counter) },
     )
 }
 
-// Sends one edge and the end mark.
-fn send_last<R: Wait>(rt: &R, outlet: Outlet, edge: Edge, sample: Sample) -> Option<Sent>
-    ensures feed { IfSome result (λ sent. sent.feed ≡ outlet.feed) }
+// What both ends leave behind.
+fn run<R: Threads + Wait + Sync>(
+    rt: &R,
+    alloc: Global,
+    ends: (Outlet, Inlet),
+    pairs: Vec<(Edge, Sample)>,
+    case: &Case,
+    counter: &Counter,
+) -> Left
+    ensures sent { IfOk result.0 (λ left. IfSome left (λ sent. sent.feed ≡ ends.0.feed)) }
+    ensures served { IfSome result.1 (λ served. served.feed ≡ ends.1.feed) }
 {
-    let mut outlet = outlet;
-    if outlet.send(rt, edge, sample).is_err() {
-        return None;
+    if case.at_once {
+        return run_at_once(rt, alloc, ends, pairs, case, counter);
     }
-    outlet.end(rt).ok()
+    let (outlet, inlet) = ends;
+    let sent = send_all(rt, outlet, pairs, case.course);
+    (sent, work(rt, alloc, inlet, case, counter))
 }
 
-// Whether each of the two tables has one edge, and the two make the list of both.
-fn are_one_each(alloc: Global, first: Table, second: Table) -> Result<bool, Memory> {
-    if first.len() != 1 || second.len() != 1 {
-        return Ok(false);
+// Whether the worker's table has the edges, which it was sent.
+fn settles(alloc: Global, served: Served, sent: Sent, edges: u32) -> bool
+    requires { served.feed ≡ sent.feed }
+{
+    let was_cut = served.cut();
+    match served.settle(sent) {
+        Ok(table) => !was_cut && has_edges_from(alloc, &table, edges),
+        Err(_) => false,
     }
-    let list = merge(alloc, vec![in alloc; first, second]?)?;
-    Ok(are_as_wanted(list.entries(), &[(2, 4), (3, 5)]))
 }
 
-// Two workers are both between a receive and an insert at one moment.
+// Whether both ends left what is wanted.
+fn is_left(alloc: Global, left: Left, case: &Case) -> bool
+    requires { IfOk left.0 (λ it. IfSome it
+        (λ sent. IfSome left.1 (λ served. served.feed ≡ sent.feed))) }
+{
+    match (left.0, left.1, case.course) {
+        (Ok(Some(sent)), Some(served), Course::Ended) => settles(alloc, served, sent, case.edges),
+        (Ok(None), Some(served), Course::Cut) => served.cut(),
+        (Err(Gone), None, Course::Lone) => true,
+        _ => false,
+    }
+}
+
+// Whether a feed is used so, and leaves what is wanted.
+fn is_used<R: Threads + Wait + Sync>(
+    rt: &R,
+    alloc: Global,
+    case: &Case,
+    counter: &Counter,
+) -> bool {
+    if case.room == 0 || case.room > MAX_RING {
+        return false;
+    }
+    let Ok(pairs) = edges_from(alloc, case.edges) else {
+        return false;
+    };
+    match feed(alloc, case.room) {
+        Ok(ends) => is_left(alloc, run(rt, alloc, ends, pairs, case, counter), case),
+        Err(_) => false,
+    }
+}
+
 #[test]
-fn workers_at_once(rt: HostRuntime) -> Result<(), Fail> {
-    let alloc = rt.alloc();
-    let (one, first) = feed(alloc, 2)?;
-    let (two, second) = feed(alloc, 2)?;
-    let one = send_last(&rt, one, edge(alloc, 0, 2, 3)?, at(4)).expect(&rt, "the inlet is there");
-    let two = send_last(&rt, two, edge(alloc, 1, 3, 2)?, at(5)).expect(&rt, "the inlet is there");
+fn feeds(rt: HostRuntime) {
+    for case in CASES {
+        let counter = Counter::new();
+        assert!(rt; is_used(&rt, rt.alloc(), case, &counter), "{}", case.name);
+        assert!(rt;
+            case.sums.is_none_or(|sums| counter.has(sums)),
+            "{}: sums",
+            case.name
+        );
+    }
+}
 
-    let gate = Meeting::new();
-    let (first, second) = work_at_once(&rt, alloc, first, second, &gate);
-    assert!(rt; gate.is_passed_by_both());
-    let first = first.settle(one).expect(&rt, "the end mark came");
-    let second = second.settle(two).expect(&rt, "the end mark came");
-    assert!(rt; are_one_each(alloc, first, second)?);
-    Ok(())
+// Whether a sender whose worker is gone gets its edge back, and no `Sent`.
+fn gets_back<R: Wait>(rt: &R, outlet: Outlet, edge: Edge, same: Edge) -> bool {
+    let mut outlet = outlet;
+    outlet.send(rt, edge, at(7)) == Err((same, at(7))) && outlet.end(rt).err() == Some(Gone)
+}
+
+// The sender's end of a feed whose worker is gone.
+fn lone_outlet(alloc: Global) -> Result<Outlet, Memory> {
+    let (outlet, inlet) = feed(alloc, 2)?;
+    drop(inlet);
+    Ok(outlet)
+}
+
+#[test]
+fn inlet_dropped(rt: HostRuntime) {
+    let outlet = lone_outlet(rt.alloc()).ok().expect(&rt, "a feed");
+    let lone = edge(rt.alloc(), (0, 1, 2)).ok().expect(&rt, "an edge");
+    let same = edge(rt.alloc(), (0, 1, 2)).ok().expect(&rt, "an edge");
+    assert!(rt; gets_back(&rt, outlet, lone, same));
 }

@@ -1,6 +1,6 @@
-use Rattle.std.proofs.Common.{◌<◌, length, ap, arith}
+use Rattle.std.proofs.Common.{length, ap, arith}
 use Rattle.gl_edges.proofs.Numbering.{has_number, has_set}
-use Rattle.gl_parts_tests.proofs.tests.edges.clash_at.Goals as goal
+use Rattle.gl_parts_tests.proofs.tests.edges.clash_of.Goals as goal
 
 pub id-one-requires : goal.id-one-requires
 id-one-requires c = has_number c.args.edges.now c.args.sets.now c.args.i c.requires (omega (arith, c.if-i-entries.false, ap length c.entries.ensures.pairs))

@@ -1,0 +1,153 @@
+//! Sessions whose workers are both at work at one moment.
+ghost use Rattle.std.specs.Prelude.{◌≡◌, None, false};
+
+use super::asks::{Ask, command_of};
+use super::runs::TURNS;
+use super::{OPPOSITE_ORDER, OPPOSITE_ORDER_REPORT};
+use gl_commands::{Ended, live_gated};
+use gl_io::{Failed, FromStd, Source};
+use gl_options::Command;
+use gl_shards::Gate;
+use gl_std::Seed;
+use std::process::Abort;
+use std::sync::Wait;
+use std::sync::atomic::{AtomicU64, Ordering};
+use std::thread;
+use std::thread::Threads;
+
+// How often a worker looks for the other one, at most.
+const LOOKS: u32 = 10_000_000;
+
+// A gate at which the workers of two shards meet: each sets its own flag and looks for the other's.
+#[derive(Drop)]
+struct Meeting {
+    first: AtomicU64,
+    second: AtomicU64,
+    taken: AtomicU64,
+    alone: AtomicU64,
+}
+
+impl Meeting {
+    // A gate that nobody has passed.
+    fn new() -> Meeting {
+        Meeting {
+            first: AtomicU64::new(0),
+            second: AtomicU64::new(0),
+            taken: AtomicU64::new(0),
+            alone: AtomicU64::new(0),
+        }
+    }
+
+    // How often each worker passed, what they had taken before, and how many met no other.
+    fn passes(&self) -> (u64, u64, u64, u64) {
+        (
+            self.first.load(Ordering::SeqCst),
+            self.second.load(Ordering::SeqCst),
+            self.taken.load(Ordering::SeqCst),
+            self.alone.load(Ordering::SeqCst),
+        )
+    }
+
+    // Whether both workers pass while this looks.
+    fn has_met(&self) -> bool {
+        for _ in 0..LOOKS {
+            if self.first.load(Ordering::SeqCst) > 0 && self.second.load(Ordering::SeqCst) > 0 {
+                return true;
+            }
+            thread::yield_now();
+        }
+        false
+    }
+}
+
+impl Gate for Meeting {
+    fn pass(&self, shard: u32, taken: u64) {
+        let (own, other) = match shard {
+            0 => (&self.first, &self.second),
+            _ => (&self.second, &self.first),
+        };
+        self.taken.fetch_add(taken, Ordering::SeqCst);
+        own.fetch_add(1, Ordering::SeqCst);
+        for _ in 0..LOOKS {
+            if other.load(Ordering::SeqCst) > 0 {
+                return;
+            }
+            thread::yield_now();
+        }
+        self.alone.fetch_add(1, Ordering::SeqCst);
+    }
+}
+
+// How a session ends whose workers pass a gate, and what it writes. None where it is no session.
+fn gated<R: AllocGlobal + Threads + Wait + Sync, I: Source>(
+    rt: &R,
+    ask: Ask,
+    input: &mut I,
+    gate: &Meeting,
+) -> Option<(Ended, Vec<u8>)>
+    requires { I.failed input.old ≡ false }
+{
+    let Command::Live(options) = command_of(ask)? else {
+        return None;
+    };
+    let mut output = FromStd::new(Vec::new(rt.alloc()));
+    let ended = live_gated(rt, input, &mut output, TURNS, Seed::fixed(), &options, gate);
+    Some((ended, output.into_inner()))
+}
+
+// It lists the cycle of two locks in opposite order.
+fn expect_opposite(rt: &impl Abort, ended: &Ended, printed: &[u8]) {
+    assert!(rt; matches!(ended, Ended::Cycles), "{ended:?}");
+    assert_eq!(rt; printed, OPPOSITE_ORDER_REPORT);
+}
+
+// A session is opened, and its two workers are both at work at one moment, each on its first edge.
+#[test]
+fn gated_workers(rt: HostRuntime) {
+    let gate = Meeting::new();
+    let mut input = FromStd::new(OPPOSITE_ORDER);
+    let answer = gated(&rt, Ask::Live(2, 2, 256), &mut input, &gate);
+    let (ended, printed) = answer.expect(&rt, "a session");
+    expect_opposite(&rt, &ended, &printed);
+    assert_eq!(rt; gate.passes(), (1, 1, 0, 0));
+}
+
+// Gives its text at once, and holds back its end until two workers have met.
+#[derive(Drop)]
+struct HeldBack<'a> {
+    rest: &'a [u8],
+    gate: &'a Meeting,
+    is_late: bool,
+}
+
+impl Source for HeldBack<'_> {
+    ghost remaining = { λ _. None };
+
+    ghost failed = { λ _. false };
+
+    fn read(&mut self, buffer: &mut [u8]) -> Result<usize, Failed> {
+        let count = self.rest.len().min(buffer.len());
+        if count == 0 {
+            self.is_late = !self.gate.has_met();
+        }
+        buffer[..count].copy_from_slice(&self.rest[..count]);
+        self.rest = &self.rest[count..];
+        Ok(count)
+    }
+}
+
+// The workers keep edges before the text has ended.
+#[test]
+fn edges_before_the_end(rt: HostRuntime) {
+    let gate = Meeting::new();
+    let mut input = HeldBack {
+        rest: OPPOSITE_ORDER,
+        gate: &gate,
+        is_late: false,
+    };
+    let answer = gated(&rt, Ask::Stream(64, 4), &mut input, &gate);
+    let (ended, printed) = answer.expect(&rt, "a session");
+    expect_opposite(&rt, &ended, &printed);
+    assert!(rt; !input.is_late);
+    assert_eq!(rt; gate.passes(), (1, 1, 0, 0));
+}

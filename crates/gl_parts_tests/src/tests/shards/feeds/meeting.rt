@@ -1,0 +1,128 @@
+//! Workers of two shards that meet.
+ghost use Rattle.std.specs.Prelude.{◌≡◌, IfSome};
+
+use super::super::{Told, at, edge, make};
+use super::{Course, send_all};
+use gl_shards::{Gate, Inlet, Sent, Served, Table, feed, serve};
+use std::alloc::Global;
+use std::sync::Wait;
+use std::sync::atomic::{AtomicU64, Ordering};
+use std::thread;
+use std::thread::Threads;
+
+// How often a worker looks for the other one, at most.
+const TURNS: u32 = 10_000_000;
+
+// A gate at which the workers of two shards meet: each sets its own flag and looks for the other's.
+#[derive(Drop)]
+struct Meeting {
+    first: AtomicU64,
+    second: AtomicU64,
+    passed: AtomicU64,
+    alone: AtomicU64,
+}
+
+impl Meeting {
+    fn new() -> Meeting {
+        Meeting {
+            first: AtomicU64::new(0),
+            second: AtomicU64::new(0),
+            passed: AtomicU64::new(0),
+            alone: AtomicU64::new(0),
+        }
+    }
+
+    // Whether each of the two workers passed once, at its first edge, and met the other one.
+    fn is_passed_by_both(&self) -> bool {
+        self.first.load(Ordering::SeqCst) == 1
+            && self.second.load(Ordering::SeqCst) == 1
+            && self.passed.load(Ordering::SeqCst) == 1_001
+            && self.alone.load(Ordering::SeqCst) == 0
+    }
+}
+
+impl Gate for Meeting {
+    // Counts 1 for the first shard's pass before its first edge, and 1,000 for the second's.
+    fn pass(&self, shard: u32, taken: u64) {
+        let (own, other, count) = match shard {
+            0 => (&self.first, &self.second, 1),
+            _ => (&self.second, &self.first, 1_000),
+        };
+        if taken == 0 {
+            self.passed.fetch_add(count, Ordering::SeqCst);
+        }
+        own.fetch_add(1, Ordering::SeqCst);
+        for _ in 0..TURNS {
+            if other.load(Ordering::SeqCst) > 0 {
+                return;
+            }
+            thread::yield_now();
+        }
+        self.alone.fetch_add(1, Ordering::SeqCst);
+    }
+}
+
+// What was left by a sender of one edge and the end mark, and the worker's end.
+fn one_sent<R: Wait>(rt: &R, alloc: Global, told: Told, place: u32) -> Option<(Sent, Inlet)>
+    ensures { IfSome result (λ it. it.1.feed ≡ it.0.feed) }
+{
+    let lone = edge(alloc, told).ok()?;
+    let pairs = vec![in alloc; (lone, at(place))].ok()?;
+    let (outlet, inlet) = feed(alloc, 2).ok()?;
+    match send_all(rt, outlet, pairs, Course::Ended) {
+        Ok(Some(sent)) => Some((sent, inlet)),
+        _ => None,
+    }
+}
+
+// Runs the workers of shards 0 and 1 in threads of their own.
+fn work_at_once<R: Threads + Wait + Sync>(
+    rt: &R,
+    alloc: Global,
+    first: Inlet,
+    second: Inlet,
+    gate: &Meeting,
+) -> (Served, Served)
+    ensures first { result.0.feed ≡ first.feed }
+    ensures second { result.1.feed ≡ second.feed }
+{
+    thread::join(
+        rt,
+        move || -> Served
+            ensures { result.feed ≡ first.feed }
+        { serve(rt, alloc, first, 0, gate) },
+        move || -> Served
+            ensures { result.feed ≡ second.feed }
+        { serve(rt, alloc, second, 1, gate) },
+    )
+}
+
+// The tables of two workers, each of which gets one edge and the end mark.
+fn met<R: Threads + Wait + Sync>(rt: &R, alloc: Global, gate: &Meeting) -> Option<(Table, Table)> {
+    let (one, first) = one_sent(rt, alloc, (0, 2, 3), 4)?;
+    let (two, second) = one_sent(rt, alloc, (1, 3, 2), 5)?;
+    let (first, second) = work_at_once(rt, alloc, first, second, gate);
+    match (first.settle(one), second.settle(two)) {
+        (Ok(first), Ok(second)) => Some((first, second)),
+        _ => None,
+    }
+}
+
+// Whether each of the two tables has one edge, and the two make the list of both.
+fn are_one_each(alloc: Global, first: Table, second: Table) -> bool {
+    if first.len() != 1 || second.len() != 1 {
+        return false;
+    }
+    match vec![in alloc; first, second] {
+        Ok(tables) => make(alloc, tables, &[(2, 4), (3, 5)]),
+        Err(_) => false,
+    }
+}
+
+// Two workers are both between a receive and an insert at one moment.
+#[test]
+fn workers_at_once(rt: HostRuntime) {
+    let gate = Meeting::new();
+    let (first, second) = met(&rt, rt.alloc(), &gate).expect(&rt, "two tables");
+    assert!(rt; gate.is_passed_by_both() && are_one_each(rt.alloc(), first, second));
+}
