@@ -61,7 +61,7 @@
  *                   lock is held, 300 where three are. It takes memory for what it keeps, which is all that it pulled:
  *                   46 bytes for an event, and 100 and more for each other lock that is held at an acquire.
  *
- * So a session grows as long as it runs. A lane takes 5 KB, and 28 bytes for each note of its ring.
+ * So a session grows as long as it runs. A lane takes 4 KB, and 28 bytes for each note of its ring.
  * bench/library.sh measures it. */
 #ifndef GOODLOCK_H
 #define GOODLOCK_H
