@@ -1,5 +1,5 @@
 -- Why a lane breaks in a run, and that whatever comes off it later changes nothing of that.
-use Rattle.std.specs.Prelude.{◌≡◌, ℕ, List, [], ◌∷◌, ◌++◌, map, Some, Result, Err, slice_get}
+use Rattle.std.specs.Prelude.{◌≡◌, ℕ, Bool, true, false, List, [], ◌∷◌, ◌++◌, map, Some, Result, Ok, Err, slice_get}
 use mathlib.Core.List.{IsPrefix}
 use Rattle.gl_event.specs.Bounds.{Bounds}
 use Rattle.gl_event.specs.declared.notes.Note.{Note}
@@ -11,6 +11,7 @@ use Rattle.gl_engine.specs.Collecting.{as_of}
 use Rattle.gl_engine.specs.declared.faults.RunFault.{RunFault}
 use Rattle.gl_engine.specs.declared.faults.RunFault.TheVariants as kept
 use Rattle.gl_engine.specs.declared.pulled.Pulled.{Pulled}
+use Rattle.gl_engine.specs.declared.pulled.Pulled.TheVariants.{Empty, Event, Ended}
 use Rattle.gl_engine.specs.declared.pulled.PullFault.{PullFault}
 use Rattle.gl_engine.specs.declared.pulled.PullFault.TheVariants.{Broken, Memory}
 use Rattle.gl_engine.specs.declared.lane_input.LaneInput.{LaneInput}
@@ -48,6 +49,13 @@ abbrev pub IsGone : RunFault → Type 0
 IsGone kept.Memory = ⊥
 IsGone (kept.Gone shard) = Unit {0}
 IsGone (kept.Broken thread why) = ⊥
+
+-- a pull went well, and this is whether it took a note
+abbrev pub TellsTaken : Result Pulled PullFault → Bool → Type 0
+TellsTaken (Ok Empty) taken = taken ≡ false
+TellsTaken (Ok (Event place)) taken = taken ≡ true
+TellsTaken (Ok (Ended count)) taken = taken ≡ true
+TellsTaken (Err fault) taken = ⊥
 
 -- what a run keeps of a pull from the thread's lane that took no note
 abbrev pub IsKeptFor : ℕ → Result Pulled PullFault → RunFault → Type 0
