@@ -4,8 +4,9 @@ ghost use mathlib.Core.List.{IsPrefix};
 ghost use Rattle.gl_edges.specs.declared.edge.Edge.{Edge};
 ghost use Rattle.gl_edges.specs.declared.edge.Sample.{Sample};
 ghost use Rattle.gl_intake.specs.Stream.{has_ended};
+ghost use Rattle.gl_shards.specs.Shards as shards_of;
 ghost use Rattle.gl_shards.specs.declared.shard.TheConstants.{MAX_SHARDS};
-ghost use Rattle.gl_engine.specs.bodies.Breaking.{IsBlamed, IsGone, IsKeptFor, TellsTaken};
+ghost use Rattle.gl_engine.specs.bodies.Breaking.{IsBlamed, IsGone, IsGoneFor, IsKeptFor, TellsTaken};
 ghost use Rattle.gl_engine.specs.Dealing.{dealt, made_by};
 ghost use Rattle.gl_engine.specs.Keeping.{IsCollector};
 ghost use Rattle.gl_engine.specs.bodies.Whole.{GoesOn, HasMoved, KeepsUp, PullsOn};
@@ -25,7 +26,7 @@ use std::sync::Wait;
 // finds several at once.
 const BURST: u32 = 64;
 
-// Ships an edge to its shard, or answers the shard whose worker is gone.
+// Ships an edge to its shard, or answers that shard, whose worker is gone.
 fn ship_one<R: Wait>(
     rt: &R,
     outlets: &mut Vec<Outlet>,
@@ -41,6 +42,8 @@ fn ship_one<R: Wait>(
         ≡ dealt (length outlets.old.items) (before ++ (edge, sample) ∷ [])) }
     ensures feeds { map (λ o. o.feed) outlets.new.items ≡ map (λ o. o.feed) outlets.old.items }
     ensures gone { IfErr result (λ shard. shard < length outlets.old.items) }
+    ensures whose { IfErr result
+        (λ shard. shard ≡ shards_of.shard_of edge (length outlets.old.items)) }
 {
     let shard = shard_of(&edge, outlets.len() as u32);
     let Ok(()) = outlets[shard as usize].send(rt, edge, sample) else {
@@ -64,6 +67,7 @@ fn ship<R: Wait>(
         ≡ dealt (length outlets.old.items) (before ++ made.items)) }
     ensures feeds { map (λ o. o.feed) outlets.new.items ≡ map (λ o. o.feed) outlets.old.items }
     ensures gone { IfErr result IsGone }
+    ensures whose { IfErr result (IsGoneFor (length outlets.old.items) made.items) }
 {
     for (edge, sample) in made {
         if let Err(shard) = ship_one(rt, outlets, edge, sample) {
