@@ -1,9 +1,10 @@
 #!/usr/bin/env python3
-"""Looks for clauses of contracts that are too wide to be read aloud: no line of one may be over 100 columns.
+"""Looks for clauses of contracts and ghost items that are too wide to be read aloud: no line of one may be over
+100 columns. Imports by `ghost use` aren't read aloud, and don't count.
 
     clauses.py
 
-The last line is `N passed, N failed`: a clause of a file in crates/ is one that passed, or failed.
+The last line is `N passed, N failed`: a clause or ghost item of a file in crates/ is one that passed, or failed.
 """
 
 import pathlib
@@ -12,11 +13,11 @@ import sys
 
 TOP = pathlib.Path(__file__).resolve().parent.parent.parent
 COLUMNS = 100
-CLAUSE = re.compile(r"\s*(requires|ensures)\b")
+CLAUSE = re.compile(r"\s*(requires\b|ensures\b|(pub\S* )?ghost (?!use\b))")
 
 
 def clauses(text):
-    """The lines of each clause: from its word to the brace that closes it."""
+    """The lines of each clause and ghost item: from its word to the brace that closes it."""
     lines = iter(text.splitlines())
     for line in lines:
         if not CLAUSE.match(line):

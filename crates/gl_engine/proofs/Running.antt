@@ -1,12 +1,12 @@
 -- A pull in a run, whose edges are kept apart from those that were shipped.
-use Rattle.std.proofs.Common.{◌≡◌, ℕ, suc, ◌+◌, ◌<◌, ◌≤◌, true, List, [], ◌∷◌, ◌++◌, length, map, set, get_or, Option, None, Some, Result, Ok, Err, refl, sym, ap, ◌∙◌, subst, append_assoc, arith, ◌⊎◌, inl, inr}
+use Rattle.std.proofs.Common.{◌≡◌, ℕ, suc, ◌+◌, ◌<◌, ◌≤◌, Bool, true, false, List, [], ◌∷◌, ◌++◌, length, map, set, get_or, Option, None, Some, Result, Ok, Err, refl, sym, ap, ◌∙◌, subst, append_assoc, arith, ◌⊎◌, inl, inr}
 use Rattle.std.specs.Prelude.{slice_get, IsOk, OnOk, IfErr, IfSome}
 use Rattle.std.specs.List.{range_with_len}
 use Rattle.std.specs.Option.{option_map}
 use mathlib.Core.List.{IsPrefix}
 use Rattle.std.proofs.Math.Seq.{map-set_same}
 use Rattle.std.proofs.lemmas.Bool.{false≢true}
-use Rattle.std.proofs.lemmas.List.{append-nil, length-map, map-set, map-append}
+use Rattle.std.proofs.lemmas.List.{append-nil, length-append, length-map, map-set, map-append}
 use Rattle.std.proofs.lemmas.Option.{slice_get-map}
 use Rattle.std.proofs.lemmas.Result.{IfErr-at_err}
 use Rattle.gl_event.specs.Bounds.{Bounds}
@@ -20,10 +20,10 @@ use Rattle.gl_shards.specs.Tables.{of_shard}
 use Rattle.gl_world.proofs.Lists.{same_some, get_at, get_set_same}
 use Rattle.gl_engine.specs.Collecting.{Pulling, Side, as_of, with_pulled, HasPulled, IsSidePull}
 use Rattle.gl_intake.specs.declared.notes.Refused.{Refused}
-use Rattle.gl_engine.specs.bodies.Breaking.{IsBlamed, IsGone, IsKeptFor}
+use Rattle.gl_engine.specs.bodies.Breaking.{IsBlamed, IsGone, IsKeptFor, TellsTaken}
 use Rattle.gl_engine.specs.Dealing.{dealt, made_by}
 use Rattle.gl_engine.specs.Keeping.{BreaksForCause, IsCollector, pulling_of}
-use Rattle.gl_engine.specs.bodies.Whole.{lane_of, KeepsUp, IsWhole, IsGathered}
+use Rattle.gl_engine.specs.bodies.Whole.{lane_of, HasMoved, KeepsUp, IsWhole, IsGathered}
 use Rattle.std.proofs.lemmas.Simd.{map-map}
 use Rattle.gl_engine.specs.declared.faults.RunFault.{RunFault}
 use Rattle.gl_engine.specs.declared.faults.RunFault.TheVariants as kept
@@ -98,6 +98,20 @@ module _ (limits : Bounds) (inputs : List LaneInput) (stream : List Note) (is : 
   pub grown_later : IsPrefix stream later
   grown_later = grown_by answer tells
 
+  longer : (note : Note) → later ≡ stream ++ note ∷ [] → length stream < length later
+  longer note grown = omega (arith, ap length grown, length-append stream (note ∷ []))
+
+  moved_by_answer : (taken : Bool) (answer : Result Pulled PullFault) → IsSidePull limits thread (record { input = pulling_of was; stream = stream; made = [] }) answer (record { input = pulling_of new; stream = later; made = due })
+      → TellsTaken answer taken → HasMoved stream later taken
+  moved_by_answer taken (Ok Empty) t told = subst (HasMoved stream later) (sym told) (ap (λ (s : Side). s.stream) t.1)
+  moved_by_answer taken (Ok (Answered place)) t told = subst (HasMoved stream later) (sym told) (longer (as_of thread t.note) (ap (λ (s : Side). s.stream) t.moved))
+  moved_by_answer taken (Ok (Closing count)) t told = subst (HasMoved stream later) (sym told) (longer (as_of thread t.note) (ap (λ (s : Side). s.stream) t.moved))
+  moved_by_answer taken (Err fault) t told = absurd told
+
+  -- where the pull took a note, there is one more
+  pub moved_by : (taken : Bool) → TellsTaken answer taken → HasMoved stream later taken
+  moved_by taken told = moved_by_answer taken answer tells told
+
   -- where the pull broke the lane, its front note is to blame
   pub blamed_now : (fault : RunFault) → IsKeptFor thread answer fault → IsBlamed limits (set inputs thread new) later fault
   blamed_now kept.Memory told = tt
@@ -114,6 +128,24 @@ module _ (limits : Bounds) (inputs : List LaneInput) (stream : List Note) (is : 
         came = record { input = new; here = there; first = prefix_behind new.lane.popped (stuck.note ∷ []) new.lane.left stuck.front };
         refused = stuck.refused;
       })
+
+-- ---- whether notes were collected
+
+-- first maybe, and then not
+pub moved_still : (before between later : List Note) (first then : Bool) → HasMoved before between first → HasMoved between later then → then ≡ false → HasMoved before later first
+moved_still before between later first false a b is = subst (λ (notes : List Note). HasMoved before notes first) (sym b) a
+moved_still before between later first true a b is = absurd (false≢true (sym is))
+
+-- first surely, and then maybe
+pub moved_first : (before between later : List Note) (first then : Bool) → HasMoved before between first → HasMoved between later then → first ≡ true → HasMoved before later first
+moved_first before between later true true a b is = omega (arith, a, b)
+moved_first before between later true false a b is = subst (λ (notes : List Note). length before < length notes) (sym b) a
+moved_first before between later false then a b is = absurd (false≢true is)
+
+-- not first, and then maybe
+pub moved_then : (before between later : List Note) (first then : Bool) → HasMoved before between first → HasMoved between later then → first ≡ false → HasMoved before later then
+moved_then before between later false then a b is = subst (λ (notes : List Note). HasMoved notes later then) a b
+moved_then before between later true then a b is = absurd (false≢true (sym is))
 
 -- ---- what was shipped
 

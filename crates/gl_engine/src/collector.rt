@@ -36,9 +36,16 @@ impl Model for Collector {
 
     ghost Value = { Collecting };
 
-    ghost view = { λ c. record { session = c.session; limits = c.limits; inputs = map pulling_of c.inputs.items; stream = c.intake.stream; made = c.made.items } };
+    ghost view = { λ c. record {
+      session = c.session;
+      limits = c.limits;
+      inputs = map pulling_of c.inputs.items;
+      stream = c.intake.stream;
+      made = c.made.items;
+    } };
 
-    ghost invariant = { λ c. IsCollector c.limits c.inputs.items c.intake.stream c.made.items c.intake.limits };
+    ghost invariant = { λ c. IsCollector c.limits c.inputs.items c.intake.stream c.made.items
+        c.intake.limits };
 }
 
 impl Collector {

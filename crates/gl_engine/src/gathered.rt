@@ -29,7 +29,15 @@ impl Model for Gathered {
 
     ghost Value = { Gathering };
 
-    ghost view = { λ g. record { session = g.session; limits = g.limits; lanes = map lane_of g.inputs.items; stream = g.intake.stream; sent = g.sent.items; fault = g.fault } };
+    ghost view = { λ g. record {
+      session = g.session;
+      limits = g.limits;
+      lanes = map lane_of g.inputs.items;
+      stream = g.intake.stream;
+      sent = g.sent.items;
+      fault = g.fault;
+    } };
 
-    ghost invariant = { λ g. IsGathered g.limits g.inputs.items g.intake.stream g.intake.limits g.sent.items g.fault };
+    ghost invariant = { λ g. IsGathered g.limits g.inputs.items g.intake.stream g.intake.limits
+        g.sent.items g.fault };
 }

@@ -1,14 +1,15 @@
 //! How a run goes on as long as nothing goes wrong: it pulls, and ships the edges.
-ghost use Rattle.std.specs.Prelude.{◌≡◌, ◌<◌, ◌≤◌, ◌++◌, [], ◌∷◌, ℕ, true, List, map, length, OnOk, IfErr};
+ghost use Rattle.std.specs.Prelude.{◌≡◌, ◌<◌, ◌≤◌, ◌++◌, [], ◌∷◌, ℕ, true, List, map, length, OnOk, IfOk, IfErr};
 ghost use mathlib.Core.List.{IsPrefix};
 ghost use Rattle.gl_edges.specs.declared.edge.Edge.{Edge};
 ghost use Rattle.gl_edges.specs.declared.edge.Sample.{Sample};
 ghost use Rattle.gl_intake.specs.Stream.{has_ended};
+ghost use Rattle.gl_shards.specs.Shards as shards_of;
 ghost use Rattle.gl_shards.specs.declared.shard.TheConstants.{MAX_SHARDS};
-ghost use Rattle.gl_engine.specs.bodies.Breaking.{IsBlamed, IsGone, IsKeptFor};
+ghost use Rattle.gl_engine.specs.bodies.Breaking.{IsBlamed, IsGone, IsGoneFor, IsKeptFor, TellsTaken};
 ghost use Rattle.gl_engine.specs.Dealing.{dealt, made_by};
 ghost use Rattle.gl_engine.specs.Keeping.{IsCollector};
-ghost use Rattle.gl_engine.specs.bodies.Whole.{GoesOn, KeepsUp, PullsOn};
+ghost use Rattle.gl_engine.specs.bodies.Whole.{GoesOn, HasMoved, KeepsUp, PullsOn};
 
 use crate::discarding::discard_all;
 use crate::faults::RunFault;
@@ -25,7 +26,7 @@ use std::sync::Wait;
 // finds several at once.
 const BURST: u32 = 64;
 
-// Ships an edge to its shard, or answers the shard whose worker is gone.
+// Ships an edge to its shard, or answers that shard, whose worker is gone.
 fn ship_one<R: Wait>(
     rt: &R,
     outlets: &mut Vec<Outlet>,
@@ -41,6 +42,8 @@ fn ship_one<R: Wait>(
         ≡ dealt (length outlets.old.items) (before ++ (edge, sample) ∷ [])) }
     ensures feeds { map (λ o. o.feed) outlets.new.items ≡ map (λ o. o.feed) outlets.old.items }
     ensures gone { IfErr result (λ shard. shard < length outlets.old.items) }
+    ensures whose { IfErr result
+        (λ shard. shard ≡ shards_of.shard_of edge (length outlets.old.items)) }
 {
     let shard = shard_of(&edge, outlets.len() as u32);
     let Ok(()) = outlets[shard as usize].send(rt, edge, sample) else {
@@ -64,6 +67,7 @@ fn ship<R: Wait>(
         ≡ dealt (length outlets.old.items) (before ++ made.items)) }
     ensures feeds { map (λ o. o.feed) outlets.new.items ≡ map (λ o. o.feed) outlets.old.items }
     ensures gone { IfErr result IsGone }
+    ensures whose { IfErr result (IsGoneFor (length outlets.old.items) made.items) }
 {
     for (edge, sample) in made {
         if let Err(shard) = ship_one(rt, outlets, edge, sample) {
@@ -73,9 +77,10 @@ fn ship<R: Wait>(
     Ok(())
 }
 
-// Whether a pull from the thread's lane gave a note.
+// Whether a pull from the thread's lane took a note.
 fn has_pulled(thread: ThreadId, pulled: &Result<Pulled, PullFault>) -> Result<bool, RunFault>
-    ensures { IfErr result (λ fault. IsKeptFor thread pulled.now fault) }
+    ensures taken { IfOk result (TellsTaken pulled.now) }
+    ensures fault { IfErr result (λ fault. IsKeptFor thread pulled.now fault) }
 {
     match *pulled {
         Ok(Pulled::Empty) => Ok(false),
@@ -97,8 +102,9 @@ fn pull_at(
     requires none { made.old.items ≡ [] }
     requires keeps { IsCollector intake.old.limits inputs.old.items intake.old.stream
         (made_by intake.old.stream) intake.old.limits }
-    ensures { PullsOn intake.old intake.new inputs.old.items inputs.new.items
+    ensures pulls_on { PullsOn intake.old intake.new inputs.old.items inputs.new.items
         made.new.items result }
+    ensures moved { IfOk result (HasMoved intake.old.stream intake.new.stream) }
 {
     let input = &mut inputs[thread.number() as usize];
     let pulled = input.pull(alloc, thread, intake, made);
@@ -118,8 +124,9 @@ fn pull_some(
     requires none { made.old.items ≡ [] }
     requires keeps { IsCollector intake.old.limits inputs.old.items intake.old.stream
         (made_by intake.old.stream) intake.old.limits }
-    ensures { PullsOn intake.old intake.new inputs.old.items inputs.new.items
+    ensures pulls_on { PullsOn intake.old intake.new inputs.old.items inputs.new.items
         made.new.items result }
+    ensures moved { IfOk result (HasMoved intake.old.stream intake.new.stream) }
 {
     let mut moved = false;
     for _ in 0..BURST {
@@ -149,8 +156,9 @@ fn turn<R: Wait>(
     requires some { 1 ≤ length outlets.old.items }
     requires fit { length outlets.old.items ≤ MAX_SHARDS }
     requires kept { KeepsUp intake.old.limits inputs.old.items intake.old.stream outlets.old.items }
-    ensures { GoesOn intake.old intake.new inputs.old.items inputs.new.items
+    ensures goes_on { GoesOn intake.old intake.new inputs.old.items inputs.new.items
         outlets.old.items outlets.new.items result }
+    ensures moved { IfOk result (HasMoved intake.old.stream intake.new.stream) }
 {
     let mut made = Vec::new(alloc);
     let pulled = pull_some(alloc, thread, inputs, intake, &mut made)?;
@@ -171,8 +179,9 @@ fn round<R: Wait>(
     requires some { 1 ≤ length outlets.old.items }
     requires fit { length outlets.old.items ≤ MAX_SHARDS }
     requires kept { KeepsUp intake.old.limits inputs.old.items intake.old.stream outlets.old.items }
-    ensures { GoesOn intake.old intake.new inputs.old.items inputs.new.items
+    ensures goes_on { GoesOn intake.old intake.new inputs.old.items inputs.new.items
         outlets.old.items outlets.new.items result }
+    ensures moved { IfOk result (HasMoved intake.old.stream intake.new.stream) }
 {
     let mut moved = false;
     for number in 0..threads {

@@ -26,7 +26,13 @@ impl Model for Receipt {
 
     ghost Value = { Closed };
 
-    ghost view = { λ r. record { session = r.session; thread = r.thread; limits = r.limits; lane = r.finished.lane; pushed = r.finished.pushed } };
+    ghost view = { λ r. record {
+      session = r.session;
+      thread = r.thread;
+      limits = r.limits;
+      lane = r.finished.lane;
+      pushed = r.finished.pushed;
+    } };
 
     ghost invariant = { λ r. IsReceipt r.limits r.thread r.finished.pushed r.taken };
 }

@@ -51,7 +51,14 @@ impl Model for Recorder {
 
     ghost Value = { Recording };
 
-    ghost view = { λ r. record { session = r.session; thread = r.taker.thread; limits = r.limits; lane = r.lane.lane; pushed = r.lane.pushed; room = r.lane.room } };
+    ghost view = { λ r. record {
+      session = r.session;
+      thread = r.taker.thread;
+      limits = r.limits;
+      lane = r.lane.lane;
+      pushed = r.lane.pushed;
+      room = r.lane.room;
+    } };
 
     ghost invariant = { λ r. IsRecorder r.limits r.taker.thread r.lane.pushed r.taker };
 }

@@ -33,7 +33,8 @@ impl Model for Session {
 
     ghost view = { λ s. s.number };
 
-    ghost invariant = { λ s. IsSession s.number s.gathered s.receipts.items s.aside.items s.inlets.items s.served };
+    ghost invariant = { λ s. IsSession s.number s.gathered s.receipts.items s.aside.items
+        s.inlets.items s.served };
 }
 
 impl Drop for Session {

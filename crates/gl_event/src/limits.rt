@@ -63,11 +63,26 @@ impl Model for Limits {
 
     ghost Value = { Bounds };
 
-    ghost view = { λ l. record { threads = l.threads; ring = l.ring; events = l.events; names = l.names } };
+    ghost view = { λ l. record {
+      threads = l.threads;
+      ring = l.ring;
+      events = l.events;
+      names = l.names;
+    } };
 
-    ghost invariant = { λ l. AreWithinRange (record { threads = l.threads; ring = l.ring; events = l.events; names = l.names }) };
+    ghost invariant = { λ l. AreWithinRange (record {
+      threads = l.threads;
+      ring = l.ring;
+      events = l.events;
+      names = l.names;
+    }) };
 
-    ghost inverse = { λ b. record { threads = b.threads; ring = b.ring; events = b.events; names = b.names } };
+    ghost inverse = { λ b. record {
+      threads = b.threads;
+      ring = b.ring;
+      events = b.events;
+      names = b.names;
+    } };
 }
 
 impl Limits {

@@ -43,7 +43,11 @@ impl Model for Intake {
 
     ghost Value = { Collected };
 
-    ghost view = { λ i. record { limits = i.limits; stream = i.stream.items; spare = spares i.stream i.logs.items } };
+    ghost view = { λ i. record {
+      limits = i.limits;
+      stream = i.stream.items;
+      spare = spares i.stream i.logs.items;
+    } };
 
     ghost invariant = { λ i. IsKept i.limits i.stream.items i.logs.items i.cursors.items };
 }

@@ -31,7 +31,11 @@ impl Model for LaneIn {
 
     ghost Value = { Pushing };
 
-    ghost view = { λ l. record { lane = lane_of l.producer.end; pushed = sent l.producer; room = known_free l.producer } };
+    ghost view = { λ l. record {
+      lane = lane_of l.producer.end;
+      pushed = sent l.producer;
+      room = known_free l.producer;
+    } };
 }
 
 /// The collector's end of a lane.
@@ -49,7 +53,11 @@ impl Model for LaneOut {
 
     ghost Value = { Popping };
 
-    ghost view = { λ l. record { lane = lane_of l.consumer.end; popped = received l.consumer; left = known_items l.consumer } };
+    ghost view = { λ l. record {
+      lane = lane_of l.consumer.end;
+      popped = received l.consumer;
+      left = known_items l.consumer;
+    } };
 }
 
 /// What a recorder leaves behind that has finished. It may move to the collector's thread.

@@ -33,7 +33,8 @@ pub struct RecordedBy<'a> {
 }
 
 impl<'a> Promise<Vec<Receipt>> for RecordedBy<'a> {
-    ghost kept_by = { λ p receipts. All (IsReceiptOf (roster_of p.collector.value) (lists_of p.lists.now)) receipts.items };
+    ghost kept_by = { λ p receipts.
+        All (IsReceiptOf (roster_of p.collector.value) (lists_of p.lists.now)) receipts.items };
 }
 
 /// A recorder thread.

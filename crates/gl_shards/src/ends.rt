@@ -35,7 +35,11 @@ impl Model for Outlet {
 
     ghost Value = { Sending };
 
-    ghost view = { λ o. record { feed = feed_of o.pass; capacity = ruled_capacity (sends_on o.sender); sent = sent_by o.pass } };
+    ghost view = { λ o. record {
+      feed = feed_of o.pass;
+      capacity = ruled_capacity (sends_on o.sender);
+      sent = sent_by o.pass;
+    } };
 
     ghost invariant = { λ o. IsOpen o.sender o.pass };
 }

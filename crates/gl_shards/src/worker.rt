@@ -52,7 +52,12 @@ impl Model for Served {
 
     ghost Value = { Worked };
 
-    ghost view = { λ s. record { feed = feed_of s.pass; received = received_by s.pass; cut = s.cut; short = is_none s.table } };
+    ghost view = { λ s. record {
+      feed = feed_of s.pass;
+      received = received_by s.pass;
+      cut = s.cut;
+      short = is_none s.table;
+    } };
 
     ghost invariant = { λ s. HasServed s.pass s.cut s.table };
 }

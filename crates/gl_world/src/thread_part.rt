@@ -39,9 +39,19 @@ impl Model for ThreadPart {
 
     ghost Value = { Keeper };
 
-    ghost view = { λ r. record { thread = r.thread; limits = r.limits; lane = record { wishes = r.wishes.items; used = r.used; pushed = r.pushed.items; popped = r.popped } } };
+    ghost view = { λ r. record {
+      thread = r.thread;
+      limits = r.limits;
+      lane = record {
+        wishes = r.wishes.items;
+        used = r.used;
+        pushed = r.pushed.items;
+        popped = r.popped;
+      };
+    } };
 
-    ghost invariant = { λ r. IsKept r.limits r.thread r.pushed.items r.popped r.taken.items r.has_closed r.taker r.tracker };
+    ghost invariant = { λ r. IsKept r.limits r.thread r.pushed.items r.popped r.taken.items
+        r.has_closed r.taker r.tracker };
 }
 
 // Takes the event of the body, if it has one.

@@ -41,9 +41,15 @@ impl Model for World {
 
     ghost Value = { State };
 
-    ghost view = { λ w. record { limits = w.limits; lanes = lanes_of w.parts.items; stream = w.intake.stream; dispatch = w.dispatcher } };
+    ghost view = { λ w. record {
+      limits = w.limits;
+      lanes = lanes_of w.parts.items;
+      stream = w.intake.stream;
+      dispatch = w.dispatcher;
+    } };
 
-    ghost invariant = { λ w. IsWorld w.limits w.dispatcher w.parts.items w.intake.stream w.intake.limits };
+    ghost invariant = { λ w. IsWorld w.limits w.dispatcher w.parts.items w.intake.stream
+        w.intake.limits };
 }
 
 // A part for each thread, with its wishes.

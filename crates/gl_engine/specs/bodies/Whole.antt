@@ -1,5 +1,5 @@
 -- What holds of what was gathered.
-use Rattle.std.specs.Prelude.{◌≡◌, ℕ, ◌<◌, true, List, ◌++◌, length, map, Option, Some, None, Result, slice_get, IfSome, IfErr, OnOk}
+use Rattle.std.specs.Prelude.{◌≡◌, ℕ, ◌<◌, Bool, true, false, List, ◌++◌, length, map, Option, Some, None, Result, slice_get, IfSome, IfErr, OnOk}
 use mathlib.Core.List.{IsPrefix}
 use Rattle.gl_event.specs.Bounds.{Bounds}
 use Rattle.gl_event.specs.declared.notes.Note.{Note}
@@ -25,6 +25,11 @@ lane_of input = input.lane.lane
 pub record KeepsUp (limits : Bounds) (inputs : List LaneInput) (stream : List Note) (outlets : List Sending) : Type 0 where
   pub collector : IsCollector limits inputs stream (made_by stream) limits
   pub shipped : map (λ o. o.sent) outlets ≡ dealt (length outlets) (made_by stream)
+
+-- whether there are more notes than before; if not, they are the same ones
+abbrev pub HasMoved : List Note → List Note → Bool → Type 0
+HasMoved before after true = length before < length after
+HasMoved before after false = after ≡ before
 
 -- pulls went on from there: the collector's inputs and edges are those of what was collected, these edges were made; lanes and limits
 -- stay, what was collected stays, and where something goes wrong that is to blame

@@ -8,22 +8,22 @@ round-requires-clause-kept g c = rw (c.loop.invariant.limits) c.loop.invariant.k
 
 pub loop-preserved-then-branch : goal.loop-preserved-then-branch
 loop-preserved-then-branch g c = record {
-  keeps = rw (c.loop.invariant.limits) at c.in_ok-round.ensures.keeps;
-  limits = c.round.ensures.limits ∙ c.loop.invariant.limits;
-  lanes = c.round.ensures.lanes ∙ c.loop.invariant.lanes;
-  feeds = c.round.ensures.feeds ∙ c.loop.invariant.feeds;
-  grown = prefix_on _ _ _ c.loop.invariant.grown c.round.ensures.grown;
+  keeps = rw (c.loop.invariant.limits) at c.in_ok-round.ensures.goes_on.keeps;
+  limits = c.round.ensures.goes_on.limits ∙ c.loop.invariant.limits;
+  lanes = c.round.ensures.goes_on.lanes ∙ c.loop.invariant.lanes;
+  feeds = c.round.ensures.goes_on.feeds ∙ c.loop.invariant.feeds;
+  grown = prefix_on _ _ _ c.loop.invariant.grown c.round.ensures.goes_on.grown;
   next = search rules;
   finite = search rules;
 }
 
 pub loop-preserved : goal.loop-preserved
 loop-preserved g c = record {
-  keeps = rw (c.loop.invariant.limits) at c.in_ok-round.ensures.keeps;
-  limits = c.round.ensures.limits ∙ c.loop.invariant.limits;
-  lanes = c.round.ensures.lanes ∙ c.loop.invariant.lanes;
-  feeds = c.round.ensures.feeds ∙ c.loop.invariant.feeds;
-  grown = prefix_on _ _ _ c.loop.invariant.grown c.round.ensures.grown;
+  keeps = rw (c.loop.invariant.limits) at c.in_ok-round.ensures.goes_on.keeps;
+  limits = c.round.ensures.goes_on.limits ∙ c.loop.invariant.limits;
+  lanes = c.round.ensures.goes_on.lanes ∙ c.loop.invariant.lanes;
+  feeds = c.round.ensures.goes_on.feeds ∙ c.loop.invariant.feeds;
+  grown = prefix_on _ _ _ c.loop.invariant.grown c.round.ensures.goes_on.grown;
   next = search rules;
   finite = search rules;
 }
@@ -50,10 +50,10 @@ returns-in_err-round-clause-goes_on g c =
     let p = err_from_is_err_and c.from_residual-in_err-round.result c.from_residual-in_err-round.ensures.1 in
     record {
       keeps = rw p.1 tt;
-      limits = c.round.ensures.limits ∙ c.loop.invariant.limits;
-      lanes = c.round.ensures.lanes ∙ c.loop.invariant.lanes;
-      feeds = c.round.ensures.feeds ∙ c.loop.invariant.feeds;
-      grown = prefix_on _ _ _ c.loop.invariant.grown c.round.ensures.grown;
+      limits = c.round.ensures.goes_on.limits ∙ c.loop.invariant.limits;
+      lanes = c.round.ensures.goes_on.lanes ∙ c.loop.invariant.lanes;
+      feeds = c.round.ensures.goes_on.feeds ∙ c.loop.invariant.feeds;
+      grown = prefix_on _ _ _ c.loop.invariant.grown c.round.ensures.goes_on.grown;
       blamed = search rules;
     }
 

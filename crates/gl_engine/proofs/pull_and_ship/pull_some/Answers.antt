@@ -1,6 +1,7 @@
 use Rattle.std.proofs.Common.{rules, ◌∙◌}
 use Rattle.std.proofs.lemmas.Result.{err_from_is_err_and}
 use Rattle.gl_engine.proofs.Handing.{prefix_on, made_on}
+use Rattle.gl_engine.proofs.Running.{moved_still}
 use Rattle.gl_engine.proofs.pull_and_ship.pull_some.Goals as goal
 
 pub pull_at-requires-clause-known : goal.pull_at-requires-clause-known
@@ -9,36 +10,39 @@ pull_at-requires-clause-known c = rw (c.loop.invariant.limits) c.requires.known
 pub pull_at-requires-clause-keeps : goal.pull_at-requires-clause-keeps
 pull_at-requires-clause-keeps c = rw (c.loop.invariant.limits) c.loop.invariant.keeps
 
-pub returns-in_err-pulled : goal.returns-in_err-pulled
-returns-in_err-pulled c =
+pub returns-in_err-pulled-clause-pulls_on : goal.returns-in_err-pulled-clause-pulls_on
+returns-in_err-pulled-clause-pulls_on c =
     let p = err_from_is_err_and c.from_residual.result c.from_residual.ensures.1 in
     record {
-      keeps = rw (c.loop.invariant.limits) at c.pull_at.ensures.keeps;
+      keeps = rw (c.loop.invariant.limits) at c.pull_at.ensures.pulls_on.keeps;
       made = rw p.1 tt;
-      limits = c.pull_at.ensures.limits ∙ c.loop.invariant.limits;
-      lanes = c.pull_at.ensures.lanes ∙ c.loop.invariant.lanes;
-      grown = prefix_on _ _ _ c.loop.invariant.grown c.pull_at.ensures.grown;
+      limits = c.pull_at.ensures.pulls_on.limits ∙ c.loop.invariant.limits;
+      lanes = c.pull_at.ensures.pulls_on.lanes ∙ c.loop.invariant.lanes;
+      grown = prefix_on _ _ _ c.loop.invariant.grown c.pull_at.ensures.pulls_on.grown;
       blamed = search rules;
     }
 
-pub returns-in_default : goal.returns-in_default
-returns-in_default c =
+pub returns-in_default-clause-pulls_on : goal.returns-in_default-clause-pulls_on
+returns-in_default-clause-pulls_on c =
     record {
-      keeps = rw (c.loop.invariant.limits) at c.pull_at.ensures.keeps;
+      keeps = rw (c.loop.invariant.limits) at c.pull_at.ensures.pulls_on.keeps;
       made = tt;
-      limits = c.pull_at.ensures.limits ∙ c.loop.invariant.limits;
-      lanes = c.pull_at.ensures.lanes ∙ c.loop.invariant.lanes;
-      grown = prefix_on _ _ _ c.loop.invariant.grown c.pull_at.ensures.grown;
+      limits = c.pull_at.ensures.pulls_on.limits ∙ c.loop.invariant.limits;
+      lanes = c.pull_at.ensures.pulls_on.lanes ∙ c.loop.invariant.lanes;
+      grown = prefix_on _ _ _ c.loop.invariant.grown c.pull_at.ensures.pulls_on.grown;
       blamed = tt;
     }
 
-pub returns-then-not-pulled : goal.returns-then-not-pulled
-returns-then-not-pulled c =
+pub returns-then-not-pulled-clause-pulls_on : goal.returns-then-not-pulled-clause-pulls_on
+returns-then-not-pulled-clause-pulls_on c =
     record {
-      keeps = rw (c.loop.invariant.limits) at c.pull_at.ensures.keeps;
-      made = made_on _ _ _ _ _ _ c.in-Ok.ensures.items c.loop.invariant.made c.in_ok-pulled.ensures.made;
-      limits = c.pull_at.ensures.limits ∙ c.loop.invariant.limits;
-      lanes = c.pull_at.ensures.lanes ∙ c.loop.invariant.lanes;
-      grown = prefix_on _ _ _ c.loop.invariant.grown c.pull_at.ensures.grown;
+      keeps = rw (c.loop.invariant.limits) at c.pull_at.ensures.pulls_on.keeps;
+      made = made_on _ _ _ _ _ _ c.in-Ok.ensures.items c.loop.invariant.made c.in_ok-pulled.ensures.pulls_on.made;
+      limits = c.pull_at.ensures.pulls_on.limits ∙ c.loop.invariant.limits;
+      lanes = c.pull_at.ensures.pulls_on.lanes ∙ c.loop.invariant.lanes;
+      grown = prefix_on _ _ _ c.loop.invariant.grown c.pull_at.ensures.pulls_on.grown;
       blamed = tt;
     }
+
+pub returns-then-not-pulled-clause-moved : goal.returns-then-not-pulled-clause-moved
+returns-then-not-pulled-clause-moved c = moved_still _ _ _ c.loop.moved c.in_ok-pulled.pulled c.loop.invariant.moved c.in_ok-pulled.ensures.moved c.if-not-pulled.true

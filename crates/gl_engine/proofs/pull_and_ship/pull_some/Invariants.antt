@@ -2,10 +2,10 @@ use Rattle.std.proofs.Common.{◌≡◌, ◌++◌, map}
 use mathlib.Core.List.{IsPrefix}
 use Rattle.gl_engine.specs.Dealing.{made_by}
 use Rattle.gl_engine.specs.Keeping.{IsCollector}
-use Rattle.gl_engine.specs.bodies.Whole.{lane_of}
+use Rattle.gl_engine.specs.bodies.Whole.{lane_of, HasMoved}
 use Rattle.gl_engine.proofs.pull_and_ship.pull_some.Given as goal
 
--- the edges of the notes so far are made
+-- the edges of the notes so far are made, and it is known whether there was one
 abbrev pub invariant-loop : goal.invariant-loop
 invariant-loop l = record {
   keeps : IsCollector l.fn.intake.limits l.inputs.items l.intake.stream (made_by l.intake.stream) l.fn.intake.limits;
@@ -13,4 +13,5 @@ invariant-loop l = record {
   limits : l.intake.limits ≡ l.fn.intake.limits;
   lanes : map lane_of l.inputs.items ≡ map lane_of l.fn.inputs.items;
   grown : IsPrefix l.fn.intake.stream l.intake.stream;
+  moved : HasMoved l.fn.intake.stream l.intake.stream l.moved;
 }

@@ -1,28 +1,35 @@
-use Rattle.std.proofs.Common.{rules, ◌∙◌}
+use Rattle.std.proofs.Common.{rules, sym, ◌∙◌, subst}
 use Rattle.std.proofs.lemmas.Result.{err_from_is_err_and}
+use Rattle.gl_engine.specs.bodies.Whole.{HasMoved}
 use Rattle.gl_engine.proofs.Handing.{prefix_on}
+use Rattle.gl_engine.proofs.Running.{moved_first, moved_then}
+use Rattle.gl_engine.proofs.pull_and_ship.round.Goals.{then-moved, else-moved}
 use Rattle.gl_engine.proofs.pull_and_ship.round.Goals as goal
 
 pub turn-requires-clause-kept : goal.turn-requires-clause-kept
 turn-requires-clause-kept g c = rw (c.loop-number.invariant.limits) c.loop-number.invariant.keeps
 
-pub returns-in_err-pulled : goal.returns-in_err-pulled
-returns-in_err-pulled g c =
+pub returns-in_err-pulled-clause-goes_on : goal.returns-in_err-pulled-clause-goes_on
+returns-in_err-pulled-clause-goes_on g c =
     let p = err_from_is_err_and c.from_residual.result c.from_residual.ensures.1 in
     record {
       keeps = rw p.1 tt;
-      limits = c.turn.ensures.limits ∙ c.loop-number.invariant.limits;
-      lanes = c.turn.ensures.lanes ∙ c.loop-number.invariant.lanes;
-      feeds = c.turn.ensures.feeds ∙ c.loop-number.invariant.feeds;
-      grown = prefix_on _ _ _ c.loop-number.invariant.grown c.turn.ensures.grown;
+      limits = c.turn.ensures.goes_on.limits ∙ c.loop-number.invariant.limits;
+      lanes = c.turn.ensures.goes_on.lanes ∙ c.loop-number.invariant.lanes;
+      feeds = c.turn.ensures.goes_on.feeds ∙ c.loop-number.invariant.feeds;
+      grown = prefix_on _ _ _ c.loop-number.invariant.grown c.turn.ensures.goes_on.grown;
       blamed = search rules;
     }
 
 pub loop-number-preserved : goal.loop-number-preserved
 loop-number-preserved g c = record {
-  keeps = rw (c.loop-number.invariant.limits) at c.in_ok-pulled.ensures.keeps;
-  limits = c.turn.ensures.limits ∙ c.loop-number.invariant.limits;
-  lanes = c.turn.ensures.lanes ∙ c.loop-number.invariant.lanes;
-  feeds = c.turn.ensures.feeds ∙ c.loop-number.invariant.feeds;
-  grown = prefix_on _ _ _ c.loop-number.invariant.grown c.turn.ensures.grown;
+  keeps = rw (c.loop-number.invariant.limits) at c.in_ok-pulled.ensures.goes_on.keeps;
+  limits = c.turn.ensures.goes_on.limits ∙ c.loop-number.invariant.limits;
+  lanes = c.turn.ensures.goes_on.lanes ∙ c.loop-number.invariant.lanes;
+  feeds = c.turn.ensures.goes_on.feeds ∙ c.loop-number.invariant.feeds;
+  grown = prefix_on _ _ _ c.loop-number.invariant.grown c.turn.ensures.goes_on.grown;
+  moved = elim c.if-moved.branch [
+    | then-moved w ↦ subst (HasMoved c.args.intake.now.stream c.turn.new.intake.stream) (sym w.moved-is) (moved_first _ _ _ c.loop-number.moved c.in_ok-pulled.pulled c.loop-number.invariant.moved c.in_ok-pulled.ensures.moved w.if-moved.true)
+    | else-moved w ↦ subst (HasMoved c.args.intake.now.stream c.turn.new.intake.stream) (sym w.moved-is) (moved_then _ _ _ c.loop-number.moved c.in_ok-pulled.pulled c.loop-number.invariant.moved c.in_ok-pulled.ensures.moved w.if-moved.false)
+  ];
 }

@@ -14,3 +14,8 @@ returns-clause-feeds g c = feeds_same c.args.outlets.now.items c.shard_of-shard.
 
 pub returns-in_default-clause-feeds : goal.returns-in_default-clause-feeds
 returns-in_default-clause-feeds g c = feeds_same c.args.outlets.now.items c.shard_of-shard.result c.index_mut.result.now c.send.new.self c.index_mut.ensures.value c.send.ensures.feed.0
+
+pub returns-in_default-clause-whose : goal.returns-in_default-clause-whose
+returns-in_default-clause-whose g c =
+    let count : c.len.result ≡ length c.args.outlets.now.items = omega (arith, c.len.ensures) in
+    c.shard_of-shard.ensures.value ∙ ap (shard_of c.args.edge) count

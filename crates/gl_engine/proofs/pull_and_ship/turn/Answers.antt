@@ -2,8 +2,8 @@ use Rattle.std.proofs.Common.{rules}
 use Rattle.std.proofs.lemmas.Result.{err_from_is_err_and}
 use Rattle.gl_engine.proofs.pull_and_ship.turn.Goals as goal
 
-pub returns-in_err-pulled : goal.returns-in_err-pulled
-returns-in_err-pulled g c =
+pub returns-in_err-pulled-clause-goes_on : goal.returns-in_err-pulled-clause-goes_on
+returns-in_err-pulled-clause-goes_on g c =
     let p = err_from_is_err_and c.from_residual.result c.from_residual.ensures.1 in
     record {
       keeps = rw p.1 tt;
@@ -14,8 +14,8 @@ returns-in_err-pulled g c =
       blamed = search rules;
     }
 
-pub returns-in_err-ship : goal.returns-in_err-ship
-returns-in_err-ship g c =
+pub returns-in_err-ship-clause-goes_on : goal.returns-in_err-ship-clause-goes_on
+returns-in_err-ship-clause-goes_on g c =
     let p = err_from_is_err_and c.from_residual-in_err-ship.result c.from_residual-in_err-ship.ensures.1 in
     record {
       keeps = rw p.1 tt;
