@@ -79,7 +79,8 @@ pub(crate) struct Wanted<'a> {
 impl<'a> Hash for Wanted<'a> {
     ghost hash_input = { λ w. w.bytes.now ∷ [] };
 
-    ghost respects_eq = { λ x y same. ap (λ bytes. bytes ∷ []) ((bytes_decides x.bytes.now y.bytes.now).0 same) };
+    ghost respects_eq = { λ x y same.
+        ap (λ bytes. bytes ∷ []) ((bytes_decides x.bytes.now y.bytes.now).0 same) };
 
     fn hash<H: Hasher>(&self, state: &mut H) {
         state.write(self.bytes);
@@ -89,7 +90,8 @@ impl<'a> Hash for Wanted<'a> {
 impl<'a> Equivalent<Name> for Wanted<'a> {
     ghost equivalent = { λ w name. bytes_eq w.bytes.now name };
 
-    ghost respects_hash = { λ w name same. ap (λ bytes. bytes ∷ []) ((bytes_decides w.bytes.now name).0 same) };
+    ghost respects_hash = { λ w name same.
+        ap (λ bytes. bytes ∷ []) ((bytes_decides w.bytes.now name).0 same) };
 
     ghost respects_eq = { λ w x y. nat_list_eq_equiv.congr w.bytes.now x y };
 
