@@ -1,9 +1,9 @@
-//! Sessions whose workers are both at work at one moment.
+//! Sessions whose workers pass a gate: both at one moment, or with each edge.
 ghost use Rattle.std.specs.Prelude.{◌≡◌, None, false};
 
 use super::asks::{Ask, command_of};
 use super::runs::TURNS;
-use super::{OPPOSITE_ORDER, OPPOSITE_ORDER_REPORT};
+use super::{NO_CYCLES, OPPOSITE_ORDER, OPPOSITE_ORDER_REPORT};
 use gl_commands::{Ended, live_gated};
 use gl_io::{Failed, FromStd, Source};
 use gl_options::Command;
@@ -79,11 +79,11 @@ impl Gate for Meeting {
 }
 
 // How a session ends whose workers pass a gate, and what it writes. None where it is no session.
-fn gated<R: AllocGlobal + Threads + Wait + Sync, I: Source>(
+fn gated<R: AllocGlobal + Threads + Wait + Sync, I: Source, G: Gate + Sync>(
     rt: &R,
     ask: Ask,
     input: &mut I,
-    gate: &Meeting,
+    gate: &G,
 ) -> Option<(Ended, Vec<u8>)>
     requires { I.failed input.old ≡ false }
 {
@@ -110,6 +110,53 @@ fn gated_workers(rt: HostRuntime) {
     let (ended, printed) = answer.expect(&rt, "a session");
     expect_opposite(&rt, &ended, &printed);
     assert_eq!(rt; gate.passes(), (1, 1, 0, 0));
+}
+
+// Six locks, one inside the other, with numbers from 0 on: 15 edges. Of two shards the first keeps those that a, c or
+// e is held for, which are 5, 3 and 1; the second those of b and d, 4 and 2.
+const NESTED: &[u8] = b"T|acq(a)|1\nT|acq(b)|2\nT|acq(c)|3\nT|acq(d)|4\nT|acq(e)|5\nT|acq(f)|6\n";
+
+// A gate that counts the edges of two shards, and what is told of them that isn't so.
+#[derive(Drop)]
+struct Count {
+    first: AtomicU64,
+    second: AtomicU64,
+    wrong: AtomicU64,
+}
+
+impl Gate for Count {
+    fn pass(&self, shard: u32, taken: u64) {
+        let own = match shard {
+            0 => &self.first,
+            1 => &self.second,
+            _ => &self.wrong,
+        };
+        if own.fetch_add(1, Ordering::SeqCst) != taken {
+            self.wrong.fetch_add(1, Ordering::SeqCst);
+        }
+    }
+}
+
+// Each edge passes the gate once, at its own shard, with the number of those before it.
+fn expect_each_edge<R: AllocGlobal + Abort + Threads + Wait + Sync>(rt: &R, ask: Ask) {
+    let gate = Count {
+        first: AtomicU64::new(0),
+        second: AtomicU64::new(0),
+        wrong: AtomicU64::new(0),
+    };
+    let mut input = FromStd::new(NESTED);
+    let (ended, printed) = gated(rt, ask, &mut input, &gate).expect(rt, "a session");
+    assert!(rt; matches!(ended, Ended::Clean), "{ended:?}");
+    assert_eq!(rt; printed.as_slice(), NO_CYCLES);
+    assert_eq!(rt; gate.first.load(Ordering::SeqCst), 9);
+    assert_eq!(rt; gate.second.load(Ordering::SeqCst), 6);
+    assert_eq!(rt; gate.wrong.load(Ordering::SeqCst), 0);
+}
+
+#[test]
+fn each_edge_passes(rt: HostRuntime) {
+    expect_each_edge(&rt, Ask::Live(1, 2, 256));
+    expect_each_edge(&rt, Ask::Stream(64, 2));
 }
 
 // Gives its text at once, and holds back its end until two workers have met.
