@@ -3,11 +3,11 @@
 
     prove.py [--jobs N] [CRATE ..]      (the program goodlock, where no crate is named)
 
-A crate begins once those that it stands on are proved. The one that leads the longest chain gets every processor, as does
-one that begins alone, and the others share what half of them leave; --jobs says how many there are (one for each
-processor, as long as there is memory for them). Programs themselves are left to `rt run`. Standard output has a line for
-each crate that is done, and what a check said that failed. Status: 0 proved, 1 not proved, 2 the words were wrong, 3 the
-toolchain at hand can't be used so.
+A crate begins once those that it stands on are proved. The one that leads the longest chain gets every processor, and
+the others share what half of them leave; --jobs says how many there are (one for each processor, as long as there is
+memory for them). Programs themselves are left to `rt run`. Standard output has a line for each crate that is done, and
+what a check said that failed. Status: 0 proved, 1 not proved, 2 the words were wrong, 3 the toolchain at hand can't be
+used so.
 """
 
 import argparse
@@ -31,9 +31,8 @@ def weigh(crates):
 
 def jobs_for(leads, others, processes, idle, memory):
     """How many processes a crate's check gets, beside `others` crates that could begin too: all of them where its chain is
-    the longest, since all waits for it, or where no other could begin, since it keeps them after those that run now have
-    ended; and else its share of those that are idle."""
-    share = processes if leads or not others else idle // (others + 1)
+    the longest, since all waits for it, and else its share of those that are idle."""
+    share = processes if leads else idle // (others + 1)
     room = 1 + (memory - toolchain.MEMORY_OF_A_CHECK) // toolchain.MEMORY_OF_A_JOB
     return max(1, min(share, room))
 
@@ -57,7 +56,7 @@ def in_order(crates, processes, work, told):
                 leads = crate is left[0] and all(chains[other] < chains[crate] for other in running.values())
                 jobs = jobs_for(leads, len(ready) - at - 1, processes, idle, memory)
                 left.remove(crate)
-                taken[crate] = (jobs + 1) // 2 if leads else min(jobs, idle)
+                taken[crate] = (jobs + 1) // 2 if leads else jobs
                 running[pool.submit(timed, work, crate, jobs)] = crate
             if not running:
                 break
