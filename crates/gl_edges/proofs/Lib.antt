@@ -11,7 +11,7 @@ pub mod Holding
 pub mod Following
 pub mod Gathering
 pub mod Fronts
-pub mod Nestings
+pub mod Ways
 pub mod Remembering
 pub mod Steps
 pub mod Made

@@ -20,6 +20,9 @@ use crate::tracker::Tracker;
 use gl_event::{Event, LocId, LockId, LockMode, Memory, ThreadId};
 use std::alloc::Global;
 
+// So many nodes more than twice the edges may be noted.
+const SPARE: usize = 1024;
+
 // The edges found so far, one edge whose fields are set in turn to look others up, and acquires that
 // the current thread made before.
 #[derive(Drop)]
@@ -45,7 +48,8 @@ impl Gatherer {
             → Gathers (pairs ++ map (pair_for tracker.now wanted mode loc) tracker.now.state.held)
             (tracker.now.state.events + 1) self.new) }
     {
-        if self.seen.note(alloc, tracker, wanted, mode)? {
+        let room = self.table.len().saturating_mul(2).saturating_add(SPARE);
+        if self.seen.note(tracker, wanted, mode, room)? {
             return Ok(());
         }
         self.add_each(alloc, tracker, wanted, mode, loc)
@@ -126,7 +130,7 @@ impl Gatherer {
             ((pairs : List (Edge × Sample)) → IsTableOf self.old.table pairs
             → IsTableOf self.new.table (pairs ++ edges_of_list thread list.now)) }
     {
-        self.seen.clear();
+        self.seen.begin(thread);
         let mut tracker = Tracker::new(thread);
         for event in list {
             self.take(alloc, &mut tracker, *event)?;
@@ -138,13 +142,14 @@ impl Gatherer {
 /// The edges of these lists: each once, ascending, with its least sample. A thread's number is the
 /// position of its list.
 ///
-/// It takes a step for each event, and for each lock held at an acquire a look-up among the edges.
-/// Where many locks are held, an acquire that the thread made before takes a step for each of them and
-/// one look-up. An acquire that makes no new edge takes no memory.
+/// It takes a step for each event and for each lock held at an acquire, and where the thread made no
+/// such acquire before, a look-up among the edges for each of these locks. It takes memory as there are
+/// edges.
 pub fn edges_of(alloc: Global, lists: &[Vec<Event>]) -> Result<EdgeList, Memory>
     requires few { length lists.now ≤ 1024 }
     requires lawful { (thread : ℕ) (es : List Event)
-        → slice_get (map (λ v. v.items) lists.now) thread ≡ Some es → IsLawful greatest thread es }
+        → slice_get (map (λ v. v.items) lists.now) thread ≡ Some es
+        → IsLawful greatest thread es }
     ensures { IfOk result (λ l. l ≡ edges (map (λ v. v.items) lists.now)) }
 {
     let mut gatherer = Gatherer {

@@ -60,7 +60,8 @@ impl GuardSets {
         requires one { a < length self.now.sets }
         requires other { b < length self.now.sets }
         ensures { (guards others : List Guard) → slice_get self.now.sets a ≡ Some guards
-            → slice_get self.now.sets b ≡ Some others → result ≡ guards_clash guards others }
+            → slice_get self.now.sets b ≡ Some others
+            → result ≡ guards_clash guards others }
     {
         self.sets[a].clash_with(&self.sets[b])
     }

@@ -59,7 +59,8 @@ pub fn samples_are_of_the_first_place()
 pub fn once_needs_no_order()
     ensures order { (xs ys : List (Edge × Sample)) → AreAmong xs ys → AreAmong ys xs
         → once xs ≡ once ys }
-    ensures merged { (xs ys : List (Edge × Sample)) → once (once xs ++ once ys) ≡ once (xs ++ ys) }
+    ensures merged { (xs ys : List (Edge × Sample))
+        → once (once xs ++ once ys) ≡ once (xs ++ ys) }
 {}
 
 /// The edges of a thread's list are those of its events, one after the other: a list without events

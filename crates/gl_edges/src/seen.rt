@@ -5,22 +5,29 @@
 //! samples already. So one look-up of the whole acquire is enough, where there would be one for each
 //! held lock.
 //!
-//! Places grow within a list, and with them the segments in which the held locks were opened. So each
-//! new acquire has an edge that is new, and what is noted stays in proportion to the edges.
-ghost use Rattle.std.specs.Prelude.{◌≡◌, ◌⊎◌, List, [], map, Contains, IsPermutation, IsTrue, IfOk, OnOk};
-ghost use Rattle.gl_edges.specs.bodies.Seen.{edges_now, opened_of};
+//! The locks that a thread holds, in the order in which it took them, lead from the root of a tree to a
+//! node: each node is a lock inside those of its parent. Where the nodes of the held locks are known, a
+//! step for each of them finds the last one, without their guards.
+//!
+//! Places grow within a list, and with them the segments in which the held locks were opened. So an
+//! acquire with other locks held than before has an edge that is new. The same locks can be taken in
+//! very many orders, though, which are as many nodes: so there are never more of them than the caller
+//! has room for, and what is not noted is looked up edge by edge.
+ghost use Rattle.std.specs.Prelude.{◌≡◌, ◌⊎◌, ◌+◌, ℕ, List, [], ◌∷◌, ◌++◌, map, length, Contains, IsTrue, IfOk, IfSome, OnOk};
+ghost use Rattle.gl_edges.specs.bodies.Seen.{edges_inside, edges_now, noted, opened_of, with_node, IsNode, LeadsTo};
 ghost use Rattle.gl_edges.specs.declared.edge.Edge.{Edge};
+ghost use Rattle.gl_edges.specs.declared.seen.Opened.{Opened};
 
 use crate::tracker::Tracker;
-use gl_event::{LockId, LockMode, Memory, ThreadId};
+use gl_event::{HeldEntry, LockId, LockMode, Memory, ThreadId};
 use std::alloc::Global;
-use std::collections::BTreeSet;
+use std::collections::BTreeMap;
 use std::marker::Model;
 
-// Under fewer held locks an acquire is not noted: its edges are looked up as fast.
-const MANY_HELD: usize = 4;
+// So many guesses there are at first.
+const GUESSES: usize = 256;
 
-/// A held lock, its mode, and the segment in which it was opened.
+/// A lock that was taken, its mode, and the segment in which that was.
 #[derive(Clone, Copy, PartialEq, Eq, PartialOrd, Ord)]
 struct Opened {
     lock: LockId,
@@ -28,90 +35,230 @@ struct Opened {
     first: u32,
 }
 
-/// An acquire inside others, by all that its edges depend on. The wanted lock comes first, as it tells
-/// most acquires apart. The held locks stand in their order, so that it doesn't matter in which order
-/// they were acquired.
-#[derive(Drop, PartialEq, Eq, PartialOrd, Ord)]
-struct Nesting {
-    wanted: LockId,
-    mode: LockMode,
-    second: u32,
-    thread: ThreadId,
-    held: Vec<Opened>,
+/// A lock that was taken inside those of the node of this number: 0 is the root, where none is held.
+#[derive(Clone, Copy, PartialEq, Eq, PartialOrd, Ord)]
+struct Place {
+    parent: usize,
+    opened: Opened,
 }
 
-impl Nesting {
-    /// An acquire with no lock held.
-    fn new(alloc: Global) -> Nesting {
-        Nesting {
-            wanted: LockId::new(0),
-            mode: LockMode::Exclusive,
-            second: 0,
-            thread: ThreadId::new(0),
-            held: Vec::new(alloc),
+impl Place {
+    // Whether the two are the same.
+    fn is(&self, other: &Place) -> bool
+        ensures { IsTrue result → self.now ≡ other.now }
+    {
+        self.parent == other.parent
+            && self.opened.lock == other.opened.lock
+            && self.opened.mode == other.opened.mode
+            && self.opened.first == other.opened.first
+    }
+}
+
+/// A node of the tree, and whether it stands for an acquire whose edges were noted.
+#[derive(Clone, Copy)]
+struct Node {
+    place: Place,
+    is_noted: bool,
+}
+
+/// The nodes, each known by its number: one more than its place in the list that contracts see. The
+/// root has number 0, and isn't in it.
+#[derive(Drop)]
+struct Tree {
+    nodes: Vec<Node>,
+    numbers: BTreeMap<Place, usize>,
+    // A place's number, perhaps: looked at first. What is taken from here is compared.
+    guesses: Vec<usize>,
+}
+
+impl Model for Tree {
+    ghost use Rattle.std.specs.Prelude.{List};
+    ghost use Rattle.gl_edges.specs.declared.seen.Node.{Node};
+
+    ghost Value = { List Node };
+
+    ghost view = { λ t. t.nodes.items };
+}
+
+impl Tree {
+    // No nodes.
+    fn new(alloc: Global) -> Tree
+        ensures { result ≡ [] }
+    {
+        Tree {
+            nodes: Vec::new(alloc),
+            numbers: BTreeMap::new(alloc),
+            guesses: Vec::new(alloc),
         }
     }
 
-    /// Becomes the acquire of a lock that the thread doesn't hold. One that had as many held locks
-    /// before takes no memory.
-    fn refill(&mut self, tracker: &Tracker, wanted: LockId, mode: LockMode) -> Result<(), Memory>
-        ensures thread { OnOk result (self.new.thread ≡ tracker.now.thread) }
-        ensures wanted { OnOk result (self.new.wanted ≡ wanted) }
-        ensures mode { OnOk result (self.new.mode ≡ mode) }
-        ensures second { OnOk result (self.new.second ≡ tracker.now.state.segments) }
-        ensures held { OnOk result
-            (IsPermutation (map opened_of tracker.now.state.held) self.new.held.items) }
+    // Forgets all nodes.
+    fn clear(&mut self)
+        ensures { self.new ≡ [] }
     {
-        self.thread = tracker.thread;
-        self.wanted = wanted;
-        self.mode = mode;
-        self.second = tracker.state.segment();
-        self.held.clear();
-        for entry in tracker.state.entries() {
-            self.held.push(Opened {
-                lock: entry.lock,
-                mode: entry.mode,
-                first: entry.seg,
-            })?;
+        self.nodes.clear();
+        self.numbers.clear();
+    }
+
+    // Whether the node of this number stands at this place: then, whether it was noted.
+    fn look(&self, number: usize, place: &Place) -> Option<bool>
+        ensures { IfSome result (λ is_noted. IsNode self.now place.now is_noted number) }
+    {
+        if number <= place.parent {
+            return None;
         }
-        self.held.sort_unstable();
+        let node = self.nodes.get(number - 1)?;
+        if !node.place.is(place) {
+            return None;
+        }
+        Some(node.is_noted)
+    }
+
+    // Where a place's number is guessed.
+    fn slot(&self, place: &Place) -> usize {
+        let mixed = place
+            .parent
+            .wrapping_mul(61)
+            .wrapping_add(place.opened.lock.number() as usize);
+        mixed & self.guesses.len().wrapping_sub(1)
+    }
+
+    // The number of the node at this place, if there is one, and whether it was noted.
+    fn find(&mut self, place: &Place) -> Option<(usize, bool)>
+        ensures found { IfSome result (λ r. IsNode self.new place.now r.1 r.0) }
+        ensures same { self.new ≡ self.old }
+    {
+        let slot = self.slot(place);
+        if let Some(guess) = self.guesses.get(slot) {
+            if let Some(is_noted) = self.look(*guess, place) {
+                return Some((*guess, is_noted));
+            }
+        }
+        let number = *self.numbers.get(place)?;
+        let is_noted = self.look(number, place)?;
+        self.guess(slot, number);
+        Some((number, is_noted))
+    }
+
+    // Guesses this number from now on.
+    fn guess(&mut self, slot: usize, number: usize)
+        ensures { self.new ≡ self.old }
+    {
+        if let Some(guess) = self.guesses.get_mut(slot) {
+            *guess = number;
+        }
+    }
+
+    // Makes room for more guesses, where they are fewer than twice the nodes.
+    fn widen(&mut self) -> Result<(), Memory>
+        ensures { self.new ≡ self.old }
+    {
+        let count = self.guesses.len();
+        if count / 2 > self.nodes.len() {
+            return Ok(());
+        }
+        let more = if count == 0 { GUESSES } else { count };
+        self.guesses.resize(count.saturating_add(more), 0)?;
         Ok(())
     }
 
-    /// The same acquire once more, or that there is no memory for it.
-    fn copy(&self, alloc: Global) -> Result<Nesting, Memory>
-        ensures thread { IfOk result (λ nesting. nesting.thread ≡ self.now.thread) }
-        ensures wanted { IfOk result (λ nesting. nesting.wanted ≡ self.now.wanted) }
-        ensures mode { IfOk result (λ nesting. nesting.mode ≡ self.now.mode) }
-        ensures second { IfOk result (λ nesting. nesting.second ≡ self.now.second) }
-        ensures held { IfOk result (λ nesting. nesting.held.items ≡ self.now.held.items) }
+    // Adds a node at this place, and answers its number.
+    fn add(&mut self, place: &Place, is_noted: bool) -> Result<usize, Memory>
+        ensures added { OnOk result (self.new ≡ self.old ++ with_node place.now is_noted ∷ []) }
+        ensures number { IfOk result (λ number. number ≡ length self.old + 1) }
     {
-        let held = Vec::from_slice(alloc, self.held.as_slice())?;
-        Ok(Nesting {
-            wanted: self.wanted,
-            mode: self.mode,
-            second: self.second,
-            thread: self.thread,
-            held,
-        })
+        self.widen()?;
+        self.nodes.push(Node {
+            place: *place,
+            is_noted,
+        })?;
+        let number = self.nodes.len();
+        self.numbers.insert(*place, number)?;
+        Ok(number)
+    }
+
+    // The number of the node at this place, which is made where it isn't there, if there is room.
+    fn node_at(&mut self, place: Place, room: usize) -> Result<Option<usize>, Memory>
+        ensures leads { IfOk result
+            (λ found. IfSome found
+            (λ number. (held : List Opened) → LeadsTo self.old place.parent held
+            → LeadsTo self.new number (held ++ place.opened ∷ []))) }
+        ensures noted { OnOk result
+            ((thread : ℕ) → noted thread self.new ≡ noted thread self.old) }
+    {
+        if let Some((number, _)) = self.find(&place) {
+            return Ok(Some(number));
+        }
+        if self.nodes.len() >= room {
+            return Ok(None);
+        }
+        let number = self.add(&place, false)?;
+        Ok(Some(number))
+    }
+
+    // The number of the node that these held locks lead to, if there is room for it.
+    fn node_of(&mut self, entries: &[HeldEntry], room: usize) -> Result<Option<usize>, Memory>
+        ensures leads { IfOk result
+            (λ found. IfSome found
+            (λ number. LeadsTo self.new number (map opened_of entries.now))) }
+        ensures noted { OnOk result
+            ((thread : ℕ) → noted thread self.new ≡ noted thread self.old) }
+    {
+        let mut parent = 0;
+        for entry in entries {
+            let opened = Opened {
+                lock: entry.lock,
+                mode: entry.mode,
+                first: entry.seg,
+            };
+            let Some(number) = self.node_at(Place { parent, opened }, room)? else {
+                return Ok(None);
+            };
+            parent = number;
+        }
+        Ok(Some(parent))
+    }
+
+    // Notes an acquire at this place, if there is room. The answer is `true` only where it was noted
+    // before.
+    fn note(&mut self, place: Place, room: usize) -> Result<bool, Memory>
+        ensures known { IfOk result
+            (λ known. IsTrue known → (thread : ℕ) (held : List Opened)
+            → LeadsTo self.old place.parent held → (edge : Edge)
+            → Contains (edges_inside thread held place.opened) edge
+            → Contains (noted thread self.old) edge) }
+        ensures noted { OnOk result
+            ((thread : ℕ) (held : List Opened) → LeadsTo self.old place.parent held
+            → (edge : Edge) → Contains (noted thread self.new) edge
+            → Contains (noted thread self.old) edge
+            ⊎ Contains (edges_inside thread held place.opened) edge) }
+    {
+        if let Some((_, true)) = self.find(&place) {
+            return Ok(true);
+        }
+        if self.nodes.len() >= room {
+            return Ok(false);
+        }
+        self.add(&place, true)?;
+        Ok(false)
     }
 }
 
-/// Acquires that were made with many locks held. Contracts see their edges.
+/// The acquires that a thread made with locks held. Contracts see their edges.
 #[derive(Drop)]
 pub(crate) struct Seen {
-    nestings: BTreeSet<Nesting>,
-    next: Nesting,
+    thread: ThreadId,
+    tree: Tree,
 }
 
 impl Model for Seen {
     ghost use Rattle.std.specs.Prelude.{List};
-    ghost use Rattle.gl_edges.specs.bodies.Seen.{edges_from_all};
+    ghost use Rattle.gl_edges.specs.bodies.Seen.{noted};
     ghost use Rattle.gl_edges.specs.declared.edge.Edge.{Edge};
 
     ghost Value = { List Edge };
 
-    ghost view = { λ s. edges_from_all s.nestings.keys };
+    ghost view = { λ s. noted s.thread s.tree };
 }
 
 impl Seen {
@@ -120,29 +267,30 @@ impl Seen {
         ensures { result ≡ [] }
     {
         Seen {
-            nestings: BTreeSet::new(alloc),
-            next: Nesting::new(alloc),
+            thread: ThreadId::new(0),
+            tree: Tree::new(alloc),
         }
     }
 
-    /// Forgets all acquires.
-    pub(crate) fn clear(&mut self)
+    /// Forgets all acquires: those of this thread come.
+    pub(crate) fn begin(&mut self, thread: ThreadId)
         ensures { self.new ≡ [] }
     {
-        self.nestings.clear();
+        self.thread = thread;
+        self.tree.clear();
     }
 
     /// Notes that the thread acquires a lock that it doesn't hold. The answer is `true` only where all
     /// edges of the acquire were noted before.
     ///
-    /// It takes a step for each held lock and one look-up. An acquire that was noted before takes no
-    /// memory, nor does one with few locks held, which isn't noted.
+    /// It takes a step for each held lock. There are no more nodes than the room says. An acquire that
+    /// was noted before takes no memory, nor does one with no lock held, which isn't noted.
     pub(crate) fn note(
         &mut self,
-        alloc: Global,
         tracker: &Tracker,
         wanted: LockId,
         mode: LockMode,
+        room: usize,
     ) -> Result<bool, Memory>
         ensures known { IfOk result
             (λ known. IsTrue known → (edge : Edge)
@@ -151,15 +299,21 @@ impl Seen {
             ((edge : Edge) → Contains self.new edge
             → Contains self.old edge ⊎ Contains (edges_now tracker.now wanted mode) edge) }
     {
-        if tracker.state.entries().len() < MANY_HELD {
+        if tracker.thread.number() != self.thread.number() {
             return Ok(false);
         }
-        self.next.refill(tracker, wanted, mode)?;
-        if self.nestings.contains(&self.next) {
-            return Ok(true);
+        let entries = tracker.state.entries();
+        if entries.is_empty() {
+            return Ok(false);
         }
-        let nesting = self.next.copy(alloc)?;
-        self.nestings.insert(nesting)?;
-        Ok(false)
+        let Some(parent) = self.tree.node_of(entries, room)? else {
+            return Ok(false);
+        };
+        let opened = Opened {
+            lock: wanted,
+            mode,
+            first: tracker.state.segment(),
+        };
+        self.tree.note(Place { parent, opened }, room)
     }
 }

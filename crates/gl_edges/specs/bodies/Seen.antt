@@ -1,13 +1,13 @@
 -- Acquires that were made before, by their edges.
-use Rattle.std.specs.Prelude.{ℕ, List, map}
-use Rattle.std.specs.List.{flat_map}
+use Rattle.std.specs.Prelude.{◌≡◌, ℕ, ◌+◌, ◌<◌, Bool, List, [], ◌∷◌, ◌++◌, map, Some, slice_get, slice_index_or, if◌then◌else◌}
 use Rattle.gl_event.specs.declared.events.LockMode.{LockMode}
 use Rattle.gl_event.specs.declared.held.HeldEntry.{HeldEntry}
 use Rattle.gl_edges.specs.Guards.{ascending_guards, guards_of}
 use Rattle.gl_edges.specs.declared.edge.Edge.{Edge}
 use Rattle.gl_edges.specs.declared.guards.Guard.{Guard}
-use Rattle.gl_edges.specs.declared.seen.Nesting.{Nesting}
+use Rattle.gl_edges.specs.declared.seen.Node.{Node}
 use Rattle.gl_edges.specs.declared.seen.Opened.{Opened}
+use Rattle.gl_edges.specs.declared.seen.Place.{Place}
 use Rattle.gl_edges.specs.declared.tracker.Tracker.{Tracker}
 
 -- what an edge needs of a held lock
@@ -18,27 +18,72 @@ opened_of h = record { lock = h.lock; mode = h.mode; first = h.seg }
 abbrev pub guard_from : Opened → Guard
 guard_from o = record { lock = o.lock; mode = o.mode }
 
--- the edge of an acquire from one of the locks that are held
-abbrev pub edge_from : Nesting → Opened → Edge
-edge_from nesting opened =
+-- the edge that the acquire of a lock makes from one of the locks that are held
+abbrev pub edge_inside : ℕ → List Opened → Opened → Opened → Edge
+edge_inside thread held wanted opened =
     record {
-      thread = nesting.thread;
+      thread = thread;
       held = opened.lock;
       held_mode = opened.mode;
-      wanted = nesting.wanted;
-      wanted_mode = nesting.mode;
+      wanted = wanted.lock;
+      wanted_mode = wanted.mode;
       first = opened.first;
-      second = nesting.second;
-      guards = ascending_guards (map guard_from nesting.held.items);
+      second = wanted.first;
+      guards = ascending_guards (map guard_from held);
     }
 
--- the edges of an acquire
-abbrev pub edges_from : Nesting → List Edge
-edges_from nesting = map (edge_from nesting) nesting.held.items
+-- the edges that the acquire of a lock makes where these are held
+abbrev pub edges_inside : ℕ → List Opened → Opened → List Edge
+edges_inside thread held wanted = map (edge_inside thread held wanted) held
 
--- the edges of these acquires
-abbrev pub edges_from_all : List Nesting → List Edge
-edges_from_all nestings = flat_map edges_from nestings
+-- ---- the tree of held locks
+
+-- a node at this place
+abbrev pub with_node : Place → Bool → Node
+with_node place is_noted = record { place = place; is_noted = is_noted }
+
+-- the locks that lead to the node's parent, where these lead to the root and to the nodes before
+abbrev pub around : List (List Opened) → Node → List Opened
+around ways node = slice_index_or ways node.place.parent []
+
+-- the locks that lead to the node
+abbrev pub way_to : List (List Opened) → Node → List Opened
+way_to ways node = around ways node ++ node.place.opened ∷ []
+
+-- the locks that lead to each of these nodes, after those that lead to the nodes before
+unfoldable pub ways_after : List (List Opened) → List Node → List (List Opened)
+ways_after ways [] = ways
+ways_after ways (node ∷ nodes) = ways_after (ways ++ way_to ways node ∷ []) nodes
+
+-- the locks that lead to the root and to each node, by number
+abbrev pub ways : List Node → List (List Opened)
+ways nodes = ways_after ([] ∷ []) nodes
+
+-- these held locks lead to the node of this number
+abbrev pub LeadsTo : List Node → ℕ → List Opened → Type 0
+LeadsTo nodes number held = slice_get (ways nodes) number ≡ Some held
+
+-- the node of this number stands at this place, and was noted or not
+pub record IsNode (nodes : List Node) (place : Place) (is_noted : Bool) (number : ℕ) : Type 0 where
+  pub at : ℕ
+  pub counts : number ≡ at + 1
+  pub stands : slice_get nodes at ≡ Some (with_node place is_noted)
+  pub above : place.parent < number
+
+-- ---- the acquires that were noted
+
+-- the edges of a node's acquire, if that was noted
+abbrev pub edges_at_node : ℕ → List (List Opened) → Node → List Edge
+edges_at_node thread ways node = if node.is_noted then edges_inside thread (around ways node) node.place.opened else []
+
+-- the edges of these nodes' acquires, where these locks lead to the nodes before
+unfoldable pub noted_after : ℕ → List (List Opened) → List Node → List Edge
+noted_after thread ways [] = []
+noted_after thread ways (node ∷ nodes) = edges_at_node thread ways node ++ noted_after thread (ways ++ way_to ways node ∷ []) nodes
+
+-- the edges of the acquires that were noted
+abbrev pub noted : ℕ → List Node → List Edge
+noted thread nodes = noted_after thread ([] ∷ []) nodes
 
 -- the edges of the acquire of a lock that the tracked thread doesn't hold
 abbrev pub edges_now : Tracker → ℕ → LockMode → List Edge

@@ -7,7 +7,7 @@ use Rattle.gl_edges.proofs.Remembering.{gathers_start}
 use Rattle.gl_edges.proofs.gather.Gatherer.take_list.Goals as goal
 
 pub loop-event-init : goal.loop-event-init
-loop-event-init c = record { follows = c.new-tracker.ensures; known = λ pairs is. gathers_start pairs _ c.clear.ensures is }
+loop-event-init c = record { follows = c.new-tracker.ensures; known = λ pairs is. gathers_start pairs _ c.begin.ensures is }
 
 pub take-requires : goal.take-requires
 take-requires c =
