@@ -1,8 +1,8 @@
 //! Guesses of the numbers of names.
 use std::alloc::{AllocError, Global};
 
-// There are 2 to this power places for a guess.
-const BITS: u32 = 10;
+// So many places for a guess there are at first: a power of two, and so is what it grows to.
+const PLACES: usize = 1024;
 /// An odd number by which a product is spread over its upper bits.
 const SPREAD: u64 = 0x9e37_79b9_7f4a_7c15;
 
@@ -24,9 +24,9 @@ impl Print {
         }
     }
 
-    // The place of the guess.
-    fn place(self) -> usize {
-        (self.hash >> (64 - BITS)) as usize
+    // The place of the guess among so many.
+    fn place(self, count: usize) -> usize {
+        (self.hash >> 40) as usize & count.wrapping_sub(1)
     }
 
     // What tells prints of one place apart.
@@ -90,18 +90,21 @@ impl Guesses {
         }
     }
 
-    /// Takes memory for guesses, where that wasn't done before.
-    pub(crate) fn make_room(&mut self, alloc: Global) -> Result<(), AllocError> {
-        if self.guesses.is_empty() {
-            let none = Guess { mark: 0, number: 0 };
-            self.guesses = vec![in alloc; none; 1 << BITS]?;
+    /// Takes memory for more guesses, where they are no more than twice as many as the names. Half of those
+    /// that were put stay.
+    pub(crate) fn make_room(&mut self, names: usize) -> Result<(), AllocError> {
+        let count = self.guesses.len();
+        if count / 2 > names {
+            return Ok(());
         }
-        Ok(())
+        let more = if count == 0 { PLACES } else { count };
+        let none = Guess { mark: 0, number: 0 };
+        self.guesses.resize(count.saturating_add(more), none)
     }
 
     /// A number that a name with this print may have.
     pub(crate) fn get(&self, print: Print) -> Option<u32> {
-        let guess = self.guesses.get(print.place())?;
+        let guess = self.guesses.get(print.place(self.guesses.len()))?;
         if guess.mark != print.mark() {
             return None;
         }
@@ -111,7 +114,8 @@ impl Guesses {
     /// Puts the number of a name with this print, if it has one and there is memory.
     pub(crate) fn put(&mut self, print: Print, number: Option<u32>) {
         let Some(number) = number else { return };
-        if let Some(guess) = self.guesses.get_mut(print.place()) {
+        let place = print.place(self.guesses.len());
+        if let Some(guess) = self.guesses.get_mut(place) {
             *guess = Guess {
                 mark: print.mark(),
                 number,

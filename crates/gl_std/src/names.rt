@@ -132,7 +132,7 @@ impl NameList {
         ensures ok { OnOk result (self.new ≡ self.old ++ name.now ∷ []) }
         ensures err { OnErr result (self.new ≡ self.old) }
     {
-        self.guesses.make_room(alloc)?;
+        self.guesses.make_room(self.names.len())?;
         let name = Name::new(alloc, name)?;
         self.names.insert(name)?;
         Ok(())
