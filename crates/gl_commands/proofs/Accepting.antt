@@ -12,7 +12,7 @@ use Rattle.gl_commands.specs.Answer.Answer.{Prints, Refusal}
 use Rattle.gl_commands.specs.Checking.{HasChecked, IsCheckAnswer, report_in, trace_in}
 use Rattle.gl_commands.specs.Checking.HasChecked.{cut_short, ended_so}
 use Rattle.gl_commands.specs.Checking.IsCheckAnswer.{bad_line, refused, accepted}
-use Rattle.gl_io.specs.Uses.{Use}
+use Rattle.gl_io.specs.Uses.{SinkUse, SourceUse}
 use Rattle.gl_commands.specs.Ending.{EndsEarlyAs}
 use Rattle.gl_commands.specs.bodies.Halves.{EndsWith}
 use Rattle.gl_commands.specs.bodies.Opinions.{SaysAccepted, SaysRefused}
@@ -56,7 +56,7 @@ answers_refused input trace report (Err (WriteFailed count)) is read says = absu
 answers_refused input trace report (Err Unconfirmed) is read says = absurd says
 
 -- the input was read whole, and what is answered to it was written or refused
-pub ends_whole : (turns : ℕ) (input output : Use) (bytes text : List ℕ) (whole : Bool) (answered : Result Printed Ended) (how : Ended)
+pub ends_whole : (turns : ℕ) (input : SourceUse) (output : SinkUse) (bytes text : List ℕ) (whole : Bool) (answered : Result Printed Ended) (how : Ended)
     → HasRead turns input.before input.after input.failed text whole → whole ≡ true → bytes ≡ text
     → IfOk answered (λ p. IsCheckAnswer bytes (Prints p.text.items p.outcome)) → IfErr answered (λ ended. IfRefused ended (λ line. IsCheckAnswer bytes (Refusal line)))
     → EndsWith answered output.before output.after output.failed how → HasChecked turns input output how
@@ -65,7 +65,7 @@ ends_whole turns input output bytes text whole answered how read is same good ba
     (ends_as IsCheckAnswer bytes answered output.before output.after output.failed how good bad ends)
 
 -- it wasn't, and nothing was written
-pub ends_short : (turns : ℕ) (input output : Use) (bytes text : List ℕ) (whole : Bool) (how : Ended)
+pub ends_short : (turns : ℕ) (input : SourceUse) (output : SinkUse) (bytes text : List ℕ) (whole : Bool) (how : Ended)
     → HasRead turns input.before input.after input.failed text whole → whole ≡ false → bytes ≡ text → EndsEarlyAs greatest (trace_in bytes) how
     → Keeps output.before output.after → output.failed ≡ false → HasChecked turns input output how
 ends_short turns input output bytes text whole how read is same early kept sound =

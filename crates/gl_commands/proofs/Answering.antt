@@ -19,7 +19,7 @@ use Rattle.gl_commands.specs.Answer.{Answer, IsAnswerUnder, IsLeastBeforeItself,
 use Rattle.gl_commands.specs.Answer.Answer.{Prints, Refusal}
 use Rattle.gl_commands.specs.Answer.IsAnswerUnder.{bad_line, no_order, ordered}
 use Rattle.gl_commands.specs.Answer.IsPlainAnswer.{bad_line as plain_fault}
-use Rattle.gl_io.specs.Uses.{Use}
+use Rattle.gl_io.specs.Uses.{SinkUse, SourceUse}
 use Rattle.gl_commands.specs.Ending.{EndsAs, HasEnded, HasEndedLive, HasEndedStreamed}
 use Rattle.gl_commands.specs.bodies.Halves.{EndsWith, HasHeardAll}
 use Rattle.gl_commands.specs.Ending.HasEndedUnder.{ended_so}
@@ -135,7 +135,7 @@ ends_as A text (Err (variant.WriteFailed count)) old new failed ended good bad h
 ends_as A text (Err variant.Unconfirmed) old new failed ended good bad how = absurd bad
 
 -- and one that is the answer to each text of the trace that was read
-pub ends : (IsAnswered : List ℕ → Answer → Type 0) (turns : ℕ) (input : Use) (read : Result Trace ReadFault) (answered : Result Printed Ended) (output : Use) (ended : Ended)
+pub ends : (IsAnswered : List ℕ → Answer → Type 0) (turns : ℕ) (input : SourceUse) (read : Result Trace ReadFault) (answered : Result Printed Ended) (output : SinkUse) (ended : Ended)
     → HasHeardAll turns input read
     → IfOk answered (λ p. (text : List ℕ) → trace_of greatest text ≡ read → IsAnswered text (Prints p.text.items p.outcome))
     → IfErr answered (λ how. IfRefused how (λ line. (text : List ℕ) → trace_of greatest text ≡ read → IsAnswered text (Refusal line)))
@@ -147,7 +147,7 @@ ends A turns input read (Err why) output ended heard good bad how =
     ended_so heard.text ended heard.whole (ends_as A heard.text (Err why) output.before output.after output.failed ended tt said how)
 
 -- and so does that of a session, unless it isn't confirmed
-pub ends_live : (IsAnswered : List ℕ → Answer → Type 0) (turns : ℕ) (input : Use) (read : Result Trace ReadFault) (answered : Result Printed Ended) (output : Use) (ended : Ended)
+pub ends_live : (IsAnswered : List ℕ → Answer → Type 0) (turns : ℕ) (input : SourceUse) (read : Result Trace ReadFault) (answered : Result Printed Ended) (output : SinkUse) (ended : Ended)
     → HasHeardAll turns input read
     → IfOk answered (λ p. (text : List ℕ) → trace_of greatest text ≡ read → IsAnswered text (Prints p.text.items p.outcome))
     → IfErr answered (λ how. IfStopped how (λ line. (text : List ℕ) → trace_of greatest text ≡ read → IsAnswered text (Refusal line)))
@@ -167,7 +167,7 @@ ends_live A turns input read (Err variant.ReadFailed) output ended heard good ba
 ends_live A turns input read (Err (variant.WriteFailed count)) output ended heard good bad how = absurd bad
 
 -- what is answered to a text that a session recorded as it came ends a command
-pub ends_streamed : (limits : Bounds) (IsAnswered : List ℕ → Answer → Type 0) (turns : ℕ) (input : Use) (answered : Result Printed Ended) (output : Use) (ended : Ended)
+pub ends_streamed : (limits : Bounds) (IsAnswered : List ℕ → Answer → Type 0) (turns : ℕ) (input : SourceUse) (answered : Result Printed Ended) (output : SinkUse) (ended : Ended)
     → IfOk answered (λ p. HasAnswer IsAnswered turns input (Prints p.text.items p.outcome)) → IfErr answered (EndsUnwritten limits IsAnswered turns input)
     → EndsWith answered output.before output.after output.failed ended → HasEndedStreamed limits IsAnswered turns input output ended
 ends_streamed limits A turns input (Ok p) output ended good bad how =

@@ -23,7 +23,7 @@ use Rattle.gl_live.specs.Streamed.{Becomes}
 use Rattle.gl_commands.specs.Answer.{Answer, IsAnswerUnder, outcome_of, prediction, printed_report}
 use Rattle.gl_commands.specs.Answer.Answer.{Prints, Refusal}
 use Rattle.gl_commands.specs.Answer.IsAnswerUnder.{bad_line, no_order}
-use Rattle.gl_io.specs.Uses.{Use}
+use Rattle.gl_io.specs.Uses.{SourceUse}
 use Rattle.gl_commands.specs.Ending.HasEndedEarly.{out_of_memory, cut_short}
 use Rattle.gl_commands.specs.Ending.HasEndedUnder.{early, ended_so}
 use Rattle.gl_commands.specs.Ending.HasEndedStreamed.{confirmed, met_fault, unconfirmed, unstarted}
@@ -38,18 +38,18 @@ use Rattle.gl_commands.proofs.FirstFaults.{no_fault_before}
 
 -- ---- ends that need no text
 
-pub ends_without_memory : (limits : Bounds) (A : List ℕ → Answer → Type 0) (turns : ℕ) (input : Use) → EndsUnwritten limits A turns input variant.Memory
+pub ends_without_memory : (limits : Bounds) (A : List ℕ → Answer → Type 0) (turns : ℕ) (input : SourceUse) → EndsUnwritten limits A turns input variant.Memory
 ends_without_memory limits A turns input output kept sound = confirmed variant.Memory (early variant.Memory out_of_memory kept sound)
 
 -- ---- the text was told to its end
 
 -- it was read whole, and this is its trace
-record IsWhole (limits : Bounds) (turns : ℕ) (input : Use) (items : Stream) (text : List ℕ) (told : Trace) : Type 0 where
+record IsWhole (limits : Bounds) (turns : ℕ) (input : SourceUse) (items : Stream) (text : List ℕ) (told : Trace) : Type 0 where
   read : HasRead turns input.before input.after input.failed text true
   trace : trace_of limits text ≡ Ok told
   named : CanBeNamed items
 
-whole_at_end : (limits : Bounds) (turns : ℕ) (input : Use) (items : Stream) (text : List ℕ) (told : Trace)
+whole_at_end : (limits : Bounds) (turns : ℕ) (input : SourceUse) (items : Stream) (text : List ℕ) (told : Trace)
     → HasTold limits turns input items text told → IsDone items → IsWhole limits turns input items text told
 whole_at_end limits turns input items text told tells done =
     let at_end = subst (λ (stage : Stage). HasToldAt stage limits turns input items.reader text told) done tells in
@@ -62,7 +62,7 @@ whole_at_end limits turns input items text told tells done =
     }
 
 -- the session isn't confirmed: it wasn't begun, or all was told
-pub ends_unconfirmed : (limits : Bounds) (A : List ℕ → Answer → Type 0) (turns : ℕ) (input : Use) (items : Stream) (text : List ℕ) (told : Trace)
+pub ends_unconfirmed : (limits : Bounds) (A : List ℕ → Answer → Type 0) (turns : ℕ) (input : SourceUse) (items : Stream) (text : List ℕ) (told : Trace)
     → HasTold limits turns input items text told → (input.after ≡ input.before) ⊎ IsDone items → EndsUnwritten limits A turns input variant.Unconfirmed
 ends_unconfirmed limits A turns input items text told tells (inl unread) = λ output kept sound. unstarted unread kept sound
 ends_unconfirmed limits A turns input items text told tells (inr done) = λ output kept sound.
@@ -70,10 +70,10 @@ ends_unconfirmed limits A turns input items text told tells (inr done) = λ outp
 
 -- the names that were taken of the items
 abbrev pub AreNames : Stream → NameLists → Type 0
-AreNames items names = (limits : Bounds) (turns : ℕ) (input : Use) (text : List ℕ) (told : Trace) → CanBeNamed items → HasTold limits turns input items text told → names ≡ told.names
+AreNames items names = (limits : Bounds) (turns : ℕ) (input : SourceUse) (text : List ℕ) (told : Trace) → CanBeNamed items → HasTold limits turns input items text told → names ≡ told.names
 
 -- the report is printed
-pub printed_whole : (listing : Listing) (asked : Asked) (form : Form) (limits : Bounds) (turns : ℕ) (input : Use) (items : Stream) (report : Report) (names : NameLists) (answer : Result Printed Ended)
+pub printed_whole : (listing : Listing) (asked : Asked) (form : Form) (limits : Bounds) (turns : ℕ) (input : SourceUse) (items : Stream) (report : Report) (names : NameLists) (answer : Result Printed Ended)
     → AreNames items names → IfOk answer (λ p. Prints p.text.items p.outcome ≡ Prints (printed_report listing form names report) (outcome_of report))
     → Becomes listing asked limits turns input items (Ok report) → IfOk answer (λ p. HasAnswer (IsAnswerUnder limits (prediction listing asked form)) turns input (Prints p.text.items p.outcome))
 printed_whole listing asked form limits turns input items report names answer named is became =
@@ -89,7 +89,7 @@ printed_whole listing asked form limits turns input items report names answer na
     })
 
 -- a segment is before itself
-pub refused_whole : (printed : (Segment → Segment → Bool) → Trace → Answer) (limits : Bounds) (turns : ℕ) (input : Use) (items : Stream) (text : List ℕ) (told : Trace) (at : Segment) (ring : List Segment) (names : NameLists) (ended : Ended)
+pub refused_whole : (printed : (Segment → Segment → Bool) → Trace → Answer) (limits : Bounds) (turns : ℕ) (input : SourceUse) (items : Stream) (text : List ℕ) (told : Trace) (at : Segment) (ring : List Segment) (names : NameLists) (ended : Ended)
     → AreNames items names → IfRefused ended (λ line. line ≡ inconsistent_line names at) → IsDone items → IsLeastInRing told.lists at ring
     → HasTold limits turns input items text told → EndsUnwritten limits (IsAnswerUnder limits printed) turns input ended
 refused_whole printed limits turns input items text told at ring names (variant.Refused line) named said done least tells = λ output kept sound.
@@ -109,7 +109,7 @@ refused_whole printed limits turns input items text told at ring names variant.U
 -- ---- it wasn't
 
 -- a line with a fault was met, or the last line has one
-refused_at : (printed : (Segment → Segment → Bool) → Trace → Answer) (limits : Bounds) (turns : ℕ) (input : Use) (left : ℕ) (text : List ℕ) (number : ℕ) (kind : StdKind) (ended : Ended)
+refused_at : (printed : (Segment → Segment → Bool) → Trace → Answer) (limits : Bounds) (turns : ℕ) (input : SourceUse) (left : ℕ) (text : List ℕ) (number : ℕ) (kind : StdKind) (ended : Ended)
     → IfRefused ended (λ line. line ≡ fault_line number kind)
     → (HasGiven turns input.before input.after left text × IsFaulty limits text number kind) ⊎ (HasRead turns input.before input.after input.failed text true × (trace_of limits text ≡ Err (BadLine number kind)))
     → EndsUnwritten limits (IsAnswerUnder limits printed) turns input ended
@@ -126,7 +126,7 @@ refused_at printed limits turns input left text number kind (variant.WriteFailed
 refused_at printed limits turns input left text number kind variant.Unconfirmed said was = absurd said
 
 -- this fault of the text was met
-pub ends_at_fault : (printed : (Segment → Segment → Bool) → Trace → Answer) (limits : Bounds) (turns : ℕ) (input : Use) (items : Stream) (text : List ℕ) (told : Trace) (fault : LinesFault) (ended : Ended)
+pub ends_at_fault : (printed : (Segment → Segment → Bool) → Trace → Answer) (limits : Bounds) (turns : ℕ) (input : SourceUse) (items : Stream) (text : List ℕ) (told : Trace) (fault : LinesFault) (ended : Ended)
     → HasTold limits turns input items text told → HasFault items fault → IsEndOfText fault ended → EndsUnwritten limits (IsAnswerUnder limits printed) turns input ended
 ends_at_fault printed limits turns input items text told fault ended tells has is = go fault (subst (λ (stage : Stage). HasToldAt stage limits turns input items.reader text told) has tells) is
   where

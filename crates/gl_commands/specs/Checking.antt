@@ -16,7 +16,7 @@ use Rattle.gl_check.specs.declared.faults.CheckFault.TheVariants.{Inconsistent, 
 use Rattle.gl_check.specs.declared.reports.Checked.{Checked}
 use Rattle.gl_commands.specs.Answer.{Answer}
 use Rattle.gl_commands.specs.Answer.Answer.{Prints, Refusal}
-use Rattle.gl_io.specs.Uses.{Use}
+use Rattle.gl_io.specs.Uses.{SinkUse, SourceUse}
 use Rattle.gl_commands.specs.Ending.{EndsAs, EndsEarlyAs}
 use Rattle.gl_commands.specs.RefusalLines.{fault_line, inconsistent_line}
 use Rattle.gl_commands.specs.declared.ended.Ended.{Ended}
@@ -55,7 +55,7 @@ pub data IsCheckAnswer (input : List ℕ) : Answer → Type 0 where
 
 -- the end of `check`, after at most so many turns: the reader had the bytes `old` left and then `new`, the writer held `before` and then
 -- `after`; each may have failed
-pub data HasChecked (turns : ℕ) (input output : Use) : Ended → Type 0 where
+pub data HasChecked (turns : ℕ) (input : SourceUse) (output : SinkUse) : Ended → Type 0 where
   -- memory for the input was refused while it was read, and nothing was written
   out_of_memory : Keeps output.before output.after → output.failed ≡ false → HasChecked turns input output ended.Memory
   -- only this much was read: the lines of its trace that LF had ended are judged, and nothing was written

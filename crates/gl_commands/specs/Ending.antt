@@ -3,7 +3,7 @@ use Rattle.std.specs.Prelude.{◌≡◌, ◌≢◌, ◌++◌, ℕ, ◌<◌, Bool
 use Rattle.std.specs.Io.KnownBytes.{Appends, Keeps}
 use Rattle.gl_event.specs.Bounds.{Bounds, greatest}
 use Rattle.gl_io.specs.Reads.{HasRead}
-use Rattle.gl_io.specs.Uses.{Use}
+use Rattle.gl_io.specs.Uses.{SinkUse, SourceUse}
 use Rattle.gl_std.specs.LineReading.{HasGiven}
 use Rattle.gl_std.specs.Lines.{ended_lines}
 use Rattle.gl_std.specs.Trace.{trace_of}
@@ -67,7 +67,7 @@ EndsEarlyAs limits text Memory = Unit {0}
 EndsEarlyAs limits text other = ⊥
 
 -- the reads ended before the text was read whole, or before there was memory for it
-pub data HasEndedEarly (limits : Bounds) (turns : ℕ) (input : Use) : Ended → Type 0 where
+pub data HasEndedEarly (limits : Bounds) (turns : ℕ) (input : SourceUse) : Ended → Type 0 where
   -- memory for the text was refused while it was read
   out_of_memory : HasEndedEarly limits turns input Memory
   -- only this text was read
@@ -77,7 +77,7 @@ pub data HasEndedEarly (limits : Bounds) (turns : ℕ) (input : Use) : Ended →
 
 -- the end of a command that judges lines under these limits and answers so to a text, after at most so many turns over this reader and
 -- this writer
-pub data HasEndedUnder (limits : Bounds) (IsAnswered : List ℕ → Answer → Type 0) (turns : ℕ) (input output : Use) : Ended → Type 0 where
+pub data HasEndedUnder (limits : Bounds) (IsAnswered : List ℕ → Answer → Type 0) (turns : ℕ) (input : SourceUse) (output : SinkUse) : Ended → Type 0 where
   -- nothing was written
   early : (ended : Ended) → HasEndedEarly limits turns input ended → Keeps output.before output.after → output.failed ≡ false → HasEndedUnder limits IsAnswered turns input output ended
   -- a text was read whole
@@ -85,11 +85,11 @@ pub data HasEndedUnder (limits : Bounds) (IsAnswered : List ℕ → Answer → T
       → HasEndedUnder limits IsAnswered turns input output ended
 
 -- under the greatest limits
-abbrev pub HasEnded : (List ℕ → Answer → Type 0) → ℕ → Use → Use → Ended → Type 0
+abbrev pub HasEnded : (List ℕ → Answer → Type 0) → ℕ → SourceUse → SinkUse → Ended → Type 0
 HasEnded IsAnswered turns input output ended = HasEndedUnder greatest IsAnswered turns input output ended
 
 -- the end of a command that runs a session to answer so: as any other, or nothing is written because the session isn't confirmed
-pub data HasEndedLive (IsAnswered : List ℕ → Answer → Type 0) (turns : ℕ) (input output : Use) : Ended → Type 0 where
+pub data HasEndedLive (IsAnswered : List ℕ → Answer → Type 0) (turns : ℕ) (input : SourceUse) (output : SinkUse) : Ended → Type 0 where
   -- as any other command that answers so
   confirmed : (ended : Ended) → HasEnded IsAnswered turns input output ended → HasEndedLive IsAnswered turns input output ended
   -- a text was read whole, and nothing was written
@@ -103,7 +103,7 @@ IsRefusedAlready IsAnswered text other = ⊥
 
 -- the end of a command that runs a session over a text as it comes, to answer so: as any other; or reading stops at a line; or nothing is
 -- written because no session could be begun, or because it isn't confirmed
-pub data HasEndedStreamed (limits : Bounds) (IsAnswered : List ℕ → Answer → Type 0) (turns : ℕ) (input output : Use) : Ended → Type 0 where
+pub data HasEndedStreamed (limits : Bounds) (IsAnswered : List ℕ → Answer → Type 0) (turns : ℕ) (input : SourceUse) (output : SinkUse) : Ended → Type 0 where
   -- as any other command that judges lines under these limits and answers so
   confirmed : (ended : Ended) → HasEndedUnder limits IsAnswered turns input output ended → HasEndedStreamed limits IsAnswered turns input output ended
   -- this text was read, so many turns before they were used up; the lines in it are refused already, and nothing was written

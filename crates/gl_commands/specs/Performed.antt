@@ -2,7 +2,7 @@
 use Rattle.std.specs.Prelude.{ℕ}
 use Rattle.gl_commands.specs.Answer.{IsAnswer, IsPlainAnswer, counts, prediction, replay}
 use Rattle.gl_commands.specs.Checking.{HasChecked}
-use Rattle.gl_io.specs.Uses.{Use}
+use Rattle.gl_io.specs.Uses.{SinkUse, SourceUse}
 use Rattle.gl_commands.specs.Ending.{HasEnded}
 use Rattle.gl_commands.specs.Sessions.{HasEndedSession}
 use Rattle.gl_commands.specs.declared.ended.Ended.{Ended}
@@ -11,7 +11,7 @@ use Rattle.gl_options.specs.declared.options.Command.{Command}
 use Rattle.gl_options.specs.declared.options.Command.TheVariants.{Predict, Findings, Live, Stats, Replay, Check}
 
 -- each command ends with its own answer, after at most so many turns over this reader and this writer
-abbrev pub HasPerformed : Command → ℕ → Use → Use → Ended → Type 0
+abbrev pub HasPerformed : Command → ℕ → SourceUse → SinkUse → Ended → Type 0
 HasPerformed (Predict query form) turns input output ended = HasEnded (IsAnswer (prediction lists.Cycles query form)) turns input output ended
 HasPerformed (Findings query form) turns input output ended = HasEnded (IsAnswer (prediction lists.Findings query form)) turns input output ended
 HasPerformed (Live options) turns input output ended = HasEndedSession options turns input output ended

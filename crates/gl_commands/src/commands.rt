@@ -62,11 +62,11 @@ fn hear<I: Source>(
     requires few_turns { turns ≤ 2 ^ 40 }
     ensures heard { IfOk result
         (HasHeardAll turns
-        (used (I.remaining input.old) (I.remaining input.new) (I.failed input.new))) }
+        (used (I.position input.old) (I.position input.new) (I.failed input.new))) }
     ensures over { IfOk result (λ read. IfOk read (IsTraceOver greatest)) }
     ensures early { IfErr result
         (HasEndedEarly greatest turns
-        (used (I.remaining input.old) (I.remaining input.new) (I.failed input.new))) }
+        (used (I.position input.old) (I.position input.new) (I.failed input.new))) }
 {
     let Ok(heard) = read_source(alloc, input, turns, &Limits::greatest(), seed) else {
         return Err(Ended::Memory);
@@ -128,7 +128,7 @@ fn predict_listing<R: AllocGlobal + Threads + Sync, I: Source, O: Sink>(
     requires writable { O.failed output.old ≡ false }
     requires few_turns { turns ≤ 2 ^ 40 }
     ensures { HasEnded (IsAnswer (prediction listing query.now form)) turns
-        (used (I.remaining input.old) (I.remaining input.new) (I.failed input.new))
+        (used (I.position input.old) (I.position input.new) (I.failed input.new))
         (used (O.contents output.old) (O.contents output.new) (O.failed output.new)) result }
 {
     let alloc = rt.alloc();
@@ -158,7 +158,7 @@ pub fn predict<R: AllocGlobal + Threads + Sync, I: Source, O: Sink>(
     requires writable { O.failed output.old ≡ false }
     requires few_turns { turns ≤ 2 ^ 40 }
     ensures { HasEnded (IsAnswer (prediction Cycles query.now form)) turns
-        (used (I.remaining input.old) (I.remaining input.new) (I.failed input.new))
+        (used (I.position input.old) (I.position input.new) (I.failed input.new))
         (used (O.contents output.old) (O.contents output.new) (O.failed output.new)) result }
 {
     predict_listing(rt, input, output, turns, seed, Listing::Cycles, query, form)
@@ -181,7 +181,7 @@ pub fn predict_findings<R: AllocGlobal + Threads + Sync, I: Source, O: Sink>(
     requires writable { O.failed output.old ≡ false }
     requires few_turns { turns ≤ 2 ^ 40 }
     ensures { HasEnded (IsAnswer (prediction Findings query.now form)) turns
-        (used (I.remaining input.old) (I.remaining input.new) (I.failed input.new))
+        (used (I.position input.old) (I.position input.new) (I.failed input.new))
         (used (O.contents output.old) (O.contents output.new) (O.failed output.new)) result }
 {
     predict_listing(
@@ -223,7 +223,7 @@ pub fn live<R: AllocGlobal + Threads + Wait + Sync, I: Source, O: Sink>(
     requires few_turns { turns ≤ 2 ^ 40 }
     requires session { AreOfSession options.now }
     ensures { HasEndedSession options.now turns
-        (used (I.remaining input.old) (I.remaining input.new) (I.failed input.new))
+        (used (I.position input.old) (I.position input.new) (I.failed input.new))
         (used (O.contents output.old) (O.contents output.new) (O.failed output.new)) result }
 {
     live_gated(rt, input, output, turns, seed, options, &Open)
@@ -244,7 +244,7 @@ pub fn live_gated<R: AllocGlobal + Threads + Wait + Sync, I: Source, O: Sink, G:
     requires few_turns { turns ≤ 2 ^ 40 }
     requires session { AreOfSession options.now }
     ensures { HasEndedSession options.now turns
-        (used (I.remaining input.old) (I.remaining input.new) (I.failed input.new))
+        (used (I.position input.old) (I.position input.new) (I.failed input.new))
         (used (O.contents output.old) (O.contents output.new) (O.failed output.new)) result }
 {
     if options.stream {
@@ -272,7 +272,7 @@ pub fn stats<R: AllocGlobal + Threads + Sync, I: Source, O: Sink>(
     requires writable { O.failed output.old ≡ false }
     requires few_turns { turns ≤ 2 ^ 40 }
     ensures { HasEnded (IsAnswer (counts query.now)) turns
-        (used (I.remaining input.old) (I.remaining input.new) (I.failed input.new))
+        (used (I.position input.old) (I.position input.new) (I.failed input.new))
         (used (O.contents output.old) (O.contents output.new) (O.failed output.new)) result }
 {
     let alloc = rt.alloc();
@@ -297,7 +297,7 @@ pub fn replay<R: AllocGlobal, I: Source, O: Sink>(
     requires writable { O.failed output.old ≡ false }
     requires few_turns { turns ≤ 2 ^ 40 }
     ensures { HasEnded (IsPlainAnswer replay) turns
-        (used (I.remaining input.old) (I.remaining input.new) (I.failed input.new))
+        (used (I.position input.old) (I.position input.new) (I.failed input.new))
         (used (O.contents output.old) (O.contents output.new) (O.failed output.new)) result }
 {
     let alloc = rt.alloc();
@@ -324,7 +324,7 @@ pub fn check_input<R: AllocGlobal, I: Source, O: Sink>(
     requires writable { O.failed output.old ≡ false }
     requires few_turns { turns ≤ 2 ^ 40 }
     ensures { HasChecked turns
-        (used (I.remaining input.old) (I.remaining input.new) (I.failed input.new))
+        (used (I.position input.old) (I.position input.new) (I.failed input.new))
         (used (O.contents output.old) (O.contents output.new) (O.failed output.new)) result }
 {
     let alloc = rt.alloc();
@@ -351,7 +351,7 @@ pub fn perform<R: AllocGlobal + Threads + Wait + Sync, I: Source, O: Sink>(
     requires writable { O.failed output.old ≡ false }
     requires runs { CanRun command.now }
     ensures { HasPerformed command.now 1000000000
-        (used (I.remaining input.old) (I.remaining input.new) (I.failed input.new))
+        (used (I.position input.old) (I.position input.new) (I.failed input.new))
         (used (O.contents output.old) (O.contents output.new) (O.failed output.new)) result }
 {
     match command {

@@ -8,7 +8,7 @@ ghost use Rattle.gl_live.specs.declared.faults.StreamFault.TheVariants.{Session}
 ghost use Rattle.gl_options.specs.Sessions.{AreOfSession, with_threads};
 ghost use Rattle.gl_commands.specs.Answer.{IsAnswerUnder};
 ghost use Rattle.gl_commands.specs.Answer.Answer.{Prints};
-ghost use Rattle.gl_io.specs.Uses.{Use, used};
+ghost use Rattle.gl_io.specs.Uses.{SourceUse, used};
 ghost use Rattle.gl_commands.specs.RefusalLines.{inconsistent_line};
 ghost use Rattle.gl_commands.specs.Sessions.{listing_of, session_prediction};
 ghost use Rattle.gl_commands.specs.bodies.Stops.{EndsUnwritten, HasAnswer, IfRefused, IsEndOfText};
@@ -61,7 +61,7 @@ fn printed_of(
     report: Report,
     items: Items,
 ) -> Result<Printed, Ended>
-    ensures printed { (limits : Bounds) (turns : ℕ) (input : Use)
+    ensures printed { (limits : Bounds) (turns : ℕ) (input : SourceUse)
         → Becomes (listing_of options.now) options.now.query limits turns input items (Ok report)
         → IfOk result
         (λ p. HasAnswer
@@ -94,7 +94,7 @@ fn end_of_loop(
     ring: Vec<Segment>,
     items: Items,
 ) -> Ended
-    ensures { (limits : Bounds) (turns : ℕ) (input : Use)
+    ensures { (limits : Bounds) (turns : ℕ) (input : SourceUse)
         → Becomes (listing_of options.now) options.now.query limits turns input items
         (Err (Session (Inconsistent at ring)))
         → EndsUnwritten limits
@@ -114,7 +114,7 @@ fn end_without_report(
     fault: StreamFault,
     items: Items,
 ) -> Ended
-    ensures { (limits : Bounds) (turns : ℕ) (input : Use)
+    ensures { (limits : Bounds) (turns : ℕ) (input : SourceUse)
         → Becomes (listing_of options.now) options.now.query limits turns input items (Err fault)
         → FailsInTime {Y = Report} input.before input.after items (Err fault)
         → EndsUnwritten limits
@@ -146,13 +146,13 @@ fn answered(
     reported: Result<Report, StreamFault>,
     items: Items,
 ) -> Result<Printed, Ended>
-    ensures printed { (limits : Bounds) (turns : ℕ) (input : Use)
+    ensures printed { (limits : Bounds) (turns : ℕ) (input : SourceUse)
         → Becomes (listing_of options.now) options.now.query limits turns input items reported
         → IfOk result
         (λ p. HasAnswer
         (IsAnswerUnder limits (session_prediction options.now)) turns input
         (Prints p.text.items p.outcome)) }
-    ensures stopped { (limits : Bounds) (turns : ℕ) (input : Use)
+    ensures stopped { (limits : Bounds) (turns : ℕ) (input : SourceUse)
         → Becomes (listing_of options.now) options.now.query limits turns input items reported
         → FailsInTime input.before input.after items reported
         → IfErr result
@@ -185,13 +185,13 @@ pub(crate) fn streamed<R: AllocGlobal + Threads + Wait + Sync, I: Source, G: Gat
         (λ p. HasAnswer
         (IsAnswerUnder (with_threads options.now.threads)
         (session_prediction options.now)) turns
-        (used (I.remaining input.old) (I.remaining input.new) (I.failed input.new))
+        (used (I.position input.old) (I.position input.new) (I.failed input.new))
         (Prints p.text.items p.outcome)) }
     ensures stopped { IfErr result
         (EndsUnwritten (with_threads options.now.threads)
         (IsAnswerUnder (with_threads options.now.threads)
         (session_prediction options.now)) turns
-        (used (I.remaining input.old) (I.remaining input.new) (I.failed input.new))) }
+        (used (I.position input.old) (I.position input.new) (I.failed input.new))) }
 {
     let alloc = rt.alloc();
     let items = Items::new(alloc, &limits_of(options.threads), turns, seed)?;

@@ -1,3 +1,4 @@
+pub mod Positions
 pub mod Reads
 pub mod Uses
 pub mod Wrapped

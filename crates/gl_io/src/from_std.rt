@@ -1,5 +1,6 @@
 //! Sources and sinks over the readers and writers of std.
 ghost use Rattle.std.specs.Prelude.{◌≡◌, false};
+ghost use Rattle.gl_io.specs.Positions.{uncounted};
 ghost use Rattle.gl_io.specs.Wrapped.{inner_of, has_failed};
 
 use crate::sink::Sink;
@@ -36,7 +37,8 @@ impl<T> FromStd<T> {
 }
 
 impl<R: io::Read> Source for FromStd<R> {
-    ghost remaining = { λ s. R.remaining (inner_of s) };
+    // readers of std count nothing
+    ghost position = { λ s. uncounted (R.remaining (inner_of s)) };
 
     ghost failed = { has_failed };
 

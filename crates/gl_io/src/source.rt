@@ -1,7 +1,8 @@
 //! Sources of bytes.
-ghost use Rattle.std.specs.Prelude.{◌≡◌, ℕ, Bool, true, false, List, Option, is_err, Some, codes};
+ghost use Rattle.std.specs.Prelude.{◌≡◌, Bool, true, false, is_err, Some, codes};
 ghost use Rattle.std.specs.Io.{ReadsAtMost};
 ghost use Rattle.std.specs.Io.KnownBytes.{ReadConsumes};
+ghost use Rattle.gl_io.specs.Positions.{Position, LieBetween};
 
 use std::error::Error;
 use std::fmt;
@@ -25,8 +26,8 @@ impl Error for Failed {}
 
 /// Where bytes are read from.
 pub trait Source {
-    // the bytes that reads will give from here on, where the type tells them
-    ghost remaining: { Self → Option (List ℕ) };
+    // the bytes that reads will give from here on, and how many reads were made, where the type tells them
+    ghost position: { Self → Position };
     // a read has answered `Failed`
     ghost failed: { Self → Bool };
 
@@ -36,6 +37,8 @@ pub trait Source {
     fn read(&mut self, buffer: &mut [u8]) -> Result<usize, Failed>
         requires not_failed { failed self.old ≡ false }
         ensures bound { ReadsAtMost result buffer.new }
-        ensures bytes { ReadConsumes (remaining self.old) (remaining self.new) result buffer.new }
+        ensures bytes { ReadConsumes (position self.old).left (position self.new).left
+            result buffer.new }
+        ensures counted { LieBetween 1 (position self.old) (position self.new) }
         ensures failed { failed self.new ≡ is_err result };
 }

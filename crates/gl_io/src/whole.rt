@@ -1,6 +1,7 @@
 //! Reading a source to its end into memory.
 ghost use Rattle.std.specs.Prelude.{◌≡◌, ◌<◌, ◌≤◌, ◌+◌, ◌^◌, false, List, ℕ, Option, length, IfOk, OnErr, vec_len};
 ghost use Rattle.std.specs.Io.KnownBytes.{Consumes};
+ghost use Rattle.gl_io.specs.Positions.{LieBetween};
 ghost use Rattle.gl_io.specs.Reads.{HasRead};
 ghost use Rattle.gl_io.specs.bodies.Turns.{TurnDid};
 
@@ -40,11 +41,13 @@ fn take_turn<R: Source>(
     requires not_failed { R.failed input.old ≡ false }
     requires room { length buffer.old ≡ CHUNK }
     ensures bytes { IfOk result
-        (λ _. (first : Option (List ℕ)) → Consumes first (R.remaining input.old) text.old.items
-        → Consumes first (R.remaining input.new) text.new.items) }
+        (λ _. (first : Option (List ℕ))
+        → Consumes first (R.position input.old).left text.old.items
+        → Consumes first (R.position input.new).left text.new.items) }
     ensures did { IfOk result
-        (λ turn. TurnDid turn (R.remaining input.new)
+        (λ turn. TurnDid turn (R.position input.new).left
         (R.failed input.new) text.old.items text.new.items) }
+    ensures counted { LieBetween 1 (R.position input.old) (R.position input.new) }
     ensures refused { OnErr result (R.failed input.new ≡ false) }
 {
     match input.read(buffer) {
@@ -70,7 +73,7 @@ pub fn read_whole<R: Source>(
     requires not_failed { R.failed input.old ≡ false }
     requires few_turns { turns ≤ 2 ^ 40 }
     ensures read { IfOk result
-        (λ g. HasRead turns (R.remaining input.old) (R.remaining input.new)
+        (λ g. HasRead turns (R.position input.old) (R.position input.new)
         (R.failed input.new) g.text.items g.is_whole) }
     ensures refused { OnErr result (R.failed input.new ≡ false) }
 {

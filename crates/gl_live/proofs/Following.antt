@@ -5,7 +5,7 @@ use Rattle.std.specs.List.{All}
 use Rattle.std.proofs.lemmas.Option.{slice_get_within}
 use Rattle.gl_event.specs.Bounds.{Bounds}
 use Rattle.gl_event.specs.declared.events.Event.{Event}
-use Rattle.gl_io.specs.Uses.{Use}
+use Rattle.gl_io.specs.Uses.{SourceUse}
 use Rattle.gl_std.specs.Listed.{listed}
 use Rattle.gl_std.specs.Names.{NameLists}
 use Rattle.gl_std.specs.Streaming.{event_in, names_of, with_item, GoesOn, HasFault, Stream}
@@ -153,7 +153,7 @@ is_told End thread event is = cc
 pub of_threads : (item : Item) (threads : ℕ) → ((thread : ℕ) (event : Event) → (let x : Result Item LinesFault = Ok item in x) ≡ Ok (Told thread event) → thread < threads) → IsOfThreads threads item
 of_threads item threads known thread event is = known thread event (ap (λ x. Ok x) (is_told item thread event is))
 
-module _ (s : Roster) (limits : Bounds) (turns : ℕ) (input : Use) (items : Stream) (text : List ℕ) (told : Trace) where
+module _ (s : Roster) (limits : Bounds) (turns : ℕ) (input : SourceUse) (items : Stream) (text : List ℕ) (told : Trace) where
   -- what the items told with one more is recorded
   pub follows_more : (item : Item) (recorders : List Recording) → GoesOn limits turns input items text told (Ok item) → AreRecorded s (with_item item (names_of items) told).lists recorders → Follows s limits turns input items recorders
   follows_more item recorders on are = record { text = text ++ on.piece; told = with_item item (names_of items) told; tells = on.tells; recorded = are }

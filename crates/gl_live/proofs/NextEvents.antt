@@ -10,7 +10,8 @@ use Rattle.gl_event.specs.declared.events.Event.{Event}
 use Rattle.gl_event.specs.declared.events.Refusal.{Refusal}
 use Rattle.gl_event.specs.declared.events.Refusal.TheVariants.{PlaceFull, NoSuchThread, OnItself}
 use Rattle.gl_event.proofs.Lawfulness.{IsLawful-last}
-use Rattle.gl_io.specs.Uses.{Use, used}
+use Rattle.gl_io.specs.Positions.{Position}
+use Rattle.gl_io.specs.Uses.{SourceUse, used}
 use Rattle.gl_std.specs.Lines.{ended_lines}
 use Rattle.gl_std.specs.Listed.{listed}
 use Rattle.gl_std.specs.Streaming.{names_of, with_item, CanBeAsked, CanReadOn, GoesOn, HasFault, HasNoFault, HasTold, HasToldAt, IsDone, Stage, Stream}
@@ -51,7 +52,7 @@ refuses_no_more limits more thread es e few same none =
 -- ---- what a text tells
 
 -- the items so far told a trace that obeys the limits
-told_over : (limits : Bounds) (turns : ℕ) (input : Use) (items : Stream) (text : List ℕ) (told : Trace) → HasNoFault items → HasTold limits turns input items text told → IsTraceOver limits told
+told_over : (limits : Bounds) (turns : ℕ) (input : SourceUse) (items : Stream) (text : List ℕ) (told : Trace) → HasNoFault items → HasTold limits turns input items text told → IsTraceOver limits told
 told_over limits turns input items text told none tells = by items.stage refl tells
   where
     by : (stage : Stage) → items.stage ≡ stage → HasToldAt stage limits turns input items.reader text told → IsTraceOver limits told
@@ -63,7 +64,7 @@ told_over limits turns input items text told none tells = by items.stage refl te
     by (Faulty fault) is over = absurd (none fault is)
 
 -- the limits are in range while items come
-in_range : (limits : Bounds) (turns : ℕ) (input : Use) (items : Stream) (text : List ℕ) (told : Trace) (result : Result Item LinesFault) (thread : ℕ) (event : Event) → result ≡ Ok (Told thread event)
+in_range : (limits : Bounds) (turns : ℕ) (input : SourceUse) (items : Stream) (text : List ℕ) (told : Trace) (result : Result Item LinesFault) (thread : ℕ) (event : Event) → result ≡ Ok (Told thread event)
     → (IsDone items → result ≡ Ok End) → ((fault : LinesFault) → HasFault items fault → result ≡ Err fault)
     → CanBeAsked items input.failed → HasTold limits turns input items text told → AreWithinRange limits
 in_range limits turns input items text told result thread event is ends fails usable tells = by items.stage refl usable tells
@@ -96,7 +97,7 @@ takes_next limits s threads lists recorders thread event known within few same e
           ∙ none;
     }
 
-pub can_be_taken : (now later : Option (List ℕ)) (failed failed2 : Bool) (items more : Stream) (recorders : List Recording) (item : Item) (result : Result Item LinesFault) → result ≡ Ok item
+pub can_be_taken : (now later : Position) (failed failed2 : Bool) (items more : Stream) (recorders : List Recording) (item : Item) (result : Result Item LinesFault) → result ≡ Ok item
     → (recording : IsRecording now failed items recorders) → CanBeAsked items failed → HasNoFault more
     → (IsDone items → result ≡ Ok End) → ((fault : LinesFault) → HasFault items fault → result ≡ Err fault)
     → ((thread : ℕ) (event : Event) → result ≡ Ok (Told thread event) → thread < length (names_of more).threads)
@@ -120,7 +121,7 @@ can_be_taken now later failed failed2 items more recorders item result answer re
     (λ es at. over.lawful thread es at)
 
 -- recorders go on after items were recorded
-pub still_recording : (now later : Option (List ℕ)) (failed failed2 : Bool) (items more : Stream) (old new : List Recording) → length new ≡ length old → (recording : IsRecording now failed items old)
+pub still_recording : (now later : Position) (failed failed2 : Bool) (items more : Stream) (old new : List Recording) → length new ≡ length old → (recording : IsRecording now failed items old)
     → (Follows recording.s recording.limits recording.turns (used recording.start now failed) items old → Follows recording.s recording.limits recording.turns (used recording.start later failed2) more new) → IsRecording later failed2 more new
 still_recording now later failed failed2 items more old new count recording follows = record {
   s = recording.s;

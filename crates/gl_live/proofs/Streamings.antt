@@ -1,11 +1,12 @@
 -- What a session leaves that has recorded a text, and its report.
-use Rattle.std.proofs.Common.{◌≡◌, ◌∙◌, ℕ, ◌+◌, ◌-◌, List, [], length, Option, Ok, Err, sym, subst, arith}
+use Rattle.std.proofs.Common.{◌≡◌, ◌∙◌, ℕ, ◌+◌, ◌-◌, List, [], length, Ok, Err, sym, subst, arith}
 use Rattle.std.specs.List.{All}
 use Rattle.std.proofs.lemmas.List.Elements.{All-nil}
 use Rattle.gl_event.specs.Bounds.{Bounds}
 use Rattle.gl_event.specs.declared.events.Event.{Event}
 use Rattle.gl_event.specs.declared.events.Event.TheVariants.{Fork, Join}
-use Rattle.gl_io.specs.Uses.{Use}
+use Rattle.gl_io.specs.Positions.{Position}
+use Rattle.gl_io.specs.Uses.{SourceUse}
 use Rattle.gl_filters.specs.Asked.{Asked}
 use Rattle.gl_edges.specs.Edges.{edges}
 use Rattle.gl_cycles.specs.declared.found.Report.{Report}
@@ -36,7 +37,7 @@ use Rattle.gl_live.proofs.Padding.{least_only, report_only}
 use Rattle.gl_live.proofs.Rostered.{all_same}
 
 -- nothing was read
-pub begins : (c : Collecting) (limits : Bounds) (turns : ℕ) (input : Use) (items : Stream) (recorders : List Recording) → AreRecorded (roster_of c) [] recorders → HasTold limits turns input items [] nothing → Follows (roster_of c) limits turns input items recorders
+pub begins : (c : Collecting) (limits : Bounds) (turns : ℕ) (input : SourceUse) (items : Stream) (recorders : List Recording) → AreRecorded (roster_of c) [] recorders → HasTold limits turns input items [] nothing → Follows (roster_of c) limits turns input items recorders
 begins c limits turns input items recorders unused told = record { text = []; told = nothing; tells = told; recorded = unused }
 
 -- what was gathered of the session that its collector's thread was given
@@ -44,7 +45,7 @@ pub has_gathered : (own c : Collecting) (its outlets : List Sending) (g : Gather
 has_gathered own c its outlets g same alike is = subst (λ os. HasGathered c os g) alike (subst (λ (x : Collecting). HasGathered x its g) same is)
 
 -- all was recorded
-pub streamed : (limits : Bounds) (turns : ℕ) (input : Use) (threads : ℕ) (items : Stream) (c : Collecting) (outlets : List Sending) (recorders : List Recording) (before : List Closed) (ran : Ran)
+pub streamed : (limits : Bounds) (turns : ℕ) (input : SourceUse) (threads : ℕ) (items : Stream) (c : Collecting) (outlets : List Sending) (recorders : List Recording) (before : List Closed) (ran : Ran)
     → HasGathered c outlets ran.gathered → before ≡ [] → length recorders ≡ threads → IsDone items
     → ((s : Roster) (lists : List (List Event)) → All (HasTaken s lists) recorders → All (IsReceiptOf s lists) before → All (IsReceiptOf s lists) ran.receipts.items)
     → Follows (roster_of c) limits turns input items recorders → HasStreamed limits turns input threads items (Ok ran)
@@ -62,13 +63,13 @@ streamed limits turns input threads items c outlets recorders before ran gathere
     }
 
 -- not all was
-pub unstreamed : (limits : Bounds) (turns : ℕ) (input : Use) (threads : ℕ) (items : Stream) (fault : LinesFault) → Stops limits turns input items fault → HasStreamed limits turns input threads items (Err (Text fault))
+pub unstreamed : (limits : Bounds) (turns : ℕ) (input : SourceUse) (threads : ℕ) (items : Stream) (fault : LinesFault) → Stops limits turns input items fault → HasStreamed limits turns input threads items (Err (Text fault))
 unstreamed limits turns input threads items fault stops = record { text = stops.text; told = stops.told; tells = stops.tells; leaves = stops.why }
 
 -- ---- the report
 
 -- what holds of the trace where the end was answered
-over : (limits : Bounds) (turns : ℕ) (input : Use) (items : Stream) (text : List ℕ) (told : Trace) → IsDone items → HasTold limits turns input items text told → IsTraceOver limits told
+over : (limits : Bounds) (turns : ℕ) (input : SourceUse) (items : Stream) (text : List ℕ) (told : Trace) → IsDone items → HasTold limits turns input items text told → IsTraceOver limits told
 over limits turns input items text told done tells =
     let at = subst (λ stage. HasToldAt stage limits turns input items.reader text told) done tells in
     trace_of_over limits text told at.1
@@ -85,13 +86,13 @@ have_all limits told is =
     }
 
 -- so the receipts are of the session
-pub ours_streamed : (limits : Bounds) (turns : ℕ) (input : Use) (threads : ℕ) (items : Stream) (ran : Ran) → limits.threads ≡ threads → HasStreamed limits turns input threads items (Ok ran) → AreReceipts (gathered_from ran.gathered) ran.receipts.items
+pub ours_streamed : (limits : Bounds) (turns : ℕ) (input : SourceUse) (threads : ℕ) (items : Stream) (ran : Ran) → limits.threads ≡ threads → HasStreamed limits turns input threads items (Ok ran) → AreReceipts (gathered_from ran.gathered) ran.receipts.items
 ours_streamed limits turns input threads items ran many of =
     let its = over limits turns input items of.text of.told of.leaves.0 of.tells in
     let more = threads - length of.told.lists in
     record { lists = padded more of.told.lists; each = of.leaves.1 more (omega (arith, many, its.one_list_each, its.threads_fit)) }
 
-module _ (limits : Bounds) (turns : ℕ) (input : Use) (items : Stream) where
+module _ (limits : Bounds) (turns : ℕ) (input : SourceUse) (items : Stream) where
   module _ (ran : Ran) (threads : ran.gathered.limits.threads ≡ limits.threads) (of : HasStreamed limits turns input limits.threads items (Ok ran)) where
     its : IsTraceOver limits of.told
     its = over limits turns input items of.text of.told of.leaves.0 of.tells
@@ -138,6 +139,6 @@ module _ (limits : Bounds) (turns : ℕ) (input : Use) (items : Stream) where
 -- ---- when it fails
 
 -- a fault comes in time whatever else might have been answered
-pub still_in_time : (X Z : Type 0) (old new : Option (List ℕ)) (items : Stream) (fault : StreamFault) → FailsInTime {Y = X} old new items (Err fault) → FailsInTime {Y = Z} old new items (Err fault)
+pub still_in_time : (X Z : Type 0) (old new : Position) (items : Stream) (fault : StreamFault) → FailsInTime {Y = X} old new items (Err fault) → FailsInTime {Y = Z} old new items (Err fault)
 still_in_time X Z old new items (Text fault) is = tt
 still_in_time X Z old new items (Session fault) is = is

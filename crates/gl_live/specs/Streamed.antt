@@ -1,7 +1,8 @@
 -- What becomes of a text that a session records as it is read.
-use Rattle.std.specs.Prelude.{◌≡◌, ◌⊎◌, ℕ, Bool, List, [], Option, Result, Ok, Err}
+use Rattle.std.specs.Prelude.{◌≡◌, ◌⊎◌, ℕ, Bool, List, [], Result, Ok, Err}
 use Rattle.gl_event.specs.Bounds.{Bounds}
-use Rattle.gl_io.specs.Uses.{Use, used}
+use Rattle.gl_io.specs.Positions.{Position}
+use Rattle.gl_io.specs.Uses.{SourceUse, used}
 use Rattle.gl_segments.specs.Segments.{IsLeastInRing}
 use Rattle.gl_filters.specs.Asked.{Asked}
 use Rattle.gl_edges.specs.Edges.{edges}
@@ -16,10 +17,10 @@ use Rattle.gl_live.specs.declared.faults.StreamFault.{StreamFault}
 use Rattle.gl_live.specs.declared.faults.StreamFault.TheVariants.{Text, Session}
 
 -- none of a text's items was asked for yet, under a limit of so many threads
-pub record IsUnread (threads : ℕ) (now : Option (List ℕ)) (failed : Bool) (items : Stream) : Type 0 where
+pub record IsUnread (threads : ℕ) (now : Position) (failed : Bool) (items : Stream) : Type 0 where
   pub limits : Bounds
   pub turns : ℕ
-  pub start : Option (List ℕ)
+  pub start : Position
   pub as_many : limits.threads ≡ threads
   pub tells : HasTold limits turns (used start now failed) items [] nothing
 
@@ -33,7 +34,7 @@ IsStreamFault items told (Session Unconfirmed) = Unit {0}
 
 -- a session fails before any of a text was read, or once all of it was told: what the source had left is what it has left, or the end was
 -- answered
-abbrev pub FailsInTime : {Y : Type 0} → Option (List ℕ) → Option (List ℕ) → Stream → Result Y StreamFault → Type 0
+abbrev pub FailsInTime : {Y : Type 0} → Position → Position → Stream → Result Y StreamFault → Type 0
 FailsInTime old new items (Ok y) = Unit {0}
 FailsInTime old new items (Err (Text fault)) = Unit {0}
 FailsInTime old new items (Err (Session fault)) = (new ≡ old) ⊎ IsDone items
@@ -44,7 +45,7 @@ IsReportOf listing asked items told (Ok report) = IsDone items × IsReportListin
 IsReportOf listing asked items told (Err fault) = IsStreamFault items told fault
 
 -- the reads gave a text, and the items told a trace of it, of which this is the report
-pub record Becomes (listing : Listing) (asked : Asked) (limits : Bounds) (turns : ℕ) (input : Use) (items : Stream) (result : Result Report StreamFault) : Type 0 where
+pub record Becomes (listing : Listing) (asked : Asked) (limits : Bounds) (turns : ℕ) (input : SourceUse) (items : Stream) (result : Result Report StreamFault) : Type 0 where
   pub text : List ℕ
   pub told : Trace
   pub tells : HasTold limits turns input items text told

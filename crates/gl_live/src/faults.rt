@@ -37,7 +37,8 @@ pub enum StreamFault {
 
 /// Why there is no report where the segments have no order.
 pub fn unordered(fault: OrderFault) -> LiveFault
-    ensures fault { (lists : List (List Event)) → IsFaultOf lists fault → IsLiveFault lists result }
+    ensures fault { (lists : List (List Event)) → IsFaultOf lists fault
+        → IsLiveFault lists result }
     ensures memory { fault ≡ NoOrder → result ≡ Memory }
 {
     match fault {

@@ -60,9 +60,11 @@ fn start_threads<'s, E, R: Threads + Wait + Sync, G: Gate + Sync>(
     requires none_works { workers.old.items ≡ [] }
     requires work_room { vec_len workers.old + length inlets.items ≤ vec_capacity workers.old }
     requires none_records { recorders.old.items ≡ [] }
-    requires all_fit { vec_len recorders.old + length workloads.items ≤ vec_capacity recorders.old }
+    requires all_fit { vec_len recorders.old + length workloads.items
+        ≤ vec_capacity recorders.old }
     ensures feeds { result ≡ true
-        → map (λ w. w.promise.0.value.feed) workers.new.items ≡ map (λ i. i.feed) inlets.items }
+        → map (λ w. w.promise.0.value.feed) workers.new.items
+        ≡ map (λ i. i.feed) inlets.items }
     ensures lists { result ≡ true
         → All (λ h. (h.promise.collector.value ≡ collector.now)
         × (lists_of h.promise.lists.now ≡ lists_of lists.now)) recorders.new.items }

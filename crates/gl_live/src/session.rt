@@ -86,7 +86,8 @@ fn grouped(
 
 // A workload for these recorders.
 fn workload(alloc: Global, recorders: Vec<Recorder>) -> Result<Workload, Memory>
-    ensures { (s : Roster) → All (IsRecorderOf s) recorders.items → IfOk result (IsWorkloadOf s) }
+    ensures { (s : Roster) → All (IsRecorderOf s) recorders.items
+        → IfOk result (IsWorkloadOf s) }
 {
     let receipts = Vec::with_capacity(alloc, recorders.len())?;
     Ok(Workload {
@@ -120,7 +121,8 @@ fn add_feed(
     requires fit { capacity ≤ MAX_RING }
     ensures count { OnOk result (length outlets.new.items ≡ length outlets.old.items + 1) }
     ensures feeds { map (λ i. i.feed) inlets.old.items ≡ map (λ o. o.feed) outlets.old.items
-        → OnOk result (map (λ i. i.feed) inlets.new.items ≡ map (λ o. o.feed) outlets.new.items) }
+        → OnOk result (map (λ i. i.feed) inlets.new.items
+        ≡ map (λ o. o.feed) outlets.new.items) }
     ensures unsent { All (λ o. o.sent ≡ []) outlets.old.items
         → OnOk result (All (λ o. o.sent ≡ []) outlets.new.items) }
 {

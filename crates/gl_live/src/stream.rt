@@ -1,10 +1,11 @@
 //! The report of a text by a session that records it as it is read.
-ghost use Rattle.std.specs.Prelude.{◌≡◌, ◌≤◌, ℕ, Bool, [], List, Option, IfOk, OnOk};
+ghost use Rattle.std.specs.Prelude.{◌≡◌, ◌≤◌, ℕ, Bool, [], List, IfOk, OnOk};
 ghost use Rattle.std.specs.Vec.{vec_len, vec_capacity};
 ghost use Rattle.gl_event.specs.Bounds.{Bounds};
 ghost use Rattle.gl_event.specs.declared.limits.TheConstants.{MAX_THREADS, MAX_RING};
 ghost use Rattle.gl_findings.specs.declared.listing.Listing.TheVariants.{Cycles};
-ghost use Rattle.gl_io.specs.Uses.{Use, used};
+ghost use Rattle.gl_io.specs.Positions.{Position};
+ghost use Rattle.gl_io.specs.Uses.{SourceUse, used};
 ghost use Rattle.gl_shards.specs.declared.shard.TheConstants.{MAX_SHARDS};
 ghost use Rattle.gl_std.specs.Streaming.{CanBeAsked, HasTold, IsDone};
 ghost use Rattle.gl_std.specs.Trace.{nothing};
@@ -39,11 +40,11 @@ fn report_streamed(
     requires ours { IfOk ran (λ r. AreReceipts (gathered_from r.gathered) r.receipts.items) }
     requires empty { tables.items ≡ [] }
     requires none { vec_len tables ≡ 0 }
-    ensures becomes { (limits : Bounds) (turns : ℕ) (input : Use) (items : Items)
+    ensures becomes { (limits : Bounds) (turns : ℕ) (input : SourceUse) (items : Items)
         → IfOk ran (λ r. r.gathered.limits.threads ≡ limits.threads)
         → HasStreamed limits turns input limits.threads items ran
         → Becomes listing query.now limits turns input items result }
-    ensures in_time { (old new : Option (List ℕ)) (items : Items) → OnOk ran (IsDone items)
+    ensures in_time { (old new : Position) (items : Items) → OnOk ran (IsDone items)
         → FailsInTime old new items ran → FailsInTime old new items result }
 {
     match ran {
@@ -82,7 +83,7 @@ pub fn stream_listing<R: Threads + Wait + Sync, S: Source, G: Gate + Sync>(
     gate: &G,
 ) -> (Result<Report, StreamFault>, Items)
     requires usable { CanBeAsked items (S.failed input.old) }
-    requires unread { IsUnread options.now.threads (S.remaining input.old)
+    requires unread { IsUnread options.now.threads (S.position input.old)
         (S.failed input.old) items }
     requires some_thread { 1 ≤ options.now.threads }
     requires threads_fit { options.now.threads ≤ MAX_THREADS }
@@ -90,14 +91,14 @@ pub fn stream_listing<R: Threads + Wait + Sync, S: Source, G: Gate + Sync>(
     requires shards_fit { options.now.shards ≤ MAX_SHARDS }
     requires some_ring { 1 ≤ options.now.ring }
     requires ring_fits { options.now.ring ≤ MAX_RING }
-    ensures becomes { (limits : Bounds) (turns : ℕ) (start : Option (List ℕ))
+    ensures becomes { (limits : Bounds) (turns : ℕ) (start : Position)
         → limits.threads ≡ options.now.threads
         → HasTold limits turns
-        (used start (S.remaining input.old) (S.failed input.old)) items [] nothing
+        (used start (S.position input.old) (S.failed input.old)) items [] nothing
         → Becomes listing query.now limits turns
-        (used start (S.remaining input.new) (S.failed input.new)) result.1 result.0 }
-    ensures in_time { FailsInTime (S.remaining input.old)
-        (S.remaining input.new) result.1 result.0 }
+        (used start (S.position input.new) (S.failed input.new)) result.1 result.0 }
+    ensures in_time { FailsInTime (S.position input.old)
+        (S.position input.new) result.1 result.0 }
 {
     let Ok(session) = prepare_to_read(alloc, options) else {
         return (Err(StreamFault::Session(LiveFault::Memory)), items);
@@ -128,7 +129,7 @@ pub fn stream_report<R: Threads + Wait + Sync, S: Source, G: Gate + Sync>(
     gate: &G,
 ) -> (Result<Report, StreamFault>, Items)
     requires usable { CanBeAsked items (S.failed input.old) }
-    requires unread { IsUnread options.now.threads (S.remaining input.old)
+    requires unread { IsUnread options.now.threads (S.position input.old)
         (S.failed input.old) items }
     requires some_thread { 1 ≤ options.now.threads }
     requires threads_fit { options.now.threads ≤ MAX_THREADS }
@@ -136,14 +137,14 @@ pub fn stream_report<R: Threads + Wait + Sync, S: Source, G: Gate + Sync>(
     requires shards_fit { options.now.shards ≤ MAX_SHARDS }
     requires some_ring { 1 ≤ options.now.ring }
     requires ring_fits { options.now.ring ≤ MAX_RING }
-    ensures becomes { (limits : Bounds) (turns : ℕ) (start : Option (List ℕ))
+    ensures becomes { (limits : Bounds) (turns : ℕ) (start : Position)
         → limits.threads ≡ options.now.threads
         → HasTold limits turns
-        (used start (S.remaining input.old) (S.failed input.old)) items [] nothing
+        (used start (S.position input.old) (S.failed input.old)) items [] nothing
         → Becomes Cycles query.now limits turns
-        (used start (S.remaining input.new) (S.failed input.new)) result.1 result.0 }
-    ensures in_time { FailsInTime (S.remaining input.old)
-        (S.remaining input.new) result.1 result.0 }
+        (used start (S.position input.new) (S.failed input.new)) result.1 result.0 }
+    ensures in_time { FailsInTime (S.position input.old)
+        (S.position input.new) result.1 result.0 }
 {
     stream_listing(
         rt,

@@ -87,7 +87,8 @@ pub fn prepare_to_read(alloc: Global, options: &StreamOptions) -> Result<ReadSes
 fn record_one<R: Wait>(rt: &R, recorders: &mut Vec<Recorder>, thread: u32, event: Event)
     requires may_take { MayTake recorders.old.items thread event }
     ensures count { length recorders.new.items ≡ length recorders.old.items }
-    ensures recorded { (s : Roster) (lists : List (List EventOf)) (threads : ℕ) → thread < threads
+    ensures recorded { (s : Roster) (lists : List (List EventOf)) (threads : ℕ)
+        → thread < threads
         → AreRecorded s lists recorders.old.items
         → AreRecorded s (listed threads lists thread event) recorders.new.items }
 {
@@ -119,17 +120,17 @@ fn record_next<R: Wait, S: Source>(
     recorders: &mut Vec<Recorder>,
 ) -> Result<bool, LinesFault>
     requires usable { CanBeAsked items.old (S.failed input.old) }
-    requires recording { IsRecording (S.remaining input.old)
+    requires recording { IsRecording (S.position input.old)
         (S.failed input.old) items.old recorders.old.items }
     ensures usable { CanBeAsked items.new (S.failed input.new) }
     ensures count { length recorders.new.items ≡ length recorders.old.items }
     ensures follows { OnOk result
-        (FollowOn (S.remaining input.old) (S.failed input.old) items.old recorders.old.items
-        (S.remaining input.new) (S.failed input.new) items.new recorders.new.items) }
+        (FollowOn (S.position input.old) (S.failed input.old) items.old recorders.old.items
+        (S.position input.new) (S.failed input.new) items.new recorders.new.items) }
     ensures done { result ≡ Ok false → IsDone items.new }
     ensures stops { IfErr result
-        (StopsAfter (S.remaining input.old) (S.failed input.old) items.old recorders.old.items
-        (S.remaining input.new) (S.failed input.new) items.new) }
+        (StopsAfter (S.position input.old) (S.failed input.old) items.old recorders.old.items
+        (S.position input.new) (S.failed input.new) items.new) }
 {
     match items.next(input) {
         Ok(Item::End) => Ok(false),
@@ -150,16 +151,16 @@ fn record_items<R: Wait, S: Source>(
     recorders: &mut Vec<Recorder>,
 ) -> Result<(), LinesFault>
     requires usable { CanBeAsked items.old (S.failed input.old) }
-    requires recording { IsRecording (S.remaining input.old)
+    requires recording { IsRecording (S.position input.old)
         (S.failed input.old) items.old recorders.old.items }
     ensures count { length recorders.new.items ≡ length recorders.old.items }
     ensures follows { OnOk result
-        (FollowOn (S.remaining input.old) (S.failed input.old) items.old recorders.old.items
-        (S.remaining input.new) (S.failed input.new) items.new recorders.new.items) }
+        (FollowOn (S.position input.old) (S.failed input.old) items.old recorders.old.items
+        (S.position input.new) (S.failed input.new) items.new recorders.new.items) }
     ensures done { OnOk result (IsDone items.new) }
     ensures stops { IfErr result
-        (StopsAfter (S.remaining input.old) (S.failed input.old) items.old recorders.old.items
-        (S.remaining input.new) (S.failed input.new) items.new) }
+        (StopsAfter (S.position input.old) (S.failed input.old) items.old recorders.old.items
+        (S.position input.new) (S.failed input.new) items.new) }
 {
     for _ in rt.forever() {
         match record_next(rt, items, input, recorders) {
@@ -279,7 +280,7 @@ fn record_text<'s, E, R: Threads + Wait + Sync, S: Source, G: Gate + Sync>(
 ) -> Result<Ran, StreamFault>
     requires ready { IsReadyToRead session }
     requires usable { CanBeAsked items.old (S.failed input.old) }
-    requires unread { IsUnread (length session.recorders.items) (S.remaining input.old)
+    requires unread { IsUnread (length session.recorders.items) (S.position input.old)
         (S.failed input.old) items.old }
     ensures ours { IfOk result
         (λ ran. AreReceipts (gathered_from ran.gathered) ran.receipts.items) }
@@ -287,11 +288,11 @@ fn record_text<'s, E, R: Threads + Wait + Sync, S: Source, G: Gate + Sync>(
         (λ ran. HasRun (length session.outlets.items) ran.gathered ran.served.items) }
     ensures threads { IfOk result
         (λ ran. ran.gathered.limits.threads ≡ length session.recorders.items) }
-    ensures streamed { StreamsOn (S.remaining input.old) (S.failed input.old) items.old
-        (S.remaining input.new) (S.failed input.new)
+    ensures streamed { StreamsOn (S.position input.old) (S.failed input.old) items.old
+        (S.position input.new) (S.failed input.new)
         (length session.recorders.items) items.new result }
     ensures done { OnOk result (IsDone items.new) }
-    ensures in_time { FailsInTime (S.remaining input.old) (S.remaining input.new) items.new result }
+    ensures in_time { FailsInTime (S.position input.old) (S.position input.new) items.new result }
 {
     let Ok(mut workers) = Vec::with_capacity(alloc, session.inlets.len()) else {
         return Err(StreamFault::Session(LiveFault::Memory));
@@ -342,7 +343,7 @@ fn lend_text<'s, 'x, E, R: Threads + Wait + Sync, S: Source, G: Gate + Sync>(
 ) -> (Result<Ran, StreamFault>, Items, &'x mut S)
     requires ready { IsReadyToRead session }
     requires usable { CanBeAsked items (S.failed input.old) }
-    requires unread { IsUnread (length session.recorders.items) (S.remaining input.old)
+    requires unread { IsUnread (length session.recorders.items) (S.position input.old)
         (S.failed input.old) items }
     ensures ours { IfOk result.0
         (λ ran. AreReceipts (gathered_from ran.gathered) ran.receipts.items) }
@@ -351,12 +352,12 @@ fn lend_text<'s, 'x, E, R: Threads + Wait + Sync, S: Source, G: Gate + Sync>(
         (λ ran. HasRun (length session.outlets.items) ran.gathered ran.served.items) }
     ensures threads { IfOk result.0
         (λ ran. ran.gathered.limits.threads ≡ length session.recorders.items) }
-    ensures streamed { StreamsOn (S.remaining input.old) (S.failed input.old) items
-        (S.remaining result.2.now) (S.failed result.2.now)
+    ensures streamed { StreamsOn (S.position input.old) (S.failed input.old) items
+        (S.position result.2.now) (S.failed result.2.now)
         (length session.recorders.items) result.1 result.0 }
     ensures done { OnOk result.0 (IsDone result.1) }
-    ensures in_time { FailsInTime (S.remaining input.old)
-        (S.remaining result.2.now) result.1 result.0 }
+    ensures in_time { FailsInTime (S.position input.old)
+        (S.position result.2.now) result.1 result.0 }
 {
     let mut items = items;
     let ran = record_text(scope, rt, alloc, gate, session, &mut items, input);
@@ -377,7 +378,7 @@ pub fn read_session<R: Threads + Wait + Sync, S: Source, G: Gate + Sync>(
 ) -> (Result<Ran, StreamFault>, Items)
     requires ready { IsReadyToRead session }
     requires usable { CanBeAsked items (S.failed input.old) }
-    requires unread { IsUnread (length session.recorders.items) (S.remaining input.old)
+    requires unread { IsUnread (length session.recorders.items) (S.position input.old)
         (S.failed input.old) items }
     ensures ours { IfOk result.0
         (λ ran. AreReceipts (gathered_from ran.gathered) ran.receipts.items) }
@@ -385,12 +386,12 @@ pub fn read_session<R: Threads + Wait + Sync, S: Source, G: Gate + Sync>(
         (λ ran. HasRun (length session.outlets.items) ran.gathered ran.served.items) }
     ensures threads { IfOk result.0
         (λ ran. ran.gathered.limits.threads ≡ length session.recorders.items) }
-    ensures streamed { StreamsOn (S.remaining input.old) (S.failed input.old) items
-        (S.remaining input.new) (S.failed input.new)
+    ensures streamed { StreamsOn (S.position input.old) (S.failed input.old) items
+        (S.position input.new) (S.failed input.new)
         (length session.recorders.items) result.1 result.0 }
     ensures done { OnOk result.0 (IsDone result.1) }
-    ensures in_time { FailsInTime (S.remaining input.old)
-        (S.remaining input.new) result.1 result.0 }
+    ensures in_time { FailsInTime (S.position input.old)
+        (S.position input.new) result.1 result.0 }
 {
     let (ran, items, _input) = thread::scope(
         thread::scope_env(),
@@ -398,7 +399,7 @@ pub fn read_session<R: Threads + Wait + Sync, S: Source, G: Gate + Sync>(
         move |scope| -> (Result<Ran, StreamFault>, Items, &mut S)
             requires ready { IsReadyToRead session }
             requires usable { CanBeAsked items (S.failed input.now) }
-            requires unread { IsUnread (length session.recorders.items) (S.remaining input.now)
+            requires unread { IsUnread (length session.recorders.items) (S.position input.now)
                 (S.failed input.now) items }
             ensures ours { IfOk result.0
                 (λ ran. AreReceipts (gathered_from ran.gathered) ran.receipts.items) }
@@ -407,12 +408,12 @@ pub fn read_session<R: Threads + Wait + Sync, S: Source, G: Gate + Sync>(
                 (λ ran. HasRun (length session.outlets.items) ran.gathered ran.served.items) }
             ensures threads { IfOk result.0
                 (λ ran. ran.gathered.limits.threads ≡ length session.recorders.items) }
-            ensures streamed { StreamsOn (S.remaining input.entry.now) (S.failed input.entry.now)
-                items (S.remaining result.2.now) (S.failed result.2.now)
+            ensures streamed { StreamsOn (S.position input.entry.now) (S.failed input.entry.now)
+                items (S.position result.2.now) (S.failed result.2.now)
                 (length session.recorders.items) result.1 result.0 }
             ensures done { OnOk result.0 (IsDone result.1) }
-            ensures in_time { FailsInTime (S.remaining input.entry.now)
-                (S.remaining result.2.now) result.1 result.0 }
+            ensures in_time { FailsInTime (S.position input.entry.now)
+                (S.position result.2.now) result.1 result.0 }
         { lend_text(scope, rt, alloc, gate, session, items, input) },
     );
     (ran, items)

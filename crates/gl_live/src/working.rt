@@ -56,7 +56,8 @@ pub fn start_workers<'s, E, R: Threads + Wait + Sync, G: Gate + Sync>(
     requires empty { workers.old.items ≡ [] }
     requires room { vec_len workers.old + length inlets.items ≤ vec_capacity workers.old }
     ensures feeds { result ≡ true
-        → map (λ w. w.promise.0.value.feed) workers.new.items ≡ map (λ i. i.feed) inlets.items }
+        → map (λ w. w.promise.0.value.feed) workers.new.items
+        ≡ map (λ i. i.feed) inlets.items }
 {
     let mut shard = 0;
     for inlet in inlets {

@@ -1,8 +1,9 @@
 -- A trace that is read item by item.
-use Rattle.std.proofs.Common.{◌≡◌, ℕ, ◌+◌, ◌<◌, Bool, true, List, ◌++◌, length, take, Option, Result, Ok, Err, sym, ap, subst, ◌∙◌, inl, arith}
+use Rattle.std.proofs.Common.{◌≡◌, ℕ, ◌+◌, ◌<◌, Bool, true, List, ◌++◌, length, take, Result, Ok, Err, sym, ap, subst, ◌∙◌, inl, arith}
 use Rattle.std.proofs.lemmas.List.{length-drop, length-take-le}
 use Rattle.gl_event.specs.Bounds.{Bounds}
 use Rattle.gl_event.specs.declared.events.Event.{Event as EventOf}
+use Rattle.gl_io.specs.Positions.{Position}
 use Rattle.gl_io.specs.Reads.{HasRead}
 use Rattle.gl_io.specs.Uses.{used}
 use Rattle.gl_std.specs.LineReading as line_reading
@@ -73,7 +74,7 @@ fit_of DoneStage f i is held reading fit = let wrong : Done ≡ Reading = ap (λ
 fit_of (FaultyStage fault) f i is held reading fit = let wrong : Faulty fault ≡ Reading = ap (λ (s : Stream). s.stage) is ∙ reading in cc
 
 -- what was told, by what the items show
-pub reads_shown : (limits : Bounds) (turns : ℕ) (start now : Option (List ℕ)) (stage : Stage) (f : LineReader) (i : Stream) (text : List ℕ) (told : Trace) → stream_of stage f ≡ i → line_reading.ReadsOn limits turns start now i.reader text told → ReadsOn limits turns start now f text told
+pub reads_shown : (limits : Bounds) (turns : ℕ) (start now : Position) (stage : Stage) (f : LineReader) (i : Stream) (text : List ℕ) (told : Trace) → stream_of stage f ≡ i → line_reading.ReadsOn limits turns start now i.reader text told → ReadsOn limits turns start now f text told
 reads_shown limits turns start now stage f i text told is on = subst (λ (s : Stream). line_reading.ReadsOn limits turns start now s.reader text told) (sym is) on
 
 pub over_shown : (stage : Stage) (f : LineReader) (i : Stream) (text : List ℕ) (told : Trace) → stream_of stage f ≡ i → lasts.IsOver i.reader text told → lasts.IsOver (reader_of f) text told
@@ -82,13 +83,13 @@ over_shown stage f i text told is over = subst (λ (s : Stream). lasts.IsOver s.
 -- ---- items
 
 -- the last line, which isn't at fault
-pub last_told : (limits : Bounds) (turns : ℕ) (start now : Option (List ℕ)) (failed : Bool) (old f : LineReader) (text : List ℕ) (told : Trace) (judged : Judged) (item : Item) → item ≡ item_in judged → old.judge.limits ≡ limits → HasRead turns start now failed text true → trace_of old.judge.limits text ≡ Ok (with_judged judged f.judge.names told) → HasJudged f.judge (with_judged judged f.judge.names told) → HasToldAt Done limits turns (used start now failed) (reader_of f) text (with_item item f.judge.names told)
+pub last_told : (limits : Bounds) (turns : ℕ) (start now : Position) (failed : Bool) (old f : LineReader) (text : List ℕ) (told : Trace) (judged : Judged) (item : Item) → item ≡ item_in judged → old.judge.limits ≡ limits → HasRead turns start now failed text true → trace_of old.judge.limits text ≡ Ok (with_judged judged f.judge.names told) → HasJudged f.judge (with_judged judged f.judge.names told) → HasToldAt Done limits turns (used start now failed) (reader_of f) text (with_item item f.judge.names told)
 last_told limits turns start now failed old f text told judged item is same read trace has =
     subst (λ x. HasToldAt Done limits turns (used start now failed) (reader_of f) text (with_item x f.judge.names told)) (sym is)
     (read, ap (λ l. trace_of l text) (sym same) ∙ trace, has)
 
 -- a line that LF ended
-pub told_item : (limits : Bounds) (turns : ℕ) (start now : Option (List ℕ)) (failed : Bool) (stage : Stage) (f : LineReader) (text : List ℕ) (told : Trace) (step : Step) (judged : Judged) (item : Item) → stage_of stage ≡ Reading → step ≡ Told judged → item ≡ item_in judged → Steps limits turns start now failed f text told (Ok step) → GoesOn limits turns (used start now failed) (stream_of stage f) text told (Ok item)
+pub told_item : (limits : Bounds) (turns : ℕ) (start now : Position) (failed : Bool) (stage : Stage) (f : LineReader) (text : List ℕ) (told : Trace) (step : Step) (judged : Judged) (item : Item) → stage_of stage ≡ Reading → step ≡ Told judged → item ≡ item_in judged → Steps limits turns start now failed f text told (Ok step) → GoesOn limits turns (used start now failed) (stream_of stage f) text told (Ok item)
 told_item limits turns start now failed stage f text told step judged item reading is line steps =
     record {
       piece = steps.piece;
@@ -99,7 +100,7 @@ told_item limits turns start now failed stage f text told step judged item readi
     }
 
 -- a fault
-pub stopped : (limits : Bounds) (turns : ℕ) (start now : Option (List ℕ)) (failed : Bool) (f : LineReader) (text : List ℕ) (told : Trace) (fault : LinesFault) → HasStepped limits turns start now failed f text told (Err fault) → HasToldAt (Faulty fault) limits turns (used start now failed) (reader_of f) text told
+pub stopped : (limits : Bounds) (turns : ℕ) (start now : Position) (failed : Bool) (f : LineReader) (text : List ℕ) (told : Trace) (fault : LinesFault) → HasStepped limits turns start now failed f text told (Err fault) → HasToldAt (Faulty fault) limits turns (used start now failed) (reader_of f) text told
 stopped limits turns start now failed f text told (Line number kind) is = inl is
 stopped limits turns start now failed f text told Read is = is
 stopped limits turns start now failed f text told Memory is = tt

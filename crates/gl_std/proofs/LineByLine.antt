@@ -1,16 +1,18 @@
 -- A text that is judged line by line as it comes.
-use Rattle.std.proofs.Common.{◌≡◌, ◌≢◌, ℕ, zero, suc, ◌+◌, ◌-◌, ◌<◌, ◌≤◌, inr, nat_lt, Option, Bool, true, false, ◌&&◌, cond, eqb, List, [], ◌∷◌, ◌++◌, length, Contains, Some, Result, Ok, Err, take, drop, refl, sym, ap, subst, ◌∙◌, append_assoc, length-append, arith}
-use Rattle.std.specs.Prelude.{nat_le, None, IfNone, IfOk, IfSome, OnOk}
-use Rattle.std.specs.Io.KnownBytes.{Consumes, IsAtEnd}
-use Rattle.std.proofs.KnownBytes.{Consumes-nil, Consumes-trans, Consumes-whole}
+use Rattle.std.proofs.Common.{◌≡◌, ◌≢◌, ℕ, zero, suc, ◌+◌, ◌-◌, ◌<◌, ◌≤◌, inl, inr, nat_lt, Option, Bool, true, false, ◌&&◌, cond, eqb, List, [], ◌∷◌, ◌++◌, length, Contains, Some, Result, Ok, Err, take, drop, refl, sym, ap, subst, ◌∙◌, append_assoc, length-append, arith}
+use Rattle.std.specs.Prelude.{nat_le, None, IfNone, IfOk, IfSome, OnErr, OnOk}
+use Rattle.std.specs.Io.KnownBytes.{Consumes, IsAtEnd, Keeps}
+use Rattle.std.proofs.KnownBytes.{Consumes-kept, Consumes-nil, Consumes-trans, Consumes-whole}
 use Rattle.std.proofs.lemmas.Bool.{false≢true}
 use Rattle.std.proofs.Math.Nat.{min-le_left}
 use Rattle.std.proofs.Math.Seq.{take-append-add, drop-append-add}
 use Rattle.std.proofs.lemmas.Bool.Decides.{nat_tests}
 use Rattle.std.proofs.lemmas.List.{take_all, drop-drop, length-take, length-take-le, length-drop}
 use Rattle.gl_event.specs.Bounds.{Bounds}
+use Rattle.gl_io.specs.Positions.{Position, LieBetween}
 use Rattle.gl_io.specs.Reads.{HasRead}
 use Rattle.gl_io.specs.declared.source.TheConstants.{CHUNK}
+use Rattle.gl_io.proofs.Counting.{lie_none, lie_more}
 use Rattle.gl_std.specs.LineReading as line_reading
 use Rattle.gl_std.specs.LineReading.{HasGiven}
 use Rattle.gl_std.specs.Judging as judging
@@ -237,12 +239,12 @@ drop_none [] = refl
 drop_none (x ∷ xs) = refl
 
 -- before the first read
-pub given_nothing : (turns left : ℕ) (start : Option (List ℕ)) → left ≡ turns → HasGiven turns start start left []
-given_nothing turns left start is = record { bytes = Consumes-nil start; used = 0; spent = omega (arith, is); some = omega arith; within = omega arith }
+pub given_nothing : (turns left : ℕ) (start : Position) → left ≡ turns → HasGiven turns start start left []
+given_nothing turns left start is = record { bytes = Consumes-nil start.left; used = 0; counted = lie_none start; spent = omega (arith, is); some = omega arith; within = omega arith }
 
 -- a read of so many bytes
-pub filled_by : (more : Bool) (count : ℕ) (turns : ℕ) (start now new : Option (List ℕ)) (failed : Bool) (old f : LineReader) (piece text : List ℕ) → nat_lt 0 count ≡ more → f.start ≡ 0 → take f.end f.buffer.items ≡ piece → length piece ≡ count → count ≤ CHUNK → 0 < old.turns → f.turns + 1 ≡ old.turns → failed ≡ false → Consumes now new piece → (count ≡ 0 → IsAtEnd new) → HasGiven turns start now old.turns text → HasFilled more turns start new failed f text
-filled_by more count turns start now new failed old f piece text test begin is size most left turn sound gave end given =
+pub filled_by : (more : Bool) (count : ℕ) (turns : ℕ) (start now new : Position) (failed : Bool) (old f : LineReader) (piece text : List ℕ) → nat_lt 0 count ≡ more → f.start ≡ 0 → take f.end f.buffer.items ≡ piece → length piece ≡ count → count ≤ CHUNK → 0 < old.turns → f.turns + 1 ≡ old.turns → failed ≡ false → Consumes now.left new.left piece → (count ≡ 0 → IsAtEnd new.left) → LieBetween 1 now new → HasGiven turns start now old.turns text → HasFilled more turns start new failed f text
+filled_by more count turns start now new failed old f piece text test begin is size most left turn sound gave end one given =
     by more test
   where
     all : left_of f ≡ piece
@@ -253,34 +255,64 @@ filled_by more count turns start now new failed old f piece text test begin is s
         let some = some_of count test in
         let long = length-append text piece in
         subst (λ l. HasGiven turns start new f.turns (text ++ l)) (sym all) (record {
-          bytes = Consumes-trans start now new text piece given.bytes gave;
+          bytes = Consumes-trans start.left now.left new.left text piece given.bytes gave;
           used = given.used + 1;
+          counted = lie_more given.used 1 start now new given.counted one;
           spent = omega (arith, given.spent, turn);
           some = omega (arith, given.some, long, size, some);
           within = omega (arith, given.within, long, size, most);
         })
     by false test =
         let none = none_of count test in
-        let bytes : Consumes start new text = subst (Consumes start new) (ap (λ l. text ++ l) (nil_of piece (size ∙ none)) ∙ append_nil text) (Consumes-trans start now new text piece given.bytes gave) in
+        let bytes : Consumes start.left new.left text = subst (Consumes start.left new.left) (ap (λ l. text ++ l) (nil_of piece (size ∙ none)) ∙ append_nil text) (Consumes-trans start.left now.left new.left text piece given.bytes gave) in
         record {
           bytes = bytes;
-          all = λ e. Consumes-whole start new text (λ everything. text ≡ everything) bytes (end none) refl;
+          all = λ e. Consumes-whole start.left new.left text (λ everything. text ≡ everything) bytes (end none) refl;
           ended = λ e. end none;
           sound = λ e. sound;
+          reads = given.used + 1;
+          counted = lie_more given.used 1 start now new given.counted one;
+          few = omega (arith, given.spent, left);
           cut = λ e. absurd (false≢true (sym e));
-          within = omega (arith, given.spent, given.within, left);
+          some = omega (arith, given.some);
+          within = omega (arith, given.within);
         }
 
+-- a read that failed
+pub broken_by : (turns left : ℕ) (start now new : Position) (failed : Bool) (text : List ℕ) → 0 < left → failed ≡ true → Keeps now.left new.left → LieBetween 1 now new → HasGiven turns start now left text → HasRead turns start new failed text false
+broken_by turns left start now new failed text some wrong kept one given =
+    record {
+      bytes = Consumes-kept start.left now.left new.left text given.bytes kept;
+      all = λ e. absurd (false≢true e);
+      ended = λ e. absurd (false≢true e);
+      sound = λ e. absurd (false≢true e);
+      reads = given.used + 1;
+      counted = lie_more given.used 1 start now new given.counted one;
+      few = omega (arith, given.spent, some);
+      cut = λ e. inl wrong;
+      some = omega (arith, given.some);
+      within = omega (arith, given.within);
+    }
+
+-- what holds anyway holds of an error
+pub on_err : {A B : Type 0} (r : Result A B) (P : Type 0) → P → OnErr r P
+on_err (Ok a) P holds = tt
+on_err (Err b) P holds = holds
+
 -- the turns are used up
-pub used_up : (turns left : ℕ) (start now : Option (List ℕ)) (failed : Bool) (text : List ℕ) → left ≡ 0 → HasGiven turns start now left text → HasRead turns start now failed text false
+pub used_up : (turns left : ℕ) (start now : Position) (failed : Bool) (text : List ℕ) → left ≡ 0 → HasGiven turns start now left text → HasRead turns start now failed text false
 used_up turns left start now failed text none given =
     record {
       bytes = given.bytes;
       all = λ e. absurd (false≢true e);
       ended = λ e. absurd (false≢true e);
       sound = λ e. absurd (false≢true e);
-      cut = λ e. inr (omega (arith, given.spent, given.some, none));
-      within = omega (arith, given.spent, given.within);
+      reads = given.used;
+      counted = given.counted;
+      few = omega (arith, given.spent);
+      cut = λ e. inr (omega (arith, given.spent, none), omega (arith, given.spent, given.some, none));
+      some = omega (arith, given.some);
+      within = omega (arith, given.within);
     }
 
 -- ---- steps
@@ -301,7 +333,7 @@ alike_reaches old f seen told judge kept reaches =
     subst (λ u. Reaches f.judge u seen told) (sym kept) (subst (λ j. Reaches j old.unfinished.items seen told) (sym judge) reaches)
 
 -- more was read
-pub read_more : (limits : Bounds) (turns : ℕ) (start now new : Option (List ℕ)) (old f : LineReader) (text : List ℕ) (told : Trace) → ReadsOn limits turns start now old text told → left_of old ≡ [] → f.judge ≡ old.judge → f.unfinished.items ≡ old.unfinished.items → HasGiven turns start new f.turns (text ++ left_of f) → ReadsOn limits turns start new f (text ++ left_of f) told
+pub read_more : (limits : Bounds) (turns : ℕ) (start now new : Position) (old f : LineReader) (text : List ℕ) (told : Trace) → ReadsOn limits turns start now old text told → left_of old ≡ [] → f.judge ≡ old.judge → f.unfinished.items ≡ old.unfinished.items → HasGiven turns start new f.turns (text ++ left_of f) → ReadsOn limits turns start new f (text ++ left_of f) told
 read_more limits turns start now new old f text told is none judge kept given =
     record {
       given = given;
@@ -324,7 +356,7 @@ front_of limits old text told at none same =
     ap (λ t. trace_of limits (ended_lines t)) (all_seen old text told at none) ∙ ap (λ l. trace_of l (ended_lines at.seen)) (sym same) ∙ told_front old.judge.limits old.judge.line told at.reaches.unfinished at.seen at.reaches.is
 
 -- a step that reads nothing
-pub stepped_here : (limits : Bounds) (turns : ℕ) (start now : Option (List ℕ)) (failed : Bool) (f : LineReader) (text : List ℕ) (told : Trace) (r : Result Step LinesFault) → HasStepped limits turns start now failed f text told r → Steps limits turns start now failed f text told r
+pub stepped_here : (limits : Bounds) (turns : ℕ) (start now : Position) (failed : Bool) (f : LineReader) (text : List ℕ) (told : Trace) (r : Result Step LinesFault) → HasStepped limits turns start now failed f text told r → Steps limits turns start now failed f text told r
 stepped_here limits turns start now failed f text told r is =
     record { piece = []; stepped = subst (λ t. HasStepped limits turns start now failed f t told r) (sym (append_nil text)) is }
 
@@ -351,7 +383,7 @@ last_over f text line told r some over is after =
 -- ---- the beginning
 
 -- nothing was read
-pub begun : (limits : Bounds) (turns : ℕ) (start : Option (List ℕ)) (f : line_reading.LineReader) → f.judge.limits ≡ limits → f.judge.line ≡ 1 → judging.HasJudged f.judge nothing → f.beginning ≡ [] → f.left ≡ [] → f.turns ≡ turns → line_reading.ReadsOn limits turns start start f [] nothing
+pub begun : (limits : Bounds) (turns : ℕ) (start : Position) (f : line_reading.LineReader) → f.judge.limits ≡ limits → f.judge.line ≡ 1 → judging.HasJudged f.judge nothing → f.beginning ≡ [] → f.left ≡ [] → f.turns ≡ turns → line_reading.ReadsOn limits turns start start f [] nothing
 begun limits turns start f same line judged none left turn =
     record {
       given = given_nothing turns f.turns start turn;
@@ -380,7 +412,7 @@ last_judged f j (Ok judged) has = λ text told over. has told over.judged
 -- ---- steps in a row
 
 -- a step that told nothing leaves the trace as it was
-idle_on : (limits : Bounds) (turns : ℕ) (start now : Option (List ℕ)) (failed : Bool) (f : LineReader) (text : List ℕ) (told : Trace) (step : Step) → is_idle step ≡ true → HasStepped limits turns start now failed f text told (Ok step) → ReadsOn limits turns start now f text told
+idle_on : (limits : Bounds) (turns : ℕ) (start now : Position) (failed : Bool) (f : LineReader) (text : List ℕ) (told : Trace) (step : Step) → is_idle step ≡ true → HasStepped limits turns start now failed f text told (Ok step) → ReadsOn limits turns start now f text told
 idle_on limits turns start now failed f text told More idle is = is
 idle_on limits turns start now failed f text told (Told Blank) idle is = is
 idle_on limits turns start now failed f text told (Told Skipped) idle is = absurd (false≢true idle)
@@ -389,7 +421,7 @@ idle_on limits turns start now failed f text told (Told (Event thread event)) id
 idle_on limits turns start now failed f text told End idle is = absurd (false≢true idle)
 
 -- a step after one that told nothing
-pub steps_after : (limits : Bounds) (turns : ℕ) (start now new : Option (List ℕ)) (failed failed2 : Bool) (f f2 : LineReader) (text : List ℕ) (told : Trace) (step : Step) (r : Result Step LinesFault) → is_idle step ≡ true → Steps limits turns start now failed f text told (Ok step) → ((t : List ℕ) → ReadsOn limits turns start now f t told → Steps limits turns start new failed2 f2 t told r) → Steps limits turns start new failed2 f2 text told r
+pub steps_after : (limits : Bounds) (turns : ℕ) (start now new : Position) (failed failed2 : Bool) (f f2 : LineReader) (text : List ℕ) (told : Trace) (step : Step) (r : Result Step LinesFault) → is_idle step ≡ true → Steps limits turns start now failed f text told (Ok step) → ((t : List ℕ) → ReadsOn limits turns start now f t told → Steps limits turns start new failed2 f2 t told r) → Steps limits turns start new failed2 f2 text told r
 steps_after limits turns start now new failed failed2 f f2 text told step r idle first next =
     let second = next (text ++ first.piece) (idle_on limits turns start now failed f (text ++ first.piece) told step idle first.stepped) in
     record {

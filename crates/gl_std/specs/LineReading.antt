@@ -1,7 +1,8 @@
 -- A text that is judged line by line as it comes.
-use Rattle.std.specs.Prelude.{◌≡◌, ◌+◌, ◌*◌, ◌^◌, ◌<◌, ◌≤◌, ℕ, List, Option, ◌++◌, length, take}
+use Rattle.std.specs.Prelude.{◌≡◌, ◌+◌, ◌*◌, ◌^◌, ◌<◌, ◌≤◌, ℕ, List, ◌++◌, length, take}
 use Rattle.std.specs.Io.KnownBytes.{Consumes}
 use Rattle.gl_event.specs.Bounds.{Bounds}
+use Rattle.gl_io.specs.Positions.{Position, LieBetween}
 use Rattle.gl_io.specs.declared.source.TheConstants.{CHUNK}
 use Rattle.gl_std.specs.Judging.{Judge, HasJudged, IsSound}
 use Rattle.gl_std.specs.Pieces.{IsTold}
@@ -42,16 +43,18 @@ pub record IsFit (f : LineReader) : Type 0 where
   pub within : length f.left ≤ CHUNK
   pub countable : f.judge.line + length f.left + f.turns * CHUNK + 1 < 2 ^ 64
 
--- of so many turns so many are left; the reads so far gave this text, a chunk at most each, and each some bytes
-pub record HasGiven (turns : ℕ) (start now : Option (List ℕ)) (left : ℕ) (text : List ℕ) : Type 0 where
-  pub bytes : Consumes start now text
+-- of so many turns so many are left, and each that was used was a read; the reads so far gave this text, a chunk at most each,
+-- and each some bytes
+pub record HasGiven (turns : ℕ) (start now : Position) (left : ℕ) (text : List ℕ) : Type 0 where
+  pub bytes : Consumes start.left now.left text
   pub used : ℕ
+  pub counted : LieBetween used start now
   pub spent : used + left ≡ turns
   pub some : used ≤ length text
   pub within : length text ≤ used * CHUNK
 
 -- reading goes on: the reads gave this text, and its lines before what is left of the latest read told this trace
-pub record ReadsOn (limits : Bounds) (turns : ℕ) (start now : Option (List ℕ)) (f : LineReader) (text : List ℕ) (told : Trace) : Type 0 where
+pub record ReadsOn (limits : Bounds) (turns : ℕ) (start now : Position) (f : LineReader) (text : List ℕ) (told : Trace) : Type 0 where
   pub given : HasGiven turns start now f.turns text
   pub same : f.judge.limits ≡ limits
   pub at : IsAt f text told

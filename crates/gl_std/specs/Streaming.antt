@@ -3,7 +3,7 @@ use Rattle.std.specs.Prelude.{◌≡◌, ◌⊎◌, ℕ, ◌+◌, Bool, true, fa
 use Rattle.gl_event.specs.Bounds.{Bounds}
 use Rattle.gl_event.specs.declared.events.Event.{Event as EventOf}
 use Rattle.gl_io.specs.Reads.{HasRead}
-use Rattle.gl_io.specs.Uses.{Use}
+use Rattle.gl_io.specs.Uses.{SourceUse}
 use Rattle.gl_std.specs.LineReading.{LineReader, HasGiven, IsFit, ReadsOn}
 use Rattle.gl_std.specs.Judging.{HasJudged}
 use Rattle.gl_std.specs.Lines.{ended_lines}
@@ -58,7 +58,7 @@ CanBeAsked i failed = CanReadOn i.stage failed i.reader
 
 -- what the text told where the items so far are these of the trace: while reading goes on, its lines so far; at the end, all of
 -- it; at a fault, that its first line at fault is that one, or the trace of the lines that LF has ended where a read failed
-abbrev pub HasToldAt : Stage → Bounds → ℕ → Use → LineReader → List ℕ → Trace → Type 0
+abbrev pub HasToldAt : Stage → Bounds → ℕ → SourceUse → LineReader → List ℕ → Trace → Type 0
 HasToldAt Reading limits turns input f text told = ReadsOn limits turns input.before input.after f text told
 HasToldAt Done limits turns input f text told = HasRead turns input.before input.after input.failed text true × (trace_of limits text ≡ Ok told) × HasJudged f.judge told
 HasToldAt (Faulty (Line number kind)) limits turns input f text told = (HasGiven turns input.before input.after f.turns text × IsFaulty limits text number kind) ⊎ (HasRead turns input.before input.after input.failed text true × (trace_of limits text ≡ Err (LineFault number kind)))
@@ -66,7 +66,7 @@ HasToldAt (Faulty Read) limits turns input f text told = HasRead turns input.bef
 HasToldAt (Faulty Memory) limits turns input f text told = Unit {0}
 
 -- the reads so far gave this text, and the items so far told this trace of it
-abbrev pub HasTold : Bounds → ℕ → Use → Stream → List ℕ → Trace → Type 0
+abbrev pub HasTold : Bounds → ℕ → SourceUse → Stream → List ℕ → Trace → Type 0
 HasTold limits turns input i text told = HasToldAt i.stage limits turns input i.reader text told
 
 -- no line at fault was answered, nor was memory refused
@@ -93,6 +93,6 @@ with_answer (Ok item) names told = with_item item names told
 with_answer (Err fault) names told = told
 
 -- the answer goes on from a text and its trace: a piece more may have been read
-pub record GoesOn (limits : Bounds) (turns : ℕ) (input : Use) (i : Stream) (text : List ℕ) (told : Trace) (result : Result Item LinesFault) : Type 0 where
+pub record GoesOn (limits : Bounds) (turns : ℕ) (input : SourceUse) (i : Stream) (text : List ℕ) (told : Trace) (result : Result Item LinesFault) : Type 0 where
   pub piece : List ℕ
   pub tells : HasTold limits turns input i (text ++ piece) (with_answer result (names_of i) told)

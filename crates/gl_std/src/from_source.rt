@@ -1,6 +1,7 @@
 //! Reading the text that a source gives.
-ghost use Rattle.std.specs.Prelude.{◌≡◌, ℕ, ◌^◌, ◌<◌, ◌≤◌, List, [], Option, Ok, IfOk, OnOk, length, vec_len, false, true};
+ghost use Rattle.std.specs.Prelude.{◌≡◌, ℕ, ◌^◌, ◌<◌, ◌≤◌, List, [], Ok, IfOk, OnOk, length, vec_len, false, true};
 ghost use Rattle.gl_event.specs.Bounds.{Bounds};
+ghost use Rattle.gl_io.specs.Positions.{Position};
 ghost use Rattle.gl_io.specs.declared.source.TheConstants.{CHUNK};
 ghost use Rattle.gl_std.specs.LineReading.{HasGiven};
 ghost use Rattle.gl_std.specs.bodies.States.{IsFit, IsOver, ReadsOn};
@@ -54,7 +55,7 @@ impl Listing {
         requires few_turns { turns ≤ 2 ^ 40 }
         ensures fit { IfOk result (λ l. IsFit l.reader) }
         ensures reads { IfOk result
-            (λ l. (start : Option (List ℕ))
+            (λ l. (start : Position)
             → ReadsOn limits.now turns start start l.reader [] nothing) }
         ensures none { IfOk result (λ l. l.lists ≡ []) }
     {
@@ -70,16 +71,19 @@ impl Listing {
         requires fit { IsFit self.old.reader }
         requires not_failed { R.failed input.old ≡ false }
         ensures meets { IfOk result
-            (λ progress. (limits : Bounds) (turns : ℕ) (start : Option (List ℕ)) (text : List ℕ)
-            → ReadsOn limits turns start (R.remaining input.old) self.old.reader text
+            (λ progress. (limits : Bounds) (turns : ℕ) (start : Position)
+            (text : List ℕ)
+            → ReadsOn limits turns start (R.position input.old) self.old.reader text
             (listed_by self.old)
-            → Meets limits turns start (R.remaining input.new)
+            → Meets limits turns start (R.position input.new)
             (R.failed input.new) self.new text progress) }
         ensures fit { result ≡ Ok Progress.More → IsFit self.new.reader }
         ensures fit_end { result ≡ Ok Progress.End → IsFit self.new.reader }
-        ensures smaller { result ≡ Ok Progress.More → fuel self.new.reader < fuel self.old.reader }
+        ensures smaller { result ≡ Ok Progress.More
+            → fuel self.new.reader < fuel self.old.reader }
         ensures sound { result ≡ Ok Progress.More → R.failed input.new ≡ false }
-        ensures sound_at_fault { (line : ℕ) (kind : Kind) → result ≡ Ok (Progress.Fault line kind)
+        ensures sound_at_fault { (line : ℕ) (kind : Kind)
+            → result ≡ Ok (Progress.Fault line kind)
             → R.failed input.new ≡ false }
         ensures room { vec_len self.new.reader.buffer ≡ vec_len self.old.reader.buffer }
     {
@@ -124,10 +128,10 @@ impl Listing {
     fn drain<R: Source>(mut self, input: &mut R, line: u64, kind: StdKind) -> Heard
         requires room { vec_len self.reader.buffer ≡ CHUNK }
         requires not_failed { R.failed input.old ≡ false }
-        ensures { (limits : Bounds) (turns : ℕ) (start : Option (List ℕ)) (text : List ℕ)
-            → HasGiven turns start (R.remaining input.old) self.reader.turns text
+        ensures { (limits : Bounds) (turns : ℕ) (start : Position) (text : List ℕ)
+            → HasGiven turns start (R.position input.old) self.reader.turns text
             → IsFaulty limits text line kind
-            → HasHeard limits turns start (R.remaining input.new) (R.failed input.new) result }
+            → HasHeard limits turns start (R.position input.new) (R.failed input.new) result }
     {
         let is_whole = self.reader.drain(input);
         Heard {
@@ -169,7 +173,7 @@ pub fn read_source<R: Source>(
     requires not_failed { R.failed input.old ≡ false }
     requires few_turns { turns ≤ 2 ^ 40 }
     ensures heard { IfOk result
-        (HasHeard limits.now turns (R.remaining input.old) (R.remaining input.new)
+        (HasHeard limits.now turns (R.position input.old) (R.position input.new)
         (R.failed input.new)) }
     ensures over { IfOk result (λ h. IfOk h.trace (IsTraceOver limits.now)) }
 {

@@ -14,7 +14,8 @@ const CR: u8 = b'\r';
 pub(crate) fn next_line(text: &[u8]) -> Option<(&[u8], &[u8])>
     ensures { MatchOption result
         (lines text.now ≡ [])
-        (λ p. (lines text.now ≡ p.0.now ∷ lines p.1.now) × (length p.1.now < length text.now)) }
+        (λ p. (lines text.now ≡ p.0.now ∷ lines p.1.now)
+        × (length p.1.now < length text.now)) }
 {
     if text.is_empty() {
         return None;

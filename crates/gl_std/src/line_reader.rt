@@ -1,6 +1,7 @@
 //! The lines of what a source gives, judged one after another as they come.
 ghost use Rattle.std.specs.Prelude.{◌≡◌, ℕ, ◌+◌, ◌^◌, ◌<◌, ◌≤◌, false, List, [], ◌∷◌, ◌++◌, Contains, Option, Ok, Err, IfNone, IfOk, IfSome, OnErr, OnOk, length, take, vec_len};
 ghost use Rattle.gl_event.specs.Bounds.{Bounds};
+ghost use Rattle.gl_io.specs.Positions.{Position};
 ghost use Rattle.gl_io.specs.Reads.{HasRead};
 ghost use Rattle.gl_std.specs.LineReading.{HasGiven};
 ghost use Rattle.gl_std.specs.bodies.States.{left_of, HasJudged, IsAt, IsFit, IsOver, IsSound, Reaches, ReadsOn};
@@ -90,7 +91,8 @@ impl LineReader {
         requires few_turns { turns ≤ 2 ^ 40 }
         ensures fit { IfOk result IsFit }
         ensures reads { IfOk result
-            (λ f. (start : Option (List ℕ)) → ReadsOn limits.now turns start start f [] nothing) }
+            (λ f. (start : Position)
+            → ReadsOn limits.now turns start start f [] nothing) }
     {
         Ok(LineReader {
             judge: Judge::new(alloc, *limits, seed),
@@ -107,7 +109,7 @@ impl LineReader {
     pub(crate) fn next<R: Source>(&mut self, input: &mut R) -> Result<Step, LinesFault>
         requires fit { IsFit self.old }
         requires not_failed { R.failed input.old ≡ false }
-        ensures steps { StepsOn (R.remaining input.old) self.old (R.remaining input.new)
+        ensures steps { StepsOn (R.position input.old) self.old (R.position input.new)
             (R.failed input.new) self.new result }
         ensures fit { OnOk result (IsFit self.new) }
         ensures found { IfOk result (λ step. is_idle step ≡ false) }
@@ -129,7 +131,7 @@ impl LineReader {
     pub(crate) fn step<R: Source>(&mut self, input: &mut R) -> Result<Step, LinesFault>
         requires fit { IsFit self.old }
         requires not_failed { R.failed input.old ≡ false }
-        ensures steps { StepsOn (R.remaining input.old) self.old (R.remaining input.new)
+        ensures steps { StepsOn (R.position input.old) self.old (R.position input.new)
             (R.failed input.new) self.new result }
         ensures known { (judged : Judged) → result ≡ Ok (Step.Told judged)
             → IsKnown judged (length self.new.judge.names.threads) }
@@ -153,7 +155,7 @@ impl LineReader {
         requires fit { IsFit self.old }
         requires spent { self.old.start ≡ self.old.end }
         requires not_failed { R.failed input.old ≡ false }
-        ensures steps { StepsOn (R.remaining input.old) self.old (R.remaining input.new)
+        ensures steps { StepsOn (R.position input.old) self.old (R.position input.new)
             (R.failed input.new) self.new result }
         ensures known { (judged : Judged) → result ≡ Ok (Step.Told judged)
             → IsKnown judged (length self.new.judge.names.threads) }
@@ -201,9 +203,9 @@ impl LineReader {
     pub(crate) fn drain<R: Source>(&mut self, input: &mut R) -> bool
         requires room { vec_len self.old.buffer ≡ CHUNK }
         requires not_failed { R.failed input.old ≡ false }
-        ensures { (turns : ℕ) (start : Option (List ℕ)) (text : List ℕ)
-            → HasGiven turns start (R.remaining input.old) self.old.turns text
-            → HasDrained turns start (R.remaining input.new) (R.failed input.new) text result }
+        ensures { (turns : ℕ) (start : Position) (text : List ℕ)
+            → HasGiven turns start (R.position input.old) self.old.turns text
+            → HasDrained turns start (R.position input.new) (R.failed input.new) text result }
     {
         while self.turns > 0 {
             match self.fill(input) {
@@ -243,14 +245,14 @@ impl LineReader {
         requires room { vec_len self.old.buffer ≡ CHUNK }
         requires not_failed { R.failed input.old ≡ false }
         ensures filled { IfOk result
-            (λ more. (turns : ℕ) (start : Option (List ℕ)) (text : List ℕ)
-            → HasGiven turns start (R.remaining input.old) self.old.turns text
-            → HasFilled more turns start (R.remaining input.new)
+            (λ more. (turns : ℕ) (start : Position) (text : List ℕ)
+            → HasGiven turns start (R.position input.old) self.old.turns text
+            → HasFilled more turns start (R.position input.new)
             (R.failed input.new) self.new text) }
         ensures broke { OnErr result
-            ((turns : ℕ) (start : Option (List ℕ)) (text : List ℕ)
-            → HasGiven turns start (R.remaining input.old) self.old.turns text
-            → HasRead turns start (R.remaining input.new) (R.failed input.new) text false) }
+            ((turns : ℕ) (start : Position) (text : List ℕ)
+            → HasGiven turns start (R.position input.old) self.old.turns text
+            → HasRead turns start (R.position input.new) (R.failed input.new) text false) }
         ensures sound { OnOk result (R.failed input.new ≡ false) }
         ensures turn { OnOk result (self.new.turns + 1 ≡ self.old.turns) }
         ensures begin { OnOk result (self.new.start ≡ 0) }
@@ -281,7 +283,8 @@ impl LineReader {
             → IsAt self.new text (with_judged judged self.new.judge.names told))) }
         ensures none { IfOk result
             (λ o. IfNone o
-            ((text : List ℕ) (told : Trace) → IsAt self.old text told → IsAt self.new text told)) }
+            ((text : List ℕ) (told : Trace) → IsAt self.old text told
+            → IsAt self.new text told)) }
         ensures known { IfOk result
             (λ o. IfSome o (λ judged. IsKnown judged (length self.new.judge.names.threads))) }
         ensures spent { IfOk result (λ o. IfNone o (self.new.start ≡ self.new.end)) }
@@ -295,7 +298,8 @@ impl LineReader {
         ensures same_turns { self.new.turns ≡ self.old.turns }
         ensures few { OnOk result (length self.new.unfinished.items ≤ KEPT) }
         ensures limits { self.new.judge.limits ≡ self.old.judge.limits }
-        ensures smaller { IfOk result (λ o. IfSome o (λ judged. self.old.start < self.new.start)) }
+        ensures smaller { IfOk result
+            (λ o. IfSome o (λ judged. self.old.start < self.new.start)) }
         ensures line { IfOk result
             (λ o. IfSome o (λ judged. self.new.judge.line ≡ self.old.judge.line + 1)) }
         ensures same_line { IfOk result
@@ -324,7 +328,8 @@ fn end_line(judge: &mut Judge, unfinished: &mut Vec<u8>, end: &[u8]) -> Result<J
     requires few { length unfinished.old.items ≤ KEPT }
     requires countable { judge.old.line + 1 < 2 ^ 64 }
     ensures reaches { IfOk result
-        (λ judged. (seen : List ℕ) (told : Trace) → Reaches judge.old unfinished.old.items seen told
+        (λ judged. (seen : List ℕ) (told : Trace)
+        → Reaches judge.old unfinished.old.items seen told
         → Reaches judge.new unfinished.new.items (seen ++ end.now ++ LF ∷ [])
         (with_judged judged judge.new.names told)) }
     ensures known { IfOk result (λ judged. IsKnown judged (length judge.new.names.threads)) }

@@ -2,8 +2,9 @@
 ghost use Rattle.std.specs.Prelude.{◌≡◌, ℕ, ◌^◌, ◌<◌, ◌≤◌, Bool, true, false, List, [], Option, Ok, Err, IfErr, IfOk, OnOk, length};
 ghost use Rattle.gl_event.specs.Bounds.{Bounds};
 ghost use Rattle.gl_event.specs.declared.events.Event.{Event as EventOf};
+ghost use Rattle.gl_io.specs.Positions.{Position};
 ghost use Rattle.gl_io.specs.Reads.{HasRead};
-ghost use Rattle.gl_io.specs.Uses.{Use, used};
+ghost use Rattle.gl_io.specs.Uses.{SourceUse, used};
 ghost use Rattle.gl_std.specs.LineReading.{IsFit, ReadsOn};
 ghost use Rattle.gl_std.specs.bodies.Lasts.{IsOver};
 ghost use Rattle.gl_std.specs.Sourced.{items_of, source_of};
@@ -85,7 +86,7 @@ impl Items {
     pub fn new(alloc: Global, limits: &Limits, turns: u64, seed: Seed) -> Result<Items, AllocError>
         requires few_turns { turns ≤ 2 ^ 40 }
         ensures tells { IfOk result
-            (λ i. (start : Option (List ℕ))
+            (λ i. (start : Position)
             → HasTold limits.now turns (used start start false) i [] nothing) }
         ensures usable { IfOk result (λ i. CanBeAsked i false) }
     {
@@ -104,12 +105,12 @@ impl Items {
     /// each of its names looked up at most once by hash.
     pub fn next<R: Source>(&mut self, input: &mut R) -> Result<Item, LinesFault>
         requires usable { CanBeAsked self.old (R.failed input.old) }
-        ensures tells { (limits : Bounds) (turns : ℕ) (start : Option (List ℕ)) (text : List ℕ)
-            (told : Trace)
+        ensures tells { (limits : Bounds) (turns : ℕ) (start : Position)
+            (text : List ℕ) (told : Trace)
             → HasTold limits turns
-            (used start (R.remaining input.old) (R.failed input.old)) self.old text told
+            (used start (R.position input.old) (R.failed input.old)) self.old text told
             → GoesOn limits turns
-            (used start (R.remaining input.new) (R.failed input.new)) self.new text told result }
+            (used start (R.position input.new) (R.failed input.new)) self.new text told result }
         ensures known { (thread : ℕ) (event : EventOf) → result ≡ Ok (Item.Event thread event)
             → thread < length (names_of self.new).threads }
         ensures usable { CanBeAsked self.new (R.failed input.new) }
@@ -117,7 +118,8 @@ impl Items {
         ensures item { OnOk result (HasNoFault self.new) }
         ensures fault { IfErr result (HasFault self.new) }
         ensures end_again { IsDone self.old → result ≡ Ok Item.End }
-        ensures fault_again { (fault : LinesFault) → HasFault self.old fault → result ≡ Err fault }
+        ensures fault_again { (fault : LinesFault) → HasFault self.old fault
+            → result ≡ Err fault }
     {
         match self.stage {
             Stage::Reading => self.read_on(input),
@@ -131,11 +133,11 @@ impl Items {
         requires reading { self.old.stage ≡ Reading }
         requires fit { IsFit self.old.reader }
         requires not_failed { R.failed input.old ≡ false }
-        ensures tells { (limits : Bounds) (turns : ℕ) (start : Option (List ℕ)) (text : List ℕ)
-            (told : Trace)
-            → ReadsOn limits turns start (R.remaining input.old) self.old.reader text told
+        ensures tells { (limits : Bounds) (turns : ℕ) (start : Position)
+            (text : List ℕ) (told : Trace)
+            → ReadsOn limits turns start (R.position input.old) self.old.reader text told
             → GoesOn limits turns
-            (used start (R.remaining input.new) (R.failed input.new)) self.new text told result }
+            (used start (R.position input.new) (R.failed input.new)) self.new text told result }
         ensures known { (thread : ℕ) (event : EventOf) → result ≡ Ok (Item.Event thread event)
             → thread < length (names_of self.new).threads }
         ensures usable { CanBeAsked self.new (R.failed input.new) }
@@ -157,7 +159,8 @@ impl Items {
     // `next`, where the source has ended.
     fn finish(&mut self) -> Result<Item, LinesFault>
         requires fit { IsFit self.old.reader }
-        ensures tells { (limits : Bounds) (turns : ℕ) (input : Use) (text : List ℕ) (told : Trace)
+        ensures tells { (limits : Bounds) (turns : ℕ) (input : SourceUse) (text : List ℕ)
+            (told : Trace)
             → HasRead turns input.before input.after input.failed text true
             → self.old.reader.judge.limits ≡ limits → IsOver self.old.reader text told
             → HasTold limits turns input self.new text
@@ -187,13 +190,18 @@ impl Items {
     /// The names so far, how many lines were skipped, and how many were strays. After a line at fault,
     /// or where memory was refused, they say nothing.
     pub fn parts(self) -> (Names, u64, u64)
-        ensures names { (limits : Bounds) (turns : ℕ) (input : Use) (text : List ℕ) (told : Trace)
-            → CanBeNamed self → HasTold limits turns input self text told → result.0 ≡ told.names }
-        ensures skipped { (limits : Bounds) (turns : ℕ) (input : Use) (text : List ℕ) (told : Trace)
+        ensures names { (limits : Bounds) (turns : ℕ) (input : SourceUse) (text : List ℕ)
+            (told : Trace)
+            → CanBeNamed self → HasTold limits turns input self text told
+            → result.0 ≡ told.names }
+        ensures skipped { (limits : Bounds) (turns : ℕ) (input : SourceUse) (text : List ℕ)
+            (told : Trace)
             → CanBeNamed self → HasTold limits turns input self text told
             → result.1 ≡ told.skipped }
-        ensures stray { (limits : Bounds) (turns : ℕ) (input : Use) (text : List ℕ) (told : Trace)
-            → CanBeNamed self → HasTold limits turns input self text told → result.2 ≡ told.stray }
+        ensures stray { (limits : Bounds) (turns : ℕ) (input : SourceUse) (text : List ℕ)
+            (told : Trace)
+            → CanBeNamed self → HasTold limits turns input self text told
+            → result.2 ≡ told.stray }
     {
         self.reader.into_parts()
     }
@@ -220,7 +228,7 @@ impl<R: Source + Drop> Lines<R> {
         requires few_turns { turns ≤ 2 ^ 40 }
         ensures tells { IfOk result
             (λ l. HasTold limits.now turns
-            (used (R.remaining input) (R.remaining (source_of l)) (R.failed (source_of l)))
+            (used (R.position input) (R.position (source_of l)) (R.failed (source_of l)))
             (items_of l) [] nothing) }
         ensures usable { IfOk result (λ l. CanBeAsked (items_of l) (R.failed (source_of l))) }
     {
@@ -231,13 +239,13 @@ impl<R: Source + Drop> Lines<R> {
     /// The next item, as [`Items::next`] answers it.
     pub fn next(&mut self) -> Result<Item, LinesFault>
         requires usable { CanBeAsked (items_of self.old) (R.failed (source_of self.old)) }
-        ensures tells { (limits : Bounds) (turns : ℕ) (start : Option (List ℕ)) (text : List ℕ)
-            (told : Trace)
+        ensures tells { (limits : Bounds) (turns : ℕ) (start : Position)
+            (text : List ℕ) (told : Trace)
             → HasTold limits turns
-            (used start (R.remaining (source_of self.old)) (R.failed (source_of self.old)))
+            (used start (R.position (source_of self.old)) (R.failed (source_of self.old)))
             (items_of self.old) text told
             → GoesOn limits turns
-            (used start (R.remaining (source_of self.new)) (R.failed (source_of self.new)))
+            (used start (R.position (source_of self.new)) (R.failed (source_of self.new)))
             (items_of self.new) text told result }
         ensures known { (thread : ℕ) (event : EventOf) → result ≡ Ok (Item.Event thread event)
             → thread < length (names_of (items_of self.new)).threads }
@@ -255,13 +263,16 @@ impl<R: Source + Drop> Lines<R> {
     /// The names so far, how many lines were skipped, how many were strays, and the source. After a
     /// line at fault, or where memory was refused, the first three say nothing.
     pub fn parts(self) -> (Names, u64, u64, R)
-        ensures names { (limits : Bounds) (turns : ℕ) (input : Use) (text : List ℕ) (told : Trace)
+        ensures names { (limits : Bounds) (turns : ℕ) (input : SourceUse) (text : List ℕ)
+            (told : Trace)
             → CanBeNamed (items_of self) → HasTold limits turns input (items_of self) text told
             → result.0 ≡ told.names }
-        ensures skipped { (limits : Bounds) (turns : ℕ) (input : Use) (text : List ℕ) (told : Trace)
+        ensures skipped { (limits : Bounds) (turns : ℕ) (input : SourceUse) (text : List ℕ)
+            (told : Trace)
             → CanBeNamed (items_of self) → HasTold limits turns input (items_of self) text told
             → result.1 ≡ told.skipped }
-        ensures stray { (limits : Bounds) (turns : ℕ) (input : Use) (text : List ℕ) (told : Trace)
+        ensures stray { (limits : Bounds) (turns : ℕ) (input : SourceUse) (text : List ℕ)
+            (told : Trace)
             → CanBeNamed (items_of self) → HasTold limits turns input (items_of self) text told
             → result.2 ≡ told.stray }
         ensures source { result.3 ≡ source_of self }

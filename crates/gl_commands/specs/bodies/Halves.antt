@@ -6,7 +6,7 @@ use Rattle.gl_io.specs.Reads.{HasRead}
 use Rattle.gl_std.specs.Trace.{trace_of}
 use Rattle.gl_std.specs.declared.faults.ReadFault.{ReadFault}
 use Rattle.gl_std.specs.declared.trace.Trace.{Trace}
-use Rattle.gl_io.specs.Uses.{Use}
+use Rattle.gl_io.specs.Uses.{SourceUse}
 use Rattle.gl_commands.specs.declared.answer.Printed.{Printed}
 use Rattle.gl_commands.specs.declared.ended.Ended.{Ended}
 use Rattle.gl_commands.specs.declared.ended.Ended.TheVariants.{Clean, Cycles, Done, WriteFailed}
@@ -14,7 +14,7 @@ use Rattle.gl_commands.specs.declared.ended.Outcome.{Outcome}
 use Rattle.gl_commands.specs.declared.ended.Outcome.TheVariants as outcome
 
 -- a text was read whole, and this is its trace or its first fault
-pub record HasHeardAll (turns : ℕ) (input : Use) (read : Result Trace ReadFault) : Type 0 where
+pub record HasHeardAll (turns : ℕ) (input : SourceUse) (read : Result Trace ReadFault) : Type 0 where
   pub text : List ℕ
   pub whole : HasRead turns input.before input.after input.failed text true
   pub trace : trace_of greatest text ≡ read

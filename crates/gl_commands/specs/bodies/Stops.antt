@@ -16,7 +16,7 @@ use Rattle.gl_std.specs.declared.faults.ReadFault.{ReadFault}
 use Rattle.gl_std.specs.declared.faults.ReadFault.TheVariants.{Line}
 use Rattle.gl_std.specs.declared.trace.Trace.{Trace}
 use Rattle.gl_commands.specs.Answer.{Answer, IsLeastBeforeItself, report_of}
-use Rattle.gl_io.specs.Uses.{Use}
+use Rattle.gl_io.specs.Uses.{SinkUse, SourceUse}
 use Rattle.gl_commands.specs.Ending.{HasEndedStreamed}
 use Rattle.gl_commands.specs.RefusalLines.{fault_line, inconsistent_line}
 use Rattle.gl_commands.specs.declared.ended.Ended.{Ended}
@@ -61,14 +61,14 @@ pub record IsReportOf (listing : Listing) (asked : Asked) (read : Result Trace R
 -- ---- a session that records a text as it comes
 
 -- a text was read whole, and this is answered to it
-pub record HasAnswer (IsAnswered : List ℕ → Answer → Type 0) (turns : ℕ) (input : Use) (answer : Answer) : Type 0 where
+pub record HasAnswer (IsAnswered : List ℕ → Answer → Type 0) (turns : ℕ) (input : SourceUse) (answer : Answer) : Type 0 where
   pub text : List ℕ
   pub whole : HasRead turns input.before input.after input.failed text true
   pub is : IsAnswered text answer
 
 -- it ends so over each writer that is left as it was
-abbrev pub EndsUnwritten : Bounds → (List ℕ → Answer → Type 0) → ℕ → Use → Ended → Type 0
-EndsUnwritten limits IsAnswered turns input ended = (output : Use) → Keeps output.before output.after → output.failed ≡ false → HasEndedStreamed limits IsAnswered turns input output ended
+abbrev pub EndsUnwritten : Bounds → (List ℕ → Answer → Type 0) → ℕ → SourceUse → Ended → Type 0
+EndsUnwritten limits IsAnswered turns input ended = (output : SinkUse) → Keeps output.before output.after → output.failed ≡ false → HasEndedStreamed limits IsAnswered turns input output ended
 
 -- it ends so where this fault of the text was met
 abbrev pub IsEndOfText : LinesFault → Ended → Type 0

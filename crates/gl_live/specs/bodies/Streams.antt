@@ -1,12 +1,13 @@
 -- A session that records a text as it is read.
-use Rattle.std.specs.Prelude.{◌≡◌, ℕ, ◌+◌, ◌<◌, ◌≤◌, Bool, List, [], Option, Some, None, Result, Ok, Err, length, map, slice_get, slice_index_or}
+use Rattle.std.specs.Prelude.{◌≡◌, ℕ, ◌+◌, ◌<◌, ◌≤◌, Bool, List, [], Some, None, Result, Ok, Err, length, map, slice_get, slice_index_or}
 use Rattle.std.specs.List.{All}
 use Rattle.std.specs.Vec.{vec_len, vec_capacity}
 use Rattle.gl_event.specs.Bounds.{Bounds}
 use Rattle.gl_event.specs.Lawful.{refusal}
 use Rattle.gl_event.specs.declared.events.Event.{Event}
 use Rattle.gl_event.specs.declared.limits.TheConstants.{MAX_EVENTS}
-use Rattle.gl_io.specs.Uses.{Use, used}
+use Rattle.gl_io.specs.Positions.{Position}
+use Rattle.gl_io.specs.Uses.{SourceUse, used}
 use Rattle.gl_shards.specs.Feeds.{Sending}
 use Rattle.gl_shards.specs.declared.shard.TheConstants.{MAX_SHARDS}
 use Rattle.gl_std.specs.Streaming.{event_in, HasFault, HasTold, IsDone, Stream}
@@ -63,24 +64,24 @@ pub record HasGathered (c : Collecting) (outlets : List Sending) (g : Gathering)
   pub feeds : g.fault ≡ None → map (λ s. s.feed) g.sent ≡ map (λ o. o.feed) outlets
 
 -- the reads gave a text, and the recorders have recorded what the items told of it
-pub record Follows (s : Roster) (limits : Bounds) (turns : ℕ) (input : Use) (items : Stream) (recorders : List Recording) : Type 0 where
+pub record Follows (s : Roster) (limits : Bounds) (turns : ℕ) (input : SourceUse) (items : Stream) (recorders : List Recording) : Type 0 where
   pub text : List ℕ
   pub told : Trace
   pub tells : HasTold limits turns input items text told
   pub recorded : AreRecorded s told.lists recorders
 
 -- whatever the recorders followed with this left to read, they follow on with that left
-abbrev pub FollowOn : Option (List ℕ) → Bool → Stream → List Recording → Option (List ℕ) → Bool → Stream → List Recording → Type 0
+abbrev pub FollowOn : Position → Bool → Stream → List Recording → Position → Bool → Stream → List Recording → Type 0
 FollowOn now failed items recorders later failed_later items_later recorders_later =
-    (s : Roster) (limits : Bounds) (turns : ℕ) (start : Option (List ℕ)) → Follows s limits turns (used start now failed) items recorders → Follows s limits turns (used start later failed_later) items_later recorders_later
+    (s : Roster) (limits : Bounds) (turns : ℕ) (start : Position) → Follows s limits turns (used start now failed) items recorders → Follows s limits turns (used start later failed_later) items_later recorders_later
 
 -- recorders have recorded what the items told of a text, under a limit of as many threads as there are recorders; each takes as many events
 -- as there may be
-pub record IsRecording (now : Option (List ℕ)) (failed : Bool) (items : Stream) (recorders : List Recording) : Type 0 where
+pub record IsRecording (now : Position) (failed : Bool) (items : Stream) (recorders : List Recording) : Type 0 where
   pub s : Roster
   pub limits : Bounds
   pub turns : ℕ
-  pub start : Option (List ℕ)
+  pub start : Position
   pub as_many : limits.threads ≡ length recorders
   pub threads_are : s.limits.threads ≡ limits.threads
   pub events_are : s.limits.events ≡ MAX_EVENTS
@@ -97,16 +98,16 @@ abbrev pub CanBeTaken : List Recording → Item → Type 0
 CanBeTaken recorders item = (thread : ℕ) (event : Event) → event_in item ≡ Some (thread, event) → MayTake recorders thread event
 
 -- the reads gave a text, of which the items told no more than this trace, for this fault
-pub record Stops (limits : Bounds) (turns : ℕ) (input : Use) (items : Stream) (fault : LinesFault) : Type 0 where
+pub record Stops (limits : Bounds) (turns : ℕ) (input : SourceUse) (items : Stream) (fault : LinesFault) : Type 0 where
   pub text : List ℕ
   pub told : Trace
   pub tells : HasTold limits turns input items text told
   pub why : HasFault items fault
 
 -- whatever the recorders followed with this left to read, the items stop with that left, for this fault
-abbrev pub StopsAfter : Option (List ℕ) → Bool → Stream → List Recording → Option (List ℕ) → Bool → Stream → LinesFault → Type 0
+abbrev pub StopsAfter : Position → Bool → Stream → List Recording → Position → Bool → Stream → LinesFault → Type 0
 StopsAfter now failed items recorders later failed_later items_later fault =
-    (s : Roster) (limits : Bounds) (turns : ℕ) (start : Option (List ℕ)) → Follows s limits turns (used start now failed) items recorders → Stops limits turns (used start later failed_later) items_later fault
+    (s : Roster) (limits : Bounds) (turns : ℕ) (start : Position) → Follows s limits turns (used start now failed) items recorders → Stops limits turns (used start later failed_later) items_later fault
 
 -- what a session of so many threads leaves where the items told this trace: receipts for the trace's lists, and for an empty one of each
 -- thread that the trace doesn't have; or why there is no report
@@ -115,13 +116,13 @@ LeavesAll threads items told (Ok ran) = IsDone items × ((more : ℕ) → thread
 LeavesAll threads items told (Err fault) = IsStreamFault items told fault
 
 -- the reads gave a text, the items told a trace of it, and a session of so many threads has recorded it
-pub record HasStreamed (limits : Bounds) (turns : ℕ) (input : Use) (threads : ℕ) (items : Stream) (ran : Result Ran StreamFault) : Type 0 where
+pub record HasStreamed (limits : Bounds) (turns : ℕ) (input : SourceUse) (threads : ℕ) (items : Stream) (ran : Result Ran StreamFault) : Type 0 where
   pub text : List ℕ
   pub told : Trace
   pub tells : HasTold limits turns input items text told
   pub leaves : LeavesAll threads items told ran
 
 -- where nothing was told yet with this left to read, a session of so many threads has recorded what was told with that left
-abbrev pub StreamsOn : Option (List ℕ) → Bool → Stream → Option (List ℕ) → Bool → ℕ → Stream → Result Ran StreamFault → Type 0
+abbrev pub StreamsOn : Position → Bool → Stream → Position → Bool → ℕ → Stream → Result Ran StreamFault → Type 0
 StreamsOn now failed items later failed_later threads items_later ran =
-    (limits : Bounds) (turns : ℕ) (start : Option (List ℕ)) → HasTold limits turns (used start now failed) items [] nothing → HasStreamed limits turns (used start later failed_later) threads items_later ran
+    (limits : Bounds) (turns : ℕ) (start : Position) → HasTold limits turns (used start now failed) items [] nothing → HasStreamed limits turns (used start later failed_later) threads items_later ran

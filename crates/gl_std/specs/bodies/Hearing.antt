@@ -1,6 +1,7 @@
 -- What is met while a source is heard.
-use Rattle.std.specs.Prelude.{◌≡◌, ℕ, Bool, true, false, List, ◌++◌, Option, Ok}
+use Rattle.std.specs.Prelude.{◌≡◌, ℕ, Bool, true, false, List, ◌++◌, Ok}
 use Rattle.gl_event.specs.Bounds.{Bounds}
+use Rattle.gl_io.specs.Positions.{Position}
 use Rattle.gl_io.specs.Reads.{HasRead}
 use Rattle.gl_std.specs.LineReading.{HasGiven}
 use Rattle.gl_std.specs.bodies.States.{IsOver, ReadsOn}
@@ -17,13 +18,13 @@ abbrev pub listed_by : Listing → Trace
 listed_by l = record { names = l.reader.judge.names; lists = l.lists; skipped = l.reader.judge.skipped; stray = l.reader.judge.stray }
 
 -- what was met where the reads gave this text by then: its lines so far told the trace of the lists, or one of them is at fault
-abbrev pub HasMet : Bounds → ℕ → Option (List ℕ) → Option (List ℕ) → Bool → Listing → List ℕ → Progress → Type 0
+abbrev pub HasMet : Bounds → ℕ → Position → Position → Bool → Listing → List ℕ → Progress → Type 0
 HasMet limits turns start now failed l text More = ReadsOn limits turns start now l.reader text (listed_by l)
 HasMet limits turns start now failed l text End = HasRead turns start now failed text true × (l.reader.judge.limits ≡ limits) × IsOver l.reader text (listed_by l)
 HasMet limits turns start now failed l text (Fault number kind) = HasGiven turns start now l.reader.turns text × IsFaulty limits text number kind
 HasMet limits turns start now failed l text Broke = HasRead turns start now failed text false × (trace_of limits (ended_lines text) ≡ Ok (listed_by l))
 
 -- that was met from such a text on, after which a piece more may have been read
-pub record Meets (limits : Bounds) (turns : ℕ) (start now : Option (List ℕ)) (failed : Bool) (l : Listing) (text : List ℕ) (progress : Progress) : Type 0 where
+pub record Meets (limits : Bounds) (turns : ℕ) (start now : Position) (failed : Bool) (l : Listing) (text : List ℕ) (progress : Progress) : Type 0 where
   pub piece : List ℕ
   pub met : HasMet limits turns start now failed l (text ++ piece) progress

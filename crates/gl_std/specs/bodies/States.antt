@@ -1,6 +1,7 @@
 -- What the code's state shows of a text that is being read, and the public words said of that.
-use Rattle.std.specs.Prelude.{◌≡◌, ◌+◌, ◌*◌, ◌^◌, ◌<◌, ◌≤◌, ℕ, List, Option, drop, length, take, vec_len}
+use Rattle.std.specs.Prelude.{◌≡◌, ◌+◌, ◌*◌, ◌^◌, ◌<◌, ◌≤◌, ℕ, List, drop, length, take, vec_len}
 use Rattle.gl_event.specs.Bounds.{Bounds}
+use Rattle.gl_io.specs.Positions.{Position}
 use Rattle.gl_io.specs.declared.source.TheConstants.{CHUNK}
 use Rattle.gl_std.specs.LineReading as line_reading
 use Rattle.gl_std.specs.Judging as judging
@@ -42,7 +43,7 @@ Reaches j beginning seen told = line_reading.Reaches (judge_of j) beginning seen
 abbrev pub IsAt : LineReader → List ℕ → Trace → Type 0
 IsAt f text told = line_reading.IsAt (reader_of f) text told
 
-abbrev pub ReadsOn : Bounds → ℕ → Option (List ℕ) → Option (List ℕ) → LineReader → List ℕ → Trace → Type 0
+abbrev pub ReadsOn : Bounds → ℕ → Position → Position → LineReader → List ℕ → Trace → Type 0
 ReadsOn limits turns start now f text told = line_reading.ReadsOn limits turns start now (reader_of f) text told
 
 abbrev pub IsOver : LineReader → List ℕ → Trace → Type 0

@@ -25,8 +25,10 @@ impl NameList {
         ensures names { OnOk result (self.new ≡ with_new self.old name.now) }
         ensures same { OnErr result (self.new ≡ self.old) }
         ensures full { result ≡ Err Full
-            → (position (bytes_eq name.now) self.old ≡ None) × (length self.old + 1 ≡ 2 ^ 32) }
-        ensures room { position (bytes_eq name.now) self.old ≡ None → length self.old + 1 ≡ 2 ^ 32
+            → (position (bytes_eq name.now) self.old ≡ None)
+            × (length self.old + 1 ≡ 2 ^ 32) }
+        ensures room { position (bytes_eq name.now) self.old ≡ None
+            → length self.old + 1 ≡ 2 ^ 32
             → result ≡ Err Full }
     {
         if let Some(number) = self.find(name) {

@@ -18,4 +18,4 @@ returns-clause-early g c =
     let trace : trace_of greatest (ended_lines was.text) ≡ heard.trace =
     ap (λ limits. trace_of limits (ended_lines was.text)) (sym c.greatest.ensures) ∙ ap (λ whole. trace_of c.greatest.result (judged whole was.text)) (sym c.if-heard.false) ∙ was.trace in
     cut_short was.text c.end_early.result
-    (subst (HasRead c.args.turns (g.I.Source.remaining c.args.input.now) (g.I.Source.remaining c.read_source.new.input) (g.I.Source.failed c.read_source.new.input) was.text) c.if-heard.false was.read) (c.end_early.ensures was.text trace)
+    (subst (HasRead c.args.turns (g.I.Source.position c.args.input.now) (g.I.Source.position c.read_source.new.input) (g.I.Source.failed c.read_source.new.input) was.text) c.if-heard.false was.read) (c.end_early.ensures was.text trace)

@@ -58,7 +58,7 @@ returns-in-Ok-read-clause-ours g c =
     let unread = c.requires.unread in
     let gathered = has_gathered _ _ _ _ c.join-gathered.result c.in-Some.ensures.collector c.in-Some.ensures.outlets c.join-gathered.ensures in
     let ran : Ran = record { gathered = c.join-gathered.result; receipts = c.close_all.new.receipts; served = c.join_workers.new.served } in
-    let now = g.S.Source.remaining c.record_items-read.new.input in
+    let now = g.S.Source.position c.record_items-read.new.input in
     let failed = g.S.Source.failed c.record_items-read.new.input in
     let threads = length session.recorders.items in
     let items = c.record_items-read.new.items in

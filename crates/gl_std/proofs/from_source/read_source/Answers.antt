@@ -9,7 +9,7 @@ use Rattle.gl_std.proofs.from_source.read_source.Goals as goal
 pub lines-init : goal.lines-init
 lines-init g c =
     let listing = c.in_ok-listing.listing in
-    let reads = c.in_ok-listing.ensures.reads (g.R.Source.remaining c.args.input.now) in
+    let reads = c.in_ok-listing.ensures.reads (g.R.Source.position c.args.input.now) in
     record {
       text = [];
       reads = subst (ReadsOn c.args.limits.now c.args.turns _ _ listing.reader []) (sym (listed_is listing nothing reads.at.reaches.judged c.in_ok-listing.ensures.none)) reads;
@@ -21,7 +21,7 @@ pub lines-preserved : goal.lines-preserved
 lines-preserved g c =
     let so_far = c.lines.invariant in
     let new = c.take.new in
-    let meets = subst (Meets c.args.limits.now c.args.turns (g.R.Source.remaining c.args.input.now) (g.R.Source.remaining new.input) (g.R.Source.failed new.input) new.self so_far.text) c.in-More.is (c.in_ok-take.ensures.meets c.args.limits.now c.args.turns (g.R.Source.remaining c.args.input.now) so_far.text so_far.reads) in
+    let meets = subst (Meets c.args.limits.now c.args.turns (g.R.Source.position c.args.input.now) (g.R.Source.position new.input) (g.R.Source.failed new.input) new.self so_far.text) c.in-More.is (c.in_ok-take.ensures.meets c.args.limits.now c.args.turns (g.R.Source.position c.args.input.now) so_far.text so_far.reads) in
     let was : c.take.result ≡ Ok _ = c.in_ok-take.was ∙ ap (λ p. Ok p) c.in-More.is in
     record {
       text = so_far.text ++ meets.piece;
@@ -35,7 +35,7 @@ pub returns-in-End-clause-heard : goal.returns-in-End-clause-heard
 returns-in-End-clause-heard g c =
     let so_far = c.lines.invariant in
     let new = c.take.new in
-    let meets = subst (Meets c.args.limits.now c.args.turns (g.R.Source.remaining c.args.input.now) (g.R.Source.remaining new.input) (g.R.Source.failed new.input) new.self so_far.text) c.in-End.is (c.in_ok-take.ensures.meets c.args.limits.now c.args.turns (g.R.Source.remaining c.args.input.now) so_far.text so_far.reads) in
+    let meets = subst (Meets c.args.limits.now c.args.turns (g.R.Source.position c.args.input.now) (g.R.Source.position new.input) (g.R.Source.failed new.input) new.self so_far.text) c.in-End.is (c.in_ok-take.ensures.meets c.args.limits.now c.args.turns (g.R.Source.position c.args.input.now) so_far.text so_far.reads) in
     heard_whole c.args.limits.now new.self.reader.judge.limits c.args.turns _ _ _ new.self.reader (so_far.text ++ meets.piece) (listed_by new.self) c.finish.result meets.met.1 meets.met.0 meets.met.2 c.finish.ensures.trace c.finish.ensures.whole
 
 pub returns-in-End-clause-over : goal.returns-in-End-clause-over
@@ -46,7 +46,7 @@ pub returns-in-Fault-clause-heard : goal.returns-in-Fault-clause-heard
 returns-in-Fault-clause-heard g c =
     let so_far = c.lines.invariant in
     let new = c.take.new in
-    let meets = subst (Meets c.args.limits.now c.args.turns (g.R.Source.remaining c.args.input.now) (g.R.Source.remaining new.input) (g.R.Source.failed new.input) new.self so_far.text) c.in-Fault.is (c.in_ok-take.ensures.meets c.args.limits.now c.args.turns (g.R.Source.remaining c.args.input.now) so_far.text so_far.reads) in
+    let meets = subst (Meets c.args.limits.now c.args.turns (g.R.Source.position c.args.input.now) (g.R.Source.position new.input) (g.R.Source.failed new.input) new.self so_far.text) c.in-Fault.is (c.in_ok-take.ensures.meets c.args.limits.now c.args.turns (g.R.Source.position c.args.input.now) so_far.text so_far.reads) in
     c.drain.ensures c.args.limits.now c.args.turns _ (so_far.text ++ meets.piece) meets.met.0 meets.met.1
 
 pub returns-in-Fault-clause-over : goal.returns-in-Fault-clause-over
@@ -57,7 +57,7 @@ pub returns-in-Broke-clause-heard : goal.returns-in-Broke-clause-heard
 returns-in-Broke-clause-heard g c =
     let so_far = c.lines.invariant in
     let new = c.take.new in
-    let meets = subst (Meets c.args.limits.now c.args.turns (g.R.Source.remaining c.args.input.now) (g.R.Source.remaining new.input) (g.R.Source.failed new.input) new.self so_far.text) c.in-Broke.is (c.in_ok-take.ensures.meets c.args.limits.now c.args.turns (g.R.Source.remaining c.args.input.now) so_far.text so_far.reads) in
+    let meets = subst (Meets c.args.limits.now c.args.turns (g.R.Source.position c.args.input.now) (g.R.Source.position new.input) (g.R.Source.failed new.input) new.self so_far.text) c.in-Broke.is (c.in_ok-take.ensures.meets c.args.limits.now c.args.turns (g.R.Source.position c.args.input.now) so_far.text so_far.reads) in
     record {
       text = so_far.text ++ meets.piece;
       read = meets.met.0;

@@ -7,7 +7,7 @@ use Rattle.gl_std.proofs.from_source.read_source.Given as goal
 abbrev pub invariant-lines : goal.invariant-lines
 invariant-lines g l = record {
   text : List ℕ;
-  reads : ReadsOn l.limits l.turns (g.R.Source.remaining l.initial.input) (g.R.Source.remaining l.input) l.listing.reader text (listed_by l.listing);
+  reads : ReadsOn l.limits l.turns (g.R.Source.position l.initial.input) (g.R.Source.position l.input) l.listing.reader text (listed_by l.listing);
   fit : IsFit l.listing.reader;
   sound : g.R.Source.failed l.input ≡ false;
 }

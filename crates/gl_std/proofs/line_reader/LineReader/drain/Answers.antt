@@ -21,8 +21,8 @@ loop-self-preserved g c =
     record {
       piece = so_far.piece ++ left_of new;
       given = λ turns start text given.
-          subst (HasGiven turns start (g.R.Source.remaining c.fill.new.input) new.turns) (append_assoc text so_far.piece (left_of new))
-          (subst (λ more. HasFilled more turns start (g.R.Source.remaining c.fill.new.input) (g.R.Source.failed c.fill.new.input) new (text ++ so_far.piece)) c.in-Ok-true.field-0-test (c.in-Ok-true.ensures.filled turns start (text ++ so_far.piece) (so_far.given turns start text given)));
+          subst (HasGiven turns start (g.R.Source.position c.fill.new.input) new.turns) (append_assoc text so_far.piece (left_of new))
+          (subst (λ more. HasFilled more turns start (g.R.Source.position c.fill.new.input) (g.R.Source.failed c.fill.new.input) new (text ++ so_far.piece)) c.in-Ok-true.field-0-test (c.in-Ok-true.ensures.filled turns start (text ++ so_far.piece) (so_far.given turns start text given)));
       room = c.fill.ensures.same_size ∙ so_far.room;
       sound = c.in-Ok-true.ensures.sound;
     }
@@ -32,7 +32,7 @@ returns-in-Ok-false g c = λ turns start text given.
     let so_far = c.loop-self.invariant in
     record {
       piece = so_far.piece;
-      read = subst (λ more. HasFilled more turns start (g.R.Source.remaining c.fill.new.input) (g.R.Source.failed c.fill.new.input) c.fill.new.self (text ++ so_far.piece)) c.in-Ok-false.field-0-test (c.in-Ok-false.ensures.filled turns start (text ++ so_far.piece) (so_far.given turns start text given));
+      read = subst (λ more. HasFilled more turns start (g.R.Source.position c.fill.new.input) (g.R.Source.failed c.fill.new.input) c.fill.new.self (text ++ so_far.piece)) c.in-Ok-false.field-0-test (c.in-Ok-false.ensures.filled turns start (text ++ so_far.piece) (so_far.given turns start text given));
     }
 
 pub returns-in-Err : goal.returns-in-Err

@@ -1,7 +1,7 @@
 use Rattle.std.proofs.Common.{◌≡◌, length, take, refl, sym, ap, ◌∙◌, arith}
 use Rattle.std.proofs.lemmas.List.{length-take-le, with_items_is}
 use Rattle.gl_io.specs.declared.source.TheConstants.{CHUNK}
-use Rattle.gl_std.proofs.LineByLine.{filled_by}
+use Rattle.gl_std.proofs.LineByLine.{broken_by, filled_by, on_err}
 use Rattle.gl_std.proofs.line_reader.LineReader.fill.Goals as goal
 
 pub returns-clause-filled : goal.returns-clause-filled
@@ -16,4 +16,8 @@ returns-clause-filled g c = λ turns start text given.
     (omega (arith, c.in_ok-count.ensures.bound.0, room))
     c.requires.left (omega (arith, c.requires.left)) c.in_ok-count.ensures.failed gave.0
     (λ none. gave.1 none (omega (arith, room)))
-    given
+    c.read.ensures.counted given
+
+pub returns-in_err-count-clause-broke : goal.returns-in_err-count-clause-broke
+returns-in_err-count-clause-broke g c = on_err c.from_residual.result _ (λ turns start text given.
+    broken_by turns c.args.self.now.turns start (g.R.Source.position c.args.input.now) _ _ text c.requires.left c.in_err-count.ensures.failed c.in_err-count.ensures.bytes c.read.ensures.counted given)

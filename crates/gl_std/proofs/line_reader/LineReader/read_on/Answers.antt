@@ -20,7 +20,7 @@ returns-in-Ok-true-clause-steps g c = λ limits turns start text told is.
     let old = c.args.self.now in
     let new = c.fill.new.self in
     let left : left_of old ≡ [] = ap (λ n. drop n (take old.end old.buffer.items)) c.requires.spent ∙ left_none old.buffer.items old.end in
-    let given = subst (λ more. HasFilled more turns start (g.R.Source.remaining c.fill.new.input) (g.R.Source.failed c.fill.new.input) new text) c.in-Ok-true.field-0-test (c.in-Ok-true.ensures.filled turns start text is.given) in
+    let given = subst (λ more. HasFilled more turns start (g.R.Source.position c.fill.new.input) (g.R.Source.failed c.fill.new.input) new text) c.in-Ok-true.field-0-test (c.in-Ok-true.ensures.filled turns start text is.given) in
     record { piece = left_of new; stepped = read_more limits turns start _ _ old new text told is left c.fill.ensures.same_judge (ap (λ u. u.items) c.fill.ensures.same_beginning) given }
 
 -- it met the end
@@ -29,7 +29,7 @@ returns-in-Ok-false-clause-steps g c = λ limits turns start text told is.
     let old = c.args.self.now in
     let new = c.fill.new.self in
     let left : left_of old ≡ [] = ap (λ n. drop n (take old.end old.buffer.items)) c.requires.spent ∙ left_none old.buffer.items old.end in
-    let read = subst (λ more. HasFilled more turns start (g.R.Source.remaining c.fill.new.input) (g.R.Source.failed c.fill.new.input) new text) c.in-Ok-false.field-0-test (c.in-Ok-false.ensures.filled turns start text is.given) in
+    let read = subst (λ more. HasFilled more turns start (g.R.Source.position c.fill.new.input) (g.R.Source.failed c.fill.new.input) new text) c.in-Ok-false.field-0-test (c.in-Ok-false.ensures.filled turns start text is.given) in
     stepped_here limits turns start _ _ new text told _
     (read, ap (λ j. j.limits) c.fill.ensures.same_judge ∙ is.same, over_of old new text told is.at left c.fill.ensures.same_judge (ap (λ u. u.items) c.fill.ensures.same_beginning))
 

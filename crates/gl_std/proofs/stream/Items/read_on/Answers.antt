@@ -22,8 +22,8 @@ returns-in-Ok-End-clause-tells g c = λ limits turns start text told is.
     let old = c.self.inside in
     let next = c.next.new in
     let on = reads_shown limits turns start _ old.stage old.reader c.args.self.now text told c.self.view_is is in
-    let steps = subst (λ step. Steps limits turns start (g.R.Source.remaining next.input) (g.R.Source.failed next.input) next.self text told (Ok step)) c.in-Ok-End.field-0-is (c.in-Ok-End.ensures.steps limits turns start text told on) in
-    record { piece = steps.piece; tells = c.finish.ensures.tells limits turns (used start (g.R.Source.remaining next.input) (g.R.Source.failed next.input)) (text ++ steps.piece) told steps.stepped.0 steps.stepped.1 steps.stepped.2 }
+    let steps = subst (λ step. Steps limits turns start (g.R.Source.position next.input) (g.R.Source.failed next.input) next.self text told (Ok step)) c.in-Ok-End.field-0-is (c.in-Ok-End.ensures.steps limits turns start text told on) in
+    record { piece = steps.piece; tells = c.finish.ensures.tells limits turns (used start (g.R.Source.position next.input) (g.R.Source.failed next.input)) (text ++ steps.piece) told steps.stepped.0 steps.stepped.1 steps.stepped.2 }
 
 pub returns-in-Err-clause-tells : goal.returns-in-Err-clause-tells
 returns-in-Err-clause-tells g c = λ limits turns start text told is.
