@@ -6,9 +6,11 @@ use Rattle.std.proofs.lemmas.Bool.{cases_eq}
 use Rattle.std.proofs.lemmas.List.{append-nil}
 use Rattle.gl_event.specs.Bounds.{Bounds}
 use Rattle.gl_event.specs.declared.notes.Note.{Note}
+use Rattle.gl_edges.specs.declared.edge.Edge.{Edge}
+use Rattle.gl_edges.specs.declared.edge.Sample.{Sample}
 use Rattle.gl_lane.specs.Lanes.{Popping}
 use Rattle.gl_world.proofs.Lists.{same_some, get_at, get_set_same, get_set_other}
-use Rattle.gl_engine.specs.bodies.Breaking.{handed, HandOver, IsBlamed, IsGone}
+use Rattle.gl_engine.specs.bodies.Breaking.{handed, HandOver, HasStopped, IsBlamed, IsGoneAt}
 use Rattle.gl_engine.specs.declared.faults.RunFault.{RunFault}
 use Rattle.gl_engine.specs.declared.faults.RunFault.TheVariants.{Memory, Gone, Broken}
 use Rattle.gl_engine.specs.declared.lane_input.LaneInput.{LaneInput}
@@ -57,25 +59,39 @@ hand_over_one inputs i was new within is more thread input at =
 
 -- ---- what is to blame
 
--- whatever comes later, the same note is to blame
-pub blamed_later : (limits : Bounds) (before after : List LaneInput) (stream : List Note) (fault : RunFault) → HandOver before after → IsBlamed limits before stream fault → IsBlamed limits after stream fault
-blamed_later limits before after stream Memory more is = tt
-blamed_later limits before after stream (Gone shard) more is = tt
-blamed_later limits before after stream (Broken thread why) more is =
-    let later = more thread is.came.input is.came.here in
-    record {
-      taken = is.taken;
-      note = is.note;
-      told = is.told;
-      came = record { input = later.input; here = later.here; first = prefix_on (is.taken ++ is.note ∷ []) (handed is.came.input.lane) (handed later.input.lane) is.came.first later.first };
-      refused = is.refused;
-    }
+module _ (IsGone : ℕ → Type 0) (limits : Bounds) where
+  -- whatever comes later, the same note is to blame
+  pub blamed_later : (before after : List LaneInput) (stream : List Note) (fault : RunFault) → HandOver before after → IsBlamed IsGone limits before stream fault → IsBlamed IsGone limits after stream fault
+  blamed_later before after stream Memory more is = tt
+  blamed_later before after stream (Gone shard) more is = is
+  blamed_later before after stream (Broken thread why) more is =
+      let later = more thread is.came.input is.came.here in
+      record {
+        taken = is.taken;
+        note = is.note;
+        told = is.told;
+        came = record { input = later.input; here = later.here; first = prefix_on (is.taken ++ is.note ∷ []) (handed is.came.input.lane) (handed later.input.lane) is.came.first later.first };
+        refused = is.refused;
+      }
+
+  -- a pull finds no worker gone
+  pub blamed_pull : (inputs : List LaneInput) (stream : List Note) (fault : RunFault) → IsBlamed (λ shard. ⊥) limits inputs stream fault → IsBlamed IsGone limits inputs stream fault
+  blamed_pull inputs stream Memory is = tt
+  blamed_pull inputs stream (Gone shard) is = absurd is
+  blamed_pull inputs stream (Broken thread why) is = is
+
+  -- whichever worker it is
+  pub blamed_any : (inputs : List LaneInput) (stream : List Note) (fault : RunFault) → IsBlamed IsGone limits inputs stream fault → IsBlamed (λ shard. Unit {0}) limits inputs stream fault
+  blamed_any inputs stream Memory is = tt
+  blamed_any inputs stream (Gone shard) is = tt
+  blamed_any inputs stream (Broken thread why) is = is
 
 -- no lane is to blame for a worker that is gone
-pub blamed_gone : (limits : Bounds) (inputs : List LaneInput) (stream : List Note) (fault : RunFault) → IsGone fault → IsBlamed limits inputs stream fault
-blamed_gone limits inputs stream Memory is = tt
-blamed_gone limits inputs stream (Gone shard) is = tt
-blamed_gone limits inputs stream (Broken thread why) is = absurd is
+pub blamed_gone : (limits : Bounds) (inputs : List LaneInput) (stream : List Note) (made : List (Edge × Sample)) (sent : List (List (Edge × Sample))) (fault : RunFault) → IsGoneAt made sent fault
+    → IsBlamed (HasStopped made sent) limits inputs stream fault
+blamed_gone limits inputs stream made sent Memory is = absurd is
+blamed_gone limits inputs stream made sent (Gone shard) is = is
+blamed_gone limits inputs stream made sent (Broken thread why) is = absurd is
 
 -- what holds anyway holds after an Ok
 pub on_ok_anyway : {A E P : Type 0} (r : Result A E) → P → OnOk r P

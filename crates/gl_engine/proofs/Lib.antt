@@ -5,6 +5,7 @@ pub mod Dealt
 pub mod Handing
 pub mod Confirming
 pub mod Running
+pub mod Ending
 pub mod Agreeing
 pub mod Alone
 pub mod Unpulled

@@ -1,5 +1,5 @@
 -- A pull in a run, whose edges are kept apart from those that were shipped.
-use Rattle.std.proofs.Common.{◌≡◌, ℕ, suc, ◌+◌, ◌<◌, ◌≤◌, Bool, true, false, List, [], ◌∷◌, ◌++◌, length, map, set, get_or, Option, None, Some, Result, Ok, Err, refl, sym, ap, ◌∙◌, subst, append_assoc, arith, ◌⊎◌, inl, inr}
+use Rattle.std.proofs.Common.{◌≡◌, ℕ, suc, ◌+◌, ◌<◌, ◌≤◌, Bool, true, false, List, [], ◌∷◌, ◌++◌, length, map, set, get_or, Option, None, Some, Result, Ok, Err, refl, sym, ap, ◌∙◌, subst, append_assoc, arith, inl, inr}
 use Rattle.std.specs.Prelude.{slice_get, IsOk, OnOk, IfErr, IfSome}
 use Rattle.std.specs.List.{range_with_len}
 use Rattle.std.specs.Option.{option_map}
@@ -8,7 +8,6 @@ use Rattle.std.proofs.Math.Seq.{map-set_same}
 use Rattle.std.proofs.lemmas.Bool.{false≢true}
 use Rattle.std.proofs.lemmas.List.{append-nil, length-append, length-map, map-set, map-append}
 use Rattle.std.proofs.lemmas.Option.{slice_get-map}
-use Rattle.std.proofs.lemmas.Result.{IfErr-at_err}
 use Rattle.gl_event.specs.Bounds.{Bounds}
 use Rattle.gl_event.specs.declared.notes.Note.{Note}
 use Rattle.gl_edges.specs.declared.edge.Edge.{Edge}
@@ -20,7 +19,7 @@ use Rattle.gl_shards.specs.Tables.{of_shard}
 use Rattle.gl_world.proofs.Lists.{same_some, get_at, get_set_same}
 use Rattle.gl_engine.specs.Collecting.{Pulling, Side, as_of, with_pulled, HasPulled, IsSidePull}
 use Rattle.gl_intake.specs.declared.notes.Refused.{Refused}
-use Rattle.gl_engine.specs.bodies.Breaking.{IsBlamed, IsGone, IsKeptFor, TellsTaken}
+use Rattle.gl_engine.specs.bodies.Breaking.{first_of, HasStopped, IsBlamed, IsKeptFor, TellsTaken}
 use Rattle.gl_engine.specs.Dealing.{dealt, made_by}
 use Rattle.gl_engine.specs.Keeping.{BreaksForCause, IsCollector, pulling_of}
 use Rattle.gl_engine.specs.bodies.Whole.{lane_of, HasMoved, KeepsUp, IsWhole, IsGathered}
@@ -33,7 +32,7 @@ use Rattle.gl_engine.specs.declared.pulled.PullFault.{PullFault}
 use Rattle.gl_engine.specs.declared.pulled.PullFault.TheVariants.{Broken, Memory as OutOfMemory}
 use Rattle.gl_engine.specs.declared.lane_input.LaneInput.{LaneInput}
 use Rattle.gl_engine.proofs.Dealt.{dealt_at, dealt_more}
-use Rattle.gl_engine.proofs.Handing.{prefix_behind, blamed_gone}
+use Rattle.gl_engine.proofs.Handing.{prefix_behind, blamed_any}
 use Rattle.gl_engine.proofs.Sides.{collector_after, lane_same}
 
 -- the side with these edges made before its own
@@ -113,14 +112,14 @@ module _ (limits : Bounds) (inputs : List LaneInput) (stream : List Note) (is : 
   moved_by taken told = moved_by_answer taken answer tells told
 
   -- where the pull broke the lane, its front note is to blame
-  pub blamed_now : (fault : RunFault) → IsKeptFor thread answer fault → IsBlamed limits (set inputs thread new) later fault
+  pub blamed_now : (fault : RunFault) → IsKeptFor thread answer fault → IsBlamed (λ shard. ⊥) limits (set inputs thread new) later fault
   blamed_now kept.Memory told = tt
-  blamed_now (kept.Gone shard) told = tt
+  blamed_now (kept.Gone shard) told = absurd told
   blamed_now (kept.Broken number why) told =
       let broken : new.broken ≡ Some why = broken_by limits thread _ _ why (subst (λ a. IsSidePull limits thread (record { input = pulling_of was; stream = stream; made = [] }) a (record { input = pulling_of new; stream = later; made = due })) told.1 tells) in
       let stuck = cause why broken in
       let there : slice_get (set inputs thread new) thread ≡ Some new = get_set_same inputs thread new within in
-      subst (λ t. IsBlamed limits (set inputs thread new) later (kept.Broken t why)) (sym told.0)
+      subst (λ t. IsBlamed (λ shard. ⊥) limits (set inputs thread new) later (kept.Broken t why)) (sym told.0)
       (record {
         taken = new.lane.popped;
         note = stuck.note;
@@ -165,8 +164,27 @@ module _ (outlets : List Sending) (k : ℕ) (was new : Sending) (here : was ≡ 
       ∙ ap (λ j. set (dealt n before) j (of_shard n before j ++ pair ∷ [])) its
       ∙ sym (dealt_more n before pair (subst (λ j. j < n) its within))
 
+  pub sent_same : new.sent ≡ was.sent → map (λ o. o.sent) (set outlets k new) ≡ map (λ o. o.sent) outlets
+  sent_same same = map-set_same (λ (o : Sending). o.sent) outlets k new was (same ∙ ap (λ (o : Sending). o.sent) here)
+
   pub feeds_same : new.feed ≡ was.feed → map (λ o. o.feed) (set outlets k new) ≡ map (λ o. o.feed) outlets
   feeds_same same = map-set_same (λ (o : Sending). o.feed) outlets k new was (same ∙ ap (λ (o : Sending). o.feed) here)
+
+-- shipping stopped at an edge, the next after those that were shipped before
+pub stopped_at : (shards : ℕ) (before yielded left rest all : List (Edge × Sample)) (next : Edge × Sample) (was now : List (List (Edge × Sample))) (shard : ℕ) → yielded ++ left ≡ all → left ≡ next ∷ rest
+    → was ≡ dealt shards (before ++ yielded) → now ≡ was → length was ≡ shards → shard ≡ shard_of next.0 shards → HasStopped (before ++ all) now shard
+stopped_at shards before yielded left rest all next was now shard parts first dealt_are same count whose =
+    let many : length now ≡ shards = ap length same ∙ count in
+    record {
+      shipped = before ++ yielded;
+      stopped = record {
+        next = next;
+        rest = rest;
+        parts = ap (λ pairs. before ++ pairs) (sym parts ∙ ap (λ pairs. yielded ++ pairs) first) ∙ sym (append_assoc before yielded (next ∷ rest));
+        whose = whose ∙ ap (shard_of next.0) (sym many);
+      };
+      dealt_are = same ∙ dealt_are ∙ ap (λ n. dealt n (before ++ yielded)) (sym many);
+    }
 
 -- nothing was sent through these outlets
 pub unsent_dealt : (outlets : List Sending) → ((shard : ℕ) (o : Sending) → slice_get outlets shard ≡ Some o → o.sent ≡ []) → map (λ o. o.sent) outlets ≡ dealt (length outlets) []
@@ -204,25 +222,25 @@ all_whole limits inputs stream outlets sent keeps ended some are =
 pub lanes_shown : (inputs : List LaneInput) → map (λ (p : Pulling). p.lane) (map pulling_of inputs) ≡ map lane_of inputs
 lanes_shown inputs = map-map (λ (p : Pulling). p.lane) pulling_of inputs
 
--- where a lane broke in a run, there is a note to blame
-blamed_first : (limits : Bounds) (inputs : List LaneInput) (stream : List Note) (gathered : Result (Unit {0}) RunFault) → IfErr gathered (IsBlamed limits inputs stream) → (fault : Option RunFault)
-    → IfSome fault (λ f. (gathered ≡ Err f) ⊎ IsGone f) → IfSome fault (IsBlamed limits inputs stream)
-blamed_first limits inputs stream gathered blamed None from = tt
-blamed_first limits inputs stream gathered blamed (Some f) (inl is) = IfErr-at_err (IsBlamed limits inputs stream) is blamed
-blamed_first limits inputs stream gathered blamed (Some f) (inr gone) = blamed_gone limits inputs stream f gone
+-- what went wrong is to blame, whichever worker was gone
+blamed_first : (IsGone : ℕ → Type 0) (limits : Bounds) (inputs : List LaneInput) (stream : List Note) (gathered : Result (Unit {0}) RunFault) (gone : Option ℕ) → IfErr gathered (IsBlamed IsGone limits inputs stream)
+    → IfSome (first_of gathered gone) (IsBlamed (λ shard. Unit {0}) limits inputs stream)
+blamed_first IsGone limits inputs stream (Err fault) at_end blamed = blamed_any IsGone limits inputs stream fault blamed
+blamed_first IsGone limits inputs stream (Ok done) None blamed = tt
+blamed_first IsGone limits inputs stream (Ok done) (Some shard) blamed = tt
 
 -- what a run keeps at its end, whatever went wrong
-pub gathered_all : (limits collecting : Bounds) → collecting ≡ limits → (before inputs : List LaneInput) → length before ≡ limits.threads → map lane_of inputs ≡ map lane_of before → (stream : List Note) (given outlets : List Sending) (sent : List AllSent)
-    → 1 ≤ length given → map (λ o. o.feed) outlets ≡ map (λ o. o.feed) given → (gathered : Result (Unit {0}) RunFault) (ended : Result (Unit {0}) ℕ) → OnOk gathered (KeepsUp collecting inputs stream outlets)
-    → OnOk gathered ((thread : ℕ) → thread < collecting.threads → has_ended thread stream ≡ true) → OnOk ended (map (λ s. s.sent) sent ≡ map (λ o. o.sent) outlets)
-    → IfErr gathered (IsBlamed collecting inputs stream) → (fault : Option RunFault) → (fault ≡ None → IsOk gathered × IsOk ended) → IfSome fault (λ f. (gathered ≡ Err f) ⊎ IsGone f) → IsGathered limits inputs stream collecting sent fault
-gathered_all limits collecting same before inputs count lanes stream given outlets sent some feeds gathered ended keeps all kept blamed fault none some_fault = record {
+pub gathered_all : (IsGone : ℕ → Type 0) (limits collecting : Bounds) → collecting ≡ limits → (before inputs : List LaneInput) → length before ≡ limits.threads → map lane_of inputs ≡ map lane_of before → (stream : List Note) (given outlets : List Sending) (sent : List AllSent)
+    → 1 ≤ length given → map (λ o. o.feed) outlets ≡ map (λ o. o.feed) given → (gathered : Result (Unit {0}) RunFault) (gone : Option ℕ) → OnOk gathered (KeepsUp collecting inputs stream outlets)
+    → OnOk gathered ((thread : ℕ) → thread < collecting.threads → has_ended thread stream ≡ true) → (gone ≡ None → map (λ s. s.sent) sent ≡ map (λ o. o.sent) outlets)
+    → IfErr gathered (IsBlamed IsGone collecting inputs stream) → (fault : Option RunFault) → fault ≡ first_of gathered gone → (fault ≡ None → IsOk gathered × (gone ≡ None)) → IsGathered limits inputs stream collecting sent fault
+gathered_all IsGone limits collecting same before inputs count lanes stream given outlets sent some feeds gathered gone keeps all kept blamed fault first none = record {
   count = as_long lane_of lane_of inputs before lanes ∙ count;
   same_limits = same;
   whole = λ is.
       (let (ok, kept_ok) = none is in
       let many : length outlets ≡ length given = as_long (λ (o : Sending). o.feed) (λ (o : Sending). o.feed) outlets given feeds in
       subst (λ b. IsWhole b inputs stream sent) same
-      (all_whole collecting inputs stream outlets sent (when_ok gathered _ ok keeps) (when_ok gathered _ ok all) (omega (arith, many, some)) (when_ok ended _ kept_ok kept)));
-  blamed = subst (λ b. IfSome fault (IsBlamed b inputs stream)) same (blamed_first collecting inputs stream gathered blamed fault some_fault);
+      (all_whole collecting inputs stream outlets sent (when_ok gathered _ ok keeps) (when_ok gathered _ ok all) (omega (arith, many, some)) (kept kept_ok)));
+  blamed = subst (λ b. IfSome fault (IsBlamed (λ shard. Unit {0}) b inputs stream)) same (subst (λ f. IfSome f (IsBlamed (λ shard. Unit {0}) collecting inputs stream)) (sym first) (blamed_first IsGone collecting inputs stream gathered gone blamed));
 }

@@ -1,13 +1,16 @@
 //! The run of a collector: it collects all, ships all edges, and ends the feeds.
-ghost use Rattle.std.specs.Prelude.{◌≡◌, ◌⊎◌, Err, IfSome, ◌<◌, ◌≤◌, ◌+◌, [], ◌∷◌, ◌++◌, ℕ, true, None, Some, List, map, length, slice_get, IsOk, OnOk};
+ghost use Rattle.std.specs.Prelude.{◌≡◌, ◌<◌, ◌≤◌, ◌+◌, [], ◌∷◌, ◌++◌, ℕ, true, None, Some, List, map, length, slice_get, IsOk};
 ghost use mathlib.Core.List.{IsPrefix};
 ghost use Rattle.std.specs.Vec.{vec_len, vec_capacity};
+ghost use Rattle.gl_edges.specs.declared.edge.Edge.{Edge};
+ghost use Rattle.gl_edges.specs.declared.edge.Sample.{Sample};
 ghost use Rattle.gl_intake.specs.Stream.{has_ended, AreInOrder};
-ghost use Rattle.gl_shards.specs.Feeds.{Sending};
+ghost use Rattle.gl_shards.specs.Feeds.{FeedId, Sending};
 ghost use Rattle.gl_shards.specs.declared.shard.TheConstants.{MAX_SHARDS};
-ghost use Rattle.gl_engine.specs.bodies.Breaking.{IsGone};
+ghost use Rattle.gl_engine.specs.bodies.Breaking.{first_of};
 ghost use Rattle.gl_engine.specs.Dealing.{dealt, made_by};
-ghost use Rattle.gl_engine.specs.declared.faults.RunFault.TheVariants.{Memory};
+ghost use Rattle.gl_engine.specs.Gathering.{AreEnded, IsFoundGone};
+ghost use Rattle.gl_engine.specs.declared.faults.RunFault.TheVariants as kept;
 
 use crate::collector::Collector;
 use crate::discarding::discard_all;
@@ -29,47 +32,56 @@ fn keep(sent: &mut Vec<Sent>, ended: Sent)
     };
 }
 
-// Ends the outlet, and keeps the feed where its worker is there. Whether it is.
-fn end_one<R: Wait>(rt: &R, outlet: Outlet, sent: &mut Vec<Sent>) -> bool
+// Ends the outlet of this shard, and keeps the feed where its worker is there. The first shard whose
+// worker is gone, this one or one before, if there is one.
+fn end_one<R: Wait>(
+    rt: &R,
+    outlet: Outlet,
+    shard: u32,
+    gone: Option<u32>,
+    sent: &mut Vec<Sent>,
+) -> Option<u32>
     requires room { vec_len sent.old < vec_capacity sent.old }
-    ensures feeds { result ≡ true
-        → map (λ s. s.feed) sent.new.items ≡ map (λ s. s.feed) sent.old.items ++ outlet.feed ∷ [] }
-    ensures sent { result ≡ true
-        → map (λ s. s.sent) sent.new.items ≡ map (λ s. s.sent) sent.old.items ++ outlet.sent ∷ [] }
+    ensures ended { (feeds : List FeedId) (before : List (List (Edge × Sample)))
+        → length feeds ≡ shard
+        → AreEnded feeds before sent.old.items gone
+        → AreEnded (feeds ++ outlet.feed ∷ []) (before ++ outlet.sent ∷ []) sent.new.items
+        result }
     ensures len { vec_len sent.new ≤ vec_len sent.old + 1 }
     ensures capacity { vec_capacity sent.old ≤ vec_capacity sent.new }
 {
     match outlet.end(rt) {
         Ok(ended) => {
             keep(sent, ended);
-            true
+            gone
         }
-        Err(Gone) => false,
+        Err(Gone) => match gone {
+            Some(first) => Some(first),
+            None => Some(shard),
+        },
     }
 }
 
-// Ends all outlets, and keeps the feeds whose workers are there. Err with the first that has none.
-fn end_all<R: Wait>(rt: &R, outlets: Vec<Outlet>, sent: &mut Vec<Sent>) -> Result<(), u32>
+// Ends all outlets, and keeps the feeds whose workers are there. The first shard whose worker is gone, if
+// there is one.
+fn end_all<R: Wait>(rt: &R, outlets: Vec<Outlet>, sent: &mut Vec<Sent>) -> Option<u32>
     requires fit { length outlets.items ≤ MAX_SHARDS }
     requires empty { sent.old.items ≡ [] }
     requires room { vec_len sent.old + length outlets.items ≤ vec_capacity sent.old }
-    ensures feeds { OnOk result
-        (map (λ s. s.feed) sent.new.items ≡ map (λ o. o.feed) outlets.items) }
-    ensures sent { OnOk result
-        (map (λ s. s.sent) sent.new.items ≡ map (λ o. o.sent) outlets.items) }
+    ensures ended { AreEnded (map (λ o. o.feed) outlets.items) (map (λ o. o.sent) outlets.items)
+        sent.new.items result }
+    ensures feeds { result ≡ None
+        → map (λ s. s.feed) sent.new.items ≡ map (λ o. o.feed) outlets.items }
+    ensures sent { result ≡ None
+        → map (λ s. s.sent) sent.new.items ≡ map (λ o. o.sent) outlets.items }
 {
     let mut gone = None;
     let mut shard = 0;
     for outlet in outlets {
-        if !end_one(rt, outlet, sent) && gone.is_none() {
-            gone = Some(shard);
-        }
+        gone = end_one(rt, outlet, shard, gone, sent);
         shard += 1;
     }
-    match gone {
-        None => Ok(()),
-        Some(shard) => Err(shard),
-    }
+    gone
 }
 
 // Ends all outlets, where there is no room to keep the feeds.
@@ -79,16 +91,17 @@ fn end_unkept<R: Wait>(rt: &R, outlets: Vec<Outlet>) {
     }
 }
 
-// What went wrong first, if something did.
-fn first_fault(gathered: Result<(), RunFault>, ended: Result<(), u32>) -> Option<RunFault>
-    ensures none { result ≡ None → IsOk gathered × IsOk ended }
-    ensures some { IfSome result (λ fault. (gathered ≡ Err fault) ⊎ IsGone fault) }
+// What went wrong first, if something did: as all was gathered, or else as the feeds were ended, where this
+// is the first shard whose worker was gone.
+fn first_fault(gathered: Result<(), RunFault>, gone: Option<u32>) -> Option<RunFault>
+    ensures first { result ≡ first_of gathered gone }
+    ensures none { result ≡ None → IsOk gathered × (gone ≡ None) }
 {
     match gathered {
         Err(fault) => Some(fault),
-        Ok(()) => match ended {
-            Err(shard) => Some(RunFault::Gone { shard }),
-            Ok(()) => None,
+        Ok(()) => match gone {
+            Some(shard) => Some(RunFault::Gone { shard }),
+            None => None,
         },
     }
 }
@@ -99,7 +112,9 @@ impl Collector {
     /// have been sent yet, and there is one for each shard, 1 to 16 of them.
     ///
     /// At the first thing that goes wrong, it ships no more, goes on popping and throws away until every end
-    /// mark came, and still ends the outlets: no recorder and no worker waits for ever.
+    /// mark came, and still ends the outlets: no recorder and no worker waits for ever. A worker that is gone
+    /// is found so by the first edge that can't be shipped, or, where all were, as the outlets are ended: then
+    /// it is the first such one. The feeds whose workers are there are kept in either case.
     ///
     /// It waits for the recorders and for the workers: it returns only if every recorder closes, and as
     /// long as a worker's feed is full it waits for that. It looks at the lanes in turn, up to 64 notes of each,
@@ -120,7 +135,10 @@ impl Collector {
         ensures feeds { result.fault ≡ None
             → map (λ s. s.feed) result.sent ≡ map (λ o. o.feed) outlets.items }
         ensures shipped { result.fault ≡ None
-            → map (λ s. s.sent) result.sent ≡ dealt (length outlets.items) (made_by result.stream) }
+            → map (λ s. s.sent) result.sent
+            ≡ dealt (length outlets.items) (made_by result.stream) }
+        ensures gone { (shard : ℕ) → result.fault ≡ Some (kept.Gone shard)
+            → IsFoundGone outlets.items result shard }
     {
         match Vec::with_capacity(self.alloc, outlets.len()) {
             Ok(sent) => self.run_into(rt, outlets, sent),
@@ -146,7 +164,10 @@ impl Collector {
         ensures feeds { result.fault ≡ None
             → map (λ s. s.feed) result.sent ≡ map (λ o. o.feed) outlets.items }
         ensures shipped { result.fault ≡ None
-            → map (λ s. s.sent) result.sent ≡ dealt (length outlets.items) (made_by result.stream) }
+            → map (λ s. s.sent) result.sent
+            ≡ dealt (length outlets.items) (made_by result.stream) }
+        ensures gone { (shard : ℕ) → result.fault ≡ Some (kept.Gone shard)
+            → IsFoundGone outlets.items result shard }
     {
         let Collector {
             alloc,
@@ -167,7 +188,7 @@ impl Collector {
             made,
             &mut outlets,
         );
-        let ended = end_all(rt, outlets, &mut sent);
+        let gone = end_all(rt, outlets, &mut sent);
         Gathered {
             alloc,
             session,
@@ -175,7 +196,7 @@ impl Collector {
             intake,
             inputs,
             sent,
-            fault: first_fault(gathered, ended),
+            fault: first_fault(gathered, gone),
         }
     }
 
@@ -185,7 +206,7 @@ impl Collector {
         ensures limits { result.limits ≡ self.limits }
         ensures lanes { result.lanes ≡ map (λ input. input.lane) self.inputs }
         ensures stream { result.stream ≡ self.stream }
-        ensures fault { result.fault ≡ Some Memory }
+        ensures fault { result.fault ≡ Some kept.Memory }
     {
         let Collector {
             alloc,

@@ -9,7 +9,8 @@ use gl_intake::Refused;
 pub enum RunFault {
     /// There was no memory for a note, for its edges or for the list of feeds.
     Memory,
-    /// The worker's end of this shard's feed was dropped.
+    /// The worker's end of this shard's feed was dropped: the next edge made is this shard's and could not
+    /// be sent, or all were, and its feed is the first that could not be ended.
     Gone { shard: u32 },
     /// A note of the thread's lane may not come next, for this reason.
     Broken { thread: ThreadId, refused: Refused },

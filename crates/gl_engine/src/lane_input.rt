@@ -60,7 +60,8 @@ fn prepare(
     made: &mut Vec<(Edge, Sample)>,
     note: &Note,
 ) -> Result<(), Refused>
-    ensures next { OnOk result (note_refusal intake.old.limits intake.old.stream note.now ≡ None) }
+    ensures next { OnOk result
+        (note_refusal intake.old.limits intake.old.stream note.now ≡ None) }
     ensures reserved { OnOk result (1 ≤ spare_of intake.new note.now.thread) }
     ensures grown { OnOk result
         (made.new.items

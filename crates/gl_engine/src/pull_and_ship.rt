@@ -1,12 +1,12 @@
 //! How a run goes on as long as nothing goes wrong: it pulls, and ships the edges.
-ghost use Rattle.std.specs.Prelude.{◌≡◌, ◌<◌, ◌≤◌, ◌++◌, [], ◌∷◌, ℕ, true, List, map, length, OnOk, IfOk, IfErr};
+ghost use Rattle.std.specs.Prelude.{◌≡◌, ◌<◌, ◌≤◌, ◌++◌, [], ◌∷◌, ℕ, true, List, map, length, OnOk, OnErr, IfOk, IfErr};
 ghost use mathlib.Core.List.{IsPrefix};
 ghost use Rattle.gl_edges.specs.declared.edge.Edge.{Edge};
 ghost use Rattle.gl_edges.specs.declared.edge.Sample.{Sample};
 ghost use Rattle.gl_intake.specs.Stream.{has_ended};
 ghost use Rattle.gl_shards.specs.Shards as shards_of;
 ghost use Rattle.gl_shards.specs.declared.shard.TheConstants.{MAX_SHARDS};
-ghost use Rattle.gl_engine.specs.bodies.Breaking.{IsBlamed, IsGone, IsGoneFor, IsKeptFor, TellsTaken};
+ghost use Rattle.gl_engine.specs.bodies.Breaking.{HasStopped, IsBlamed, IsGoneAt, IsKeptFor, TellsTaken};
 ghost use Rattle.gl_engine.specs.Dealing.{dealt, made_by};
 ghost use Rattle.gl_engine.specs.Keeping.{IsCollector};
 ghost use Rattle.gl_engine.specs.bodies.Whole.{GoesOn, HasMoved, KeepsUp, PullsOn};
@@ -41,7 +41,8 @@ fn ship_one<R: Wait>(
         (map (λ o. o.sent) outlets.new.items
         ≡ dealt (length outlets.old.items) (before ++ (edge, sample) ∷ [])) }
     ensures feeds { map (λ o. o.feed) outlets.new.items ≡ map (λ o. o.feed) outlets.old.items }
-    ensures gone { IfErr result (λ shard. shard < length outlets.old.items) }
+    ensures unsent { OnErr result
+        (map (λ o. o.sent) outlets.new.items ≡ map (λ o. o.sent) outlets.old.items) }
     ensures whose { IfErr result
         (λ shard. shard ≡ shards_of.shard_of edge (length outlets.old.items)) }
 {
@@ -52,7 +53,7 @@ fn ship_one<R: Wait>(
     Ok(())
 }
 
-// Ships the edges to their shards, in order.
+// Ships the edges to their shards, in order, up to one that can't be sent: the worker of its shard is gone.
 fn ship<R: Wait>(
     rt: &R,
     outlets: &mut Vec<Outlet>,
@@ -66,8 +67,10 @@ fn ship<R: Wait>(
         (map (λ o. o.sent) outlets.new.items
         ≡ dealt (length outlets.old.items) (before ++ made.items)) }
     ensures feeds { map (λ o. o.feed) outlets.new.items ≡ map (λ o. o.feed) outlets.old.items }
-    ensures gone { IfErr result IsGone }
-    ensures whose { IfErr result (IsGoneFor (length outlets.old.items) made.items) }
+    ensures stopped { (before : List (Edge × Sample))
+        → map (λ o. o.sent) outlets.old.items ≡ dealt (length outlets.old.items) before
+        → IfErr result
+        (IsGoneAt (before ++ made.items) (map (λ o. o.sent) outlets.new.items)) }
 {
     for (edge, sample) in made {
         if let Err(shard) = ship_one(rt, outlets, edge, sample) {

@@ -86,10 +86,13 @@ fn confirm_at(inputs: &mut Vec<LaneInput>, receipt: &mut Receipt)
 pub(crate) fn confirm_all(inputs: &mut Vec<LaneInput>, receipts: &mut [Receipt])
     requires known { (at : ℕ) (r : Closed) → slice_get receipts.old at ≡ Some r
         → r.thread < length inputs.old.items }
-    requires one_lane { (at : ℕ) (r : Closed) (input : Pulling) → slice_get receipts.old at ≡ Some r
-        → slice_get (map pulling_of inputs.old.items) r.thread ≡ Some input → r.lane ≡ input.lane }
+    requires one_lane { (at : ℕ) (r : Closed) (input : Pulling)
+        → slice_get receipts.old at ≡ Some r
+        → slice_get (map pulling_of inputs.old.items) r.thread ≡ Some input
+        → r.lane ≡ input.lane }
     ensures receipts { receipts.new ≡ receipts.old }
-    ensures confirmed { (at : ℕ) (r : Closed) (i : LaneInput) → slice_get receipts.old at ≡ Some r
+    ensures confirmed { (at : ℕ) (r : Closed) (i : LaneInput)
+        → slice_get receipts.old at ≡ Some r
         → slice_get inputs.old.items r.thread ≡ Some i → IsConfirmed (handed i.lane) r }
 {
     for at in 0..receipts.len() {

@@ -134,7 +134,8 @@ impl Recorder {
         ensures pushed { OnOk result
             (self.new ≡ with_pushed self.old (next_note self.old event) self.new.room) }
         ensures refused { IfErr result
-            (λ why. refusal self.old.limits self.old.thread (recorded self.old) event ≡ Some why) }
+            (λ why. refusal self.old.limits self.old.thread (recorded self.old) event
+            ≡ Some why) }
         ensures unchanged { OnErr result (self.new ≡ record self.old { room = self.new.room }) }
     {
         let mut looks: u32 = 0;

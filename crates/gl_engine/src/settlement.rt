@@ -133,7 +133,8 @@ impl Collector {
     pub fn settle(self, receipts: &mut [Receipt]) -> Result<Settled, UnsettledFault>
         requires ours { AreOfRecorders self.session self.limits (lanes_of self) receipts.old }
         ensures receipts { receipts.new ≡ receipts.old }
-        ensures lists { IfOk result (λ settled. settled ≡ logs_of self.limits.threads self.stream) }
+        ensures lists { IfOk result
+            (λ settled. settled ≡ logs_of self.limits.threads self.stream) }
         ensures settled { IfOk result (λ settled. AreListsOf receipts.old settled) }
         ensures fault { IfErr result (λ fault. IsUnsettledFault self receipts.old fault) }
         ensures complete { AreComplete self.session self.limits.threads receipts.old

@@ -1,5 +1,6 @@
 -- Why a lane breaks in a run, and that whatever comes off it later changes nothing of that.
-use Rattle.std.specs.Prelude.{◌≡◌, ℕ, Bool, true, false, List, [], ◌∷◌, ◌++◌, map, Some, Result, Ok, Err, slice_get, Contains}
+use Rattle.std.specs.Prelude.{◌≡◌, ℕ, Bool, true, false, List, [], ◌∷◌, ◌++◌, length, map, Option, Some, Result, Ok, Err, slice_get}
+use Rattle.std.specs.Option.{option_map}
 use mathlib.Core.List.{IsPrefix}
 use Rattle.gl_event.specs.Bounds.{Bounds}
 use Rattle.gl_event.specs.declared.notes.Note.{Note}
@@ -8,9 +9,10 @@ use Rattle.gl_edges.specs.declared.edge.Sample.{Sample}
 use Rattle.gl_intake.specs.Stream.{note_refusal}
 use Rattle.gl_intake.specs.declared.notes.Refused.{Refused}
 use Rattle.gl_lane.specs.Lanes.{Popping}
-use Rattle.gl_shards.specs.Shards.{shard_of}
 use Rattle.gl_world.specs.Keeping.{notes_of}
 use Rattle.gl_engine.specs.Collecting.{as_of}
+use Rattle.gl_engine.specs.Dealing.{dealt}
+use Rattle.gl_engine.specs.Gathering.{IsStoppedAt}
 use Rattle.gl_engine.specs.declared.faults.RunFault.{RunFault}
 use Rattle.gl_engine.specs.declared.faults.RunFault.TheVariants as kept
 use Rattle.gl_engine.specs.declared.pulled.Pulled.{Pulled}
@@ -41,23 +43,28 @@ pub record IsBroken (limits : Bounds) (inputs : List LaneInput) (stream : List N
   pub came : HasHanded inputs thread (taken ++ note ∷ [])
   pub refused : note_refusal limits stream (as_of thread note) ≡ Some why
 
--- where a lane is broken, there is a note to blame
-abbrev pub IsBlamed : Bounds → List LaneInput → List Note → RunFault → Type 0
-IsBlamed limits inputs stream kept.Memory = Unit {0}
-IsBlamed limits inputs stream (kept.Gone shard) = Unit {0}
-IsBlamed limits inputs stream (kept.Broken thread why) = IsBroken limits inputs stream thread why
+-- where a lane is broken, there is a note to blame, and where a worker is gone, this holds of its shard
+abbrev pub IsBlamed : (ℕ → Type 0) → Bounds → List LaneInput → List Note → RunFault → Type 0
+IsBlamed IsGone limits inputs stream kept.Memory = Unit {0}
+IsBlamed IsGone limits inputs stream (kept.Gone shard) = IsGone shard
+IsBlamed IsGone limits inputs stream (kept.Broken thread why) = IsBroken limits inputs stream thread why
 
--- a worker is gone
-abbrev pub IsGone : RunFault → Type 0
-IsGone kept.Memory = ⊥
-IsGone (kept.Gone shard) = Unit {0}
-IsGone (kept.Broken thread why) = ⊥
+-- the edges made were shipped up to one whose shard this is, and through each outlet this was sent
+pub record HasStopped (made : List (Edge × Sample)) (sent : List (List (Edge × Sample))) (shard : ℕ) : Type 0 where
+  pub shipped : List (Edge × Sample)
+  pub stopped : IsStoppedAt (length sent) made shipped shard
+  pub dealt_are : sent ≡ dealt (length sent) shipped
 
--- the worker is gone whose shard, of so many, keeps one of these edges
-abbrev pub IsGoneFor : ℕ → List (Edge × Sample) → RunFault → Type 0
-IsGoneFor shards pairs kept.Memory = ⊥
-IsGoneFor shards pairs (kept.Gone shard) = (pair : Edge × Sample) × Contains pairs pair × (shard ≡ shard_of pair.0 shards)
-IsGoneFor shards pairs (kept.Broken thread why) = ⊥
+-- a worker is gone, and shipping stopped at its shard
+abbrev pub IsGoneAt : List (Edge × Sample) → List (List (Edge × Sample)) → RunFault → Type 0
+IsGoneAt made sent kept.Memory = ⊥
+IsGoneAt made sent (kept.Gone shard) = HasStopped made sent shard
+IsGoneAt made sent (kept.Broken thread why) = ⊥
+
+-- what went wrong first: what did as all was gathered, or else the first worker that was gone as the feeds were ended
+abbrev pub first_of : Result (Unit {0}) RunFault → Option ℕ → Option RunFault
+first_of (Err fault) at_end = Some fault
+first_of (Ok done) at_end = option_map kept.Gone at_end
 
 -- a pull went well, and this is whether it took a note
 abbrev pub TellsTaken : Result Pulled PullFault → Bool → Type 0

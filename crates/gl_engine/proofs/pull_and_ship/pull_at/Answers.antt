@@ -28,7 +28,7 @@ returns-clause-pulls_on c =
       grown = grown_later c.args.intake.now.limits c.args.inputs.now.items c.args.intake.now.stream c.requires.keeps c.args.thread c.index_mut-input.result.now c.pull-pulled.new.self within here
           c.pull-pulled.new.intake.stream c.pull-pulled.new.made.items cause c.pull-pulled.result tells;
       blamed = rw c.number.ensures
-          (IfErr-weaker c.has_pulled.result (IsKeptFor c.args.thread c.pull-pulled.result) (IsBlamed c.args.intake.now.limits _ c.pull-pulled.new.intake.stream)
+          (IfErr-weaker c.has_pulled.result (IsKeptFor c.args.thread c.pull-pulled.result) (IsBlamed (λ shard. ⊥) c.args.intake.now.limits _ c.pull-pulled.new.intake.stream)
           (blamed_now c.args.intake.now.limits c.args.inputs.now.items c.args.intake.now.stream c.requires.keeps c.args.thread c.index_mut-input.result.now c.pull-pulled.new.self within here
           c.pull-pulled.new.intake.stream c.pull-pulled.new.made.items cause c.pull-pulled.result tells)
           c.has_pulled.ensures.fault);

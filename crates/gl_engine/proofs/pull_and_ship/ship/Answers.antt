@@ -1,14 +1,12 @@
-use Rattle.std.proofs.Common.{◌≡◌, [], ◌∷◌, ◌++◌, length, map, sym, ap, ◌∙◌, subst, append_assoc, arith}
-use Rattle.std.specs.Prelude.{Contains}
+use Rattle.std.proofs.Common.{◌≡◌, [], ◌∷◌, ◌++◌, length, map, sym, ap, ◌∙◌, append_assoc, arith}
 use Rattle.std.specs.Vec.Iter.{into_iter_items}
-use Rattle.std.proofs.lemmas.List.Elements.{Contains-append_right}
+use Rattle.std.proofs.lemmas.List.{length-map}
 use Rattle.gl_edges.specs.declared.edge.Edge.{Edge}
 use Rattle.gl_edges.specs.declared.edge.Sample.{Sample}
-use Rattle.gl_edges.proofs.Membership.{contains_here}
 use Rattle.gl_shards.specs.Feeds.{Sending}
 use Rattle.gl_shards.specs.Shards.{shard_of}
 use Rattle.gl_engine.specs.Dealing.{dealt}
-use Rattle.gl_engine.proofs.Running.{as_long}
+use Rattle.gl_engine.proofs.Running.{as_long, stopped_at}
 use Rattle.gl_engine.proofs.pull_and_ship.ship.Goals as goal
 
 pub loop-edge-preserved : goal.loop-edge-preserved
@@ -30,11 +28,12 @@ loop-edge-preserved g c =
       feeds = c.ship_one.ensures.feeds ∙ was.feeds;
     }
 
-pub returns-in-Err-clause-whose : goal.returns-in-Err-clause-whose
-returns-in-Err-clause-whose g c =
+pub returns-in-Err-clause-stopped : goal.returns-in-Err-clause-stopped
+returns-in-Err-clause-stopped g c before are =
     let was = c.loop-edge.invariant in
     let pair : Edge × Sample = (c.in-Some.edge, c.in-Some.sample) in
     let steps : into_iter_items c.loop-edge.edge-iterator ≡ pair ∷ into_iter_items c.next.new.self = c.in-Some.ensures.steps.0 in
     let count : length c.loop-edge.outlets.items ≡ length c.args.outlets.now.items = as_long (λ (o : Sending). o.feed) (λ (o : Sending). o.feed) c.loop-edge.outlets.items c.args.outlets.now.items was.feeds in
-    let among : Contains (c.loop-edge.yielded ++ pair ∷ into_iter_items c.next.new.self) pair = Contains-append_right c.loop-edge.yielded _ pair (contains_here pair _) in
-    (pair, subst (λ pairs. Contains pairs pair) (ap (λ rest. c.loop-edge.yielded ++ rest) (sym steps) ∙ was.all) among, c.in-Err.ensures.whose ∙ ap (shard_of pair.0) count)
+    stopped_at (length c.args.outlets.now.items) before c.loop-edge.yielded (into_iter_items c.loop-edge.edge-iterator) (into_iter_items c.next.new.self) c.args.made.items pair
+    (map (λ (o : Sending). o.sent) c.loop-edge.outlets.items) (map (λ (o : Sending). o.sent) c.ship_one.new.outlets.items) c.in-Err.shard was.all steps (was.shipped before are) c.in-Err.ensures.unsent
+    (length-map c.loop-edge.outlets.items (λ (o : Sending). o.sent) ∙ count) (c.in-Err.ensures.whose ∙ ap (shard_of pair.0) count)

@@ -1,0 +1,166 @@
+-- Feeds that are ended, one after the other, and the first whose worker is gone.
+use Rattle.std.proofs.Common.{◌≡◌, ℕ, ◌+◌, ◌<◌, Bool, true, false, not, cond, List, [], ◌∷◌, ◌++◌, length, map, Option, None, Some, Result, Ok, Err, refl, sym, ap, ◌∙◌, subst, arith, inl, inr}
+use Rattle.std.specs.Prelude.{OnOk, IfErr}
+use Rattle.std.specs.List.{filter, position_from}
+use Rattle.std.proofs.lemmas.List.{append-nil, length-map, map-append}
+use Rattle.std.proofs.lemmas.List.Elements.{filter-append}
+use Rattle.std.proofs.lemmas.Simd.{map-map}
+use Rattle.gl_event.specs.Bounds.{Bounds}
+use Rattle.gl_edges.specs.declared.edge.Edge.{Edge}
+use Rattle.gl_edges.specs.declared.edge.Sample.{Sample}
+use Rattle.gl_intake.specs.Stream.{has_ended, AreInOrder}
+use Rattle.gl_shards.specs.Feeds.{AllSent, FeedId, Sending}
+use Rattle.gl_world.proofs.Lists.{same_some}
+use Rattle.gl_engine.specs.Dealing.{dealt, made_by}
+use Rattle.gl_engine.specs.Gathering.{Gathering, AreEnded, IsFoundGone, IsStoppedAt}
+use Rattle.gl_engine.specs.bodies.Breaking.{first_of, HasStopped, IsBlamed}
+use Rattle.gl_engine.specs.bodies.Whole.{KeepsUp}
+use Rattle.gl_engine.specs.declared.faults.RunFault.{RunFault}
+use Rattle.gl_engine.specs.declared.faults.RunFault.TheVariants as kept
+use Rattle.gl_engine.specs.declared.lane_input.LaneInput.{LaneInput}
+use Rattle.gl_engine.proofs.Running.{as_long}
+
+-- ---- the first place that passes a test, among some elements and one more
+
+found_by : (passes : Bool) (at place : ℕ) (old new : Option ℕ) → (old ≡ Some place → new ≡ Some place) → cond passes (Some at) old ≡ Some place → cond passes (Some at) new ≡ Some place
+found_by true at place old new on h = h
+found_by false at place old new on h = on h
+
+new_by : (passes : Bool) (at place : ℕ) (old new : Option ℕ) → (old ≡ None → new ≡ Some place) → cond passes (Some at) old ≡ None → cond passes (Some at) new ≡ Some place
+new_by true at place old new on h = absurd (let e : Some at ≡ None = h in cc)
+new_by false at place old new on h = on h
+
+module _ {X : Type 0} (test : X → Bool) where
+  -- the last one fails it
+  position_kept : (i : ℕ) (xs : List X) (x : X) → test x ≡ false → position_from test i (xs ++ x ∷ []) ≡ position_from test i xs
+  position_kept i [] x fails = rw fails refl
+  position_kept i (y ∷ ys) x fails = ap (cond (test y) (Some i)) (position_kept (i + 1) ys x fails)
+
+  -- one before passes it
+  position_found : (i : ℕ) (xs : List X) (x : X) (place : ℕ) → position_from test i xs ≡ Some place → position_from test i (xs ++ x ∷ []) ≡ Some place
+  position_found i [] x place h = absurd (let e : None ≡ Some place = h in cc)
+  position_found i (y ∷ ys) x place h = found_by (test y) i place (position_from test (i + 1) ys) (position_from test (i + 1) (ys ++ x ∷ [])) (position_found (i + 1) ys x place) h
+
+  -- the last one is the first that passes it
+  position_new : (i : ℕ) (xs : List X) (x : X) → test x ≡ true → position_from test i xs ≡ None → position_from test i (xs ++ x ∷ []) ≡ Some (i + length xs)
+  position_new i [] x passes none = rw passes (ap (λ k. Some k) (let same : i ≡ i + 0 = omega arith in same))
+  position_new i (y ∷ ys) x passes none =
+      new_by (test y) i (i + length (y ∷ ys)) (position_from test (i + 1) ys) (position_from test (i + 1) (ys ++ x ∷ []))
+      (λ none. position_new (i + 1) ys x passes none ∙ ap (λ k. Some k) (let same : (i + 1) + length ys ≡ i + length (y ∷ ys) = omega arith in same)) none
+
+-- where all workers are there, all feeds are kept
+kept_by : {X : Type 0} (there : Bool) (x : X) (kept all : List X) (at : ℕ) (gone : Option ℕ) → (gone ≡ None → kept ≡ all) → cond (not there) (Some at) gone ≡ None → cond there (x ∷ kept) kept ≡ x ∷ all
+kept_by true x kept all at later on h = ap (λ xs. x ∷ xs) (on h)
+kept_by false x kept all at later on h = absurd (let e : Some at ≡ None = h in cc)
+
+all_kept : (i : ℕ) (each : List (AllSent × Bool)) → position_from (λ e. not e.1) i each ≡ None → filter (λ e. e.1) each ≡ each
+all_kept i [] none = refl
+all_kept i (e ∷ each) none = kept_by e.1 e (filter (λ e. e.1) each) each i (position_from (λ e. not e.1) (i + 1) each) (all_kept (i + 1) each) none
+
+-- ---- one feed more is ended
+
+module _ (feeds : List FeedId) (sent : List (List (Edge × Sample))) (kept : List AllSent) where
+  with_feed : (gone : Option ℕ) (are : AreEnded feeds sent kept gone) (e : AllSent × Bool) → map (λ e. e.0.feed) (are.each ++ e ∷ []) ≡ feeds ++ e.0.feed ∷ []
+  with_feed first are e = map-append (λ (e : AllSent × Bool). e.0.feed) are.each (e ∷ []) ∙ ap (λ fs. fs ++ e.0.feed ∷ []) are.feeds_are
+
+  with_sent : (gone : Option ℕ) (are : AreEnded feeds sent kept gone) (e : AllSent × Bool) → map (λ e. e.0.sent) (are.each ++ e ∷ []) ≡ sent ++ e.0.sent ∷ []
+  with_sent first are e = map-append (λ (e : AllSent × Bool). e.0.sent) are.each (e ∷ []) ∙ ap (λ xs. xs ++ e.0.sent ∷ []) are.sent_are
+
+  -- its worker is there
+  ended_so : (gone : Option ℕ) → AreEnded feeds sent kept gone → (s : AllSent) → AreEnded (feeds ++ s.feed ∷ []) (sent ++ s.sent ∷ []) (kept ++ s ∷ []) gone
+  ended_so first are s =
+      let e : AllSent × Bool = (s, true) in
+      record {
+        each = are.each ++ e ∷ [];
+        feeds_are = with_feed first are e;
+        sent_are = with_sent first are e;
+        kept_are = ap (λ xs. xs ++ s ∷ []) are.kept_are
+            ∙ sym (map-append (λ (e : AllSent × Bool). e.0) (filter (λ e. e.1) are.each) (e ∷ []))
+            ∙ sym (ap (map (λ (e : AllSent × Bool). e.0)) (filter-append (λ (e : AllSent × Bool). e.1) are.each (e ∷ [])));
+        first = are.first ∙ sym (position_kept (λ (e : AllSent × Bool). not e.1) 0 are.each e refl);
+      }
+
+  pub ended_there : (gone : Option ℕ) → AreEnded feeds sent kept gone → (s : AllSent) (now : List AllSent) (feed : FeedId) (edges : List (Edge × Sample)) → now ≡ kept ++ s ∷ [] → s.feed ≡ feed → s.sent ≡ edges
+      → AreEnded (feeds ++ feed ∷ []) (sent ++ edges ∷ []) now gone
+  ended_there gone are s now feed edges kept_is feed_is sent_is =
+      subst (λ f. AreEnded (feeds ++ f ∷ []) (sent ++ edges ∷ []) now gone) feed_is
+      (subst (λ es. AreEnded (feeds ++ s.feed ∷ []) (sent ++ es ∷ []) now gone) sent_is
+      (subst (λ xs. AreEnded (feeds ++ s.feed ∷ []) (sent ++ s.sent ∷ []) xs gone) (sym kept_is) (ended_so gone are s)))
+
+  -- its worker is gone
+  kept_without : (gone : Option ℕ) (are : AreEnded feeds sent kept gone) (s : AllSent) → kept ≡ map (λ e. e.0) (filter (λ e. e.1) (are.each ++ (s, false) ∷ []))
+  kept_without first are s =
+      are.kept_are ∙ ap (map (λ (e : AllSent × Bool). e.0)) (sym (append-nil (filter (λ e. e.1) are.each)) ∙ sym (filter-append (λ (e : AllSent × Bool). e.1) are.each ((s, false) ∷ [])))
+
+  -- and one before is gone
+  pub ended_later : (first : ℕ) → AreEnded feeds sent kept (Some first) → (feed : FeedId) (edges : List (Edge × Sample)) → AreEnded (feeds ++ feed ∷ []) (sent ++ edges ∷ []) kept (Some first)
+  ended_later first are feed edges =
+      let s : AllSent = record { feed = feed; sent = edges } in
+      record {
+        each = are.each ++ (s, false) ∷ [];
+        feeds_are = with_feed (Some first) are (s, false);
+        sent_are = with_sent (Some first) are (s, false);
+        kept_are = kept_without (Some first) are s;
+        first = sym (position_found (λ (e : AllSent × Bool). not e.1) 0 are.each (s, false) first (sym are.first));
+      }
+
+  -- and none before is gone
+  pub ended_first : (shard : ℕ) → length feeds ≡ shard → AreEnded feeds sent kept None → (feed : FeedId) (edges : List (Edge × Sample)) → AreEnded (feeds ++ feed ∷ []) (sent ++ edges ∷ []) kept (Some shard)
+  ended_first shard count are feed edges =
+      let s : AllSent = record { feed = feed; sent = edges } in
+      let many : length are.each ≡ shard = sym (length-map are.each (λ (e : AllSent × Bool). e.0.feed)) ∙ ap length are.feeds_are ∙ count in
+      record {
+        each = are.each ++ (s, false) ∷ [];
+        feeds_are = with_feed None are (s, false);
+        sent_are = with_sent None are (s, false);
+        kept_are = kept_without None are s;
+        first = ap (λ k. Some k) (let same : shard ≡ 0 + length are.each = omega (arith, many) in same) ∙ sym (position_new (λ (e : AllSent × Bool). not e.1) 0 are.each (s, false) refl (sym are.first));
+      }
+
+  -- where none is gone, all feeds are kept
+  pub all_ended : AreEnded feeds sent kept None → (map (λ s. s.feed) kept ≡ feeds) × (map (λ s. s.sent) kept ≡ sent)
+  all_ended are =
+      let all : kept ≡ map (λ e. e.0) are.each = are.kept_are ∙ ap (map (λ (e : AllSent × Bool). e.0)) (all_kept 0 are.each (sym are.first)) in (
+        ap (map (λ (s : AllSent). s.feed)) all ∙ map-map (λ (s : AllSent). s.feed) (λ (e : AllSent × Bool). e.0) are.each ∙ are.feeds_are,
+        ap (map (λ (s : AllSent). s.sent)) all ∙ map-map (λ (s : AllSent). s.sent) (λ (e : AllSent × Bool). e.0) are.each ∙ are.sent_are,
+      )
+
+pub none_ended : AreEnded [] [] [] None
+none_ended = record { each = []; feeds_are = refl; sent_are = refl; kept_are = refl; first = refl }
+
+-- ---- how a run found a worker gone
+
+module _ (g : Gathering) (inputs : List LaneInput) (given outlets : List Sending) (feeds : map (λ o. o.feed) outlets ≡ map (λ o. o.feed) given) (shard : ℕ) where
+  many : length outlets ≡ length given
+  many = as_long (λ (o : Sending). o.feed) (λ (o : Sending). o.feed) outlets given feeds
+
+  -- the feeds were ended after these edges were dealt
+  ended_with : (shipped : List (Edge × Sample)) (gone : Option ℕ) → map (λ o. o.sent) outlets ≡ dealt (length given) shipped → AreEnded (map (λ o. o.feed) outlets) (map (λ o. o.sent) outlets) g.sent gone
+      → AreEnded (map (λ o. o.feed) given) (dealt (length given) shipped) g.sent gone
+  ended_with shipped gone sent ended =
+      subst (λ fs. AreEnded fs (dealt (length given) shipped) g.sent gone) feeds (subst (λ xs. AreEnded (map (λ o. o.feed) outlets) xs g.sent gone) sent ended)
+
+  stopped_given : HasStopped (made_by g.stream) (map (λ o. o.sent) outlets) shard → (gone : Option ℕ) → AreEnded (map (λ o. o.feed) outlets) (map (λ o. o.sent) outlets) g.sent gone → IsFoundGone given g shard
+  stopped_given has gone ended =
+      let count : length (map (λ (o : Sending). o.sent) outlets) ≡ length given = length-map outlets (λ (o : Sending). o.sent) ∙ many in
+      inl (record {
+        shipped = has.shipped;
+        stopped = subst (λ n. IsStoppedAt n (made_by g.stream) has.shipped shard) count has.stopped;
+        gone = gone;
+        ended = ended_with has.shipped gone (has.dealt_are ∙ ap (λ n. dealt n has.shipped) count) ended;
+      })
+
+  pub found_gone : (limits : Bounds) → limits ≡ g.limits → (gathered : Result (Unit {0}) RunFault) (gone : Option ℕ) → OnOk gathered (KeepsUp limits inputs g.stream outlets) → OnOk gathered ((thread : ℕ) → thread < limits.threads → has_ended thread g.stream ≡ true)
+      → IfErr gathered (IsBlamed (HasStopped (made_by g.stream) (map (λ o. o.sent) outlets)) limits inputs g.stream) → AreEnded (map (λ o. o.feed) outlets) (map (λ o. o.sent) outlets) g.sent gone
+      → first_of gathered gone ≡ Some (kept.Gone shard) → IsFoundGone given g shard
+  found_gone limits same (Err fault) gone keeps all blamed ended is =
+      stopped_given (subst (IsBlamed (HasStopped (made_by g.stream) (map (λ o. o.sent) outlets)) limits inputs g.stream) (same_some fault (kept.Gone shard) is) blamed) gone ended
+  found_gone limits same (Ok done) None keeps all blamed ended is = absurd (let e : None ≡ Some (kept.Gone shard) = is in cc)
+  found_gone limits same (Ok done) (Some first) keeps all blamed ended is =
+      let its : first ≡ shard = (let e : Some (kept.Gone first) ≡ Some (kept.Gone shard) = is in cc) in
+      inr (record {
+        in_order = subst (λ (b : Bounds). AreInOrder b g.stream) same keeps.collector.in_order;
+        all_ended = subst (λ (b : Bounds). (thread : ℕ) → thread < b.threads → has_ended thread g.stream ≡ true) same all;
+        ended = subst (λ k. AreEnded (map (λ o. o.feed) given) (dealt (length given) (made_by g.stream)) g.sent (Some k)) its
+            (ended_with (made_by g.stream) (Some first) (keeps.shipped ∙ ap (λ n. dealt n (made_by g.stream)) many) ended);
+      })
