@@ -1,6 +1,7 @@
 #!/usr/bin/env python3
 """Looks for clauses of contracts and ghost items that are too wide to be read aloud: no line of one may be over
-100 columns. Imports by `ghost use` aren't read aloud, and don't count.
+100 bytes long (a sign such as an arrow has two or three of them). Imports by `ghost use` aren't read aloud, and don't
+count.
 
     clauses.py
 
@@ -12,7 +13,7 @@ import re
 import sys
 
 TOP = pathlib.Path(__file__).resolve().parent.parent.parent
-COLUMNS = 100
+BYTES = 100
 CLAUSE = re.compile(r"\s*(requires\b|ensures\b|(pub\S* )?ghost (?!use\b))")
 
 
@@ -32,10 +33,10 @@ def main():
     passed = failed = 0
     for path in sorted(TOP.glob("crates/*/src/**/*.rt")):
         for clause in clauses(path.read_text()):
-            is_narrow = all(len(line) <= COLUMNS for line in clause)
+            is_narrow = all(len(line.encode()) <= BYTES for line in clause)
             passed, failed = passed + is_narrow, failed + (not is_narrow)
             if not is_narrow:
-                print(f"{path.relative_to(TOP)}: over {COLUMNS} columns: {clause[0].strip()}")
+                print(f"{path.relative_to(TOP)}: over {BYTES} bytes: {clause[0].strip()}")
     print(f"{passed} passed, {failed} failed")
     return 1 if failed else 0
 

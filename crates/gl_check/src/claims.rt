@@ -40,7 +40,8 @@ fn mode_under(value: &Value) -> Mode
 
 // What was asked, where it is in its ranges.
 fn query_in(value: &Value) -> Option<Query>
-    ensures { MatchOption result (is_none (first_out_of_range (asked_in (view value.now))) ≡ false)
+    ensures { MatchOption result
+        (is_none (first_out_of_range (asked_in (view value.now))) ≡ false)
         (λ query. (query ≡ asked_in (view value.now)) × (first_out_of_range query ≡ None)) }
 {
     let len = number_under(value, "len");

@@ -120,7 +120,8 @@ pub(crate) fn position_of(
 ) -> Result<Option<usize>, Memory>
     requires { is_member format (length table.now) (view value.now) ≡ true }
     ensures { IfOk result
-        (λ found. MatchOption found ((format ≡ One) × IsNoEdge names.now table.now (view value.now))
+        (λ found. MatchOption found
+        ((format ≡ One) × IsNoEdge names.now table.now (view value.now))
         (IsNamed format names.now table.now (view value.now))) }
 {
     match format {

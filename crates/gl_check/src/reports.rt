@@ -64,7 +64,8 @@ impl fmt::Display for Checked {
 fn value_of(alloc: Global, json: &[u8]) -> Result<Value, CheckFault>
     ensures ok { IfOk result (λ value. Reads json.now (view value)) }
     ensures fault { IfErr result
-        (λ fault. (fault ≡ Memory) ⊎ ((fault ≡ Json) × (IsUtf8 json.now → read json.now ≡ None))) }
+        (λ fault. (fault ≡ Memory)
+        ⊎ ((fault ≡ Json) × (IsUtf8 json.now → read json.now ≡ None))) }
 {
     match Value::from_slice(alloc, json) {
         Ok(value) => Ok(value),
@@ -95,18 +96,21 @@ fn checked_of(
     query: Query,
 ) -> Result<Checked, CheckFault>
     requires few { length trace.now.lists ≤ 1024 }
-    requires lawful { (thread : ℕ) (es : List Event) → slice_get trace.now.lists thread ≡ Some es
+    requires lawful { (thread : ℕ) (es : List Event)
+        → slice_get trace.now.lists thread ≡ Some es
         → IsLawful greatest thread es }
     requires shaped { is_report (view value.now) ≡ true }
     requires query { query ≡ asked_in (view value.now) }
-    requires cycles { length (listings_in (format_in (view value.now)) (view value.now)) ≤ 100000 }
+    requires cycles { length (listings_in (format_in (view value.now)) (view value.now))
+        ≤ 100000 }
     ensures ok { IfOk result
         (λ checked. (found : List (List ℕ)) × HoldsOf trace.now (view value.now) found
         × (checked.listing ≡ listing_of (format_in (view value.now)))
         × (checked.cycles ≡ length found)
         × (checked.acyclic ≡ is_some (trim_in (view value.now)))) }
     ensures fault { IfErr result
-        (λ fault. IsOrderFault trace.now.lists fault ⊎ IsFalseOf trace.now (view value.now) fault) }
+        (λ fault. IsOrderFault trace.now.lists fault
+        ⊎ IsFalseOf trace.now (view value.now) fault) }
 {
     let lists = trace.lists.as_slice();
     let order = match Order::of(alloc, lists) {
@@ -148,7 +152,8 @@ fn checked_of(
 /// compared. Format 1 takes a look at each edge of the trace for each listed one.
 pub fn check(alloc: Global, trace: &Trace, json: &[u8]) -> Result<Checked, CheckFault>
     requires few { length trace.now.lists ≤ 1024 }
-    requires lawful { (thread : ℕ) (es : List Event) → slice_get trace.now.lists thread ≡ Some es
+    requires lawful { (thread : ℕ) (es : List Event)
+        → slice_get trace.now.lists thread ≡ Some es
         → IsLawful greatest thread es }
     ensures checked { IfOk result (IsChecked trace.now json.now) }
     ensures fault { IfErr result (IsCheckFault trace.now json.now) }

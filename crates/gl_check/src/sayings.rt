@@ -31,7 +31,8 @@ impl Known<'_> {
             (view value.now) (format_in (view value.now))) }
         ensures fault { IfErr result
             (λ fault. (fault ≡ Memory)
-            ⊎ ((k : ℕ) × (fault ≡ CheckFault.Table k) × ShowsTable (format_in (view value.now))
+            ⊎ ((k : ℕ) × (fault ≡ CheckFault.Table k)
+            × ShowsTable (format_in (view value.now))
             × IsFirstDifference (items_under (codes "edges") (view value.now))
             (map (edge_tree self.now.names.now) self.now.edges.now) k)) }
     {
@@ -74,7 +75,8 @@ impl Known<'_> {
         requires shaped { is_report (view value.now) ≡ true }
         requires format { self.now.format ≡ format_in (view value.now) }
         requires query { self.now.query ≡ asked_in (view value.now) }
-        requires few { length (listings_in (format_in (view value.now)) (view value.now)) ≤ 100000 }
+        requires few { length (listings_in (format_in (view value.now)) (view value.now))
+            ≤ 100000 }
         ensures ok { IfOk result
             (λ checked. (found : List (List ℕ))
             × Holds self.now.names.now self.now.edges.now (is_before self.now.order.now)

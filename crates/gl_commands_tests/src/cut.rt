@@ -1,5 +1,5 @@
 //! Texts that can't be read to their end.
-ghost use Rattle.std.specs.Prelude.{None};
+ghost use Rattle.gl_io.specs.Positions.{untold};
 
 use gl_io::{Failed, Source};
 
@@ -13,7 +13,7 @@ pub struct Cut<'a> {
 }
 
 impl Source for Cut<'_> {
-    ghost remaining = { λ _. None };
+    ghost position = { λ _. untold };
 
     ghost failed = { λ s. s.is_failed };
 

@@ -76,8 +76,9 @@ pub fn trims_are_unique()
     ensures whole { (before : Segment → Segment → Bool) (mode : Mode) (edges : List Edge)
         (kept removed : List ℕ) → IsTrimmed before mode edges kept removed
         → whole_trim before mode edges ≡ (if length kept == 0 then Some removed else None) }
-    ensures cycle { (before : Segment → Segment → Bool) (mode : Mode) (len : ℕ) (edges : List Edge)
-        (positions : List ℕ) → Contains (all_cycles before mode len edges) positions
+    ensures cycle { (before : Segment → Segment → Bool) (mode : Mode) (len : ℕ)
+        (edges : List Edge) (positions : List ℕ)
+        → Contains (all_cycles before mode len edges) positions
         → whole_trim before mode edges ≡ None }
 {}
 

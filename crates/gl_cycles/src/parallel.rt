@@ -36,7 +36,8 @@ fn cycles_of_roots(
         .into_par_iter()
         .map(
             |root: usize| -> Result<Vec<Vec<usize>>, Memory>
-                requires { (0 < search.now.len) × IsReady search.now × (search.now.is_bound ≡ false)
+                requires { (0 < search.now.len) × IsReady search.now
+                    × (search.now.is_bound ≡ false)
                     × (root < length search.now.table.now) }
                 ensures { IfOk result
                     (λ found. map (λ cycle. cycle.items) found.items

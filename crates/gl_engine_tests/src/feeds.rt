@@ -10,7 +10,8 @@ use std::sync::Wait;
 pub fn feeds(alloc: Global, workers: u32) -> Option<(Vec<Outlet>, Vec<Inlet>)>
     ensures count { IfSome result (λ ends. length ends.0.items ≡ workers) }
     ensures unsent { IfSome result
-        (λ ends. (shard : ℕ) (o : Sending) → slice_get ends.0.items shard ≡ Some o → o.sent ≡ []) }
+        (λ ends. (shard : ℕ) (o : Sending) → slice_get ends.0.items shard ≡ Some o
+        → o.sent ≡ []) }
     ensures one_feed { IfSome result
         (λ ends. map (λ (o : Sending). o.feed) ends.0.items
         ≡ map (λ (i : Receiving). i.feed) ends.1.items) }

@@ -78,7 +78,8 @@ impl Held {
 
     /// Whether the lock is held.
     pub fn holds(&self, lock: LockId) -> bool
-        ensures { (es : List Event) → StandsFor es self.now → IsTrue result ↔ (0 < depth es lock) }
+        ensures { (es : List Event) → StandsFor es self.now
+            → IsTrue result ↔ (0 < depth es lock) }
     {
         self.find(lock).is_some()
     }

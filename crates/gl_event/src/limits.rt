@@ -91,11 +91,13 @@ impl Limits {
     /// The limits with these four numbers, or the first of them that is out of its range.
     pub fn new(threads: u32, ring: u32, events: u32, names: u32) -> Result<Limits, BadLimits>
         ensures kept { IfOk result
-            (λ l. l ≡ record { threads = threads; ring = ring; events = events; names = names }) }
+            (λ l. l
+            ≡ record { threads = threads; ring = ring; events = events; names = names }) }
         ensures good { IfOk result (λ l. first_out_of_range l ≡ None) }
         ensures bad { IfErr result
             (λ e. first_out_of_range
-            (record { threads = threads; ring = ring; events = events; names = names }) ≡ Some e) }
+            (record { threads = threads; ring = ring; events = events; names = names })
+            ≡ Some e) }
     {
         if threads < 1 || threads > MAX_THREADS {
             return Err(BadLimits::Threads);

@@ -7,7 +7,8 @@ use crate::Memory;
 /// Appends an element. Where the list has room for it no memory is taken, and else an amortised
 /// constant number of elements is moved; where there is no memory the list stays as it is.
 pub fn append<X: Copy>(xs: &mut Vec<X>, x: X) -> Result<(), Memory>
-    ensures items { xs.new.items ≡ (if is_ok result then xs.old.items ++ x ∷ [] else xs.old.items) }
+    ensures items { xs.new.items
+        ≡ (if is_ok result then xs.old.items ++ x ∷ [] else xs.old.items) }
     ensures room { vec_len xs.old < vec_capacity xs.old → IsOk result }
 {
     xs.push(x)?;
@@ -22,7 +23,8 @@ pub fn append_both<X: Copy, Y: Copy>(
     x: X,
     y: Y,
 ) -> Result<(), Memory>
-    ensures first { xs.new.items ≡ (if is_ok result then xs.old.items ++ x ∷ [] else xs.old.items) }
+    ensures first { xs.new.items
+        ≡ (if is_ok result then xs.old.items ++ x ∷ [] else xs.old.items) }
     ensures second { ys.new.items
         ≡ (if is_ok result then ys.old.items ++ y ∷ [] else ys.old.items) }
     ensures room { vec_len xs.old < vec_capacity xs.old → vec_len ys.old < vec_capacity ys.old

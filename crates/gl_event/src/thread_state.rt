@@ -42,7 +42,8 @@ impl Model for ThreadState {
 fn entry_of(held: &Held, lock: LockId) -> Option<HeldEntry>
     ensures found { (es : List Event) → StandsFor es held.now
         → IfSome result (λ entry. (entry ≡ entry_of es lock) × (0 < depth es lock)) }
-    ensures absent { (es : List Event) → StandsFor es held.now → IfNone result (depth es lock ≡ 0) }
+    ensures absent { (es : List Event) → StandsFor es held.now
+        → IfNone result (depth es lock ≡ 0) }
 {
     for entry in held.entries() {
         if entry.lock == lock {
@@ -54,7 +55,8 @@ fn entry_of(held: &Held, lock: LockId) -> Option<HeldEntry>
 
 // Why the lock can't be acquired in this mode.
 fn acquire_refusal(held: &Held, lock: LockId, mode: LockMode) -> Option<Refusal>
-    ensures { (es : List Event) → StandsFor es held.now → result ≡ acquire_refusal es lock mode }
+    ensures { (es : List Event) → StandsFor es held.now
+        → result ≡ acquire_refusal es lock mode }
 {
     let Some(entry) = entry_of(held, lock) else {
         if held.entries().len() >= MAX_HELD {
@@ -147,7 +149,8 @@ impl ThreadState {
     pub fn take(&mut self, event: Event) -> Result<(), Refusal>
         requires fits { self.old.events + 1 < 2 ^ 32 }
         ensures refused { IfErr result
-            (λ r. (es : List Event) → StandsAfter es self.old → lock_refusal es event ≡ Some r) }
+            (λ r. (es : List Event) → StandsAfter es self.old
+            → lock_refusal es event ≡ Some r) }
         ensures allowed { OnOk result
             ((es : List Event) → StandsAfter es self.old → lock_refusal es event ≡ None) }
         ensures stands { OnOk result (HasFollowed self.old event self.new) }
@@ -175,7 +178,8 @@ impl ThreadState {
         requires acquires { IsAcquireOf lock mode event }
         requires located { loc ≡ location event }
         ensures refused { IfErr result
-            (λ r. (es : List Event) → StandsAfter es self.old → lock_refusal es event ≡ Some r) }
+            (λ r. (es : List Event) → StandsAfter es self.old
+            → lock_refusal es event ≡ Some r) }
         ensures allowed { OnOk result
             ((es : List Event) → StandsAfter es self.old → lock_refusal es event ≡ None) }
         ensures stands { OnOk result (HasFollowed self.old event self.new) }
@@ -199,7 +203,8 @@ impl ThreadState {
         requires fits { self.old.events + 1 < 2 ^ 32 }
         requires releases { event ≡ Release lock (lock_mode event) (location event) }
         ensures refused { IfErr result
-            (λ r. (es : List Event) → StandsAfter es self.old → lock_refusal es event ≡ Some r) }
+            (λ r. (es : List Event) → StandsAfter es self.old
+            → lock_refusal es event ≡ Some r) }
         ensures allowed { OnOk result
             ((es : List Event) → StandsAfter es self.old → lock_refusal es event ≡ None) }
         ensures stands { OnOk result (HasFollowed self.old event self.new) }

@@ -28,7 +28,8 @@ pub fn valid_lists_are_cycles()
 /// A list of edges has one verdict: which of the tests it fails first, and where, or none. So a list
 /// that is a cycle is judged valid, and nothing else is.
 pub fn verdicts_are_unique()
-    ensures { (before : Segment → Segment → Bool) (asked : Asked) (es : List Edge) (a b : Verdict)
+    ensures { (before : Segment → Segment → Bool) (asked : Asked) (es : List Edge)
+        (a b : Verdict)
         → IsVerdict before asked es a → IsVerdict before asked es b → a ≡ b }
 {}
 
@@ -36,7 +37,8 @@ pub fn verdicts_are_unique()
 /// goes with each other one, at any distance. So an edge which nothing may follow, or that may follow
 /// nothing, is in no cycle.
 pub fn cycles_go_round()
-    ensures next { (before : Segment → Segment → Bool) (mode : Mode) (len : ℕ) (cycle : List Edge)
+    ensures next { (before : Segment → Segment → Bool) (mode : Mode) (len : ℕ)
+        (cycle : List Edge)
         (i : ℕ) (e f : Edge) → IsCycle before mode len cycle → slice_get cycle i ≡ Some e
         → slice_get cycle (following (length cycle) i) ≡ Some f
         → is_compatible before mode e f ≡ true }

@@ -221,8 +221,8 @@ impl Finder<'_> {
         requires within { All (λ class. class < length self.now.table.now) signature.now }
         requires reached { from ≤ length self.now.table.now }
         requires none { (i : ℕ) → i < from
-            → block_of self.now (self.now.len - length signature.now - 1) (signature.now ++ i ∷ [])
-            ≡ [] }
+            → block_of self.now (self.now.len - length signature.now - 1)
+            (signature.now ++ i ∷ []) ≡ [] }
         requires ready { IsReady self.now }
         requires room { length found.old.items ≤ self.now.cap }
         ensures grown { OnOk result

@@ -17,7 +17,8 @@ use std::thread::Threads;
 // The report of the findings that were found.
 fn findings_report(before: &Order, edges: EdgeList, query: &Query, found: Found) -> Report
     requires cycles { found.cycles
-        ≡ take query.now.max (findings (is_before before.now) query.now.mode query.now.len edges) }
+        ≡ take query.now.max
+        (findings (is_before before.now) query.now.mode query.now.len edges) }
     requires more { IsTrue found.more ↔ (query.now.max
         < length (findings (is_before before.now) query.now.mode query.now.len edges)) }
     ensures { result ≡ findings_by query.now (is_before before.now) edges }

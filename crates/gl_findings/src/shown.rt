@@ -18,7 +18,8 @@ use std::alloc::Global;
 // Of two cycles the first one, where there are any.
 fn lesser(one: Option<Vec<usize>>, other: Option<Vec<usize>>) -> Option<Vec<usize>>
     ensures { option_map (λ cycle. cycle.items) result
-        ≡ lesser (option_map (λ cycle. cycle.items) one) (option_map (λ cycle. cycle.items) other) }
+        ≡ lesser (option_map (λ cycle. cycle.items) one)
+        (option_map (λ cycle. cycle.items) other) }
 {
     match (one, other) {
         (None, other) => other,

@@ -45,7 +45,8 @@ impl Followers {
     /// The position of the first follower of the edge at `i`.
     pub fn begin(&self, i: usize) -> Option<usize>
         requires { i < vec_len self.now.first }
-        ensures { (edges : List Edge) (kept : List Bool) (e : Edge) → IsIndexOf edges kept self.now
+        ensures { (edges : List Edge) (kept : List Bool) (e : Edge)
+            → IsIndexOf edges kept self.now
             → slice_get edges i ≡ Some e → IsNextWith held_lock edges kept e.wanted 0 result }
     {
         self.first[i]
@@ -54,8 +55,10 @@ impl Followers {
     /// The position after `i` of the next edge that holds the lock which the edge at `i` holds.
     pub fn after(&self, i: usize) -> Option<usize>
         requires { i < vec_len self.now.next }
-        ensures { (edges : List Edge) (kept : List Bool) (e : Edge) → IsIndexOf edges kept self.now
-            → slice_get edges i ≡ Some e → IsNextWith held_lock edges kept e.held (i + 1) result }
+        ensures { (edges : List Edge) (kept : List Bool) (e : Edge)
+            → IsIndexOf edges kept self.now
+            → slice_get edges i ≡ Some e
+            → IsNextWith held_lock edges kept e.held (i + 1) result }
     {
         self.next[i]
     }
@@ -92,8 +95,10 @@ impl Holders {
     fn put(&mut self, i: usize, lock: LockId, is_kept: bool) -> Result<(), Memory>
         requires { i < vec_len self.old.next }
         ensures { (edges : List Edge) (kept : List Bool) (e : Edge)
-            → AreHolders edges kept (i + 1) self.old → slice_get edges i ≡ Some e → e.held ≡ lock
-            → slice_get kept i ≡ Some is_kept → OnOk result (AreHolders edges kept i self.new) }
+            → AreHolders edges kept (i + 1) self.old → slice_get edges i ≡ Some e
+            → e.held ≡ lock
+            → slice_get kept i ≡ Some is_kept
+            → OnOk result (AreHolders edges kept i self.new) }
     {
         self.next[i] = self.first.get(&lock).copied();
         if !is_kept {

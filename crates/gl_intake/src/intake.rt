@@ -54,7 +54,8 @@ impl Model for Intake {
 
 // Why the note may not come after the events so far of the cursor's thread.
 fn cursor_refusal(past: &ThreadCursor, note: &Note) -> Option<Refused>
-    ensures { (limits : Bounds) (es : List Event) → Tracks limits note.now.thread es past.now.taker
+    ensures { (limits : Bounds) (es : List Event)
+        → Tracks limits note.now.thread es past.now.taker
         → result ≡ refusal_after limits es past.now.has_ended note.now }
 {
     if past.has_ended {
@@ -202,7 +203,8 @@ impl Intake {
     /// It looks through the at most 64 locks that the thread holds. Where two lists have to grow, each
     /// is moved.
     pub fn ready(&mut self, note: &Note) -> Result<(), Refused>
-        ensures next { OnOk result (note_refusal self.old.limits self.old.stream note.now ≡ None) }
+        ensures next { OnOk result
+            (note_refusal self.old.limits self.old.stream note.now ≡ None) }
         ensures reserved { OnOk result (1 ≤ spare_of self.new note.now.thread) }
         ensures refused { IfErr result
             (λ why. IsRefusedFor self.old.limits self.old.stream note.now why) }
@@ -223,7 +225,8 @@ impl Intake {
     ///
     /// It looks through the at most 64 locks that the thread holds, and appends to two lists.
     pub fn offer(&mut self, note: Note) -> Result<Accepted, Refused>
-        ensures accepted { OnOk result (note_refusal self.old.limits self.old.stream note ≡ None) }
+        ensures accepted { OnOk result
+            (note_refusal self.old.limits self.old.stream note ≡ None) }
         ensures answer { IfOk result (λ answer. answer ≡ accepted_as note.place note.body) }
         ensures grown { OnOk result (self.new.stream ≡ self.old.stream ++ note ∷ []) }
         ensures refused { IfErr result
@@ -282,7 +285,8 @@ impl Intake {
     // Accepts the note, which may come next.
     fn try_accept(&mut self, note: &Note) -> Result<Accepted, Memory>
         requires next { note_refusal self.old.limits self.old.stream note.now ≡ None }
-        ensures answer { IfOk result (λ answer. answer ≡ accepted_as note.now.place note.now.body) }
+        ensures answer { IfOk result
+            (λ answer. answer ≡ accepted_as note.now.place note.now.body) }
         ensures accepts { Accepts self.old self.new note.now result }
     {
         match note.body {

@@ -103,7 +103,8 @@ impl LaneIn {
             ((self.new.pushed ≡ self.old.pushed ++ note ∷ [])
             × (self.old.room ≤ self.new.room + 1)) }
         ensures full { IfErr result
-            (λ back. (back ≡ note) × (self.new.pushed ≡ self.old.pushed) × (self.new.room ≡ 0)) }
+            (λ back. (back ≡ note) × (self.new.pushed ≡ self.old.pushed)
+            × (self.new.room ≡ 0)) }
         ensures succeeds { 0 < self.old.room → IsOk result }
     {
         match self.producer.push(note) {
@@ -142,11 +143,13 @@ impl LaneOut {
     /// Pops the oldest note in the lane; `None` where it sees none. It takes one step and no memory.
     pub fn pop(&mut self) -> Option<Note>
         ensures lane { self.new.lane ≡ self.old.lane }
-        ensures popped { IfSome result (λ note. self.new.popped ≡ self.old.popped ++ note ∷ []) }
+        ensures popped { IfSome result
+            (λ note. self.new.popped ≡ self.old.popped ++ note ∷ []) }
         ensures left { IfSome result (λ note. IsPrefix self.old.left (note ∷ self.new.left)) }
         ensures placed { IfSome result (λ note. IsPlaced note) }
         ensures empty { IfNone result
-            ((self.new.popped ≡ self.old.popped) × (self.old.left ≡ []) × (self.new.left ≡ [])) }
+            ((self.new.popped ≡ self.old.popped) × (self.old.left ≡ [])
+            × (self.new.left ≡ [])) }
     {
         if self.consumer.is_empty() {
             return None;

@@ -18,7 +18,8 @@ pub fn unread_items(alloc: Global, threads: u32) -> Result<Items, Fail>
     requires some_thread { 1 ≤ threads }
     requires threads_fit { threads ≤ MAX_THREADS }
     ensures usable { IfOk result (λ i. CanBeAsked i false) }
-    ensures unread { IfOk result (λ i. (now : Option (List ℕ)) → IsUnread threads now false i) }
+    ensures unread { IfOk result
+        (λ i. (now : Option (List ℕ)) → IsUnread threads now false i) }
 {
     let limits = Limits::new(threads, 65_536, 4_000_000_000, 4_000_000_000)?;
     Ok(Items::new(alloc, &limits, 1_000, Seed::fixed())?)

@@ -16,7 +16,8 @@ pub(crate) fn with_option<'a>(
         → rule_of option.entry ≡ rule → option.entry.global ≡ false
         → IfOk result (λ c. app_of c ≡ with_rule app rule) }
     ensures local { IfOk command.entry (λ c. (fields_of c).has_globals ≡ false)
-        → option.entry.global ≡ false → IfOk result (λ c. (fields_of c).has_globals ≡ false) }
+        → option.entry.global ≡ false
+        → IfOk result (λ c. (fields_of c).has_globals ≡ false) }
 {
     match command {
         Ok(command) => command.arg(option),

@@ -270,7 +270,8 @@ fn mode_in(matches: &ArgMatches<'_>) -> Option<Mode>
 /// The query that was read, where its options have values in their ranges.
 pub(crate) fn query_in(matches: &ArgMatches<'_>) -> Option<Query>
     ensures some { IfSome result (λ q. AsksIn (rows_of (found_of matches.now)) q) }
-    ensures none { result ≡ None → (q : Asked) → AsksIn (rows_of (found_of matches.now)) q → ⊥ }
+    ensures none { result ≡ None → (q : Asked)
+        → AsksIn (rows_of (found_of matches.now)) q → ⊥ }
 {
     let mode = mode_in(matches)?;
     let len = number_at(matches, "len")?;
@@ -352,7 +353,8 @@ fn stats_in(options: &ArgMatches<'_>) -> Option<Command>
 // The command that was entered, where its options have values in their ranges.
 fn command_in(matches: &ArgMatches<'_>) -> Option<Command>
     ensures some { IfSome result (IsEntered (subcommand_rows_of matches.now)) }
-    ensures none { result ≡ None → (c : Command) → IsEntered (subcommand_rows_of matches.now) c
+    ensures none { result ≡ None → (c : Command)
+        → IsEntered (subcommand_rows_of matches.now) c
         → ⊥ }
 {
     if let Some(options) = matches.subcommand_matches("predict") {

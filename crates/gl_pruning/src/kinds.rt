@@ -122,7 +122,8 @@ impl Sought<'_> {
     fn model_of(&self, grain: Grain, model_of_each: &[usize], i: usize) -> usize
         requires there { i < length self.now.table.now }
         ensures within { result < length self.now.table.now }
-        ensures alike { (d e : Edge) → slice_get (edges_of_table self.now.table.now) result ≡ Some d
+        ensures alike { (d e : Edge)
+            → slice_get (edges_of_table self.now.table.now) result ≡ Some d
             → slice_get (edges_of_table self.now.table.now) i ≡ Some e → AreAlike grain d e }
     {
         let model = model_of_each.get(i).copied().unwrap_or(i);

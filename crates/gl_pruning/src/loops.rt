@@ -36,7 +36,8 @@ fn level_edges(
         (λ level. IfSome level
         (λ flags. IsNeverFalling (rank_in ranks.now) (edges_of_table table.now))) }
     ensures refused { IfOk result
-        (λ level. IfNone level (¬ IsNeverFalling (rank_in ranks.now) (edges_of_table table.now))) }
+        (λ level. IfNone level
+        (¬ IsNeverFalling (rank_in ranks.now) (edges_of_table table.now))) }
     ensures level { IfOk result
         (λ level. IfSome level
         (λ flags. flags.items ≡ map (is_level (rank_in ranks.now)) (edges_of_table table.now))) }

@@ -86,7 +86,8 @@ impl Sought<'_> {
         ensures { (e : Edge) → slice_get (edges_of_table self.now.table.now) i ≡ Some e
             → is_kept ≡ true
             → goes_with (is_before self.now.order.now) self.now.mode e edge.now ≡ true
-            → result ≡ false → label_at labels.now ends.wanted ≤ label_at labels.now ends.held + 1 }
+            → result ≡ false → label_at labels.now ends.wanted
+            ≤ label_at labels.now ends.held + 1 }
     {
         if !is_kept || !is_leap(labels, ends) {
             return false;

@@ -36,7 +36,8 @@ impl Rounds<'_> {
         requires { AreWithin self.now models.now }
         ensures within { IfOk result (λ alive. AreWithin self.now alive.items) }
         ensures all { IfOk result
-            (λ alive. (i : ℕ) → Contains models.now i → ¬ (slice_get dead.now i ≡ Some true)
+            (λ alive. (i : ℕ) → Contains models.now i
+            → ¬ (slice_get dead.now i ≡ Some true)
             → Contains alive.items i) }
     {
         let mut alive = Vec::new(alloc);
@@ -203,7 +204,8 @@ fn add_flagged(models: &mut Vec<usize>, i: usize, flag: bool) -> Result<(), Memo
         ((j : ℕ) → Contains models.old.items j → Contains models.new.items j) }
     ensures added { OnOk result (flag ≡ true → Contains models.new.items i) }
     ensures within { OnOk result
-        ((n : ℕ) → i < n → All (λ j. j < n) models.old.items → All (λ j. j < n) models.new.items) }
+        ((n : ℕ) → i < n → All (λ j. j < n) models.old.items
+        → All (λ j. j < n) models.new.items) }
 {
     if !flag {
         return Ok(());
@@ -214,11 +216,13 @@ fn add_flagged(models: &mut Vec<usize>, i: usize, flag: bool) -> Result<(), Memo
 
 // Adds a position, if it isn't flagged as dead.
 fn add_alive(alive: &mut Vec<usize>, i: usize, dead: &[bool]) -> Result<(), Memory>
-    ensures stay { OnOk result ((j : ℕ) → Contains alive.old.items j → Contains alive.new.items j) }
+    ensures stay { OnOk result
+        ((j : ℕ) → Contains alive.old.items j → Contains alive.new.items j) }
     ensures added { OnOk result
         (¬ (slice_get dead.now i ≡ Some true) → Contains alive.new.items i) }
     ensures within { OnOk result
-        ((n : ℕ) → i < n → All (λ j. j < n) alive.old.items → All (λ j. j < n) alive.new.items) }
+        ((n : ℕ) → i < n → All (λ j. j < n) alive.old.items
+        → All (λ j. j < n) alive.new.items) }
 {
     let is_dead = dead.get(i).copied().unwrap_or(false);
     add_flagged(alive, i, !is_dead)

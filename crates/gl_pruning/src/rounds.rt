@@ -60,8 +60,8 @@ impl Rounds<'_> {
     fn goes_with_all(&self, path: &[usize], edge: &Edge) -> bool
         requires within { AreWithin self.now path.now }
         ensures { result ≡ false
-            → ¬ MayMeetAll (is_before self.now.sought.order.now) self.now.sought.mode self.now.grain
-            (edges_of_table self.now.sought.table.now) path.now edge.now }
+            → ¬ MayMeetAll (is_before self.now.sought.order.now) self.now.sought.mode
+            self.now.grain (edges_of_table self.now.sought.table.now) path.now edge.now }
     {
         for place in 0..path.len() {
             let i = path[place];
@@ -80,8 +80,8 @@ impl Rounds<'_> {
         ensures { result ≡ false → (f : Edge)
             → slice_get (edges_of_table self.now.sought.table.now) next ≡ Some f
             → LastLeadsTo (edges_of_table self.now.sought.table.now) path.now f
-            → ¬ MayMeetAll (is_before self.now.sought.order.now) self.now.sought.mode self.now.grain
-            (edges_of_table self.now.sought.table.now) path.now f }
+            → ¬ MayMeetAll (is_before self.now.sought.order.now) self.now.sought.mode
+            self.now.grain (edges_of_table self.now.sought.table.now) path.now f }
     {
         let edge = &self.sought.table[next].0;
         let last = path[path.len() - 1];

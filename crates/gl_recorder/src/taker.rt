@@ -82,7 +82,8 @@ impl Taker {
     pub fn advance(&mut self, event: Event)
         requires { MayFollow self.old event }
         ensures { (limits : Bounds) (thread : ℕ) (es : List Event)
-            → Tracks limits thread es self.old → Tracks limits thread (es ++ event ∷ []) self.new }
+            → Tracks limits thread es self.old
+            → Tracks limits thread (es ++ event ∷ []) self.new }
     {
         let has_room = self.state.events() < self.limits.events();
         prove!(has_room);
@@ -156,7 +157,8 @@ impl Taker {
     fn refusal_beside_locks(&self, event: &Event) -> Option<Refusal>
         ensures refused { IfSome result
             (λ r. (limits : Bounds) (thread : ℕ) (es : List Event)
-            → Tracks limits thread es self.now → refusal limits thread es event.now ≡ Some r) }
+            → Tracks limits thread es self.now
+            → refusal limits thread es event.now ≡ Some r) }
         ensures left { IfNone result
             ((limits : Bounds) (thread : ℕ) (es : List Event) → Tracks limits thread es self.now
             → refusal limits thread es event.now ≡ lock_refusal es event.now) }

@@ -82,7 +82,8 @@ fn put_edge(
 ) -> Result<(), Memory>
     ensures { OnOk result
         (out.new.items
-        ≡ out.old.items ++ option_map_or (edge_line names.now) (slice_get table.now position) []) }
+        ≡ out.old.items ++ option_map_or (edge_line names.now)
+        (slice_get table.now position) []) }
 {
     if position >= table.len() {
         return Ok(());

@@ -67,7 +67,8 @@ pub(crate) fn edge_values(
 // Adds a cycle.
 fn push_cycle(alloc: Global, values: &mut Vec<Value>, cycle: &[usize]) -> Result<(), Memory>
     ensures { OnOk result
-        (map view values.new.items ≡ map view values.old.items ++ positions_tree cycle.now ∷ []) }
+        (map view values.new.items
+        ≡ map view values.old.items ++ positions_tree cycle.now ∷ []) }
 {
     let value = positions_value(alloc, cycle)?;
     values.push(value)?;

@@ -56,7 +56,8 @@ fn push_lock(
 // The names of guard locks.
 fn guard_values(alloc: Global, names: &Names, guards: &[Guard]) -> Result<Vec<Value>, Memory>
     ensures { IfOk result
-        (λ vs. map view vs.items ≡ map (λ guard. name_tree names.now.locks guard.lock) guards.now) }
+        (λ vs. map view vs.items
+        ≡ map (λ guard. name_tree names.now.locks guard.lock) guards.now) }
 {
     let mut values = Vec::new(alloc);
     for guard in guards {
@@ -124,7 +125,8 @@ pub(crate) fn guard_modes_value(alloc: Global, guards: &Guards) -> Result<Value,
 // Adds a position.
 fn push_position(values: &mut Vec<Value>, position: usize) -> Result<(), Memory>
     ensures { OnOk result
-        (map view values.new.items ≡ map view values.old.items ++ number (unsigned position) ∷ []) }
+        (map view values.new.items
+        ≡ map view values.old.items ++ number (unsigned position) ∷ []) }
 {
     values.push(Value::from(position))?;
     Ok(())

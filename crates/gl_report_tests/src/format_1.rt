@@ -20,7 +20,8 @@ pub fn json_if_exclusive(
     ensures which { IfOk result (λ answer. IsSome answer ↔ ListsExclusive report.now) }
     ensures line { IfOk result
         (λ answer. IfSome answer
-        (λ text. text.items ≡ compact_text (report_tree_v1 names.now report.now) ++ codes "\n")) }
+        (λ text. text.items
+        ≡ compact_text (report_tree_v1 names.now report.now) ++ codes "\n")) }
 {
     if lists_exclusive(report) {
         return Ok(Some(json_text_v1(alloc, names, report)?));

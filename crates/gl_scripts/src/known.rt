@@ -20,7 +20,8 @@ pub(crate) struct Known {
 fn are_lawful(lists: &[Vec<Event>]) -> bool
     ensures few { IsTrue result → length lists.now ≤ 1024 }
     ensures lawful { IsTrue result → (thread : ℕ) (es : List Event)
-        → slice_get (map (λ v. v.items) lists.now) thread ≡ Some es → IsLawful greatest thread es }
+        → slice_get (map (λ v. v.items) lists.now) thread ≡ Some es
+        → IsLawful greatest thread es }
 {
     gl_recorder::are_lawful(&Limits::greatest(), lists)
 }
@@ -29,7 +30,8 @@ fn are_lawful(lists: &[Vec<Event>]) -> bool
 fn edges(rt: &HostRuntime, lists: &[Vec<Event>]) -> Result<EdgeList, Stop>
     requires few { length lists.now ≤ 1024 }
     requires lawful { (thread : ℕ) (es : List Event)
-        → slice_get (map (λ v. v.items) lists.now) thread ≡ Some es → IsLawful greatest thread es }
+        → slice_get (map (λ v. v.items) lists.now) thread ≡ Some es
+        → IsLawful greatest thread es }
 {
     if let Ok(edges) = edges_of(rt.alloc(), lists) {
         return Ok(edges);
@@ -42,7 +44,8 @@ fn edges(rt: &HostRuntime, lists: &[Vec<Event>]) -> Result<EdgeList, Stop>
 fn order_of(rt: &HostRuntime, lists: &[Vec<Event>]) -> Result<Order, Stop>
     requires few { length lists.now ≤ 1024 }
     requires lawful { (thread : ℕ) (es : List Event)
-        → slice_get (map (λ v. v.items) lists.now) thread ≡ Some es → IsLawful greatest thread es }
+        → slice_get (map (λ v. v.items) lists.now) thread ≡ Some es
+        → IsLawful greatest thread es }
 {
     match Order::of(rt.alloc(), lists) {
         Ok(order) => Ok(order),
@@ -55,7 +58,8 @@ fn order_of(rt: &HostRuntime, lists: &[Vec<Event>]) -> Result<Order, Stop>
 fn order(rt: &HostRuntime, lists: &[Vec<Event>]) -> Result<Order, Stop>
     requires few { length lists.now ≤ 1024 }
     requires lawful { (thread : ℕ) (es : List Event)
-        → slice_get (map (λ v. v.items) lists.now) thread ≡ Some es → IsLawful greatest thread es }
+        → slice_get (map (λ v. v.items) lists.now) thread ≡ Some es
+        → IsLawful greatest thread es }
 {
     if let Ok(order) = order_of(rt, lists) {
         return Ok(order);

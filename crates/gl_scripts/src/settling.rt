@@ -24,7 +24,8 @@ fn recorded_alone(
     events: &[Event],
 ) -> Result<(Receipt, Collector), Stop>
     requires one { limits.now.threads ≡ 1 }
-    ensures sessions { IfOk result (λ done. (done.0.session ≡ number) × (done.1.session ≡ number)) }
+    ensures sessions { IfOk result
+        (λ done. (done.0.session ≡ number) × (done.1.session ≡ number)) }
     ensures limits { IfOk result (λ done. done.0.limits ≡ done.1.limits) }
     ensures lane { IfOk result (λ done. map (λ i. i.lane) done.1.inputs ≡ done.0.lane ∷ []) }
 {
@@ -149,7 +150,8 @@ fn settle_own<W: Wait>(
     inlet: Inlet,
 ) -> Result<Option<(Settled, Table)>, Stop>
     requires ours { AreOurs gathered (own ∷ []) }
-    requires feed { gathered.fault ≡ None → map (λ s. s.feed) gathered.sent ≡ inlet.feed ∷ [] }
+    requires feed { gathered.fault ≡ None
+        → map (λ s. s.feed) gathered.sent ≡ inlet.feed ∷ [] }
 {
     let served = serve(waits, rt.alloc(), inlet, 0, &Open);
     let mut receipts = [own];

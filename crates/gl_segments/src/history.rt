@@ -236,7 +236,8 @@ impl Growing {
     /// The history that has these clocks.
     pub fn finish(self) -> Result<History, AllocError>
         requires rising { IsNonDecreasingBy (λ g. g.from) self.growths.items }
-        ensures { IfOk result (λ h. (clocks : List (List ℕ)) → IsNoted self clocks → h ≡ clocks) }
+        ensures { IfOk result
+            (λ h. (clocks : List (List ℕ)) → IsNoted self clocks → h ≡ clocks) }
     {
         let Growing {
             thread,

@@ -89,7 +89,8 @@ impl Order {
 fn histories(alloc: Global, steps: &Steps) -> Result<Vec<History>, OrderFault>
     requires { IsSound steps.now }
     ensures ok { IfOk result
-        (λ v. (lists : List (List Event)) → ShowsSteps lists steps.now → OrdersBy lists v.items) }
+        (λ v. (lists : List (List Event)) → ShowsSteps lists steps.now
+        → OrdersBy lists v.items) }
     ensures consistent { OnOk result
         ((lists : List (List Event)) → ShowsSteps lists steps.now → IsConsistent lists) }
     ensures fault { IfErr result

@@ -144,10 +144,12 @@ impl Search {
     /// The segments along the links from the target, which was found before itself, back to it.
     pub fn ring(&self, alloc: Global) -> Result<Vec<Segment>, AllocError>
         requires found { IsFound self.now.found.items self.now.target }
-        requires linked { (k : ℕ) (l : Link) → 0 < k → slice_get self.now.found.items k ≡ Some l
+        requires linked { (k : ℕ) (l : Link) → 0 < k
+            → slice_get self.now.found.items k ≡ Some l
             → l.next < k }
         ensures { IfOk result
-            (λ v. (k : ℕ) × (l : Link) × (0 < k) × (slice_get self.now.found.items k ≡ Some l)
+            (λ v. (k : ℕ) × (l : Link) × (0 < k)
+            × (slice_get self.now.found.items k ≡ Some l)
             × (l.segment ≡ self.now.target) × FollowsLinks self.now.found.items k v.items) }
     {
         for (k, link) in self.found.iter().enumerate() {
@@ -162,7 +164,8 @@ impl Search {
 // The segments along the links from an entry to the first one, which is left out.
 fn chain(alloc: Global, found: &[Link], from: usize) -> Result<Vec<Segment>, AllocError>
     requires within { from < length found.now }
-    requires linked { (k : ℕ) (l : Link) → 0 < k → slice_get found.now k ≡ Some l → l.next < k }
+    requires linked { (k : ℕ) (l : Link) → 0 < k → slice_get found.now k ≡ Some l
+        → l.next < k }
     ensures { IfOk result (λ v. FollowsLinks found.now from v.items) }
 {
     let mut segments = Vec::new(alloc);

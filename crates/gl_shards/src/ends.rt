@@ -152,7 +152,8 @@ impl Outlet {
         edge: Edge,
         sample: Sample,
     ) -> Result<(), (Edge, Sample)>
-        ensures feed { (self.new.feed ≡ self.old.feed) × (self.new.capacity ≡ self.old.capacity) }
+        ensures feed { (self.new.feed ≡ self.old.feed)
+            × (self.new.capacity ≡ self.old.capacity) }
         ensures sent { OnOk result (self.new.sent ≡ self.old.sent ++ (edge, sample) ∷ []) }
         ensures gone { IfErr result
             (λ back. (back ≡ (edge, sample)) × (self.new.sent ≡ self.old.sent)) }

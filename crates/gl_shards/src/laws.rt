@@ -24,7 +24,8 @@ pub fn tables_need_no_order()
     ensures one_more { (pairs : List (Edge × Sample)) (pair : Edge × Sample)
         → once (once pairs ++ pair ∷ []) ≡ once (pairs ++ pair ∷ []) }
     ensures filled { (pairs : List (Edge × Sample)) → filled [] pairs ≡ once pairs }
-    ensures order { (xs ys : List (Edge × Sample)) → IsPermutation xs ys → once xs ≡ once ys }
+    ensures order { (xs ys : List (Edge × Sample)) → IsPermutation xs ys
+        → once xs ≡ once ys }
 {}
 
 /// Tables that are taken together make the table of all their pairs, in whatever order the tables

@@ -165,7 +165,8 @@ impl Served {
         requires one_feed { self.feed ≡ sent.feed }
         ensures table { IfOk result (λ table. table ≡ once sent.sent) }
         ensures cut { (result ≡ Err Cut) ↔ (self.cut ≡ true) }
-        ensures memory { (result ≡ Err Memory) ↔ ((self.cut ≡ false) × (self.short ≡ true)) }
+        ensures memory { (result ≡ Err Memory)
+            ↔ ((self.cut ≡ false) × (self.short ≡ true)) }
         ensures received { IsPrefix self.received sent.sent }
         ensures all_received { self.cut ≡ false → self.received ≡ sent.sent }
     {

@@ -1,6 +1,7 @@
 //! Texts that come in pieces.
-ghost use Rattle.std.specs.Prelude.{◌≡◌, ◌≤◌, false, None, IfOk};
+ghost use Rattle.std.specs.Prelude.{◌≡◌, ◌≤◌, false, IfOk};
 ghost use Rattle.gl_event.specs.Bounds.{greatest};
+ghost use Rattle.gl_io.specs.Positions.{untold};
 ghost use Rattle.gl_std.specs.Trace.{IsTraceOver};
 
 use gl_event::{Limits, Memory};
@@ -36,7 +37,7 @@ impl<'a> Pieces<'a> {
 }
 
 impl Source for Pieces<'_> {
-    ghost remaining = { λ _. None };
+    ghost position = { λ _. untold };
 
     ghost failed = { λ s. s.is_failed };
 

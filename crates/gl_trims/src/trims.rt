@@ -48,7 +48,8 @@ impl Hints {
         requires there { IfSome place (λ p. p < length self.old.watchers) }
         ensures chain { OnOk result (self.new.chain ≡ self.old.chain) }
         ensures places { OnOk result (self.new.places.items ≡ set self.old.places.items i place) }
-        ensures watchers { OnOk result (self.new.watchers ≡ watched_at place i self.old.watchers) }
+        ensures watchers { OnOk result
+            (self.new.watchers ≡ watched_at place i self.old.watchers) }
     {
         self.places[i] = place;
         match place {
@@ -353,7 +354,8 @@ fn wake(
 
 // The positions of flags that aren't set, ascending.
 fn left_of(alloc: Global, gone: &[bool]) -> Result<Vec<usize>, Memory>
-    ensures { (edges : List Edge) (removed : List ℕ) → AreFlagsOf (length edges) gone.now removed
+    ensures { (edges : List Edge) (removed : List ℕ)
+        → AreFlagsOf (length edges) gone.now removed
         → IfOk result (λ left. left.items ≡ others edges removed) }
 {
     let mut left = Vec::new(alloc);

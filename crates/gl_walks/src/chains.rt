@@ -18,7 +18,8 @@ pub(crate) struct Chain {
 impl Chain {
     /// The index of so many positions, before any of them is put into it.
     pub(crate) fn new(alloc: Global, size: usize) -> Result<Chain, Memory>
-        ensures { IfOk result (λ chain. (key : ℕ → Option Key) → IsChain key size size chain) }
+        ensures { IfOk result
+            (λ chain. (key : ℕ → Option Key) → IsChain key size size chain) }
     {
         Ok(Chain {
             first: HashMap::new(alloc),
@@ -55,7 +56,8 @@ impl Chain {
     /// The position after `i` of the next one with the key of `i`.
     pub(crate) fn after(&self, i: usize) -> Option<usize>
         requires { i < vec_len self.now.next }
-        ensures { (keys : ℕ → Option Key) (size : ℕ) (k : Key) → IsChain keys size 0 self.now
+        ensures { (keys : ℕ → Option Key) (size : ℕ) (k : Key)
+            → IsChain keys size 0 self.now
             → keys i ≡ Some k → IsNext keys size k (i + 1) result }
     {
         self.next[i]

@@ -21,7 +21,8 @@ pub fn is_lawful(thread: ThreadId, list: &[Event]) -> bool
 pub fn are_lawful(lists: &[Vec<Event>]) -> bool
     ensures few { IsTrue result → length lists.now ≤ 1024 }
     ensures lawful { IsTrue result → (thread : ℕ) (es : List Event)
-        → slice_get (map (λ v. v.items) lists.now) thread ≡ Some es → IsLawful greatest thread es }
+        → slice_get (map (λ v. v.items) lists.now) thread ≡ Some es
+        → IsLawful greatest thread es }
 {
     gl_recorder::are_lawful(&Limits::greatest(), lists)
 }

@@ -155,7 +155,8 @@ impl Dispatcher {
     /// The table of a shard.
     pub fn table(&self, shard: u32) -> &Table
         requires { shard < length self.now.shards }
-        ensures { (s : Shard) → slice_get self.now.shards shard ≡ Some s → result.now ≡ table_of s }
+        ensures { (s : Shard) → slice_get self.now.shards shard ≡ Some s
+            → result.now ≡ table_of s }
     {
         self.feeds[shard as usize].table()
     }

@@ -160,7 +160,8 @@ impl World {
         ensures memory { IfErr result
             (λ stop. (next : Step) → slice_get steps.now stop.0 ≡ Some next
             → IsTrue (grows (step self.new next).did)) }
-        ensures stopped { IfErr result (λ stop. self.new ≡ run self.old (take stop.0 steps.now)) }
+        ensures stopped { IfErr result
+            (λ stop. self.new ≡ run self.old (take stop.0 steps.now)) }
     {
         // Tells the proof that each thread has a lane.
         let _ = &self.parts;
@@ -190,7 +191,8 @@ impl World {
         ensures front { (lane : Lane) → slice_get self.now.lanes thread ≡ Some lane
             → IsPrefixOf result.now (taken_of thread lane) }
         ensures whole { IsDrained self.now → (lane : Lane)
-            → slice_get self.now.lanes thread ≡ Some lane → result.now ≡ taken_of thread lane }
+            → slice_get self.now.lanes thread ≡ Some lane
+            → result.now ≡ taken_of thread lane }
     {
         self.intake.log(thread)
     }

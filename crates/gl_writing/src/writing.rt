@@ -117,7 +117,8 @@ fn put_list(
 /// Takes memory for the text alone. Time grows with its length.
 pub fn write_trace(alloc: Global, trace: &Trace) -> Result<Vec<u8>, AllocError>
     requires one_list_each { length trace.now.lists ≡ length trace.now.names.threads }
-    requires named { (thread : ℕ) (es : List Event) → slice_get trace.now.lists thread ≡ Some es
+    requires named { (thread : ℕ) (es : List Event)
+        → slice_get trace.now.lists thread ≡ Some es
         → All (IsNamed trace.now.names) es }
     ensures { IfOk result (λ text. text.items ≡ written trace.now.names trace.now.lists) }
 {

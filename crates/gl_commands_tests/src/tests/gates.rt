@@ -1,5 +1,6 @@
 //! Sessions whose workers pass a gate: both at one moment, or with each edge.
-ghost use Rattle.std.specs.Prelude.{◌≡◌, None, false};
+ghost use Rattle.std.specs.Prelude.{◌≡◌, false};
+ghost use Rattle.gl_io.specs.Positions.{untold};
 
 use super::asks::{Ask, command_of};
 use super::runs::TURNS;
@@ -168,7 +169,7 @@ struct HeldBack<'a> {
 }
 
 impl Source for HeldBack<'_> {
-    ghost remaining = { λ _. None };
+    ghost position = { λ _. untold };
 
     ghost failed = { λ _. false };
 

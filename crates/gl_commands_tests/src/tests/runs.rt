@@ -1,6 +1,7 @@
 //! Runs of commands: over whole texts, over texts that can't be read to their end, and by so many bytes a
 //! read.
-ghost use Rattle.std.specs.Prelude.{◌≡◌, ◌≤◌, ◌^◌, None, false};
+ghost use Rattle.std.specs.Prelude.{◌≡◌, ◌≤◌, ◌^◌, false};
+ghost use Rattle.gl_io.specs.Positions.{untold};
 ghost use Rattle.gl_options.specs.Sessions.{CanRun};
 
 use super::asks::{Ask, command_of};
@@ -151,7 +152,7 @@ struct Sips<'a> {
 }
 
 impl Source for Sips<'_> {
-    ghost remaining = { λ _. None };
+    ghost position = { λ _. untold };
 
     ghost failed = { λ _. false };
 

@@ -1,6 +1,7 @@
 //! Sessions over texts, which are recorded as they are read.
-ghost use Rattle.std.specs.Prelude.{◌≡◌, ◌≤◌, None, false};
+ghost use Rattle.std.specs.Prelude.{◌≡◌, ◌≤◌, false};
 ghost use Rattle.gl_event.specs.declared.limits.TheConstants.{MAX_RING, MAX_THREADS};
+ghost use Rattle.gl_io.specs.Positions.{untold};
 ghost use Rattle.gl_shards.specs.declared.shard.TheConstants.{MAX_SHARDS};
 
 use super::{Meeting, counts, reported};
@@ -208,7 +209,7 @@ impl<'a> HeldBack<'a> {
 }
 
 impl Source for HeldBack<'_> {
-    ghost remaining = { λ _. None };
+    ghost position = { λ _. untold };
 
     ghost failed = { λ s. s.is_failed };
 

@@ -1,5 +1,6 @@
 //! Texts that stop after so many bytes, each number of them in turn, and texts that never end.
-ghost use Rattle.std.specs.Prelude.{◌≡◌, ◌<◌, ◌≤◌, None, length, IfOk};
+ghost use Rattle.std.specs.Prelude.{◌≡◌, ◌<◌, ◌≤◌, length, IfOk};
+ghost use Rattle.gl_io.specs.Positions.{untold};
 ghost use Rattle.gl_std.specs.Sourced.{items_of, source_of};
 ghost use Rattle.gl_std.specs.Streaming.{CanBeAsked};
 
@@ -165,7 +166,7 @@ struct Endless<'a> {
 }
 
 impl Source for Endless<'_> {
-    ghost remaining = { λ _. None };
+    ghost position = { λ _. untold };
 
     ghost failed = { λ s. s.is_failed };
 
