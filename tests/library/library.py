@@ -6,8 +6,10 @@
 The header is compiled alone as C and as C++. Each example of library/examples prints its known report. sessions.c records
 random sessions in running threads; each report's text and JSON has to be what PROGRAM says of the trace of what was
 recorded, byte for byte. Some hundred of them run under AddressSanitizer, ThreadSanitizer and Valgrind. misuse.c uses each
-call wrongly, refuses memory, forks and leaves in mid-course; wrapper.cc is of goodlock.hpp. Every run has a limit of time. The last line is `N passed, N failed`, with `, N skipped` behind it where tools
-are missing: each is named. PART: headers, examples, wrapper, sessions, sanitized, misuse.
+call wrongly, refuses memory, forks and leaves in mid-course; wrapper.cc is of goodlock.hpp, names.c of goodlock_names.h, as C
+and as C++, by many threads and by all short schedules of two or three. Every run has a limit of time. The last line is
+`N passed, N failed`, with `, N skipped` behind it where tools are missing: each is named. PART: headers, examples, wrapper, names,
+sessions, sanitized, misuse.
 
 LIBRARY   the archive that is tested   (prebuilt/libgoodlock.a)
 CASES     how many random sessions     (3000, as --cases)
@@ -45,6 +47,13 @@ cycle 1: 2 edges
   T1 holds current since bank.cc:24 wants savings at bank.cc:25
   T2 holds savings since bank.cc:24 wants current at bank.cc:25
 cycles: 1
+"""
+BY_ADDRESS = """\
+cycle 1: 2 edges
+  T0 holds shelf since move, from wants shelf #2 at move, to
+  T1 holds shelf #2 since move, from wants shelf at move, to
+cycles: 1
+locks: 22, places: 7
 """
 SANITIZERS = {"plain": [], "address": ["-fsanitize=address,undefined"], "thread": ["-fsanitize=thread"]}
 WRAPS = [f"-Wl,--wrap={name}" for name in ("malloc", "calloc", "realloc", "aligned_alloc")]
@@ -98,7 +107,7 @@ class Tests:
             if shutil.which(compiler) is None:
                 self.skip(name, f"{compiler} isn't installed")
                 continue
-            files = ["goodlock.h", "goodlock.hpp"] if language == "c++" else ["goodlock.h"]
+            files = ["goodlock.h", "goodlock_names.h", *(["goodlock.hpp"] if language == "c++" else [])]
             text = "".join(f'#include "{file}"\n#include "{file}"\n' for file in files)
             source = self.folder / f"alone.{'cc' if language == 'c++' else 'c'}"
             source.write_text(text + "int alone;\n")
@@ -115,6 +124,8 @@ class Tests:
         c = ["-O1", "-g", *STRICT, f"-I{HEADERS}"]
         if self.build("bank", "gcc", "-std=gnu11", *c, EXAMPLES / "bank.c", ARCHIVE, "-lpthread"):
             self.example("the example in C", BY_NAME, "./bank")
+        if self.build("named", "gcc", "-std=gnu11", *c, EXAMPLES / "named.c", ARCHIVE, "-lpthread"):
+            self.example("the example of names in C", BY_ADDRESS, "./named")
         for standard in ("c++11", "c++17"):
             shutil.copy(EXAMPLES / "bank.cc", self.folder)
             if self.build("bank_cc", "g++", f"-std={standard}", *c, "bank.cc", ARCHIVE, "-lpthread"):
@@ -250,6 +261,21 @@ class Tests:
                 for word in ("locks", "threads", "leave"):
                     self.counted(f"wrapper, {word}, {name}", f"wrapper_{name}", word, env=environment)
 
+    # --- Names
+
+    def names(self):
+        c = ["-O1", "-g", *STRICT, f"-I{HEADERS}"]
+        rest = ["-x", "none", ARCHIVE, *WRAPS, "-lpthread"]
+        for language, first in (("c", ["gcc", "-std=gnu11"]), ("c++", ["g++", "-std=gnu++17"])):
+            for name, words in SANITIZERS.items():
+                program = f"names_{'cc' if language == 'c++' else 'c'}_{name}"
+                if not self.build(program, *first, *c, *words, "-x", language, HERE / "names.c", *rest):
+                    continue
+                # Sanitizers make system calls of their own, and know no coroutines.
+                alone = ("quiet", "schedules") if name == "plain" else ()
+                for word in ("numbers", "memory", "report", "threads", *alone):
+                    self.counted(f"names, {word}, {language}, {name}", program, word)
+
     # --- Misuse
 
     def misuse(self):
@@ -279,7 +305,7 @@ def main():
     parser = argparse.ArgumentParser(description=__doc__, formatter_class=argparse.RawDescriptionHelpFormatter)
     parser.add_argument("--cases", type=int, default=int(os.environ.get("CASES", "3000")))
     parser.add_argument("--seed", type=int, default=1)
-    parts = ["headers", "examples", "wrapper", "sessions", "sanitized", "misuse"]
+    parts = ["headers", "examples", "wrapper", "names", "sessions", "sanitized", "misuse"]
     parser.add_argument("--only", choices=parts, action="append", default=[], help="may be said again")
     parser.add_argument("program")
     options = parser.parse_args()
