@@ -1,6 +1,6 @@
 #!/bin/bash
-# Times the C library: a record alone and with a collector beside it, a pull, a report, and what a lane takes; beside a mutex
-# that no other thread wants, in the same run. Prints a table.
+# Times the C library: a record alone and with a collector beside it, a pull, a report, what a lane takes, and the number of a
+# name that is known; beside a mutex that no other thread wants, in the same run. Prints a table.
 #
 #     bench/library.sh
 #

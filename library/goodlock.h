@@ -24,7 +24,8 @@
  *     goodlock_text(&session, &report, buffer, sizeof buffer, &needed);
  *
  * (Names are `const uint8_t *`: bytes of any kind.) Whole programs of this kind are in library/examples/, a wrapper for
- * C++ in goodlock.hpp, and docs/EMBEDDING.md goes from the link line to the report.
+ * C++ in goodlock.hpp, numbers for names on any thread in goodlock_names.h, and docs/EMBEDDING.md goes from the link
+ * line to the report.
  *
  * ---- When an event is recorded
  *

@@ -19,7 +19,7 @@
  *     uint32_t told_locks = 0, told_places = 0;                      // the collecting thread, for each session
  *     goodlock_pull(&session, 1000, &pulled);
  *     goodlock_report_so_far(&session, GOODLOCK_FULL_MODE, 4, 1000, &report);
- *     goodlock_tell_locks(&session, &locks, &told_locks);            // before the text; before the report is as well
+ *     goodlock_tell_locks(&session, &locks, &told_locks);            // before the text is made
  *     goodlock_tell_places(&session, &places, &told_places);
  *     goodlock_text(&session, &report, buffer, sizeof buffer, &needed);
  *
@@ -44,21 +44,24 @@
  *
  * What goodlock.h says of handles and pointers, but that many threads may be in calls on one table at once. Two calls
  * are made alone: goodlock_names_open comes before all others, and goodlock_names_free after them, which something
- * orders: the start of a thread, a join. For one address, goodlock_names_forget comes after all mentions of
- * the lock that was there and before all of the next one: whoever destroys a mutex sees to that already. The calls that
- * tell are made by one thread at a time for a table.
+ * orders: the start of a thread, a join. For one address, goodlock_names_forget comes after all mentions of the lock
+ * that was there and before all of the next one: whoever destroys a mutex sees to that already. The calls that tell are
+ * made by one thread at a time for a table.
  *
  * ---- What it costs
  *
- * A mention of what is known takes one or two nanoseconds by the address of a lock or a literal, whatever the name's
- * length, and by its bytes a step for each eight of them (bench/library.sh measures it). It is wait-free: a few reads,
- * and nothing is written that another thread reads. A first mention takes memory for the name (malloc, once or twice)
- * and some compare-and-swaps. It is lock-free: another one may make it go round once more, but a thread that is stopped
- * anywhere, or that is gone, keeps nobody waiting. It waits for nobody, but for what malloc waits for.
+ * A mention of what is known takes a few nanoseconds by the address of a lock or of a literal, however long the name
+ * is: half of what a mutex takes that nobody else wants, locked and unlocked. By its bytes it takes a step for each
+ * eight of them and twice that mutex for 18 (bench/library.sh measures it). It is wait-free: some reads, and nothing is
+ * written that another thread reads, so that no thread slows another.
+ *
+ * A first mention takes memory (malloc, once or twice) and some compare-and-swaps. It is lock-free: others that are new
+ * may make it go round once more, but a thread that is stopped anywhere in a call, or is gone, keeps nobody waiting. It
+ * waits for nobody, but for what malloc waits for.
  *
  * A table takes its memory when it is opened: 88 to 168 bytes for each name that it is made for, which most systems
- * give as it is touched. It has a fixed size and never moves. Names that are chosen to collide (the hash has no seed)
- * cost a look at each. */
+ * give as they are touched. It has a fixed size and never moves. The hash has no seed: names that somebody chooses to
+ * collide cost a look at each. */
 #ifndef GOODLOCK_NAMES_H
 #define GOODLOCK_NAMES_H
 
@@ -155,12 +158,12 @@ static inline void goodlock_names_keep_(struct goodlock_names_table_ *table, str
         ;
 }
 
-/* An entry with the next number unless it has one: OK, NAMES.
+/* The number of an entry, the next one where it has none: OK, NAMES.
  *
- * A number is given by the swap that puts the entry to its place in `numbered`. `next` goes on only once the entry at
- * that place knows its number, whoever tells it. So an entry that doesn't know its number after `next` was read is at
- * no place below; and a place from `next` on is taken only by who read `next` there, after that swap was lost. So it
- * has one place at most. */
+ * A number is given by the swap that puts an entry at its place in `numbered`. `next` goes on only once that place is
+ * taken and its entry knows the number, whoever told it. So an entry that doesn't know a number, after `next` was read,
+ * is at no place below that; and it is at no place above while that one is free, as nobody has read a greater `next` by
+ * then. So a swap succeeds only for an entry that has no place, and no entry has two. */
 static inline uint32_t goodlock_names_number_(struct goodlock_names_table_ *table, struct goodlock_names_entry_ *entry,
                                               uint32_t *number)
 {
@@ -466,11 +469,10 @@ static inline uint32_t goodlock_names_at(const goodlock_names *names, const void
     return goodlock_names_numbered_(table, entry, number);
 }
 
-/* The number of the name that this literal has: that of goodlock_names_of with its bytes up to its zero. They are
-   looked at once for an address, and never change while the table stands, nor is the literal's memory another's: so a
-   literal, and none of a library that is unloaded. The bytes of what is at an address that was mentioned before aren't
-   read. (Where a table is for fewer names than there are literals, some are asked by their bytes each time.)
-   GOODLOCK_LINE is one: the line of the source. */
+/* The number of the name that this literal has: that of goodlock_names_of with its bytes up to its zero. They are read
+   at the first mention of its address, and aren't read again: so they don't change while the table stands, and nothing
+   else comes to stand there, as where a library is unloaded. GOODLOCK_LINE is one: the line of the source. (Where there
+   are more literals than the table has names for, some are read each time.) */
 static inline uint32_t goodlock_names_literal(const goodlock_names *names, const char *literal, uint32_t *number)
 {
     struct goodlock_names_table_ *const table = names->at;

@@ -1,5 +1,6 @@
-/* Times the calls of goodlock.h, beside a mutex that no other thread wants. bench/library.sh says how it is run. */
-#include "goodlock.h"
+/* Times the calls of goodlock.h and goodlock_names.h, beside a mutex that no other thread wants. bench/library.sh says
+ * how it is run. */
+#include "goodlock_names.h"
 
 #include <malloc.h>
 #include <pthread.h>
@@ -216,6 +217,54 @@ static void report_over(uint32_t events)
     close_one(&session, &lane);
 }
 
+/* ---- Numbers of names */
+
+enum { NAMES = 100, NAMED = 20000 };
+
+/* Mentions of so many names that are known, in turn: nanoseconds of each by its address, as a literal, by its bytes;
+ * the least of three, with the mutex pair between them. */
+static void names_known(void)
+{
+    static char literals[NAMES][24];
+    static pthread_mutex_t mutexes[NAMES];
+    double least[4] = {1e9, 1e9, 1e9, 1e9};
+    goodlock_names names = {NULL};
+    uint32_t number, sum = 0;
+    check(goodlock_names_open(3 * NAMES, &names));
+    for (int i = 0; i < NAMES; i++)
+        snprintf(literals[i], sizeof literals[i], "source/bank.c:%d", 1000 + i); /* 18 bytes */
+    for (int round = 0; round < 3; round++) {
+        double start[5];
+        start[0] = now();
+        for (int i = 0; i < NAMES * NAMED; i++) {
+            check(goodlock_names_at(&names, &mutexes[i % NAMES], (const uint8_t *)"account", 7, &number));
+            sum += number;
+        }
+        start[1] = now();
+        for (int i = 0; i < NAMES * NAMED; i++) {
+            check(goodlock_names_literal(&names, literals[i % NAMES], &number));
+            sum += number;
+        }
+        start[2] = now();
+        for (int i = 0; i < NAMES * NAMED; i++) {
+            check(goodlock_names_of(&names, (const uint8_t *)literals[i % NAMES], 18, &number));
+            sum += number;
+        }
+        start[3] = now();
+        start[4] = start[3] + mutex_pair() * NAMES * NAMED;
+        for (int way = 0; way < 4; way++) {
+            const double taken = (start[way + 1] - start[way]) / (NAMES * NAMED);
+            least[way] = taken < least[way] ? taken : least[way];
+        }
+    }
+    if (goodlock_names_count(&names) != 2 * NAMES || sum == 0)
+        check(GOODLOCK_BROKEN);
+    goodlock_names_free(&names);
+    printf("| the number of a name that is known: by an address; a literal; 18 bytes; beside them the mutex pair "
+           "| %.1f ns; %.1f ns; %.1f ns; %.1f ns |\n",
+           least[0], least[1], least[2], least[3]);
+}
+
 int main(void)
 {
     puts("| What | Measured |\n|---|---|");
@@ -232,5 +281,6 @@ int main(void)
     bytes_of_a_lane(256);
     bytes_of_a_lane(4096);
     report_over(2000000);
+    names_known();
     return 0;
 }

@@ -275,6 +275,11 @@ class Tests:
                 alone = ("quiet", "schedules") if name == "plain" else ()
                 for word in ("numbers", "memory", "report", "threads", *alone):
                     self.counted(f"names, {word}, {language}, {name}", program, word)
+        environment = {**os.environ, "TSAN_OPTIONS": "detect_deadlocks=0"}
+        for name in ("address", "thread"):
+            words = ["gcc", "-std=gnu11", *c, *SANITIZERS[name], EXAMPLES / "named.c", ARCHIVE, "-lpthread"]
+            if self.build(f"named_{name}", *words):
+                self.example(f"named.c by {name}", BY_ADDRESS, f"./named_{name}", env=environment)
 
     # --- Misuse
 
