@@ -247,7 +247,8 @@ static inline uint32_t goodlock_names_named_(struct goodlock_names_table_ *table
             }
         }
         if (goodlock_names_is_(found, hash, name, length)) {
-            free(own);
+            if (own != NULL)
+                free(own);
             *entry = found;
             return GOODLOCK_OK;
         }
@@ -256,8 +257,7 @@ static inline uint32_t goodlock_names_named_(struct goodlock_names_table_ *table
     return GOODLOCK_NAMES;
 }
 
-/* The slot that this address has, or gets where it is claimed. NULL: it has none, or there is none in so many probes.
- */
+/* The slot that this address has, or gets where it is claimed. NULL: it has none, or none is free in so many probes. */
 static inline struct goodlock_names_slot_ *goodlock_names_slot_(const struct goodlock_names_table_ *table,
                                                                 struct goodlock_names_slot_ *slots, const void *address,
                                                                 uint32_t probes, bool is_claimed)
@@ -413,8 +413,7 @@ static inline uint32_t goodlock_names_open(uint32_t most, goodlock_names *names)
 }
 
 /* Gives back what the table has; it is all zero then, and may be opened again. One that is all zero already stays so.
-   It is alone: after all other calls on this table, from any thread. Sessions that were told its names have their own.
- */
+   It is alone: after all other calls on this table. Sessions that were told its names have copies of them. */
 static inline void goodlock_names_free(goodlock_names *names)
 {
     struct goodlock_names_table_ *const table = names->at;
@@ -428,10 +427,11 @@ static inline void goodlock_names_free(goodlock_names *names)
     names->at = NULL;
 }
 
-/* ---- Mentions. These calls are made on any thread, by many at once. Unless OK, nothing was done that a later call
-   could tell, and *number is UINT32_MAX, which is no table's number: an event may have it as its place. What is known
-   is known however full the table is. OK. NAMES: it is new, and as many names were mentioned as the table is for.
-   MEMORY: it is new, and malloc refused; call again. MISUSE: the table isn't open. */
+/* ---- Mentions. These calls are made on any thread, by many at once. What is known is known however full the table is.
+   Unless OK, nothing was done that a later call could tell, and *number is UINT32_MAX, which is no table's number: an
+   event may have it as its place.
+   OK. NAMES: it is new, and as many names were mentioned as the table is for. MEMORY: it is new, and malloc refused;
+   call again. MISUSE: the table isn't open. */
 
 /* The number of the name with these bytes, which are copied at the first mention. It isn't one of the locks that are
    mentioned by an address, whatever name they were given. A step for each eight bytes of the name. */
@@ -530,11 +530,12 @@ static inline uint32_t goodlock_names_tell_(goodlock_session *session, const goo
 }
 
 /* Tells the session the locks of the table from number *told on, in the order of their numbers, by goodlock_lock. *told
-   is 0 at the first call for a session, and how many are told after each: keep it for the next one. What
-   was pulled before the call has its names then; a report asks for them only when its text or its JSON is made.
+   is 0 at the first call for a session, and how many are told after each: keep it for the next one. All that was pulled
+   before the call has its names then; a report asks for them only when its text or its JSON is made.
    OK: the session's numbers are the table's. MEMORY: what *told says was told stands; call again. MISUSE: the session
    or the table isn't open, *told is too great, or a new name has another number in the session than in the table, as
-   somebody else numbers locks there: its reports would tell wrong names from *told on. */
+   somebody else numbers locks there: its reports would tell wrong names from *told on. With nothing to tell the session
+   isn't looked at. */
 static inline uint32_t goodlock_tell_locks(goodlock_session *session, const goodlock_names *names, uint32_t *told)
 {
     return goodlock_names_tell_(session, names, told, goodlock_lock);

@@ -1,11 +1,11 @@
 /* Tests goodlock_names.h, as C and as C++.
  *
  *     library_names numbers     which number a name, an address and a literal have; full tables; misuse
- *     library_names memory      the first request for memory is refused, then the second ..; what is known asks for
- * none library_names quiet       what is known, where the kernel ends a process that makes a system call library_names
- * report      sessions that are told: known reports, the names by their numbers, foreign names library_names threads
- * many threads that mention the same names at once, while a collecting one tells them library_names schedules   two and
- * three threads, step by step in each order with at most three switches
+ *     library_names memory      the first request for memory is refused, then the second ..; what is known asks none
+ *     library_names quiet       what is known, where the kernel ends a process that makes a system call
+ *     library_names report      sessions that are told: known reports, the names by their numbers, foreign names
+ *     library_names threads     many threads that mention the same names at once, and one that tells them
+ *     library_names schedules   two and three threads, step by step, in every order with two to four switches
  *
  * Memory is refused by the linker's --wrap of malloc, calloc, realloc and aligned_alloc. What isn't as it has to be is
  * told on standard output; the last line is how many checks passed and failed. */

@@ -144,8 +144,15 @@ needs_library = pytest.mark.skipif(archive() is None, reason="there is no archiv
 
 @needs_library
 @pytest.mark.skipif(not has("gcc", "g++", "pkg-config"), reason="gcc, g++ or pkg-config isn't installed")
-@pytest.mark.parametrize("source, compiler", [("bank.c", "gcc"), ("bank.cc", "g++")])
-def test_a_program_is_built_by_pkg_config(prefix, source, compiler, monkeypatch):
+@pytest.mark.parametrize(
+    "source, compiler, held",
+    [
+        ("bank.c", "gcc", "T1 holds current"),
+        ("bank.cc", "g++", "T1 holds current"),
+        ("named.c", "gcc", "T0 holds shelf"),
+    ],
+)
+def test_a_program_is_built_by_pkg_config(prefix, source, compiler, held, monkeypatch):
     monkeypatch.setenv("PKG_CONFIG_PATH", str(prefix / "lib" / "pkgconfig"))
     shutil.copy(prefix / "share/doc/goodlock/examples" / source, source)
     flags = run("pkg-config", "--cflags", "--libs", "goodlock")[1].split()
@@ -156,7 +163,7 @@ def test_a_program_is_built_by_pkg_config(prefix, source, compiler, monkeypatch)
     by_shared = run("./shared", env={**os.environ, "LD_LIBRARY_PATH": str(prefix / "lib")})
     assert by_shared == run("./static")
     assert by_shared[0] == 0
-    assert by_shared[1].startswith("cycle 1: 2 edges\n  T1 holds current since ")
+    assert by_shared[1].startswith(f"cycle 1: 2 edges\n  {held} since ")
 
 
 @needs_library
