@@ -1,8 +1,8 @@
 -- Edges made by a stream, and dealt to shards, one after the other.
-use Rattle.std.proofs.Common.{◌≡◌, ◌≢◌, ℕ, zero, suc, ◌+◌, ◌<◌, ◌≤◌, eqb, List, [], ◌∷◌, ◌++◌, map, set, Some, refl, sym, ap, ◌∙◌, arith, append_assoc}
+use Rattle.std.proofs.Common.{◌≡◌, ◌≢◌, ℕ, zero, suc, ◌+◌, ◌<◌, ◌≤◌, eqb, List, [], ◌∷◌, ◌++◌, length, map, set, true, Some, refl, sym, ap, ◌∙◌, arith, append_assoc}
 use Rattle.std.specs.Prelude.{slice_get}
 use Rattle.std.specs.List.{range_with_len, flat_map}
-use Rattle.std.proofs.lemmas.Bool.{eq-eqb, ne_eqb}
+use Rattle.std.proofs.lemmas.Bool.{eq-eqb, false≢true, ne_eqb}
 use Rattle.std.proofs.lemmas.List.{append-nil}
 use Rattle.std.proofs.lemmas.List.Elements.{filter-append}
 use Rattle.std.proofs.lemmas.List.Folds.{flat_map-map}
@@ -40,6 +40,12 @@ made_by_more stream note = after_more [] stream note
 pub made_by_none : made_by [] ≡ []
 unfolding made_by
 made_by_none = refl
+
+pub made_by_empty : (stream : List Note) → true ≡ eqb (length stream) 0 → made_by stream ≡ []
+made_by_empty [] none = made_by_none
+made_by_empty (note ∷ notes) none =
+    let some : length (note ∷ notes) ≢ 0 = λ is. (omega (arith, is)) in
+    absurd (false≢true (sym (ne_eqb (length (note ∷ notes)) 0 some) ∙ sym none))
 
 -- ---- dealing
 

@@ -8,7 +8,6 @@ use crate::lane_input::LaneInput;
 use crate::pulled::{PullFault, Pulled};
 use crate::reports::report_of_all;
 use gl_cycles::{Report, ReportFault};
-use gl_edges::{Edge, Sample};
 use gl_event::{Event, Limits, Note, ThreadId};
 use gl_filters::Query;
 use gl_intake::Intake;
@@ -18,7 +17,8 @@ use std::marker::Model;
 /// The collector of a session: it pulls the notes off the threads' lanes.
 ///
 /// Contracts see the session and the limits, each thread's lane with the notes popped off it and
-/// whether it is broken, all collected notes, and the edges that they made.
+/// whether it is broken, all collected notes, and the edges that they made. The edges are kept nowhere: a
+/// run and a report find them in the notes.
 #[derive(Drop)]
 pub struct Collector {
     pub(crate) alloc: Global,
@@ -26,12 +26,12 @@ pub struct Collector {
     pub(crate) limits: Limits,
     pub(crate) intake: Intake,
     pub(crate) inputs: Vec<LaneInput>,
-    pub(crate) made: Vec<(Edge, Sample)>,
 }
 
 impl Model for Collector {
     ghost use Rattle.std.specs.Prelude.{map};
     ghost use Rattle.gl_engine.specs.Collecting.{Collecting};
+    ghost use Rattle.gl_engine.specs.Dealing.{made_by};
     ghost use Rattle.gl_engine.specs.Keeping.{pulling_of, IsCollector};
 
     ghost Value = { Collecting };
@@ -41,11 +41,11 @@ impl Model for Collector {
       limits = c.limits;
       inputs = map pulling_of c.inputs.items;
       stream = c.intake.stream;
-      made = c.made.items;
+      made = made_by c.intake.stream;
     } };
 
-    ghost invariant = { λ c. IsCollector c.limits c.inputs.items c.intake.stream c.made.items
-        c.intake.limits };
+    ghost invariant = { λ c. IsCollector c.limits c.inputs.items c.intake.stream
+        (made_by c.intake.stream) c.intake.limits };
 }
 
 impl Collector {
@@ -53,9 +53,8 @@ impl Collector {
     /// come next in the thread's list, which breaks the lane for good, and where memory was refused: the
     /// note stays in the lane then.
     ///
-    /// It waits for nobody. It makes every growth before it pops the note: for the stream, the thread's
-    /// log and the edges. It looks through the at most 64 locks that the thread holds, and where a
-    /// lock is acquired beside others takes a step for each pair of them.
+    /// It waits for nobody. It makes every growth before it pops the note: for the stream and the thread's
+    /// log. It looks through the at most 64 locks that the thread holds.
     pub fn pull(&mut self, thread: ThreadId) -> Result<Pulled, PullFault>
         requires known { thread < self.old.limits.threads }
         ensures tells { (input : Pulling) → slice_get self.old.inputs thread ≡ Some input
@@ -65,7 +64,7 @@ impl Collector {
         ensures lanes { lanes_of self.new ≡ lanes_of self.old }
     {
         let input = &mut self.inputs[thread.number() as usize];
-        input.pull(self.alloc, thread, &mut self.intake, &mut self.made)
+        input.pull(thread, &mut self.intake)
     }
 
     /// The events of the thread that were collected so far.

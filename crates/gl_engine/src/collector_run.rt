@@ -17,6 +17,8 @@ use crate::discarding::discard_all;
 use crate::faults::RunFault;
 use crate::gathered::Gathered;
 use crate::pull_and_ship::collect_all;
+use crate::replay::made_by_notes;
+use gl_edges::{Edge, Sample};
 use gl_shards::{Gone, Outlet, Sent};
 use std::sync::Wait;
 
@@ -119,7 +121,8 @@ impl Collector {
     /// It waits for the recorders and for the workers: it returns only if every recorder closes, and as
     /// long as a worker's feed is full it waits for that. It looks at the lanes in turn, up to 64 notes of each,
     /// and after a round in which no lane had a note it spins or sleeps for a moment. The list for the
-    /// [`Sent`]s is made before the first pull.
+    /// [`Sent`]s is made before the first pull, and so are the edges of the pulls before: they are found once
+    /// more in the notes, which takes as long as those pulls did.
     pub fn run<R: Wait>(self, rt: &R, outlets: Vec<Outlet>) -> Gathered
         requires some { 1 ≤ length outlets.items }
         requires fit { length outlets.items ≤ MAX_SHARDS }
@@ -140,20 +143,30 @@ impl Collector {
         ensures gone { (shard : ℕ) → result.fault ≡ Some (kept.Gone shard)
             → IsFoundGone outlets.items result shard }
     {
-        match Vec::with_capacity(self.alloc, outlets.len()) {
-            Ok(sent) => self.run_into(rt, outlets, sent),
+        let Ok(sent) = Vec::with_capacity(self.alloc, outlets.len()) else {
+            return self.run_unkept(rt, outlets);
+        };
+        match made_by_notes(self.alloc, &self.limits, self.intake.stream()) {
+            Ok(made) => self.run_into(rt, outlets, sent, made),
             Err(_) => self.run_unkept(rt, outlets),
         }
     }
 
-    // The run, with room for the feeds.
-    fn run_into<R: Wait>(self, rt: &R, outlets: Vec<Outlet>, sent: Vec<Sent>) -> Gathered
+    // The run, with room for the feeds, and with the edges of the pulls before.
+    fn run_into<R: Wait>(
+        self,
+        rt: &R,
+        outlets: Vec<Outlet>,
+        sent: Vec<Sent>,
+        made: Vec<(Edge, Sample)>,
+    ) -> Gathered
         requires some { 1 ≤ length outlets.items }
         requires fit { length outlets.items ≤ MAX_SHARDS }
         requires unsent { (shard : ℕ) (o : Sending) → slice_get outlets.items shard ≡ Some o
             → o.sent ≡ [] }
         requires empty { sent.items ≡ [] }
         requires room { vec_len sent + length outlets.items ≤ vec_capacity sent }
+        requires made { made.items ≡ self.made }
         ensures session { result.session ≡ self.session }
         ensures limits { result.limits ≡ self.limits }
         ensures lanes { result.lanes ≡ map (λ input. input.lane) self.inputs }
@@ -175,7 +188,6 @@ impl Collector {
             limits,
             mut intake,
             mut inputs,
-            made,
         } = self;
         let (mut outlets, mut sent) = (outlets, sent);
         let threads = limits.threads();
@@ -200,7 +212,7 @@ impl Collector {
         }
     }
 
-    // The run, where there is no room for the feeds.
+    // The run, where there is no room for the feeds, or none for the edges of the pulls before.
     fn run_unkept<R: Wait>(self, rt: &R, outlets: Vec<Outlet>) -> Gathered
         ensures session { result.session ≡ self.session }
         ensures limits { result.limits ≡ self.limits }
@@ -214,7 +226,6 @@ impl Collector {
             limits,
             intake,
             mut inputs,
-            ..
         } = self;
         discard_all(rt, &mut inputs, &intake, limits.threads());
         end_unkept(rt, outlets);

@@ -8,6 +8,7 @@ ghost use Rattle.gl_intake.specs.Stream.{events_of, note_refusal, accepted_as, s
 ghost use Rattle.gl_world.specs.Keeping.{with_body};
 ghost use Rattle.gl_world.specs.Machine.{edges_due};
 ghost use Rattle.gl_engine.specs.Collecting.{as_of, pulled_of, IsSidePull};
+ghost use Rattle.gl_engine.specs.Dealing.{made_by};
 ghost use Rattle.gl_engine.specs.Keeping.{pulling_of, BreaksForCause};
 
 use crate::pulled::{PullFault, Pulled};
@@ -52,9 +53,9 @@ fn due(
     }
 }
 
-// Makes every growth that the note wants, where it may come next: room for it in the intake, and its
-// edges among those made.
-fn prepare(
+/// Makes every growth that the note wants, where it may come next: room for it in the intake, and its
+/// edges among those made.
+pub fn prepare(
     alloc: Global,
     intake: &mut Intake,
     made: &mut Vec<(Edge, Sample)>,
@@ -97,9 +98,47 @@ fn accept(lane: &mut LaneOut, intake: &mut Intake, note: &Note) -> Pulled
 }
 
 impl LaneInput {
-    /// Pulls the front note off the lane, read as one of the thread: accepts it, and adds its edges to
-    /// those made.
+    /// Pulls the front note off the lane, read as one of the thread, and accepts it. Its edges are made
+    /// where they are asked for.
     pub fn pull(
+        &mut self,
+        thread: ThreadId,
+        intake: &mut Intake,
+    ) -> Result<Pulled, PullFault>
+        ensures pull { IsSidePull intake.old.limits thread
+            (record {
+              input = pulling_of self.old;
+              stream = intake.old.stream;
+              made = made_by intake.old.stream;
+            }) result
+            (record {
+              input = pulling_of self.new;
+              stream = intake.new.stream;
+              made = made_by intake.new.stream;
+            }) }
+        ensures limits { intake.new.limits ≡ intake.old.limits }
+        ensures cause { BreaksForCause intake.old.limits thread intake.old.stream self.old
+            → BreaksForCause intake.old.limits thread intake.new.stream self.new }
+    {
+        if let Some(refused) = self.broken {
+            return Err(PullFault::Broken(refused));
+        }
+        let Some(front) = self.lane.peek() else {
+            return Ok(Pulled::Empty);
+        };
+        let note = Note { thread, ..front };
+        match intake.ready(&note) {
+            Ok(()) => Ok(accept(&mut self.lane, intake, &note)),
+            Err(Refused::Memory) => Err(PullFault::Memory),
+            Err(refused) => {
+                self.broken = Some(refused);
+                Err(PullFault::Broken(refused))
+            }
+        }
+    }
+
+    /// The same, and adds the note's edges to those made.
+    pub fn pull_with_edges(
         &mut self,
         alloc: Global,
         thread: ThreadId,

@@ -49,6 +49,7 @@ mod pulled;
 mod receipt;
 mod receipts;
 mod recorder;
+mod replay;
 mod reports;
 mod session;
 mod settled;

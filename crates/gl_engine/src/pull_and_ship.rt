@@ -110,7 +110,7 @@ fn pull_at(
     ensures moved { IfOk result (HasMoved intake.old.stream intake.new.stream) }
 {
     let input = &mut inputs[thread.number() as usize];
-    let pulled = input.pull(alloc, thread, intake, made);
+    let pulled = input.pull_with_edges(alloc, thread, intake, made);
     has_pulled(thread, &pulled)
 }
 

@@ -20,6 +20,6 @@ pub enum PullFault {
     /// The note at the lane's front may not come next, for this reason. It stays there, and every
     /// later pull from the lane answers the same.
     Broken(Refused),
-    /// There is no memory for the note, or for its edges. It stays in the lane.
+    /// There is no memory for the note. It stays in the lane.
     Memory,
 }

@@ -72,7 +72,6 @@ pub fn open(
         limits: *limits,
         intake,
         inputs,
-        made: Vec::new(alloc),
     };
     Ok((recorders, collector))
 }
