@@ -1,18 +1,19 @@
 -- A trace that is read item by item.
-use Rattle.std.proofs.Common.{◌≡◌, ℕ, ◌+◌, ◌<◌, Bool, true, List, ◌++◌, length, take, Result, Ok, Err, sym, ap, subst, ◌∙◌, inl, arith}
+use Rattle.std.proofs.Common.{◌≡◌, ℕ, ◌+◌, Bool, true, false, List, ◌++◌, length, take, Result, Ok, Err, sym, ap, subst, ◌∙◌, inl, arith}
+use Rattle.std.proofs.lemmas.Bool.{false≢true}
 use Rattle.std.proofs.lemmas.List.{length-drop, length-take-le}
 use Rattle.gl_event.specs.Bounds.{Bounds}
-use Rattle.gl_event.specs.declared.events.Event.{Event as EventOf}
 use Rattle.gl_io.specs.Positions.{Position}
 use Rattle.gl_io.specs.Reads.{HasRead}
 use Rattle.gl_io.specs.Uses.{used}
 use Rattle.gl_std.specs.LineReading as line_reading
 use Rattle.gl_std.specs.bodies.Lasts as lasts
-use Rattle.gl_std.specs.Streaming.{with_item, GoesOn, HasToldAt, Stream}
+use Rattle.gl_std.specs.Streaming.{with_item, GoesOn, HasNoFault, HasTold, HasToldAt, IsAnswerAt, IsOfNamed, Leaves, Stream, Stage as StageOf}
+use Rattle.gl_std.specs.Names.{NameLists}
 use Rattle.gl_std.specs.Streaming.Stage.{Reading, Done, Faulty}
 use Rattle.gl_std.specs.Trace.{trace_of}
 use Rattle.gl_std.specs.bodies.States.{reader_of, left_of, stage_of, stream_of, HasJudged, IsBuffered, IsFit, IsHeld, ReadsOn}
-use Rattle.gl_std.specs.bodies.Stepping.{HasStepped, Steps}
+use Rattle.gl_std.specs.bodies.Stepping.{is_idle, HasStepped, Steps}
 use Rattle.gl_std.specs.bodies.Telling.{item_in, with_judged, IsKnown}
 use Rattle.gl_std.specs.declared.faults.LinesFault.{LinesFault}
 use Rattle.gl_std.specs.declared.faults.LinesFault.TheVariants.{Line, Read, Memory}
@@ -22,7 +23,7 @@ use Rattle.gl_std.specs.declared.line_reader.Step.TheVariants.{Told}
 use Rattle.gl_std.specs.declared.judge.Judged.{Judged}
 use Rattle.gl_std.specs.declared.judge.Judged.TheVariants.{Blank, Skipped, Stray, Event as EventLine}
 use Rattle.gl_std.specs.declared.stream.Item.{Item}
-use Rattle.gl_std.specs.declared.stream.Item.TheVariants.{Event}
+use Rattle.gl_std.specs.declared.stream.Item.TheVariants.{Event, Skipped as SkippedItem, Stray as StrayItem, End}
 use Rattle.gl_std.specs.declared.stream.Stage.{Stage}
 use Rattle.gl_std.specs.declared.stream.Stage.TheVariants.{Reading as ReadingStage, Done as DoneStage, Faulty as FaultyStage}
 use Rattle.gl_std.specs.declared.trace.Trace.{Trace}
@@ -105,18 +106,58 @@ stopped limits turns start now failed f text told (Line number kind) is = inl is
 stopped limits turns start now failed f text told Read is = is
 stopped limits turns start now failed f text told Memory is = tt
 
-same_ok : (a b : Item) → (let x : Result Item LinesFault = Ok a in x) ≡ Ok b → a ≡ b
-same_ok a b same = cc
-
 -- an event that was answered is of a thread that has a name
-pub known_item : (item : Item) (judged : Judged) (threads : ℕ) → item ≡ item_in judged → IsKnown judged threads → (thread : ℕ) (event : EventOf) → (let x : Result Item LinesFault = Ok item in x) ≡ Ok (Event thread event) → thread < threads
-known_item item judged threads is known thread event same = by judged known (sym is ∙ same_ok item (Event thread event) same)
+pub known_item : (item : Item) (judged : Judged) (names : NameLists) → item ≡ item_in judged → IsKnown judged (length names.threads) → IsOfNamed names (Ok item)
+known_item item judged names is known = subst (λ i. IsOfNamed names (Ok i)) (sym is) (by judged known)
   where
-    by : (j : Judged) → IsKnown j threads → item_in j ≡ Event thread event → thread < threads
-    by Blank known is = cc
-    by Skipped known is = cc
-    by Stray known is = cc
-    by (EventLine t e) known is = subst (λ n. n < threads) (own t e is) known
-      where
-        own : (t : ℕ) (e : EventOf) → Event t e ≡ Event thread event → t ≡ thread
-        own t e is = cc
+    by : (j : Judged) → IsKnown j (length names.threads) → IsOfNamed names (Ok (item_in j))
+    by Blank known = tt
+    by Skipped known = tt
+    by Stray known = tt
+    by (EventLine t e) known = known
+
+-- ---- what an answer leaves
+
+no_fault : (at : StageOf) (i : Stream) → i.stage ≡ at → ((fault : LinesFault) → ¬ (at ≡ Faulty fault)) → HasNoFault i
+no_fault at i is other = λ fault has. other fault (sym is ∙ has)
+
+-- while reading goes on
+pub leaves_reading : (item : Item) (judged : Judged) (i : Stream) → item ≡ item_in judged → is_idle (Told judged) ≡ false → i.stage ≡ Reading → Leaves (Ok item) i
+leaves_reading item judged i is found reading = subst (λ x. Leaves (Ok x) i) (sym is) (by judged found)
+  where
+    none : HasNoFault i
+    none = no_fault Reading i reading (λ fault is. cc)
+
+    by : (j : Judged) → is_idle (Told j) ≡ false → Leaves (Ok (item_in j)) i
+    by Blank found = absurd (false≢true (sym found))
+    by Skipped found = none
+    by Stray found = none
+    by (EventLine t e) found = none
+
+-- at the end
+pub leaves_done : (item : Item) (i : Stream) → i.stage ≡ Done → Leaves (Ok item) i
+leaves_done item i done = by item
+  where
+    none : HasNoFault i
+    none = no_fault Done i done (λ fault is. cc)
+
+    by : (x : Item) → Leaves (Ok x) i
+    by (Event thread event) = none
+    by SkippedItem = none
+    by StrayItem = none
+    by End = done
+
+-- no item leaves a fault
+pub item_no_fault : (item : Item) (i : Stream) → Leaves (Ok item) i → HasNoFault i
+item_no_fault (Event thread event) i leaves = leaves
+item_no_fault SkippedItem i leaves = leaves
+item_no_fault StrayItem i leaves = leaves
+item_no_fault End i leaves = no_fault Done i leaves (λ fault is. cc)
+
+-- ---- while reading goes on
+
+pub told_reading : (limits : Bounds) (turns : ℕ) (start now : Position) (failed : Bool) (i : Stream) (text : List ℕ) (told : Trace) → i.stage ≡ Reading → HasTold limits turns (used start now failed) i text told → line_reading.ReadsOn limits turns start now i.reader text told
+told_reading limits turns start now failed i text told reading has = subst (λ at. HasToldAt at limits turns (used start now failed) i.reader text told) reading has
+
+pub again_reading : (i : Stream) (result : Result Item LinesFault) → i.stage ≡ Reading → IsAnswerAt i.stage result
+again_reading i result reading = subst (λ at. IsAnswerAt at result) (sym reading) tt

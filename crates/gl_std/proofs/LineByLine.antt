@@ -1,6 +1,6 @@
 -- A text that is judged line by line as it comes.
 use Rattle.std.proofs.Common.{◌≡◌, ◌≢◌, ℕ, zero, suc, ◌+◌, ◌-◌, ◌<◌, ◌≤◌, inl, inr, nat_lt, Option, Bool, true, false, ◌&&◌, cond, eqb, List, [], ◌∷◌, ◌++◌, length, Contains, Some, Result, Ok, Err, take, drop, refl, sym, ap, subst, ◌∙◌, append_assoc, length-append, arith}
-use Rattle.std.specs.Prelude.{nat_le, None, IfNone, IfOk, IfSome, OnErr, OnOk}
+use Rattle.std.specs.Prelude.{nat_le, None, IfNone, IfOk, IfSome, OnOk, IsErr}
 use Rattle.std.specs.Io.KnownBytes.{Consumes, IsAtEnd, Keeps}
 use Rattle.std.proofs.KnownBytes.{Consumes-kept, Consumes-nil, Consumes-trans, Consumes-whole}
 use Rattle.std.proofs.lemmas.Bool.{false≢true}
@@ -11,20 +11,23 @@ use Rattle.std.proofs.lemmas.List.{take_all, drop-drop, length-take, length-take
 use Rattle.gl_event.specs.Bounds.{Bounds}
 use Rattle.gl_io.specs.Positions.{Position, LieBetween}
 use Rattle.gl_io.specs.Reads.{HasRead}
+use Rattle.gl_io.specs.declared.source.Failed.{Failed}
 use Rattle.gl_io.specs.declared.source.TheConstants.{CHUNK}
 use Rattle.gl_io.proofs.Counting.{lie_none, lie_more}
 use Rattle.gl_std.specs.LineReading as line_reading
 use Rattle.gl_std.specs.LineReading.{HasGiven}
 use Rattle.gl_std.specs.Judging as judging
-use Rattle.gl_std.specs.bodies.States.{left_of, HasJudged, IsAt, IsOver, Reaches, ReadsOn}
-use Rattle.gl_std.specs.bodies.Telling.{with_judged}
-use Rattle.gl_std.specs.bodies.Stepping.{is_idle, HasFilled, HasStepped, Steps}
+use Rattle.gl_std.specs.bodies.States.{left_of, HasJudged, IsAt, IsFit, IsOver, IsSound, Reaches, ReadsOn}
+use Rattle.gl_std.specs.bodies.Telling.{with_judged, IsKnown}
+use Rattle.gl_std.specs.bodies.Judgements.{FailsAs, HasJudgedMore, TellsAs}
+use Rattle.gl_std.specs.bodies.Stepping.{fuel, is_idle, HasBroken, HasFilled, HasFilledBuffer, HasStepped, IsRead, IsStep, OnlyReads, Steps}
+use Rattle.gl_std.specs.bodies.Taking.{EndsLine, HasTakenLine, HasTakenRest, OnlyTakes, TakesLast, TakesLine}
 use Rattle.gl_std.specs.Lines.{LF, CR, ended_lines, without_cr}
 use Rattle.gl_std.specs.Pieces.{IsFaulty}
 use Rattle.gl_std.specs.Trace.{after_line, after_shape, and_then, nothing, trace_of}
 use Rattle.gl_std.specs.declared.faults.LinesFault.{LinesFault}
 use Rattle.gl_std.specs.declared.faults.ReadFault.{ReadFault}
-use Rattle.gl_std.specs.declared.faults.ReadFault.TheVariants.{Line}
+use Rattle.gl_std.specs.declared.faults.ReadFault.TheVariants.{Line, Memory}
 use Rattle.gl_std.specs.declared.faults.StdKind.{StdKind}
 use Rattle.gl_std.specs.declared.faults.StdKind.TheVariants.{TooLong}
 use Rattle.gl_std.specs.declared.line_reader.LineReader.{LineReader}
@@ -211,11 +214,37 @@ pub fault_at : (limits : Bounds) (old : LineReader) (end after text : List ℕ) 
 fault_at limits old end after text told number kind at is faulty =
     subst (λ t. IsFaulty limits t number kind) (sym (more_read text at.seen (left_of old) end after at.parts is)) (faulty_more limits (with_end at.seen end) after number kind faulty)
 
--- a line that was judged, in whichever way
-pub reached_result : (j j2 : Judge) (kept kept2 end raw line : List ℕ) (r : Result Judged ReadFault) → ¬ Contains end LF → take KEPT raw ≡ take KEPT (kept ++ end) → line ≡ without_cr raw → IfOk r (λ judged. (told : Trace) → HasJudged j told → after_line j.limits j.line told line ≡ Ok (with_judged judged j2.names told)) → IfOk r (λ judged. (told : Trace) → HasJudged j told → HasJudged j2 (with_judged judged j2.names told)) → j2.limits ≡ j.limits → OnOk r (j2.line ≡ j.line + 1) → kept2 ≡ [] → IfOk r (λ judged. (seen : List ℕ) (told : Trace) → Reaches j kept seen told → Reaches j2 kept2 (with_end seen end) (with_judged judged j2.names told))
-reached_result j j2 kept kept2 end raw line (Err e) one same is after has limits next empty = tt
-reached_result j j2 kept kept2 end raw line (Ok judged) one same is after has limits next empty =
-    λ seen told reaches. reached_line j j2 kept kept2 end raw seen told judged reaches one same (ap (after_line j.limits j.line told) (sym is) ∙ after told reaches.judged) (has told reaches.judged) limits next empty
+-- a line that LF ends, in whichever way it was judged
+pub line_ended : (j j2 : Judge) (kept kept2 end raw line : List ℕ) (r : Result Judged ReadFault) → ¬ Contains end LF → take KEPT raw ≡ take KEPT (kept ++ end) → line ≡ without_cr raw
+    → IfOk r (TellsAs j j2 (λ told. after_line j.limits j.line told line)) → IfOk r (HasJudgedMore j j2) → IfOk r (λ judged. IsKnown judged (length j2.names.threads))
+    → FailsAs j (λ told. after_line j.limits j.line told line) r → OnOk r (IsSound j2) → j2.limits ≡ j.limits → OnOk r (j2.line ≡ j.line + 1) → OnOk r (kept2 ≡ []) → EndsLine j kept end j2 kept2 r
+line_ended j j2 kept kept2 end raw line (Ok judged) one same is after has known fails sound limits next empty = record {
+  reaches = λ seen told reaches. reached_line j j2 kept kept2 end raw seen told judged reaches one same (ap (after_line j.limits j.line told) (sym is) ∙ after told reaches.judged) (has told reaches.judged) limits next empty;
+  known = known;
+  sound = sound;
+  empty = empty;
+  line = next;
+}
+line_ended j j2 kept kept2 end raw line (Err (Line number kind)) one same is after has known fails sound limits next empty =
+    λ seen told reaches. reached_fault j kept end raw seen told number kind reaches one same (ap (after_line j.limits j.line told) (sym is) ∙ fails number kind refl told reaches.judged)
+line_ended j j2 kept kept2 end raw line (Err Memory) one same is after has known fails sound limits next empty = tt
+
+-- a line that isn't judged is one at fault, or memory was refused
+pub line_faulty : (j j2 : Judge) (kept kept2 end : List ℕ) (r : Result Judged ReadFault) → IsErr r
+    → ((number : ℕ) (kind : StdKind) → r ≡ Err (Line number kind) → (seen : List ℕ) (told : Trace) → Reaches j kept seen told → IsFaulty j.limits (with_end seen end) number kind) → EndsLine j kept end j2 kept2 r
+line_faulty j j2 kept kept2 end (Ok judged) err fails = absurd (false≢true err)
+line_faulty j j2 kept kept2 end (Err (Line number kind)) err fails = fails number kind refl
+line_faulty j j2 kept kept2 end (Err Memory) err fails = tt
+
+pub take_faulty : (old new : LineReader) (r : Result (Option Judged) ReadFault) → IsErr r
+    → ((number : ℕ) (kind : StdKind) → r ≡ Err (Line number kind) → (text : List ℕ) (told : Trace) → IsAt old text told → IsFaulty old.judge.limits text number kind) → TakesLine old new r
+take_faulty old new (Ok judged) err fails = absurd (false≢true err)
+take_faulty old new (Err (Line number kind)) err fails = fails number kind refl
+take_faulty old new (Err Memory) err fails = tt
+
+-- a line that ends is at fault where that is answered
+pub fault_ended : (j j2 : Judge) (kept kept2 end seen : List ℕ) (told : Trace) (r : Result Judged ReadFault) (number : ℕ) (kind : StdKind) → r ≡ Err (Line number kind) → EndsLine j kept end j2 kept2 r → Reaches j kept seen told → IsFaulty j.limits (with_end seen end) number kind
+fault_ended j j2 kept kept2 end seen told r number kind is ends reaches = subst (EndsLine j kept end j2 kept2) is ends seen told reaches
 
 -- no more is kept
 pub few_kept : (n : ℕ) (xs ys : List ℕ) → xs ≡ take n ys → length xs ≤ n
@@ -278,6 +307,18 @@ filled_by more count turns start now new failed old f piece text test begin is s
           within = omega (arith, given.within);
         }
 
+-- what it leaves in the buffer
+pub filled_buffer : (count : ℕ) (now new : Position) (failed : Bool) (old f : LineReader) (piece : List ℕ) → f.start ≡ 0 → take f.end f.buffer.items ≡ piece → length piece ≡ count → count ≤ CHUNK → f.end ≡ count → 0 < old.turns → f.turns + 1 ≡ old.turns → failed ≡ false
+    → Consumes now.left new.left piece → (count ≡ 0 → IsAtEnd new.left) → LieBetween 1 now new → HasFilledBuffer now old new failed f (nat_lt 0 count)
+filled_buffer count now new failed old f piece begin is size most ends left turn sound gave at_end one = record {
+  filled = λ turns start text given. filled_by (nat_lt 0 count) count turns start now new failed old f piece text refl begin is size most left turn sound gave at_end one given;
+  sound = sound;
+  turn = turn;
+  begin = begin;
+  within = omega (arith, most, ends);
+  none = λ none. ap (λ n. drop n (take f.end f.buffer.items)) begin ∙ drop_none (take f.end f.buffer.items) ∙ is ∙ nil_of piece (size ∙ none_of count none);
+}
+
 -- a read that failed
 pub broken_by : (turns left : ℕ) (start now new : Position) (failed : Bool) (text : List ℕ) → 0 < left → failed ≡ true → Keeps now.left new.left → LieBetween 1 now new → HasGiven turns start now left text → HasRead turns start new failed text false
 broken_by turns left start now new failed text some wrong kept one given =
@@ -294,10 +335,15 @@ broken_by turns left start now new failed text some wrong kept one given =
       within = omega (arith, given.within);
     }
 
--- what holds anyway holds of an error
-pub on_err : {A B : Type 0} (r : Result A B) (P : Type 0) → P → OnErr r P
-on_err (Ok a) P holds = tt
-on_err (Err b) P holds = holds
+pub read_broke : (now : Position) (old : LineReader) (later : Position) (failed : Bool) (new : LineReader) (r : Result Bool Failed) → IsErr r → HasBroken now old later failed → IsRead now old later failed new r
+read_broke now old later failed new (Ok more) err broken = absurd (false≢true err)
+read_broke now old later failed new (Err fault) err broken = broken
+
+-- what holds anyway holds of what is there
+
+pub on_ok : {A B : Type 0} (r : Result A B) (P : Type 0) → P → OnOk r P
+on_ok (Ok a) P holds = holds
+on_ok (Err b) P holds = tt
 
 -- the turns are used up
 pub used_up : (turns left : ℕ) (start now : Position) (failed : Bool) (text : List ℕ) → left ≡ 0 → HasGiven turns start now left text → HasRead turns start now failed text false
@@ -360,6 +406,54 @@ pub stepped_here : (limits : Bounds) (turns : ℕ) (start now : Position) (faile
 stepped_here limits turns start now failed f text told r is =
     record { piece = []; stepped = subst (λ t. HasStepped limits turns start now failed f t told r) (sym (append_nil text)) is }
 
+-- ---- what a step leaves
+
+-- a line that was taken leaves the reader fit
+pub line_fit : (old new : LineReader) (judged : Judged) → IsFit old → HasTakenLine old new judged → OnlyTakes old new → IsFit new
+line_fit old new judged fit taken same = record {
+  sound = taken.ready.sound;
+  order = taken.ready.order;
+  within = omega (arith, same.same_end, fit.within);
+  room = same.same_size ∙ fit.room;
+  few = taken.ready.few;
+  countable = omega (arith, fit.countable, taken.line, taken.further, same.same_end, same.same_turns);
+}
+
+-- and so does the rest
+pub rest_fit : (old new : LineReader) → IsFit old → HasTakenRest old new → OnlyTakes old new → IsFit new
+rest_fit old new fit taken same = record {
+  sound = taken.ready.sound;
+  order = taken.ready.order;
+  within = omega (arith, same.same_end, fit.within);
+  room = same.same_size ∙ fit.room;
+  few = taken.ready.few;
+  countable = omega (arith, fit.countable, fit.order, taken.same_line, taken.spent, same.same_end, same.same_turns);
+}
+
+-- a read that didn't fail does, too
+pub read_fit : (now later : Position) (failed more : Bool) (old new : LineReader) → IsFit old → HasFilledBuffer now old later failed new more → OnlyReads old new → IsFit new
+read_fit now later failed more old new fit read same = record {
+  sound = subst IsSound (sym same.same_judge) fit.sound;
+  order = omega (arith, read.begin);
+  within = read.within;
+  room = same.same_size ∙ fit.room;
+  few = subst (λ kept. length kept ≤ KEPT) (sym (ap (λ u. u.items) same.same_beginning)) fit.few;
+  countable = omega (arith, fit.countable, fit.order, ap (λ j. j.line) same.same_judge, read.begin, read.within, read.turn);
+}
+
+-- it is nearer to the end after a line
+pub line_less : (old new : LineReader) (judged : Judged) → HasTakenLine old new judged → OnlyTakes old new → fuel new < fuel old
+line_less old new judged taken same = omega (arith, taken.further, taken.ready.order, same.same_end, same.same_turns)
+
+-- it is no further from it after the rest
+pub rest_less : {A : Type 0} (old mid new : LineReader) (r : Result A LinesFault) → HasTakenRest old mid → OnlyTakes old mid → OnOk r (fuel new < fuel mid) → OnOk r (fuel new < fuel old)
+rest_less old mid new (Ok step) taken same less = omega (arith, less, taken.spent, same.same_end, same.same_turns)
+rest_less old mid new (Err fault) taken same less = tt
+
+-- and nearer after a read
+pub read_less : (now later : Position) (failed : Bool) (old new : LineReader) (more : Bool) → HasFilledBuffer now old later failed new more → fuel new < fuel old
+read_less now later failed old new more read = omega (arith, read.begin, read.within, read.turn)
+
 -- ---- the last line
 
 -- what is kept of a last line that is none
@@ -400,14 +494,17 @@ begun limits turns start f same line judged none left turn =
       };
     }
 
--- a last line that was judged, in whichever way
-pub last_result : (f : LineReader) (j : Judge) (line : List ℕ) (r : Result Judged ReadFault) → f.unfinished.items ≢ [] → line ≡ f.unfinished.items → IfOk r (λ judged. (told : Trace) → HasJudged f.judge told → after_line f.judge.limits f.judge.line told line ≡ Ok (with_judged judged j.names told)) → IfOk r (λ judged. (text : List ℕ) (told : Trace) → IsOver f text told → trace_of f.judge.limits text ≡ Ok (with_judged judged j.names told))
-last_result f j line (Err e) some is after = after
-last_result f j line (Ok judged) some is after = λ text told over. last_over f text line told (Ok (with_judged judged j.names told)) some over is (after told over.judged)
-
-pub last_judged : (f : LineReader) (j : Judge) (r : Result Judged ReadFault) → IfOk r (λ judged. (told : Trace) → HasJudged f.judge told → HasJudged j (with_judged judged j.names told)) → IfOk r (λ judged. (text : List ℕ) (told : Trace) → IsOver f text told → HasJudged j (with_judged judged j.names told))
-last_judged f j (Err e) has = has
-last_judged f j (Ok judged) has = λ text told over. has told over.judged
+-- a last line, in whichever way it was judged
+pub last_taken : (f new : LineReader) (line : List ℕ) (r : Result Judged ReadFault) → f.unfinished.items ≢ [] → line ≡ f.unfinished.items
+    → IfOk r (TellsAs f.judge new.judge (λ told. after_line f.judge.limits f.judge.line told line)) → IfOk r (HasJudgedMore f.judge new.judge)
+    → IfOk r (λ judged. IsKnown judged (length new.judge.names.threads)) → FailsAs f.judge (λ told. after_line f.judge.limits f.judge.line told line) r → TakesLast f new r
+last_taken f new line (Ok judged) some is after has known fails = record {
+  trace = λ text told over. last_over f text line told (Ok (with_judged judged new.judge.names told)) some over is (after told over.judged);
+  has_judged = λ text told over. has told over.judged;
+  known = known;
+}
+last_taken f new line (Err (Line number kind)) some is after has known fails = λ text told over. last_over f text line told (Err (Line number kind)) some over is (fails number kind refl told over.judged)
+last_taken f new line (Err Memory) some is after has known fails = tt
 
 -- ---- steps in a row
 
@@ -428,3 +525,12 @@ steps_after limits turns start now new failed failed2 f f2 text told step r idle
       piece = first.piece ++ second.piece;
       stepped = subst (λ t. HasStepped limits turns start new failed2 f2 t told r) (append_assoc text first.piece second.piece) second.stepped;
     }
+
+-- such steps are one
+pub step_after : (now mid later : Position) (failed failed2 : Bool) (old f f2 : LineReader) (step : Step) (r : Result Step LinesFault) → is_idle step ≡ true → IsStep now old mid failed f (Ok step) → IsStep mid f later failed2 f2 r → IsStep now old later failed2 f2 r
+step_after now mid later failed failed2 old f f2 step r idle first second = record {
+  tells = λ limits turns start text told is. steps_after limits turns start mid later failed failed2 f f2 text told step r idle (first.tells limits turns start text told is) (λ t. second.tells limits turns start t told);
+  known = second.known;
+  leaves = second.leaves;
+  same_size = second.same_size ∙ first.same_size;
+}

@@ -1,9 +1,10 @@
 -- A trace that is read item by item.
-use Rattle.std.specs.Prelude.{◌≡◌, ◌⊎◌, ℕ, ◌+◌, Bool, true, false, List, ◌++◌, Option, Some, None, Result, Ok, Err, length}
+use Rattle.std.specs.Prelude.{◌≡◌, ◌⊎◌, ℕ, ◌+◌, ◌<◌, Bool, true, false, List, ◌++◌, Option, Some, None, Result, Ok, Err, length}
 use Rattle.gl_event.specs.Bounds.{Bounds}
 use Rattle.gl_event.specs.declared.events.Event.{Event as EventOf}
+use Rattle.gl_io.specs.Positions.{Position}
 use Rattle.gl_io.specs.Reads.{HasRead}
-use Rattle.gl_io.specs.Uses.{SourceUse}
+use Rattle.gl_io.specs.Uses.{SourceUse, used}
 use Rattle.gl_std.specs.LineReading.{LineReader, HasGiven, IsFit, ReadsOn}
 use Rattle.gl_std.specs.Judging.{HasJudged}
 use Rattle.gl_std.specs.Lines.{ended_lines}
@@ -96,3 +97,50 @@ with_answer (Err fault) names told = told
 pub record GoesOn (limits : Bounds) (turns : ℕ) (input : SourceUse) (i : Stream) (text : List ℕ) (told : Trace) (result : Result Item LinesFault) : Type 0 where
   pub piece : List ℕ
   pub tells : HasTold limits turns input i (text ++ piece) (with_answer result (names_of i) told)
+
+-- ---- the next item
+
+-- where the answer is an event, its thread has a name
+abbrev pub IsOfNamed : NameLists → Result Item LinesFault → Type 0
+IsOfNamed names (Ok (Event thread event)) = thread < length names.threads
+IsOfNamed names (Ok Skipped) = Unit {0}
+IsOfNamed names (Ok Stray) = Unit {0}
+IsOfNamed names (Ok End) = Unit {0}
+IsOfNamed names (Err fault) = Unit {0}
+
+-- at the end the answer is the end, and after a fault it is that fault
+abbrev pub IsAnswerAt : Stage → Result Item LinesFault → Type 0
+IsAnswerAt Reading result = Unit {0}
+IsAnswerAt Done result = result ≡ Ok End
+IsAnswerAt (Faulty fault) result = result ≡ Err fault
+
+-- the answer leaves this: the end leaves the end and a fault that fault, and no other item leaves a fault
+abbrev pub Leaves : Result Item LinesFault → Stream → Type 0
+Leaves (Ok (Event thread event)) i = HasNoFault i
+Leaves (Ok Skipped) i = HasNoFault i
+Leaves (Ok Stray) i = HasNoFault i
+Leaves (Ok End) i = IsDone i
+Leaves (Err fault) i = HasFault i fault
+
+-- this is the answer where the next item is asked for, with the source at one position before it and at the other after it:
+-- the next item of the text, or the fault that is there in its place
+pub record IsNextAnswer (now : Position) (failed : Bool) (items : Stream) (later : Position) (failed_later : Bool) (items_later : Stream) (result : Result Item LinesFault) : Type 0 where
+  -- it goes on from whatever text the reads gave, and whatever trace the items told of it
+  pub tells : (limits : Bounds) (turns : ℕ) (start : Position) (text : List ℕ) (told : Trace) → HasTold limits turns (used start now failed) items text told
+      → GoesOn limits turns (used start later failed_later) items_later text told result
+  pub known : IsOfNamed (names_of items_later) result
+  -- no item comes after the end, and none after a fault
+  pub again : IsAnswerAt items.stage result
+  pub leaves : Leaves result items_later
+
+-- ---- what is left at last
+
+-- these names, so many lines that were skipped and so many strays are those of a trace
+pub record IsSummary (names : NameLists) (skipped stray : ℕ) (told : Trace) : Type 0 where
+  pub names_are : names ≡ told.names
+  pub skipped_are : skipped ≡ told.skipped
+  pub strays_are : stray ≡ told.stray
+
+-- these are those of whatever trace the items have told, unless a line at fault was answered or memory was refused
+abbrev pub ArePartsOf : Stream → NameLists → ℕ → ℕ → Type 0
+ArePartsOf i names skipped stray = CanBeNamed i → (limits : Bounds) (turns : ℕ) (input : SourceUse) (text : List ℕ) (told : Trace) → HasTold limits turns input i text told → IsSummary names skipped stray told

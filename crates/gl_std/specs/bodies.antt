@@ -8,4 +8,5 @@ pub mod Reading
 pub mod Shown
 pub mod States
 pub mod Stepping
+pub mod Taking
 pub mod Telling

@@ -1,17 +1,14 @@
 //! Reading the text that a source gives.
-ghost use Rattle.std.specs.Prelude.{◌≡◌, ℕ, ◌^◌, ◌<◌, ◌≤◌, List, [], Ok, IfOk, OnOk, length, vec_len, false, true};
+ghost use Rattle.std.specs.Prelude.{◌≡◌, ℕ, ◌^◌, ◌≤◌, List, [], IfOk, vec_len, false, true};
 ghost use Rattle.gl_event.specs.Bounds.{Bounds};
 ghost use Rattle.gl_io.specs.Positions.{Position};
 ghost use Rattle.gl_io.specs.declared.source.TheConstants.{CHUNK};
 ghost use Rattle.gl_std.specs.LineReading.{HasGiven};
-ghost use Rattle.gl_std.specs.bodies.States.{IsFit, IsOver, ReadsOn};
-ghost use Rattle.gl_std.specs.bodies.Stepping.{fuel};
+ghost use Rattle.gl_std.specs.bodies.States.{HasBegun, IsFit, IsOver};
 ghost use Rattle.gl_std.specs.Heard.{HasHeard};
-ghost use Rattle.gl_std.specs.bodies.Hearing.{listed_by, Meets};
+ghost use Rattle.gl_std.specs.bodies.Hearing.{listed_by, MeetsOn, ProgressLeaves};
 ghost use Rattle.gl_std.specs.Pieces.{IsFaulty};
-ghost use Rattle.gl_std.specs.Trace.{nothing, trace_of, IsTraceOver};
-ghost use Rattle.gl_std.specs.declared.faults.StdKind.{StdKind as Kind};
-ghost use Rattle.gl_std.specs.declared.trace.Trace.{Trace};
+ghost use Rattle.gl_std.specs.Trace.{trace_of, IsTraceOver};
 
 use crate::faults::{LinesFault, ReadFault, StdKind};
 use crate::line_reader::{LineReader, Step};
@@ -54,9 +51,7 @@ impl Listing {
     fn new(alloc: Global, limits: &Limits, turns: u64, seed: Seed) -> Result<Listing, AllocError>
         requires few_turns { turns ≤ 2 ^ 40 }
         ensures fit { IfOk result (λ l. IsFit l.reader) }
-        ensures reads { IfOk result
-            (λ l. (start : Position)
-            → ReadsOn limits.now turns start start l.reader [] nothing) }
+        ensures begun { IfOk result (λ l. HasBegun limits.now turns l.reader) }
         ensures none { IfOk result (λ l. l.lists ≡ []) }
     {
         Ok(Listing {
@@ -71,20 +66,10 @@ impl Listing {
         requires fit { IsFit self.old.reader }
         requires not_failed { R.failed input.old ≡ false }
         ensures meets { IfOk result
-            (λ progress. (limits : Bounds) (turns : ℕ) (start : Position)
-            (text : List ℕ)
-            → ReadsOn limits turns start (R.position input.old) self.old.reader text
-            (listed_by self.old)
-            → Meets limits turns start (R.position input.new)
-            (R.failed input.new) self.new text progress) }
-        ensures fit { result ≡ Ok Progress.More → IsFit self.new.reader }
-        ensures fit_end { result ≡ Ok Progress.End → IsFit self.new.reader }
-        ensures smaller { result ≡ Ok Progress.More
-            → fuel self.new.reader < fuel self.old.reader }
-        ensures sound { result ≡ Ok Progress.More → R.failed input.new ≡ false }
-        ensures sound_at_fault { (line : ℕ) (kind : Kind)
-            → result ≡ Ok (Progress.Fault line kind)
-            → R.failed input.new ≡ false }
+            (MeetsOn (R.position input.old) self.old
+            (R.position input.new) (R.failed input.new) self.new) }
+        ensures leaves { IfOk result
+            (ProgressLeaves self.old.reader (R.failed input.new) self.new.reader) }
         ensures room { vec_len self.new.reader.buffer ≡ vec_len self.old.reader.buffer }
     {
         match self.reader.step(input) {

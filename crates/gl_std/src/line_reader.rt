@@ -1,19 +1,9 @@
 //! The lines of what a source gives, judged one after another as they come.
-ghost use Rattle.std.specs.Prelude.{◌≡◌, ℕ, ◌+◌, ◌^◌, ◌<◌, ◌≤◌, false, List, [], ◌∷◌, ◌++◌, Contains, Option, Ok, Err, IfNone, IfOk, IfSome, OnErr, OnOk, length, take, vec_len};
-ghost use Rattle.gl_event.specs.Bounds.{Bounds};
-ghost use Rattle.gl_io.specs.Positions.{Position};
-ghost use Rattle.gl_io.specs.Reads.{HasRead};
-ghost use Rattle.gl_std.specs.LineReading.{HasGiven};
-ghost use Rattle.gl_std.specs.bodies.States.{left_of, HasJudged, IsAt, IsFit, IsOver, IsSound, Reaches, ReadsOn};
-ghost use Rattle.gl_std.specs.bodies.Telling.{with_judged, IsKnown};
+ghost use Rattle.std.specs.Prelude.{◌≡◌, ◌+◌, ◌^◌, ◌<◌, ◌≤◌, false, ◌++◌, Contains, IfOk, OnOk, length, take, vec_len};
+ghost use Rattle.gl_std.specs.bodies.States.{HasBegun, IsFit, IsSound};
 ghost use Rattle.gl_std.specs.Lines.{LF};
-ghost use Rattle.gl_std.specs.Pieces.{IsFaulty};
-ghost use Rattle.gl_std.specs.bodies.Stepping.{fuel, is_idle, HasDrained, HasFilled, StepsOn};
-ghost use Rattle.gl_std.specs.Trace.{nothing, trace_of};
-ghost use Rattle.gl_std.specs.declared.faults.StdKind.{StdKind};
-ghost use Rattle.gl_std.specs.declared.judge.Judged.{Judged};
-ghost use Rattle.gl_std.specs.declared.faults.ReadFault.TheVariants.{Line};
-ghost use Rattle.gl_std.specs.declared.trace.Trace.{Trace};
+ghost use Rattle.gl_std.specs.bodies.Stepping.{fuel, is_idle, DrainsOn, IsRead, IsStep, OnlyReads};
+ghost use Rattle.gl_std.specs.bodies.Taking.{CanTakeLines, EndsLine, OnlyTakes, TakesLast, TakesLine};
 
 use crate::faults::{LinesFault, ReadFault};
 use crate::judge::{Judge, Judged};
@@ -90,9 +80,7 @@ impl LineReader {
     ) -> Result<LineReader, AllocError>
         requires few_turns { turns ≤ 2 ^ 40 }
         ensures fit { IfOk result IsFit }
-        ensures reads { IfOk result
-            (λ f. (start : Position)
-            → ReadsOn limits.now turns start start f [] nothing) }
+        ensures begun { IfOk result (HasBegun limits.now turns) }
     {
         Ok(LineReader {
             judge: Judge::new(alloc, *limits, seed),
@@ -109,13 +97,9 @@ impl LineReader {
     pub(crate) fn next<R: Source>(&mut self, input: &mut R) -> Result<Step, LinesFault>
         requires fit { IsFit self.old }
         requires not_failed { R.failed input.old ≡ false }
-        ensures steps { StepsOn (R.position input.old) self.old (R.position input.new)
-            (R.failed input.new) self.new result }
-        ensures fit { OnOk result (IsFit self.new) }
+        ensures steps { IsStep (R.position input.old) self.old
+            (R.position input.new) (R.failed input.new) self.new result }
         ensures found { IfOk result (λ step. is_idle step ≡ false) }
-        ensures known { (judged : Judged) → result ≡ Ok (Step.Told judged)
-            → IsKnown judged (length self.new.judge.names.threads) }
-        ensures sound { OnOk result (R.failed input.new ≡ false) }
     {
         let mut step = Step::More;
         while step.is_idle() {
@@ -131,16 +115,9 @@ impl LineReader {
     pub(crate) fn step<R: Source>(&mut self, input: &mut R) -> Result<Step, LinesFault>
         requires fit { IsFit self.old }
         requires not_failed { R.failed input.old ≡ false }
-        ensures steps { StepsOn (R.position input.old) self.old (R.position input.new)
-            (R.failed input.new) self.new result }
-        ensures known { (judged : Judged) → result ≡ Ok (Step.Told judged)
-            → IsKnown judged (length self.new.judge.names.threads) }
-        ensures fit { OnOk result (IsFit self.new) }
+        ensures steps { IsStep (R.position input.old) self.old
+            (R.position input.new) (R.failed input.new) self.new result }
         ensures smaller { OnOk result (fuel self.new < fuel self.old) }
-        ensures sound_at_fault { (number : ℕ) (kind : StdKind)
-            → result ≡ Err (LinesFault.Line number kind) → R.failed input.new ≡ false }
-        ensures same_size { vec_len self.new.buffer ≡ vec_len self.old.buffer }
-        ensures sound { OnOk result (R.failed input.new ≡ false) }
     {
         match self.take_line() {
             Ok(Some(judged)) => Ok(Step::Told(judged)),
@@ -155,16 +132,9 @@ impl LineReader {
         requires fit { IsFit self.old }
         requires spent { self.old.start ≡ self.old.end }
         requires not_failed { R.failed input.old ≡ false }
-        ensures steps { StepsOn (R.position input.old) self.old (R.position input.new)
-            (R.failed input.new) self.new result }
-        ensures known { (judged : Judged) → result ≡ Ok (Step.Told judged)
-            → IsKnown judged (length self.new.judge.names.threads) }
-        ensures fit { OnOk result (IsFit self.new) }
+        ensures steps { IsStep (R.position input.old) self.old
+            (R.position input.new) (R.failed input.new) self.new result }
         ensures smaller { OnOk result (fuel self.new < fuel self.old) }
-        ensures sound_at_fault { (number : ℕ) (kind : StdKind)
-            → result ≡ Err (LinesFault.Line number kind) → R.failed input.new ≡ false }
-        ensures same_size { vec_len self.new.buffer ≡ vec_len self.old.buffer }
-        ensures sound { OnOk result (R.failed input.new ≡ false) }
     {
         if self.turns == 0 {
             return Err(LinesFault::Read);
@@ -180,18 +150,7 @@ impl LineReader {
     pub(crate) fn last(&mut self) -> Result<Judged, ReadFault>
         requires sound { IsSound self.old.judge }
         requires countable { self.old.judge.line + 1 < 2 ^ 64 }
-        ensures told { IfOk result
-            (λ judged. (text : List ℕ) (told : Trace) → IsOver self.old text told
-            → trace_of self.old.judge.limits text
-            ≡ Ok (with_judged judged self.new.judge.names told)) }
-        ensures judged { IfOk result
-            (λ judged. (text : List ℕ) (told : Trace) → IsOver self.old text told
-            → HasJudged self.new.judge (with_judged judged self.new.judge.names told)) }
-        ensures known { IfOk result
-            (λ judged. IsKnown judged (length self.new.judge.names.threads)) }
-        ensures fault { (number : ℕ) (kind : StdKind) → result ≡ Err (Line number kind)
-            → (text : List ℕ) (told : Trace) → IsOver self.old text told
-            → trace_of self.old.judge.limits text ≡ Err (Line number kind) }
+        ensures takes { TakesLast self.old self.new result }
     {
         if self.unfinished.is_empty() {
             return Ok(Judged::Blank);
@@ -203,9 +162,8 @@ impl LineReader {
     pub(crate) fn drain<R: Source>(&mut self, input: &mut R) -> bool
         requires room { vec_len self.old.buffer ≡ CHUNK }
         requires not_failed { R.failed input.old ≡ false }
-        ensures { (turns : ℕ) (start : Position) (text : List ℕ)
-            → HasGiven turns start (R.position input.old) self.old.turns text
-            → HasDrained turns start (R.position input.new) (R.failed input.new) text result }
+        ensures { DrainsOn (R.position input.old) self.old
+            (R.position input.new) (R.failed input.new) result }
     {
         while self.turns > 0 {
             match self.fill(input) {
@@ -244,23 +202,9 @@ impl LineReader {
         requires left { 0 < self.old.turns }
         requires room { vec_len self.old.buffer ≡ CHUNK }
         requires not_failed { R.failed input.old ≡ false }
-        ensures filled { IfOk result
-            (λ more. (turns : ℕ) (start : Position) (text : List ℕ)
-            → HasGiven turns start (R.position input.old) self.old.turns text
-            → HasFilled more turns start (R.position input.new)
-            (R.failed input.new) self.new text) }
-        ensures broke { OnErr result
-            ((turns : ℕ) (start : Position) (text : List ℕ)
-            → HasGiven turns start (R.position input.old) self.old.turns text
-            → HasRead turns start (R.position input.new) (R.failed input.new) text false) }
-        ensures sound { OnOk result (R.failed input.new ≡ false) }
-        ensures turn { OnOk result (self.new.turns + 1 ≡ self.old.turns) }
-        ensures begin { OnOk result (self.new.start ≡ 0) }
-        ensures within { OnOk result (self.new.end ≤ CHUNK) }
-        ensures none { result ≡ Ok false → left_of self.new ≡ [] }
-        ensures same_judge { self.new.judge ≡ self.old.judge }
-        ensures same_beginning { self.new.unfinished ≡ self.old.unfinished }
-        ensures same_size { vec_len self.new.buffer ≡ vec_len self.old.buffer }
+        ensures read { IsRead (R.position input.old) self.old
+            (R.position input.new) (R.failed input.new) self.new result }
+        ensures same { OnlyReads self.old self.new }
     {
         let count = input.read(self.buffer.as_mut_slice())?;
         self.turns -= 1;
@@ -272,38 +216,10 @@ impl LineReader {
     // What the next line is that LF ends in what is left of the latest read. None where there is
     // none: then what is left is kept as the beginning of a line.
     fn take_line(&mut self) -> Result<Option<Judged>, ReadFault>
-        requires sound { IsSound self.old.judge }
-        requires order { self.old.start ≤ self.old.end }
-        requires within { self.old.end ≤ vec_len self.old.buffer }
-        requires few { length self.old.unfinished.items ≤ KEPT }
+        requires ready { CanTakeLines self.old }
         requires countable { self.old.judge.line + 1 < 2 ^ 64 }
-        ensures some { IfOk result
-            (λ o. IfSome o
-            (λ judged. (text : List ℕ) (told : Trace) → IsAt self.old text told
-            → IsAt self.new text (with_judged judged self.new.judge.names told))) }
-        ensures none { IfOk result
-            (λ o. IfNone o
-            ((text : List ℕ) (told : Trace) → IsAt self.old text told
-            → IsAt self.new text told)) }
-        ensures known { IfOk result
-            (λ o. IfSome o (λ judged. IsKnown judged (length self.new.judge.names.threads))) }
-        ensures spent { IfOk result (λ o. IfNone o (self.new.start ≡ self.new.end)) }
-        ensures fault { (number : ℕ) (kind : StdKind) → result ≡ Err (Line number kind)
-            → (text : List ℕ) (told : Trace) → IsAt self.old text told
-            → IsFaulty self.old.judge.limits text number kind }
-        ensures sound { OnOk result (IsSound self.new.judge) }
-        ensures order { OnOk result (self.new.start ≤ self.new.end) }
-        ensures same_end { self.new.end ≡ self.old.end }
-        ensures same_size { vec_len self.new.buffer ≡ vec_len self.old.buffer }
-        ensures same_turns { self.new.turns ≡ self.old.turns }
-        ensures few { OnOk result (length self.new.unfinished.items ≤ KEPT) }
-        ensures limits { self.new.judge.limits ≡ self.old.judge.limits }
-        ensures smaller { IfOk result
-            (λ o. IfSome o (λ judged. self.old.start < self.new.start)) }
-        ensures line { IfOk result
-            (λ o. IfSome o (λ judged. self.new.judge.line ≡ self.old.judge.line + 1)) }
-        ensures same_line { IfOk result
-            (λ o. IfNone o (self.new.judge.line ≡ self.old.judge.line)) }
+        ensures takes { TakesLine self.old self.new result }
+        ensures same { OnlyTakes self.old self.new }
     {
         match cut(&self.buffer[..self.end][self.start..], LF) {
             Some((end, _)) => {
@@ -327,19 +243,9 @@ fn end_line(judge: &mut Judge, unfinished: &mut Vec<u8>, end: &[u8]) -> Result<J
     requires sound { IsSound judge.old }
     requires few { length unfinished.old.items ≤ KEPT }
     requires countable { judge.old.line + 1 < 2 ^ 64 }
-    ensures reaches { IfOk result
-        (λ judged. (seen : List ℕ) (told : Trace)
-        → Reaches judge.old unfinished.old.items seen told
-        → Reaches judge.new unfinished.new.items (seen ++ end.now ++ LF ∷ [])
-        (with_judged judged judge.new.names told)) }
-    ensures known { IfOk result (λ judged. IsKnown judged (length judge.new.names.threads)) }
-    ensures fault { (number : ℕ) (kind : StdKind) → result ≡ Err (Line number kind)
-        → (seen : List ℕ) (told : Trace) → Reaches judge.old unfinished.old.items seen told
-        → IsFaulty judge.old.limits (seen ++ end.now ++ LF ∷ []) number kind }
-    ensures sound { OnOk result (IsSound judge.new) }
-    ensures empty { OnOk result (unfinished.new.items ≡ []) }
+    ensures ends { EndsLine judge.old unfinished.old.items end.now
+        judge.new unfinished.new.items result }
     ensures limits { judge.new.limits ≡ judge.old.limits }
-    ensures line { OnOk result (judge.new.line ≡ judge.old.line + 1) }
 {
     if unfinished.is_empty() {
         return judge.take(without_cr(end));

@@ -1,19 +1,14 @@
 //! Reading a trace item by item, as its text comes.
-ghost use Rattle.std.specs.Prelude.{◌≡◌, ℕ, ◌^◌, ◌<◌, ◌≤◌, Bool, true, false, List, [], Option, Ok, Err, IfErr, IfOk, OnOk, length};
-ghost use Rattle.gl_event.specs.Bounds.{Bounds};
-ghost use Rattle.gl_event.specs.declared.events.Event.{Event as EventOf};
+ghost use Rattle.std.specs.Prelude.{◌≡◌, ◌^◌, ◌≤◌, Bool, false, [], IfOk, OnOk};
 ghost use Rattle.gl_io.specs.Positions.{Position};
-ghost use Rattle.gl_io.specs.Reads.{HasRead};
-ghost use Rattle.gl_io.specs.Uses.{SourceUse, used};
-ghost use Rattle.gl_std.specs.LineReading.{IsFit, ReadsOn};
-ghost use Rattle.gl_std.specs.bodies.Lasts.{IsOver};
+ghost use Rattle.gl_io.specs.Uses.{used};
+ghost use Rattle.gl_std.specs.LineReading.{IsFit};
+ghost use Rattle.gl_std.specs.bodies.Lasts.{IsLastAnswer};
 ghost use Rattle.gl_std.specs.Sourced.{items_of, source_of};
-ghost use Rattle.gl_std.specs.Streaming.{event_in, names_of, with_answer, CanBeAsked, CanBeNamed, GoesOn, HasFault, HasNoFault, HasTold, IsDone};
+ghost use Rattle.gl_std.specs.Streaming.{event_in, ArePartsOf, CanBeAsked, HasTold, IsDone, IsNextAnswer};
 ghost use Rattle.gl_std.specs.Streaming.Stage.{Reading};
 ghost use Rattle.gl_std.specs.Trace.{nothing};
 ghost use Rattle.gl_std.specs.bodies.Telling.{item_in};
-ghost use Rattle.gl_std.specs.declared.faults.LinesFault.{LinesFault};
-ghost use Rattle.gl_std.specs.declared.trace.Trace.{Trace};
 
 use crate::faults::{LinesFault, ReadFault};
 use crate::judge::Judged;
@@ -105,21 +100,9 @@ impl Items {
     /// each of its names looked up at most once by hash.
     pub fn next<R: Source>(&mut self, input: &mut R) -> Result<Item, LinesFault>
         requires usable { CanBeAsked self.old (R.failed input.old) }
-        ensures tells { (limits : Bounds) (turns : ℕ) (start : Position)
-            (text : List ℕ) (told : Trace)
-            → HasTold limits turns
-            (used start (R.position input.old) (R.failed input.old)) self.old text told
-            → GoesOn limits turns
-            (used start (R.position input.new) (R.failed input.new)) self.new text told result }
-        ensures known { (thread : ℕ) (event : EventOf) → result ≡ Ok (Item.Event thread event)
-            → thread < length (names_of self.new).threads }
+        ensures next { IsNextAnswer (R.position input.old) (R.failed input.old) self.old
+            (R.position input.new) (R.failed input.new) self.new result }
         ensures usable { CanBeAsked self.new (R.failed input.new) }
-        ensures end { result ≡ Ok Item.End → IsDone self.new }
-        ensures item { OnOk result (HasNoFault self.new) }
-        ensures fault { IfErr result (HasFault self.new) }
-        ensures end_again { IsDone self.old → result ≡ Ok Item.End }
-        ensures fault_again { (fault : LinesFault) → HasFault self.old fault
-            → result ≡ Err fault }
     {
         match self.stage {
             Stage::Reading => self.read_on(input),
@@ -133,17 +116,9 @@ impl Items {
         requires reading { self.old.stage ≡ Reading }
         requires fit { IsFit self.old.reader }
         requires not_failed { R.failed input.old ≡ false }
-        ensures tells { (limits : Bounds) (turns : ℕ) (start : Position)
-            (text : List ℕ) (told : Trace)
-            → ReadsOn limits turns start (R.position input.old) self.old.reader text told
-            → GoesOn limits turns
-            (used start (R.position input.new) (R.failed input.new)) self.new text told result }
-        ensures known { (thread : ℕ) (event : EventOf) → result ≡ Ok (Item.Event thread event)
-            → thread < length (names_of self.new).threads }
+        ensures next { IsNextAnswer (R.position input.old) (R.failed input.old) self.old
+            (R.position input.new) (R.failed input.new) self.new result }
         ensures usable { CanBeAsked self.new (R.failed input.new) }
-        ensures end { result ≡ Ok Item.End → IsDone self.new }
-        ensures item { OnOk result (HasNoFault self.new) }
-        ensures fault { IfErr result (HasFault self.new) }
     {
         match self.reader.next(input) {
             Ok(Step::Told(judged)) => Ok(item_of(judged)),
@@ -159,17 +134,9 @@ impl Items {
     // `next`, where the source has ended.
     fn finish(&mut self) -> Result<Item, LinesFault>
         requires fit { IsFit self.old.reader }
-        ensures tells { (limits : Bounds) (turns : ℕ) (input : SourceUse) (text : List ℕ)
-            (told : Trace)
-            → HasRead turns input.before input.after input.failed text true
-            → self.old.reader.judge.limits ≡ limits → IsOver self.old.reader text told
-            → HasTold limits turns input self.new text
-            (with_answer result (names_of self.new) told) }
-        ensures known { (thread : ℕ) (event : EventOf) → result ≡ Ok (Item.Event thread event)
-            → thread < length (names_of self.new).threads }
+        ensures last { IsLastAnswer self.old self.new result }
         ensures usable { (failed : Bool) → CanBeAsked self.new failed }
         ensures end { OnOk result (IsDone self.new) }
-        ensures fault { IfErr result (HasFault self.new) }
     {
         match self.reader.last() {
             Ok(judged) => {
@@ -190,18 +157,7 @@ impl Items {
     /// The names so far, how many lines were skipped, and how many were strays. After a line at fault,
     /// or where memory was refused, they say nothing.
     pub fn parts(self) -> (Names, u64, u64)
-        ensures names { (limits : Bounds) (turns : ℕ) (input : SourceUse) (text : List ℕ)
-            (told : Trace)
-            → CanBeNamed self → HasTold limits turns input self text told
-            → result.0 ≡ told.names }
-        ensures skipped { (limits : Bounds) (turns : ℕ) (input : SourceUse) (text : List ℕ)
-            (told : Trace)
-            → CanBeNamed self → HasTold limits turns input self text told
-            → result.1 ≡ told.skipped }
-        ensures stray { (limits : Bounds) (turns : ℕ) (input : SourceUse) (text : List ℕ)
-            (told : Trace)
-            → CanBeNamed self → HasTold limits turns input self text told
-            → result.2 ≡ told.stray }
+        ensures parts { ArePartsOf self result.0 result.1 result.2 }
     {
         self.reader.into_parts()
     }
@@ -239,23 +195,11 @@ impl<R: Source + Drop> Lines<R> {
     /// The next item, as [`Items::next`] answers it.
     pub fn next(&mut self) -> Result<Item, LinesFault>
         requires usable { CanBeAsked (items_of self.old) (R.failed (source_of self.old)) }
-        ensures tells { (limits : Bounds) (turns : ℕ) (start : Position)
-            (text : List ℕ) (told : Trace)
-            → HasTold limits turns
-            (used start (R.position (source_of self.old)) (R.failed (source_of self.old)))
-            (items_of self.old) text told
-            → GoesOn limits turns
-            (used start (R.position (source_of self.new)) (R.failed (source_of self.new)))
-            (items_of self.new) text told result }
-        ensures known { (thread : ℕ) (event : EventOf) → result ≡ Ok (Item.Event thread event)
-            → thread < length (names_of (items_of self.new)).threads }
+        ensures next { IsNextAnswer
+            (R.position (source_of self.old)) (R.failed (source_of self.old)) (items_of self.old)
+            (R.position (source_of self.new)) (R.failed (source_of self.new))
+            (items_of self.new) result }
         ensures usable { CanBeAsked (items_of self.new) (R.failed (source_of self.new)) }
-        ensures end { result ≡ Ok Item.End → IsDone (items_of self.new) }
-        ensures item { OnOk result (HasNoFault (items_of self.new)) }
-        ensures fault { IfErr result (HasFault (items_of self.new)) }
-        ensures end_again { IsDone (items_of self.old) → result ≡ Ok Item.End }
-        ensures fault_again { (fault : LinesFault) → HasFault (items_of self.old) fault
-            → result ≡ Err fault }
     {
         self.items.next(&mut self.input)
     }
@@ -263,18 +207,7 @@ impl<R: Source + Drop> Lines<R> {
     /// The names so far, how many lines were skipped, how many were strays, and the source. After a
     /// line at fault, or where memory was refused, the first three say nothing.
     pub fn parts(self) -> (Names, u64, u64, R)
-        ensures names { (limits : Bounds) (turns : ℕ) (input : SourceUse) (text : List ℕ)
-            (told : Trace)
-            → CanBeNamed (items_of self) → HasTold limits turns input (items_of self) text told
-            → result.0 ≡ told.names }
-        ensures skipped { (limits : Bounds) (turns : ℕ) (input : SourceUse) (text : List ℕ)
-            (told : Trace)
-            → CanBeNamed (items_of self) → HasTold limits turns input (items_of self) text told
-            → result.1 ≡ told.skipped }
-        ensures stray { (limits : Bounds) (turns : ℕ) (input : SourceUse) (text : List ℕ)
-            (told : Trace)
-            → CanBeNamed (items_of self) → HasTold limits turns input (items_of self) text told
-            → result.2 ≡ told.stray }
+        ensures parts { ArePartsOf (items_of self) result.0 result.1 result.2 }
         ensures source { result.3 ≡ source_of self }
     {
         let (names, skipped, stray) = self.items.parts();

@@ -1,11 +1,12 @@
 -- What the code's state shows of a text that is being read, and the public words said of that.
-use Rattle.std.specs.Prelude.{◌≡◌, ◌+◌, ◌*◌, ◌^◌, ◌<◌, ◌≤◌, ℕ, List, drop, length, take, vec_len}
+use Rattle.std.specs.Prelude.{◌≡◌, ◌+◌, ◌*◌, ◌^◌, ◌<◌, ◌≤◌, ℕ, List, [], drop, length, take, vec_len}
 use Rattle.gl_event.specs.Bounds.{Bounds}
 use Rattle.gl_io.specs.Positions.{Position}
 use Rattle.gl_io.specs.declared.source.TheConstants.{CHUNK}
 use Rattle.gl_std.specs.LineReading as line_reading
 use Rattle.gl_std.specs.Judging as judging
 use Rattle.gl_std.specs.Streaming.{Stage as StageOf, Stream}
+use Rattle.gl_std.specs.Trace.{nothing}
 use Rattle.gl_std.specs.bodies.Lasts as lasts
 use Rattle.gl_std.specs.Streaming.Stage.{Reading as ReadingOn, Done as AtEnd, Faulty as AtFault}
 use Rattle.gl_std.specs.declared.line_reader.LineReader.{LineReader}
@@ -48,6 +49,10 @@ ReadsOn limits turns start now f text told = line_reading.ReadsOn limits turns s
 
 abbrev pub IsOver : LineReader → List ℕ → Trace → Type 0
 IsOver f text told = lasts.IsOver (reader_of f) text told
+
+-- nothing was read yet, wherever the source stands
+abbrev pub HasBegun : Bounds → ℕ → LineReader → Type 0
+HasBegun limits turns f = (start : Position) → ReadsOn limits turns start start f [] nothing
 
 -- what is left of the latest read lies in the buffer
 pub record IsBuffered (f : LineReader) : Type 0 where

@@ -1,7 +1,7 @@
-use Rattle.std.proofs.Common.{◌≡◌, ◌++◌, [], Ok, sym, ap, subst, ◌∙◌}
+use Rattle.std.proofs.Common.{◌++◌, [], Ok, sym, ap, subst, ◌∙◌}
 use Rattle.std.proofs.lemmas.Result.{err_from_is_err_and}
 use Rattle.gl_std.specs.bodies.States.{ReadsOn}
-use Rattle.gl_std.specs.bodies.Hearing.{listed_by, Meets}
+use Rattle.gl_std.specs.bodies.Hearing.{listed_by, Meets, ProgressLeaves}
 use Rattle.gl_std.specs.Trace.{nothing}
 use Rattle.gl_std.proofs.HeardSources.{heard_over, heard_trace_over, heard_whole, listed_is}
 use Rattle.gl_std.proofs.from_source.read_source.Goals as goal
@@ -9,7 +9,7 @@ use Rattle.gl_std.proofs.from_source.read_source.Goals as goal
 pub lines-init : goal.lines-init
 lines-init g c =
     let listing = c.in_ok-listing.listing in
-    let reads = c.in_ok-listing.ensures.reads (g.R.Source.position c.args.input.now) in
+    let reads = c.in_ok-listing.ensures.begun (g.R.Source.position c.args.input.now) in
     record {
       text = [];
       reads = subst (ReadsOn c.args.limits.now c.args.turns _ _ listing.reader []) (sym (listed_is listing nothing reads.at.reaches.judged c.in_ok-listing.ensures.none)) reads;
@@ -22,12 +22,12 @@ lines-preserved g c =
     let so_far = c.lines.invariant in
     let new = c.take.new in
     let meets = subst (Meets c.args.limits.now c.args.turns (g.R.Source.position c.args.input.now) (g.R.Source.position new.input) (g.R.Source.failed new.input) new.self so_far.text) c.in-More.is (c.in_ok-take.ensures.meets c.args.limits.now c.args.turns (g.R.Source.position c.args.input.now) so_far.text so_far.reads) in
-    let was : c.take.result ≡ Ok _ = c.in_ok-take.was ∙ ap (λ p. Ok p) c.in-More.is in
+    let leaves = subst (ProgressLeaves c.lines.listing.reader (g.R.Source.failed new.input) new.self.reader) c.in-More.is c.in_ok-take.ensures.leaves in
     record {
       text = so_far.text ++ meets.piece;
       reads = meets.met;
-      fit = c.take.ensures.fit was;
-      sound = c.take.ensures.sound was;
+      fit = leaves.0;
+      sound = leaves.1;
     }
 
 -- the source has ended
@@ -74,13 +74,13 @@ pub take-requires-clause-not_failed : goal.take-requires-clause-not_failed
 take-requires-clause-not_failed g c = c.lines.invariant.sound
 
 pub lines-smaller : goal.lines-smaller
-lines-smaller g c = c.take.ensures.smaller (c.in_ok-take.was ∙ ap (λ p. Ok p) c.in-More.is)
+lines-smaller g c = (subst (ProgressLeaves c.lines.listing.reader (g.R.Source.failed c.take.new.input) c.take.new.self.reader) c.in-More.is c.in_ok-take.ensures.leaves).2
 
 pub finish-requires : goal.finish-requires
-finish-requires g c = record { fit = c.take.ensures.fit_end (c.in_ok-take.was ∙ ap (λ p. Ok p) c.in-End.is) }
+finish-requires g c = record { fit = subst (ProgressLeaves c.lines.listing.reader (g.R.Source.failed c.take.new.input) c.take.new.self.reader) c.in-End.is c.in_ok-take.ensures.leaves }
 
 pub drain-requires-clause-not_failed : goal.drain-requires-clause-not_failed
-drain-requires-clause-not_failed g c = c.take.ensures.sound_at_fault c.in-Fault.line c.in-Fault.kind (c.in_ok-take.was ∙ ap (λ p. Ok p) c.in-Fault.is)
+drain-requires-clause-not_failed g c = subst (ProgressLeaves c.lines.listing.reader (g.R.Source.failed c.take.new.input) c.take.new.self.reader) c.in-Fault.is c.in_ok-take.ensures.leaves
 
 -- memory was refused
 pub returns-in_err-listing-clause-heard : goal.returns-in_err-listing-clause-heard

@@ -1,4 +1,4 @@
-use Rattle.std.proofs.Common.{◌≡◌, ◌++◌, length, take, Err, sym, ap, ◌∙◌, arith}
+use Rattle.std.proofs.Common.{◌≡◌, [], ◌++◌, length, take, Err, sym, ap, ◌∙◌, arith}
 use Rattle.std.proofs.lemmas.Bool.Decides.{nat_tests}
 use Rattle.std.proofs.lemmas.Grind.{common_steps}
 use Rattle.std.proofs.lemmas.List.{take-take}
@@ -6,47 +6,46 @@ use Rattle.gl_std.specs.Lines.{without_cr}
 use Rattle.gl_std.specs.Trace.{after_line}
 use Rattle.gl_std.specs.declared.faults.ReadFault.TheVariants.{Line}
 use Rattle.gl_std.specs.declared.line_reader.TheConstants.{KEPT}
-use Rattle.gl_std.proofs.LineByLine.{reached_line, reached_fault, reached_result}
+use Rattle.gl_std.proofs.LineByLine.{line_ended, line_faulty, on_ok, reached_fault, reached_line}
 use Rattle.gl_std.proofs.PieceByPiece.{nil_of}
 use Rattle.gl_std.proofs.line_reader.end_line.Goals as goal
 
 -- nothing was unfinished
-pub returns-then-is_empty-clause-reaches : goal.returns-then-is_empty-clause-reaches
-returns-then-is_empty-clause-reaches c =
-    let old = c.args.judge.now in
+pub returns-then-is_empty-clause-ends : goal.returns-then-is_empty-clause-ends
+returns-then-is_empty-clause-ends c =
     let kept = c.args.unfinished.now.items in
     let none : length kept ≡ 0 = grind (arith, nat_tests, c.is_empty.ensures, c.if-is_empty.true) in
     let nil = nil_of kept none in
-    reached_result old c.take.new.self kept kept c.args.end.now c.args.end.now c.without_cr.result.now c.take.result c.requires.one_line
-    (ap (λ k. take KEPT (k ++ c.args.end.now)) (sym nil)) c.without_cr.ensures c.take.ensures.ok c.take.ensures.judged c.take.ensures.limits c.take.ensures.line nil
-
-pub returns-then-is_empty-clause-fault : goal.returns-then-is_empty-clause-fault
-returns-then-is_empty-clause-fault c = λ number kind is seen told reaches.
-    let old = c.args.judge.now in
-    let kept = c.args.unfinished.now.items in
-    let none : length kept ≡ 0 = grind (arith, nat_tests, c.is_empty.ensures, c.if-is_empty.true) in
-    reached_fault old kept c.args.end.now c.args.end.now seen told number kind reaches c.requires.one_line
-    (ap (λ k. take KEPT (k ++ c.args.end.now)) (sym (nil_of kept none)))
-    (ap (after_line old.limits old.line told) (sym c.without_cr.ensures) ∙ c.take.ensures.fault number kind is told reaches.judged)
+    line_ended c.args.judge.now c.take.new.self kept kept c.args.end.now c.args.end.now c.without_cr.result.now c.take.result c.requires.one_line
+    (ap (λ k. take KEPT (k ++ c.args.end.now)) (sym nil)) c.without_cr.ensures c.take.ensures.ok c.take.ensures.judged c.take.ensures.known c.take.ensures.fault
+    c.take.ensures.sound c.take.ensures.limits c.take.ensures.line (on_ok c.take.result (kept ≡ []) nil)
 
 -- the line began in a read before
-pub returns-in_err-judged-clause-fault : goal.returns-in_err-judged-clause-fault
-returns-in_err-judged-clause-fault c = λ number kind is seen told reaches.
+pub returns-in_err-judged-clause-ends : goal.returns-in_err-judged-clause-ends
+returns-in_err-judged-clause-ends c =
     let old = c.args.judge.now in
     let kept = c.args.unfinished.now.items in
     let raw = c.keep.new.unfinished.items in
+    line_faulty old c.take-2.new.self kept raw c.args.end.now c.from_residual-in_err-judged.result c.from_residual-in_err-judged.ensures.0 (λ number kind is seen told reaches.
     let failed : c.take-2.result ≡ Err (Line number kind) = let was = c.in_err-judged.was in let of = c.from_residual-in_err-judged.ensures in grind (arith, common_steps, was, of, is) in
     reached_fault old kept c.args.end.now raw seen told number kind reaches c.requires.one_line
     (ap (take KEPT) c.in_ok-keep.ensures.kept ∙ take-take KEPT KEPT (kept ++ c.args.end.now) (omega arith))
-    (ap (after_line old.limits old.line told) (sym (c.without_cr-2.ensures ∙ ap without_cr c.as_slice.ensures.value)) ∙ c.take-2.ensures.fault number kind failed told reaches.judged)
+    (ap (after_line old.limits old.line told) (sym (c.without_cr-2.ensures ∙ ap without_cr c.as_slice.ensures.value)) ∙ c.take-2.ensures.fault number kind failed told reaches.judged))
 
-pub returns-clause-reaches : goal.returns-clause-reaches
-returns-clause-reaches c = λ seen told reaches.
+pub returns-clause-ends : goal.returns-clause-ends
+returns-clause-ends c =
     let old = c.args.judge.now in
     let new = c.take-2.new.self in
     let kept = c.args.unfinished.now.items in
     let raw = c.keep.new.unfinished.items in
-    reached_line old new kept c.clear.new.self.items c.args.end.now raw seen told c.in_ok-judged.judged reaches c.requires.one_line
-    (ap (take KEPT) c.in_ok-keep.ensures.kept ∙ take-take KEPT KEPT (kept ++ c.args.end.now) (omega arith))
-    (ap (after_line old.limits old.line told) (sym (c.without_cr-2.ensures ∙ ap without_cr c.as_slice.ensures.value)) ∙ c.in_ok-judged.ensures.ok told reaches.judged)
-    (c.in_ok-judged.ensures.judged told reaches.judged) c.take-2.ensures.limits c.in_ok-judged.ensures.line c.clear.ensures.items
+    record {
+      reaches = λ seen told reaches.
+          reached_line old new kept c.clear.new.self.items c.args.end.now raw seen told c.in_ok-judged.judged reaches c.requires.one_line
+          (ap (take KEPT) c.in_ok-keep.ensures.kept ∙ take-take KEPT KEPT (kept ++ c.args.end.now) (omega arith))
+          (ap (after_line old.limits old.line told) (sym (c.without_cr-2.ensures ∙ ap without_cr c.as_slice.ensures.value)) ∙ c.in_ok-judged.ensures.ok told reaches.judged)
+          (c.in_ok-judged.ensures.judged told reaches.judged) c.take-2.ensures.limits c.in_ok-judged.ensures.line c.clear.ensures.items;
+      known = c.in_ok-judged.ensures.known;
+      sound = c.in_ok-judged.ensures.sound;
+      empty = c.clear.ensures.items;
+      line = c.in_ok-judged.ensures.line;
+    }

@@ -1,8 +1,8 @@
-use Rattle.std.proofs.Common.{◌≡◌, ◌++◌, [], sym, subst, ◌∙◌, append_assoc, arith}
+use Rattle.std.proofs.Common.{◌≡◌, ◌++◌, [], Ok, sym, subst, ◌∙◌, append_assoc, arith}
 use Rattle.std.proofs.lemmas.Bool.Decides.{nat_tests}
 use Rattle.gl_std.specs.LineReading.{HasGiven}
 use Rattle.gl_std.specs.bodies.States.{left_of}
-use Rattle.gl_std.specs.bodies.Stepping.{HasFilled}
+use Rattle.gl_std.specs.bodies.Stepping.{IsRead}
 use Rattle.gl_std.proofs.LineByLine.{append_nil, used_up}
 use Rattle.gl_std.proofs.line_reader.LineReader.drain.Goals as goal
 
@@ -18,27 +18,26 @@ pub loop-self-preserved : goal.loop-self-preserved
 loop-self-preserved g c =
     let so_far = c.loop-self.invariant in
     let new = c.fill.new.self in
+    let read = subst (λ more. IsRead (g.R.Source.position c.loop-self.input) c.loop-self.self (g.R.Source.position c.fill.new.input) (g.R.Source.failed c.fill.new.input) new (Ok more)) c.in-Ok-true.field-0-test c.in-Ok-true.ensures.read in
     record {
       piece = so_far.piece ++ left_of new;
       given = λ turns start text given.
           subst (HasGiven turns start (g.R.Source.position c.fill.new.input) new.turns) (append_assoc text so_far.piece (left_of new))
-          (subst (λ more. HasFilled more turns start (g.R.Source.position c.fill.new.input) (g.R.Source.failed c.fill.new.input) new (text ++ so_far.piece)) c.in-Ok-true.field-0-test (c.in-Ok-true.ensures.filled turns start (text ++ so_far.piece) (so_far.given turns start text given)));
-      room = c.fill.ensures.same_size ∙ so_far.room;
-      sound = c.in-Ok-true.ensures.sound;
+          (read.filled turns start (text ++ so_far.piece) (so_far.given turns start text given));
+      room = c.fill.ensures.same.same_size ∙ so_far.room;
+      sound = read.sound;
     }
 
 pub returns-in-Ok-false : goal.returns-in-Ok-false
 returns-in-Ok-false g c = λ turns start text given.
     let so_far = c.loop-self.invariant in
-    record {
-      piece = so_far.piece;
-      read = subst (λ more. HasFilled more turns start (g.R.Source.position c.fill.new.input) (g.R.Source.failed c.fill.new.input) c.fill.new.self (text ++ so_far.piece)) c.in-Ok-false.field-0-test (c.in-Ok-false.ensures.filled turns start (text ++ so_far.piece) (so_far.given turns start text given));
-    }
+    let read = subst (λ more. IsRead (g.R.Source.position c.loop-self.input) c.loop-self.self (g.R.Source.position c.fill.new.input) (g.R.Source.failed c.fill.new.input) c.fill.new.self (Ok more)) c.in-Ok-false.field-0-test c.in-Ok-false.ensures.read in
+    record { piece = so_far.piece; read = read.filled turns start (text ++ so_far.piece) (so_far.given turns start text given) }
 
 pub returns-in-Err : goal.returns-in-Err
 returns-in-Err g c = λ turns start text given.
     let so_far = c.loop-self.invariant in
-    record { piece = so_far.piece; read = c.in-Err.ensures.broke turns start (text ++ so_far.piece) (so_far.given turns start text given) }
+    record { piece = so_far.piece; read = c.in-Err.ensures.read turns start (text ++ so_far.piece) (so_far.given turns start text given) }
 
 pub returns : goal.returns
 returns g c = λ turns start text given.

@@ -1,22 +1,23 @@
-use Rattle.std.proofs.Common.{sym, ap, Ok, ◌∙◌}
-use Rattle.gl_std.proofs.LineByLine.{stepped_here, steps_after}
+use Rattle.std.proofs.Common.{refl, sym, ◌∙◌}
+use Rattle.gl_std.proofs.LineByLine.{step_after, stepped_here}
 use Rattle.gl_std.proofs.line_reader.LineReader.next.Goals as goal
 
 pub loop-step-init : goal.loop-step-init
 loop-step-init g c = record {
-  steps = λ limits turns start text told is. stepped_here limits turns start _ _ c.args.self.now text told _ is;
-  known = λ judged is. cc;
-  fit = c.requires.fit;
-  sound = c.requires.not_failed;
+  tells = λ limits turns start text told is. stepped_here limits turns start _ _ c.args.self.now text told _ is;
+  known = tt;
+  leaves = (c.requires.not_failed, c.requires.fit);
+  same_size = refl;
 }
 
 pub loop-step-preserved : goal.loop-step-preserved
-loop-step-preserved g c = record {
-  steps = λ limits turns start text told is. steps_after limits turns start _ _ _ _ c.loop-step.self _ text told c.loop-step.step _ (sym c.is_idle.ensures ∙ c.loop-step-test.true) (c.loop-step.invariant.steps limits turns start text told is) (λ t. c.in-Ok.ensures.steps limits turns start t told);
-  known = λ judged is. c.in-Ok.ensures.known judged (ap (λ s. Ok s) is);
-  fit = c.in-Ok.ensures.fit;
-  sound = c.in-Ok.ensures.sound;
-}
+loop-step-preserved g c = step_after _ _ _ _ _ _ _ _ c.loop-step.step _ (sym c.is_idle.ensures ∙ c.loop-step-test.true) c.loop-step.invariant c.in-Ok.ensures.steps
 
 pub returns-in-Err-clause-steps : goal.returns-in-Err-clause-steps
-returns-in-Err-clause-steps g c = λ limits turns start text told is. steps_after limits turns start _ _ _ _ c.loop-step.self _ text told c.loop-step.step _ (sym c.is_idle.ensures ∙ c.loop-step-test.true) (c.loop-step.invariant.steps limits turns start text told is) (λ t. c.in-Err.ensures.steps limits turns start t told)
+returns-in-Err-clause-steps g c = step_after _ _ _ _ _ _ _ _ c.loop-step.step _ (sym c.is_idle.ensures ∙ c.loop-step-test.true) c.loop-step.invariant c.in-Err.ensures.steps
+
+pub step-requires-clause-fit : goal.step-requires-clause-fit
+step-requires-clause-fit g c = c.loop-step.invariant.leaves.1
+
+pub step-requires-clause-not_failed : goal.step-requires-clause-not_failed
+step-requires-clause-not_failed g c = c.loop-step.invariant.leaves.0

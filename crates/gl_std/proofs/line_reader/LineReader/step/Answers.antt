@@ -1,37 +1,97 @@
-use Rattle.std.proofs.Common.{ℕ, List, [], Err, sym, ap, subst, ◌∙◌}
+use Rattle.std.proofs.Common.{[], Ok, Err, sym, subst, ◌∙◌}
 use Rattle.gl_std.specs.LineReading.{HasGiven}
-use Rattle.gl_std.specs.bodies.States.{IsAt}
-use Rattle.gl_std.specs.bodies.Telling.{with_judged}
-use Rattle.gl_std.specs.declared.trace.Trace.{Trace}
 use Rattle.gl_std.specs.Pieces.{IsFaulty}
-use Rattle.gl_std.proofs.LineByLine.{at_none, at_some, stepped_here}
+use Rattle.gl_std.specs.bodies.Taking.{TakesLine}
+use Rattle.gl_std.proofs.LineByLine.{line_fit, line_less, rest_fit, rest_less, stepped_here}
 use Rattle.gl_std.proofs.line_reader.LineReader.step.Goals as goal
 
+-- a whole line was left
 pub returns-in-Ok-Some-clause-steps : goal.returns-in-Ok-Some-clause-steps
-returns-in-Ok-Some-clause-steps g c = λ limits turns start text told is.
-    stepped_here limits turns start _ _ c.take_line.new.self text told _
-    (record {
-      given = subst (λ left. HasGiven turns start (g.R.Source.position c.args.input.now) left text) (sym c.take_line.ensures.same_turns) is.given;
-      same = c.take_line.ensures.limits ∙ is.same;
-      at = at_some (λ judged. (text : List ℕ) (told : Trace) → IsAt c.args.self.now text told → IsAt c.take_line.new.self text (with_judged judged c.take_line.new.self.judge.names told)) c.in-Ok-Some.field-0 c.in-Ok-Some.judged c.in-Ok-Some.field-0-is c.in-Ok-Some.ensures.some text told is.at;
-    })
+returns-in-Ok-Some-clause-steps g c =
+    let old = c.args.self.now in
+    let new = c.take_line.new.self in
+    let same = c.take_line.ensures.same in
+    let taken = subst (λ line. TakesLine old new (Ok line)) c.in-Ok-Some.field-0-is c.in-Ok-Some.ensures.takes in
+    record {
+      tells = λ limits turns start text told is.
+          stepped_here limits turns start _ _ new text told _
+          (record {
+            given = subst (λ left. HasGiven turns start (g.R.Source.position c.args.input.now) left text) (sym same.same_turns) is.given;
+            same = same.same_limits ∙ is.same;
+            at = taken.at text told is.at;
+          });
+      known = taken.known;
+      leaves = (c.requires.not_failed, line_fit old new c.in-Ok-Some.judged c.requires.fit taken same);
+      same_size = same.same_size;
+    }
+
+pub returns-in-Ok-Some-clause-smaller : goal.returns-in-Ok-Some-clause-smaller
+returns-in-Ok-Some-clause-smaller g c =
+    let old = c.args.self.now in
+    let new = c.take_line.new.self in
+    let taken = subst (λ line. TakesLine old new (Ok line)) c.in-Ok-Some.field-0-is c.in-Ok-Some.ensures.takes in
+    line_less old new c.in-Ok-Some.judged taken c.take_line.ensures.same
+
+-- none was left
+pub read_on-requires-clause-fit : goal.read_on-requires-clause-fit
+read_on-requires-clause-fit g c =
+    let old = c.args.self.now in
+    let new = c.take_line.new.self in
+    rest_fit old new c.requires.fit (subst (λ line. TakesLine old new (Ok line)) c.in-Ok-None.field-0-is c.in-Ok-None.ensures.takes) c.take_line.ensures.same
+
+pub read_on-requires-clause-spent : goal.read_on-requires-clause-spent
+read_on-requires-clause-spent g c =
+    let old = c.args.self.now in
+    let new = c.take_line.new.self in
+    (subst (λ line. TakesLine old new (Ok line)) c.in-Ok-None.field-0-is c.in-Ok-None.ensures.takes).spent
 
 pub returns-in-Ok-None-clause-steps : goal.returns-in-Ok-None-clause-steps
-returns-in-Ok-None-clause-steps g c = λ limits turns start text told is.
-    c.read_on.ensures.steps limits turns start text told (record {
-      given = subst (λ left. HasGiven turns start (g.R.Source.position c.args.input.now) left text) (sym c.take_line.ensures.same_turns) is.given;
-      same = c.take_line.ensures.limits ∙ is.same;
-      at = at_none ((text : List ℕ) (told : Trace) → IsAt c.args.self.now text told → IsAt c.take_line.new.self text told) c.in-Ok-None.field-0 c.in-Ok-None.field-0-is c.in-Ok-None.ensures.none text told is.at;
-    })
-
-pub returns-in-Err-Line-clause-steps : goal.returns-in-Err-Line-clause-steps
-returns-in-Err-Line-clause-steps g c = λ limits turns start text told is.
+returns-in-Ok-None-clause-steps g c =
     let old = c.args.self.now in
-    let faulty = c.take_line.ensures.fault c.in-Err-Line.line c.in-Err-Line.kind (c.in-Err-Line.is ∙ ap (λ e. Err e) c.in-Err-Line.field-0-is) text told is.at in
-    stepped_here limits turns start _ _ c.take_line.new.self text told _ (
-      subst (λ left. HasGiven turns start (g.R.Source.position c.args.input.now) left text) (sym c.take_line.ensures.same_turns) is.given,
-      subst (λ l. IsFaulty l text c.in-Err-Line.line c.in-Err-Line.kind) is.same faulty,
-    )
+    let new = c.take_line.new.self in
+    let same = c.take_line.ensures.same in
+    let taken = subst (λ line. TakesLine old new (Ok line)) c.in-Ok-None.field-0-is c.in-Ok-None.ensures.takes in
+    let step = c.read_on.ensures.steps in
+    record {
+      tells = λ limits turns start text told is.
+          step.tells limits turns start text told (record {
+            given = subst (λ left. HasGiven turns start (g.R.Source.position c.args.input.now) left text) (sym same.same_turns) is.given;
+            same = same.same_limits ∙ is.same;
+            at = taken.at text told is.at;
+          });
+      known = step.known;
+      leaves = step.leaves;
+      same_size = step.same_size ∙ same.same_size;
+    }
+
+pub returns-in-Ok-None-clause-smaller : goal.returns-in-Ok-None-clause-smaller
+returns-in-Ok-None-clause-smaller g c =
+    let old = c.args.self.now in
+    let new = c.take_line.new.self in
+    rest_less old new c.read_on.new.self c.read_on.result (subst (λ line. TakesLine old new (Ok line)) c.in-Ok-None.field-0-is c.in-Ok-None.ensures.takes) c.take_line.ensures.same c.read_on.ensures.smaller
+
+-- the next line is at fault
+pub returns-in-Err-Line-clause-steps : goal.returns-in-Err-Line-clause-steps
+returns-in-Err-Line-clause-steps g c =
+    let old = c.args.self.now in
+    let new = c.take_line.new.self in
+    let same = c.take_line.ensures.same in
+    let faulty = subst (λ fault. TakesLine old new (Err fault)) c.in-Err-Line.field-0-is c.in-Err-Line.ensures.takes in
+    record {
+      tells = λ limits turns start text told is.
+          stepped_here limits turns start _ _ new text told _ (
+            subst (λ left. HasGiven turns start (g.R.Source.position c.args.input.now) left text) (sym same.same_turns) is.given,
+            subst (λ l. IsFaulty l text c.in-Err-Line.line c.in-Err-Line.kind) is.same (faulty text told is.at),
+          );
+      known = tt;
+      leaves = c.requires.not_failed;
+      same_size = same.same_size;
+    }
 
 pub returns-in-Err-Memory-clause-steps : goal.returns-in-Err-Memory-clause-steps
-returns-in-Err-Memory-clause-steps g c = λ limits turns start text told is. record { piece = []; stepped = tt }
+returns-in-Err-Memory-clause-steps g c = record {
+  tells = λ limits turns start text told is. record { piece = []; stepped = tt };
+  known = tt;
+  leaves = tt;
+  same_size = c.take_line.ensures.same.same_size;
+}
