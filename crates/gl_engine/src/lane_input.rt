@@ -100,11 +100,7 @@ fn accept(lane: &mut LaneOut, intake: &mut Intake, note: &Note) -> Pulled
 impl LaneInput {
     /// Pulls the front note off the lane, read as one of the thread, and accepts it. Its edges are made
     /// where they are asked for.
-    pub fn pull(
-        &mut self,
-        thread: ThreadId,
-        intake: &mut Intake,
-    ) -> Result<Pulled, PullFault>
+    pub fn pull(&mut self, thread: ThreadId, intake: &mut Intake) -> Result<Pulled, PullFault>
         ensures pull { IsSidePull intake.old.limits thread
             (record {
               input = pulling_of self.old;

@@ -25,17 +25,20 @@ impl Print {
     }
 
     // The place of the guess among so many.
+    #[inline(always)]
     fn place(self, count: usize) -> usize {
         (self.hash >> 40) as usize & count.wrapping_sub(1)
     }
 
     // What tells prints of one place apart.
+    #[inline(always)]
     fn mark(self) -> u32 {
         (self.hash >> 32) as u32
     }
 }
 
 // The first and the last bytes of a name, mixed.
+#[inline(always)]
 fn ends_of(name: &[u8]) -> u64 {
     let length = name.len();
     if length >= 8 {
@@ -51,6 +54,7 @@ fn ends_of(name: &[u8]) -> u64 {
 }
 
 // Eight bytes as a number.
+#[inline(always)]
 fn eight(bytes: &[u8]) -> u64 {
     match <[u8; 8]>::try_from(bytes) {
         Ok(bytes) => u64::from_le_bytes(bytes),
@@ -59,6 +63,7 @@ fn eight(bytes: &[u8]) -> u64 {
 }
 
 // Four bytes as a number.
+#[inline(always)]
 fn four(bytes: &[u8]) -> u32 {
     match <[u8; 4]>::try_from(bytes) {
         Ok(bytes) => u32::from_le_bytes(bytes),
@@ -103,6 +108,7 @@ impl Guesses {
     }
 
     /// A number that a name with this print may have.
+    #[inline(always)]
     pub(crate) fn get(&self, print: Print) -> Option<u32> {
         let guess = self.guesses.get(print.place(self.guesses.len()))?;
         if guess.mark != print.mark() {

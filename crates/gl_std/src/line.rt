@@ -34,6 +34,7 @@ pub(crate) enum Operation {
 
 impl Operation {
     /// Whether the operand is a thread, and not a lock.
+    #[inline(always)]
     pub(crate) fn is_on_thread(self) -> bool
         ensures { result ≡ is_on_thread (shown_operation self) }
     {
@@ -63,6 +64,7 @@ pub(crate) enum Shape<'a> {
 }
 
 /// What stands before the first such byte, and what stands after it. One scan.
+#[inline(always)]
 pub(crate) fn cut(text: &[u8], byte: u8) -> Option<(&[u8], &[u8])>
     ensures { option_map (λ p. (p.0.now, p.1.now)) result ≡ cut_at byte text.now }
 {
@@ -73,6 +75,7 @@ pub(crate) fn cut(text: &[u8], byte: u8) -> Option<(&[u8], &[u8])>
 }
 
 /// What the line says. Looks at each byte a few times at most.
+#[inline(always)]
 pub(crate) fn shape_of(line: &[u8]) -> Shape<'_>
     ensures { shown result ≡ shape_of line.now }
 {
@@ -92,6 +95,7 @@ pub(crate) fn shape_of(line: &[u8]) -> Shape<'_>
 }
 
 /// What the three fields of a line say.
+#[inline(always)]
 fn shape_of_fields<'a>(thread: &'a [u8], field: &'a [u8], location: &'a [u8]) -> Shape<'a>
     ensures { shown result ≡ shape_of_fields thread.now field.now location.now }
 {
@@ -105,6 +109,7 @@ fn shape_of_fields<'a>(thread: &'a [u8], field: &'a [u8], location: &'a [u8]) ->
 }
 
 /// What the operation with this name and this operand says.
+#[inline(always)]
 fn shape_of_call<'a>(
     thread: &'a [u8],
     name: &[u8],
@@ -135,6 +140,7 @@ fn shape_of_call<'a>(
 }
 
 /// Whether the operation is a fork or join of the line's own thread.
+#[inline(always)]
 fn is_on_itself(operation: Operation, thread: &[u8], operand: &[u8]) -> bool
     ensures { result ≡ is_on_itself (shown_operation operation) thread.now operand.now }
 {
@@ -145,6 +151,7 @@ fn is_on_itself(operation: Operation, thread: &[u8], operand: &[u8]) -> bool
 }
 
 /// The operation with this name.
+#[inline(always)]
 fn operation_of(name: &[u8]) -> Option<Operation>
     ensures { option_map shown_operation result ≡ operation_of name.now }
 {
@@ -176,6 +183,7 @@ fn operation_of(name: &[u8]) -> Option<Operation>
 }
 
 /// What stands before a closing parenthesis at the end, if that is something.
+#[inline(always)]
 fn before_close(text: &[u8]) -> Option<&[u8]>
     ensures { option_map (λ o. o.now) result ≡ before_close text.now }
 {

@@ -39,6 +39,7 @@ impl Name {
     }
 
     /// The bytes.
+    #[inline(always)]
     pub(crate) fn as_bytes(&self) -> &[u8]
         ensures { result.now ≡ self.now }
     {

@@ -80,6 +80,7 @@ impl NameList {
 
     /// The name's number. Where it is `likely` or as guessed, that takes a comparison or two and no
     /// look-up by hash.
+    #[inline(always)]
     fn find_near(&mut self, name: &[u8], likely: Option<u32>) -> Option<u32>
         ensures number { result ≡ position (bytes_eq name.now) self.old }
         ensures same { self.new ≡ self.old }
@@ -91,6 +92,7 @@ impl NameList {
     }
 
     /// The name's number. Where it is as guessed, that takes a comparison and no look-up by hash.
+    #[inline(always)]
     fn find_again(&mut self, name: &[u8]) -> Option<u32>
         ensures number { result ≡ position (bytes_eq name.now) self.old }
         ensures same { self.new ≡ self.old }
@@ -106,6 +108,7 @@ impl NameList {
     }
 
     // Whether the name has this number, if that is one.
+    #[inline(always)]
     fn has_number(&self, name: &[u8], number: Option<u32>) -> bool
         ensures { IsTrue result → position (bytes_eq name.now) self.now ≡ number }
     {
@@ -116,6 +119,7 @@ impl NameList {
     }
 
     // Whether this is the name with this number.
+    #[inline(always)]
     fn is_name_of(&self, name: &[u8], number: u32) -> bool
         ensures { IsTrue result → position (bytes_eq name.now) self.now ≡ Some number }
     {
@@ -309,6 +313,7 @@ impl Names {
 
     /// The number of the thread with this name. One look-up by hash, but none where it is `likely` or
     /// as guessed.
+    #[inline(always)]
     pub(crate) fn find_thread_near(
         &mut self,
         name: &[u8],
@@ -324,6 +329,7 @@ impl Names {
 
     /// The number of the lock with this name. One look-up by hash, but none where it is `likely` or as
     /// guessed.
+    #[inline(always)]
     pub(crate) fn find_lock_near(&mut self, name: &[u8], likely: Option<LockId>) -> Option<LockId>
         ensures number { result ≡ position (bytes_eq name.now) self.old.locks }
         ensures same { self.new ≡ self.old }
@@ -334,6 +340,7 @@ impl Names {
     }
 
     /// The number of the location with this name. One look-up by hash, but none where it is as guessed.
+    #[inline(always)]
     pub(crate) fn find_loc_again(&mut self, name: &[u8]) -> Option<LocId>
         ensures number { result ≡ position (bytes_eq name.now) self.old.locs }
         ensures same { self.new ≡ self.old }
@@ -342,6 +349,7 @@ impl Names {
     }
 
     /// The number of the operand, or the next one for a new lock or thread.
+    #[inline(always)]
     pub(crate) fn operand_or_next(&self, operation: Operation, found: &Found) -> u32
         requires { threads_after self.now (shown_operation operation) found.now < 2 ^ 32 }
         ensures { result ≡ operand_number self.now (shown_operation operation) found.now }
@@ -359,6 +367,7 @@ impl Names {
     }
 
     /// The number of the acting thread, or the next one for a new thread.
+    #[inline(always)]
     pub(crate) fn thread_or_next(&self, found: &Found) -> ThreadId
         ensures { result ≡ unwrap_or found.now.thread (length self.now.threads) }
     {
@@ -369,6 +378,7 @@ impl Names {
     }
 
     /// The number of the location, or the next one for a new location.
+    #[inline(always)]
     pub(crate) fn loc_or_next(&self, found: &Found) -> LocId
         ensures { result ≡ unwrap_or found.now.loc (length self.now.locs) }
     {

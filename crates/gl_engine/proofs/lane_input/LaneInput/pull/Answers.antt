@@ -25,7 +25,7 @@ returns-in-Ok-clause-pull c =
       made = made_by c.accept.new.intake.stream;
     } in
     let edges : made_by c.accept.new.intake.stream ≡ made_by c.args.intake.now.stream ++ edges_due c.args.thread (events_of c.args.thread (c.args.intake.now.stream ++ note ∷ [])) note.place note.body =
-        ap made_by stream ∙ made_by_more c.args.intake.now.stream note in
+    ap made_by stream ∙ made_by_more c.args.intake.now.stream note in
     pull_ok c.args.intake.now.limits c.args.thread old c.accept.result new
     (record {
       running = c.in_default.is;
