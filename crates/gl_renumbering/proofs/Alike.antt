@@ -19,7 +19,7 @@ use Rattle.gl_std.proofs.Places.{itself, same_name, number_of as stands_at}
 use Rattle.gl_writing.specs.Written.{name_at}
 use Rattle.gl_writing.proofs.Renumbering.{Renumbered, same_refusal}
 use Rattle.gl_writing.proofs.Renumbering.Renumbered.{acquire, release, try_acquire, fork, join}
-use Rattle.gl_renumbering.specs.Tales.{Tale, told, event_by, tales, mentioned, names_by_mention, lists_by_mention, has_names, have_names, StayLawful, ListsByMentionTellTheSame}
+use Rattle.gl_renumbering.specs.Tales.{Tale, told, event_by, tales, mentioned, names_by_mention, lists_by_mention, has_names, have_names, StayLawful, ListsByMentionTellTheSame, SameTalesSameLists}
 use Rattle.gl_renumbering.specs.Tales.Tale.{Acquires, Releases, TryAcquires, Forks, Joins}
 use Rattle.gl_renumbering.specs.bodies.Tables.{with_more}
 use Rattle.gl_renumbering.proofs.Growing.{placed, position-append, mentioned_adds, mentioned-append}
@@ -248,3 +248,10 @@ stay_lawful names lists differ has limits lawful thread fs at = by (slice_get li
         let are = each_at (Each (AreIn new)) (tales names lists) thread (map (told names) es) (slice_get-map (map (told names)) lists thread ∙ ap (option_map (map (told names))) here) (tales_in names lists) in
         subst (IsLawful limits thread) (map_twice (told names) (event_by new) es ∙ same)
         (lawful_again names new differ limits thread es (one_passes (list_all (has_names names)) lists thread es here has) are (lawful thread es here))
+
+-- ---- lists that tell the same
+
+pub same_lists : SameTalesSameLists
+same_lists names others lists other_lists same =
+    let own : names_by_mention names lists ≡ names_by_mention others other_lists = λ i. mentioned (record { threads = same.0 i; locks = []; locs = [] }) (flat_map (λ list. list) (same.1 i)) in
+    (own, λ i. map (map (event_by (own i))) (same.1 i))
