@@ -2,7 +2,8 @@
  * alike, byte for byte.
  *
  *     library_order same       texts and JSON of both orders, against each other and against a text by hand
- *     library_order refused    what stands against such a report: no session, not settled, a number, a name that is missing
+ *     library_order refused    what stands against such a report: no session, not settled, a number, a name that is
+ * missing
  *
  * What isn't as it has to be is told on standard output; the last line is how many checks passed and failed. */
 #include "goodlock.h"
