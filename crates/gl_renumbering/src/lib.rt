@@ -16,6 +16,8 @@
 mod laws;
 mod numbers;
 mod renumbering;
+#[cfg(test)]
+mod tests;
 mod threads;
 mod unnamed;
 
