@@ -109,6 +109,7 @@ enum {
     GOODLOCK_BROKEN = 9,        /* a note that was pulled may not come next: not where handles were used as promised */
     GOODLOCK_INCONSISTENT = 10, /* forks and joins order a part of a thread before itself */
     GOODLOCK_NAMES = 11,        /* there are as many names as there may be: 4,294,967,295 */
+    GOODLOCK_UNNAMED = 12,      /* a lock or a place has no name */
     /* Refusals of an event, in the order in which they are tried: nothing was recorded. */
     GOODLOCK_EVENTS_FULL = 20,    /* the thread has as many events as there may be: 4,000,000,000 */
     GOODLOCK_NO_SUCH_THREAD = 21, /* a fork or join of a thread that the session doesn't have */
@@ -164,8 +165,9 @@ uint32_t goodlock_lane_open(goodlock_session *session, goodlock_lane *lane, uint
 /* The number of the lock with this name: a new one for a new name, 0, 1, .. in the order in which they were
    told, and the same one for a name that was told before. The name is copied. Locks in a program often have no
    names: make one of what they are of, as "account 17". A lock of a number that was given no name is recorded
-   like any other, and has an empty name in reports. Numbers order the edges of a report, so number locks in an
-   order that doesn't change between runs.
+   like any other, and has an empty name in reports. Numbers order the edges of a report: where two runs shall list
+   the same cycles in the same order, number locks in an order that doesn't change between runs, or ask for the report
+   by mention.
    OK, NAMES, MEMORY, MISUSE. A step for each byte of the name. */
 uint32_t goodlock_lock(goodlock_session *session, const uint8_t *name, size_t length, uint32_t *lock);
 
@@ -205,6 +207,15 @@ uint32_t goodlock_settle(goodlock_session *session, uint32_t *thread);
 /* The report of a settled session: of all that its threads recorded. Answers as goodlock_report_so_far does. */
 uint32_t goodlock_settled_report(goodlock_session *session, uint32_t mode, uint32_t length, uint32_t number,
                                  goodlock_report *report);
+
+/* The same, with locks and places numbered by first mention: thread 0's list first, event by event, then thread
+   1's, and so on; each new name gets the next number, of an event its lock's before its place's. So where the threads of
+   two runs did the same, by names, the two reports are the same, in whichever order the names were told. The report
+   keeps its names: it is printed by them. A step for each event and for each byte of a name more.
+   OK, RANGE, INCONSISTENT, MEMORY, MISUSE as above. UNNAMED: a number of a lock or of a place was recorded that was
+   given no name (that alone: it is told before memory is asked for); *report is as it was. */
+uint32_t goodlock_report_by_mention(goodlock_session *session, uint32_t mode, uint32_t length, uint32_t number,
+                                    goodlock_report *report);
 
 /* The text of a report of this session, as `goodlock predict` prints it, in `buffer` of `size` bytes: all of it
    where *needed <= size, else nothing. *needed is its length in bytes; there is no zero at the end. (With size
@@ -331,6 +342,8 @@ static inline const char *goodlock_says(uint32_t code)
         return "forks and joins order a part of a thread before itself";
     case GOODLOCK_NAMES:
         return "there are too many names";
+    case GOODLOCK_UNNAMED:
+        return "a lock or a place has no name";
     case GOODLOCK_EVENTS_FULL:
         return "the thread has too many events";
     case GOODLOCK_NO_SUCH_THREAD:

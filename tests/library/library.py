@@ -6,10 +6,11 @@
 The header is compiled alone as C and as C++. Each example of library/examples prints its known report. sessions.c records
 random sessions in running threads; each report's text and JSON has to be what PROGRAM says of the trace of what was
 recorded, byte for byte. Some hundred of them run under AddressSanitizer, ThreadSanitizer and Valgrind. misuse.c uses each
-call wrongly, refuses memory, forks and leaves in mid-course; wrapper.cc is of goodlock.hpp, names.c of goodlock_names.h, as C
-and as C++, by many threads and by all short schedules of two or three. Every run has a limit of time. The last line is
-`N passed, N failed`, with `, N skipped` behind it where tools are missing: each is named. PART: headers, examples, wrapper, names,
-sessions, sanitized, misuse.
+call wrongly, refuses memory, forks and leaves in mid-course; order.c tells the same by numbers in two orders, and their
+reports by mention have to be the same; wrapper.cc is of goodlock.hpp, names.c of goodlock_names.h, as C and as C++, by many
+threads and by all short schedules of two or three. Every run has a limit of time. The last line is `N passed, N failed`, with
+`, N skipped` behind it where tools are missing: each is named. PART: headers, examples, wrapper, names, sessions, sanitized,
+misuse, order.
 
 LIBRARY   the archive that is tested   (prebuilt/libgoodlock.a)
 CASES     how many random sessions     (3000, as --cases)
@@ -291,6 +292,16 @@ class Tests:
                 for word in ("misuse", "limits", "memory", "fork", "exit"):
                     self.counted(f"{word}, {name}", f"misuse_{name}", word)
 
+    # --- Numbers in another order
+
+    def order(self):
+        source = HERE / "order.c"
+        for name, words in SANITIZERS.items():
+            c = ["gcc", "-std=gnu11", "-O1", "-g", *STRICT, f"-I{HEADERS}", *words, source, ARCHIVE, "-lpthread"]
+            if self.build(f"order_{name}", *c):
+                for word in ("same", "refused"):
+                    self.counted(f"order, {word}, {name}", f"order_{name}", word)
+
     def counted(self, name, program, word, **more):
         """Runs a program that counts its own checks in its last line."""
         done = run(self.folder / program, word, seconds=450, **more)
@@ -310,7 +321,7 @@ def main():
     parser = argparse.ArgumentParser(description=__doc__, formatter_class=argparse.RawDescriptionHelpFormatter)
     parser.add_argument("--cases", type=int, default=int(os.environ.get("CASES", "3000")))
     parser.add_argument("--seed", type=int, default=1)
-    parts = ["headers", "examples", "wrapper", "names", "sessions", "sanitized", "misuse"]
+    parts = ["headers", "examples", "wrapper", "names", "sessions", "sanitized", "misuse", "order"]
     parser.add_argument("--only", choices=parts, action="append", default=[], help="may be said again")
     parser.add_argument("program")
     options = parser.parse_args()

@@ -250,6 +250,10 @@ static unsigned whole_session(void)
     check(size < sizeof buffer && buffer[0] == '{' && buffer[size - 1] == '\n', "the JSON is a line");
     TRY(goodlock_text(&session, &report, buffer, sizeof buffer, &size));
     check(size == strlen(EXPECTED) && memcmp(buffer, EXPECTED, size) == 0, "the settled text");
+    goodlock_report_free(&report);
+    TRY(goodlock_report_by_mention(&session, GOODLOCK_FULL_MODE, 4, 1000, &report));
+    TRY(goodlock_text(&session, &report, buffer, sizeof buffer, &size));
+    check(size == strlen(EXPECTED) && memcmp(buffer, EXPECTED, size) == 0, "the text by mention");
     TRY(goodlock_cycles(&report, &cycles, &more));
     check(cycles == 1 && !more, "there is one cycle");
     goodlock_report_free(&report);
@@ -298,6 +302,7 @@ static void on_nothing(void)
     expect("pull of no session's lane", goodlock_pull_lane(&session, 0, 1, &pulled), GOODLOCK_MISUSE);
     expect("report of no session", goodlock_report_so_far(&session, 2, 4, 10, &report), GOODLOCK_MISUSE);
     expect("settled report of no session", goodlock_settled_report(&session, 2, 4, 10, &report), GOODLOCK_MISUSE);
+    expect("report by mention of no session", goodlock_report_by_mention(&session, 2, 4, 10, &report), GOODLOCK_MISUSE);
     expect("hand_in to no session", goodlock_hand_in(&session, &lane), GOODLOCK_MISUSE);
     expect("settle of no session", goodlock_settle(&session, &at), GOODLOCK_MISUSE);
     expect("text of no session", goodlock_text(&session, &report, buffer, 10, &size), GOODLOCK_MISUSE);

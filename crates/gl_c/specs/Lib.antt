@@ -5,6 +5,7 @@ pub mod LaneOpening
 pub mod LaneOwns
 pub mod Lanes
 pub mod MadeOwns
+pub mod Mentioning
 pub mod Naming
 pub mod Numbered
 pub mod Opening

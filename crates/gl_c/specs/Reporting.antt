@@ -9,6 +9,7 @@ use Rattle.gl_filters.specs.Asked.{Asked, first_out_of_range}
 use Rattle.gl_filters.specs.declared.query.Mode.{Mode}
 use Rattle.gl_filters.specs.declared.query.Mode.TheVariants.{Basic, Guarded, Full}
 use Rattle.gl_intake.specs.Stream.{logs_of}
+use Rattle.gl_std.specs.Names.{NameLists}
 use Rattle.gl_c.specs.Calls.{IsOneOf}
 use Rattle.gl_c.specs.declared.codes.TheConstants.{OK, MEMORY, MISUSE, RANGE, INCONSISTENT, BASIC, GUARDED, FULL_MODE}
 use Rattle.gl_c.specs.declared.made_state.MadeState.{MadeState}
@@ -45,25 +46,25 @@ abbrev pub report_code : ReportFault → ℕ
 report_code (fault.Inconsistent at ring) = INCONSISTENT
 report_code fault.Memory = MEMORY
 
--- the handle is of the report
-abbrev pub IsOf : Report → Option MadeState → Type 0
-IsOf report (Some made) = made.report ≡ report
-IsOf report None = ⊥
+-- the handle is of the report, with these names of its own or with none
+abbrev pub IsOf : Report → Option NameLists → Option MadeState → Type 0
+IsOf report names (Some made) = (made.report ≡ report) × (made.names ≡ names)
+IsOf report names None = ⊥
 
 -- the report is put into the handle, or memory is refused; and where there is none, it is said why. The handle is as it was then
-pub record IsKeeping (was : Option MadeState) (report : Report) (answer : ℕ) (now : Option MadeState) : Type 0 where
+pub record IsKeeping (was : Option MadeState) (report : Report) (names : Option NameLists) (answer : ℕ) (now : Option MadeState) : Type 0 where
   pub answers : IsOneOf answer (OK ∷ MEMORY ∷ [])
-  pub done : answer ≡ OK → IsOf report now
+  pub done : answer ≡ OK → IsOf report names now
   pub same : (answer ≡ OK → ⊥) → now ≡ was
 
-abbrev pub IsKept : Option MadeState → Result Report ReportFault → ℕ → Option MadeState → Type 0
-IsKept was (Ok report) answer now = IsKeeping was report answer now
-IsKept was (Err fault) answer now = (answer ≡ report_code fault) × (now ≡ was)
+abbrev pub IsKept : Option MadeState → Result Report ReportFault → Option NameLists → ℕ → Option MadeState → Type 0
+IsKept was (Ok report) names answer now = IsKeeping was report names answer now
+IsKept was (Err fault) names answer now = (answer ≡ report_code fault) × (now ≡ was)
 
--- the handle is of the Goodlock report of these lists
-abbrev pub IsReportOf : Asked → List (List Event) → Option MadeState → Type 0
-IsReportOf asked lists (Some made) = IsGoodlockReport asked lists made.report
-IsReportOf asked lists None = ⊥
+-- the handle is of the Goodlock report of these lists, with these names of its own or with none
+abbrev pub IsReportOf : Asked → List (List Event) → Option NameLists → Option MadeState → Type 0
+IsReportOf asked lists names (Some made) = IsGoodlockReport asked lists made.report × (made.names ≡ names)
+IsReportOf asked lists names None = ⊥
 
 -- the lists have no report, for this reason
 pub record HaveNoReport (lists : List (List Event)) (answer : ℕ) : Type 0 where
@@ -72,16 +73,16 @@ pub record HaveNoReport (lists : List (List Event)) (answer : ℕ) : Type 0 wher
   pub tells : answer ≡ report_code fault
 
 -- the Goodlock report of the lists is made into the handle; or the handle is as it was, and it is said why
-pub record IsMaking (asked : Asked) (lists : List (List Event)) (was : Option MadeState) (answer : ℕ) (now : Option MadeState) : Type 0 where
-  pub done : answer ≡ OK → IsReportOf asked lists now
+pub record IsMaking (asked : Asked) (lists : List (List Event)) (names : Option NameLists) (was : Option MadeState) (answer : ℕ) (now : Option MadeState) : Type 0 where
+  pub done : answer ≡ OK → IsReportOf asked lists names now
   pub same : (answer ≡ OK → ⊥) → now ≡ was
   pub fault : (answer ≡ OK → ⊥) → HaveNoReport lists answer
 
--- a report is made where there are such a query and such lists
+-- a report is made where there are such a query and such lists. It has no names of its own
 abbrev pub IsReporting : Option Asked → Option (List (List Event)) → Option MadeState → ℕ → Option MadeState → Type 0
 IsReporting None lists was answer now = (answer ≡ RANGE) × (now ≡ was)
 IsReporting (Some asked) None was answer now = (answer ≡ MISUSE) × (now ≡ was)
-IsReporting (Some asked) (Some lists) was answer now = IsMaking asked lists was answer now
+IsReporting (Some asked) (Some lists) was answer now = IsMaking asked lists None was answer now
 
 -- a session's report is made into a handle that was of nothing
 abbrev pub IsReportCall : (Stage → Option (List (List Event))) → Option SessionState → Option Asked → Option MadeState → ℕ → Option MadeState → Type 0

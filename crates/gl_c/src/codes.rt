@@ -24,6 +24,8 @@ pub const BROKEN: u32 = 9;
 pub const INCONSISTENT: u32 = 10;
 /// There are as many names as there may be.
 pub const NAMES: u32 = 11;
+/// A lock or a place has no name.
+pub const UNNAMED: u32 = 12;
 
 /// The thread has as many events as there may be.
 pub const EVENTS_FULL: u32 = 20;

@@ -4,6 +4,7 @@ ghost use Rattle.serde_json.specs.Written.{compact_text};
 ghost use Rattle.gl_report.specs.Text.{report_text};
 ghost use Rattle.gl_report.specs.Tree.{report_tree};
 ghost use Rattle.gl_c.specs.Calls.{IsCall, IsGiven, IsGiving, IsGivingOf};
+ghost use Rattle.gl_c.specs.Mentioning.{names_for};
 ghost use Rattle.gl_c.specs.declared.codes.TheConstants.{OK, MISUSE};
 
 use crate::codes::{MEMORY, MISUSE, OK};
@@ -12,6 +13,7 @@ use crate::made_state::MadeState;
 use crate::session::Session;
 use crate::session_state::SessionState;
 use gl_report::{json_text, text};
+use gl_std::Names;
 use std::alloc::Global;
 
 // Writes the text into the buffer, if all of it fits, and tells its length.
@@ -25,6 +27,16 @@ fn give(text: &[u8], buffer: &mut [u8], needed: &mut usize)
     }
 }
 
+// The names that the report is printed by: its own, or else the session's.
+fn names_for<'a>(session: &'a SessionState, made: &'a MadeState) -> &'a Names
+    ensures { result.now ≡ names_for session.now made.now }
+{
+    match &made.names {
+        Some(names) => names,
+        None => &session.names,
+    }
+}
+
 // Writes the report's text.
 fn give_text(
     alloc: Global,
@@ -33,11 +45,11 @@ fn give_text(
     buffer: &mut [u8],
     needed: &mut usize,
 ) -> u32
-    ensures { IsGiving (report_text session.now.names made.now.report.edges
+    ensures { IsGiving (report_text (names_for session.now made.now) made.now.report.edges
         made.now.report.found.cycles made.now.report.found.more)
         buffer.old needed.old result buffer.new needed.new }
 {
-    let Ok(text) = text(alloc, &session.names, &made.report) else {
+    let Ok(text) = text(alloc, names_for(session, made), &made.report) else {
         return MEMORY;
     };
     give(&text, buffer, needed);
@@ -55,7 +67,7 @@ pub extern "C" fn goodlock_text(
 ) -> u32
     ensures session { session.new.value ≡ session.old.value }
     ensures report { report.new.value ≡ report.old.value }
-    ensures given { IsGivingOf (λ state made. report_text state.names made.report.edges
+    ensures given { IsGivingOf (λ state made. report_text (names_for state made) made.report.edges
         made.report.found.cycles made.report.found.more)
         session.old.value report.old.value buffer.old needed.old result buffer.new needed.new }
 {
@@ -80,10 +92,11 @@ fn give_json(
     buffer: &mut [u8],
     needed: &mut usize,
 ) -> u32
-    ensures { IsGiving (compact_text (report_tree session.now.names made.now.report) ++ codes "\n")
+    ensures { IsGiving
+        (compact_text (report_tree (names_for session.now made.now) made.now.report) ++ codes "\n")
         buffer.old needed.old result buffer.new needed.new }
 {
-    let Ok(text) = json_text(alloc, &session.names, &made.report) else {
+    let Ok(text) = json_text(alloc, names_for(session, made), &made.report) else {
         return MEMORY;
     };
     give(&text, buffer, needed);
@@ -102,7 +115,7 @@ pub extern "C" fn goodlock_json(
     ensures session { session.new.value ≡ session.old.value }
     ensures report { report.new.value ≡ report.old.value }
     ensures given { IsGivingOf
-        (λ state made. compact_text (report_tree state.names made.report) ++ codes "\n")
+        (λ state made. compact_text (report_tree (names_for state made) made.report) ++ codes "\n")
         session.old.value report.old.value buffer.old needed.old result buffer.new needed.new }
 {
     let Some(state) = session.take(alloc) else {

@@ -9,6 +9,7 @@ use crate::session::Session;
 use crate::session_state::Stage;
 use gl_cycles::{Report, ReportFault};
 use gl_filters::{Mode, Query};
+use gl_std::Names;
 use std::alloc::Global;
 
 // The mode with this number.
@@ -23,8 +24,8 @@ fn mode_of(mode: u32) -> Option<Mode>
     }
 }
 
-// The query for these numbers, if each of them is in its range.
-fn query_of(mode: u32, length: u32, number: u32) -> Option<Query>
+/// The query for these numbers, if each of them is in its range.
+pub(crate) fn query_of(mode: u32, length: u32, number: u32) -> Option<Query>
     ensures { result ≡ query_of mode length number }
 {
     let mode = mode_of(mode)?;
@@ -44,12 +45,17 @@ fn report_code(fault: ReportFault) -> u32
     }
 }
 
-// Puts the report into the handle.
-fn keep_report(alloc: Global, made: &mut Made, report: Result<Report, ReportFault>) -> u32
-    ensures { IsKept made.old.value report result made.new.value }
+/// Puts the report into the handle, with the names that are its own.
+pub(crate) fn keep_report(
+    alloc: Global,
+    made: &mut Made,
+    report: Result<Report, ReportFault>,
+    names: Option<Names>,
+) -> u32
+    ensures { IsKept made.old.value report names result made.new.value }
 {
     match report {
-        Ok(report) => match Box::new(alloc, MadeState { report }) {
+        Ok(report) => match Box::new(alloc, MadeState { report, names }) {
             Ok(state) => {
                 made.put(state);
                 OK
@@ -67,7 +73,7 @@ fn report_so_far(alloc: Global, stage: &Stage, query: &Query, made: &mut Made) -
 {
     match stage {
         Stage::Running(running) => {
-            keep_report(alloc, made, running.collector.report_so_far(query))
+            keep_report(alloc, made, running.collector.report_so_far(query), None)
         }
         Stage::Settled(_) | Stage::Gone => MISUSE,
     }
@@ -108,7 +114,9 @@ fn settled_report(alloc: Global, stage: &Stage, query: &Query, made: &mut Made) 
         made.old.value result made.new.value }
 {
     match stage {
-        Stage::Settled(settled) => keep_report(alloc, made, settled.report_alone(query)),
+        Stage::Settled(settled) => {
+            keep_report(alloc, made, settled.report_alone(query), None)
+        }
         Stage::Running(_) | Stage::Gone => MISUSE,
     }
 }

@@ -1,0 +1,112 @@
+//! The report of a session whose locks and places are numbered by first mention.
+ghost use Rattle.std.specs.Prelude.{◌≡◌, ◌≤◌, ℕ, List, Some, length, map, slice_get, IfOk, IfErr};
+ghost use Rattle.gl_event.specs.Bounds.{greatest};
+ghost use Rattle.gl_event.specs.Lawful.{IsLawful};
+ghost use Rattle.gl_event.specs.declared.events.Event.{Event};
+ghost use Rattle.gl_cycles.specs.Reports.{IsGoodlockReport, IsReportFault};
+ghost use Rattle.gl_renumbering.specs.Tales.{have_names, AreLawful};
+ghost use Rattle.gl_c.specs.Mentioning.{IsMakingByMention, IsReportByMention, IsReportingByMention};
+ghost use Rattle.gl_c.specs.Reporting.{query_of, settled_lists};
+
+use crate::codes::{MEMORY, MISUSE, RANGE, UNNAMED};
+use crate::made::Made;
+use crate::reporting::{keep_report, query_of};
+use crate::session::Session;
+use crate::session_state::Stage;
+use gl_cycles::{Report, ReportFault, report_over};
+use gl_edges::edges_of;
+use gl_event::Event;
+use gl_filters::Query;
+use gl_renumbering::{ByMention, RenumberingFault, by_mention};
+use gl_std::Names;
+use std::alloc::Global;
+
+// The Goodlock report of these lists.
+fn report_of(
+    alloc: Global,
+    lists: &[Vec<Event>],
+    query: &Query,
+) -> Result<Report, ReportFault>
+    requires few { length lists.now ≤ 1024 }
+    requires lawful { AreLawful greatest (map (λ list. list.items) lists.now) }
+    ensures report { IfOk result
+        (λ report. IsGoodlockReport query.now (map (λ list. list.items) lists.now) report) }
+    ensures fault { IfErr result
+        (λ fault. IsReportFault (map (λ list. list.items) lists.now) fault) }
+{
+    let edges = edges_of(alloc, lists)?;
+    report_over(alloc, edges, lists, query)
+}
+
+// Makes the report of the lists by mention, if all their locks and places have names.
+fn make_by_mention(
+    alloc: Global,
+    names: &Names,
+    lists: &[Vec<Event>],
+    query: &Query,
+    made: &mut Made,
+) -> u32
+    requires few { length lists.now ≤ 1024 }
+    requires lawful { AreLawful greatest (map (λ list. list.items) lists.now) }
+    ensures { IsMakingByMention (have_names names.now (map (λ list. list.items) lists.now))
+        query.now names.now (map (λ list. list.items) lists.now)
+        made.old.value result made.new.value }
+{
+    match by_mention(alloc, names, lists) {
+        Ok(told) => {
+            let ByMention { lists, names } = told;
+            let report = report_of(alloc, &lists, query);
+            keep_report(alloc, made, report, Some(names))
+        }
+        Err(RenumberingFault::Unnamed) => UNNAMED,
+        Err(RenumberingFault::Memory) => MEMORY,
+    }
+}
+
+// Makes it, where the session was settled.
+fn report_settled(
+    alloc: Global,
+    names: &Names,
+    stage: &Stage,
+    query: &Query,
+    made: &mut Made,
+) -> u32
+    ensures { IsReportingByMention (Some query.now) names.now (settled_lists stage.now)
+        made.old.value result made.new.value }
+{
+    match stage {
+        Stage::Settled(settled) => make_by_mention(alloc, names, settled.lists(), query, made),
+        Stage::Running(_) | Stage::Gone => MISUSE,
+    }
+}
+
+/// Makes the report of a session that was settled, with locks and places numbered by first mention: thread 0's
+/// list first, event by event, then thread 1's, and so on. It is printed by the names in this order, whatever
+/// order they were told in.
+#[unsafe(no_mangle)]
+pub extern "C" fn goodlock_report_by_mention(
+    alloc: Global,
+    session: &mut Session,
+    mode: u32,
+    length: u32,
+    number: u32,
+    report: &mut Made,
+) -> u32
+    ensures session { session.new.value ≡ session.old.value }
+    ensures report { IsReportByMention session.old.value (query_of mode length number)
+        report.old.value result report.new.value }
+{
+    if let Some(made) = report.take(alloc) {
+        report.put(made);
+        return MISUSE;
+    }
+    let Some(state) = session.take(alloc) else {
+        return MISUSE;
+    };
+    let answer = match query_of(mode, length, number) {
+        Some(query) => report_settled(alloc, &state.names, &state.stage, &query, report),
+        None => RANGE,
+    };
+    session.put(state);
+    answer
+}

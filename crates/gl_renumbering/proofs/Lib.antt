@@ -1,0 +1,4 @@
+pub mod Alike
+pub mod Growing
+pub mod Tabled
+pub mod Telling

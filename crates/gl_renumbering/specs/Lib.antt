@@ -1,0 +1,2 @@
+pub mod Tales
+pub mod bodies

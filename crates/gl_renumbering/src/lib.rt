@@ -1,0 +1,25 @@
+//! Numbers locks and places by first mention, so that what threads did decides the numbers.
+//!
+//! ```text
+//! let told = by_mention(alloc, &names, lists)?;
+//! let edges = edges_of(alloc, &told.lists)?;
+//! let report = report_over(alloc, edges, &told.lists, &query)?;
+//! ```
+//!
+//! A program that records itself numbers its locks and places in the order in which it comes to them, which may
+//! be another one in the next run. Numbers order the edges of a report, and so its cycles.
+//! [`by_mention`] gives the same lists with numbers in the order in which the lists mention the names: thread 0's
+//! list first, event by event, then thread 1's, and so on. `specs/Tales` says what lists tell, whatever their
+//! numbers are: lists that tell the same are the same by mention ([`same_tales_same_lists`]).
+#![tactic(auto)]
+
+mod laws;
+mod numbers;
+mod renumbering;
+#[cfg(test)]
+mod tests;
+mod threads;
+mod unnamed;
+
+pub use laws::{lists_by_mention_tell_the_same, same_tales_same_lists};
+pub use renumbering::{ByMention, RenumberingFault, by_mention};
