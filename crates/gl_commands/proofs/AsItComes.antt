@@ -8,7 +8,7 @@ use Rattle.gl_segments.specs.Segments.{IsLeastInRing}
 use Rattle.gl_std.specs.Lines.{ended_lines}
 use Rattle.gl_std.specs.Names.{NameLists}
 use Rattle.gl_std.specs.Pieces.{IsFaulty}
-use Rattle.gl_std.specs.Streaming.{CanBeNamed, HasFault, HasTold, HasToldAt, IsDone, Stage, Stream}
+use Rattle.gl_std.specs.Streaming.{ArePartsOf, CanBeNamed, HasFault, HasTold, HasToldAt, IsDone, Stage, Stream}
 use Rattle.gl_std.specs.Streaming.Stage.{Done, Faulty}
 use Rattle.gl_std.specs.Trace.{trace_of}
 use Rattle.gl_std.specs.declared.faults.LinesFault.{LinesFault}
@@ -71,6 +71,9 @@ ends_unconfirmed limits A turns input items text told tells (inr done) = λ outp
 -- the names that were taken of the items
 abbrev pub AreNames : Stream → NameLists → Type 0
 AreNames items names = (limits : Bounds) (turns : ℕ) (input : SourceUse) (text : List ℕ) (told : Trace) → CanBeNamed items → HasTold limits turns input items text told → names ≡ told.names
+
+pub names_of_parts : (items : Stream) (names : NameLists) (skipped stray : ℕ) → ArePartsOf items names skipped stray → AreNames items names
+names_of_parts items names skipped stray are limits turns input text told named tells = (are named limits turns input text told tells).names_are
 
 -- the report is printed
 pub printed_whole : (listing : Listing) (asked : Asked) (form : Form) (limits : Bounds) (turns : ℕ) (input : SourceUse) (items : Stream) (report : Report) (names : NameLists) (answer : Result Printed Ended)

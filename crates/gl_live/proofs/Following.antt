@@ -1,14 +1,15 @@
 -- What recorders have recorded of the items of a text.
-use Rattle.std.proofs.Common.{◌≡◌, ◌≢◌, ◌∙◌, ◌⊎◌, inl, inr, ℕ, zero, suc, ◌+◌, ◌-◌, ◌<◌, List, [], ◌∷◌, ◌++◌, length, get_or, Some, None, Result, Ok, Err, refl, sym, ap, subst, arith}
+use Rattle.std.proofs.Common.{◌≡◌, ◌≢◌, ◌∙◌, ◌⊎◌, inl, inr, Bool, ℕ, zero, suc, ◌+◌, ◌-◌, ◌<◌, List, [], ◌∷◌, ◌++◌, length, get_or, Some, None, Result, Ok, Err, refl, sym, ap, subst, arith}
 use Rattle.std.specs.Prelude.{slice_get, slice_index_or, slice_set}
 use Rattle.std.specs.List.{All}
 use Rattle.std.proofs.lemmas.Option.{slice_get_within}
 use Rattle.gl_event.specs.Bounds.{Bounds}
 use Rattle.gl_event.specs.declared.events.Event.{Event}
-use Rattle.gl_io.specs.Uses.{SourceUse}
+use Rattle.gl_io.specs.Positions.{Position}
+use Rattle.gl_io.specs.Uses.{SourceUse, used}
 use Rattle.gl_std.specs.Listed.{listed}
 use Rattle.gl_std.specs.Names.{NameLists}
-use Rattle.gl_std.specs.Streaming.{event_in, names_of, with_item, GoesOn, HasFault, Stream}
+use Rattle.gl_std.specs.Streaming.{event_in, names_of, with_item, GoesOn, HasFault, IsNextAnswer, IsOfNamed, Stream}
 use Rattle.gl_std.specs.declared.faults.LinesFault.{LinesFault}
 use Rattle.gl_std.specs.declared.stream.Item.{Item}
 use Rattle.gl_std.specs.declared.stream.Item.TheVariants.{Event as Told, Skipped, Stray, End}
@@ -17,7 +18,7 @@ use Rattle.gl_engine.specs.Recording.{Recording, Closed, next_note, recorded, re
 use Rattle.gl_world.proofs.Lists.{same_some, get_in, get_set_same, get_set_other}
 use Rattle.gl_live.specs.bodies.Padded.{padded}
 use Rattle.gl_live.specs.bodies.Rosters.{Identity, Roster, left_by, identity_of, IsReceiptOf, IsOnRoster}
-use Rattle.gl_live.specs.bodies.Streams.{AreRecorded, Follows, HasTaken, IsOfThreads, Stops}
+use Rattle.gl_live.specs.bodies.Streams.{AreRecorded, FollowOn, Follows, HasTaken, IsOfThreads, Stops, StopsAfter}
 use Rattle.gl_live.proofs.Rostered.{recorded_more}
 
 same_or_not : (i j : ℕ) → (i ≡ j) ⊎ (i ≢ j)
@@ -150,8 +151,8 @@ is_told Stray thread event is = cc
 is_told End thread event is = cc
 
 -- an event that was answered is of a thread that has a name
-pub of_threads : (item : Item) (threads : ℕ) → ((thread : ℕ) (event : Event) → (let x : Result Item LinesFault = Ok item in x) ≡ Ok (Told thread event) → thread < threads) → IsOfThreads threads item
-of_threads item threads known thread event is = known thread event (ap (λ x. Ok x) (is_told item thread event is))
+pub of_threads : (item : Item) (names : NameLists) → IsOfNamed names (Ok item) → IsOfThreads (length names.threads) item
+of_threads item names known thread event is = subst (λ x. IsOfNamed names (Ok x)) (is_told item thread event is) known
 
 module _ (s : Roster) (limits : Bounds) (turns : ℕ) (input : SourceUse) (items : Stream) (text : List ℕ) (told : Trace) where
   -- what the items told with one more is recorded
@@ -161,3 +162,18 @@ module _ (s : Roster) (limits : Bounds) (turns : ℕ) (input : SourceUse) (items
   -- nothing more is recorded
   pub stops_at : (fault : LinesFault) → HasFault items fault → GoesOn limits turns input items text told (Err fault) → Stops limits turns input items fault
   stops_at fault has on = record { text = text ++ on.piece; told = told; tells = on.tells; why = has }
+
+module _ (now later : Position) (failed failed2 : Bool) (items more : Stream) (recorders recorders2 : List Recording) where
+  -- recorders that take the next item follow on
+  pub follows_next : (item : Item) → IsNextAnswer now failed items later failed2 more (Ok item)
+      → ((s : Roster) (names : NameLists) (told : Trace) → IsOfThreads (length names.threads) item → AreRecorded s told.lists recorders → AreRecorded s (with_item item names told).lists recorders2)
+      → FollowOn now failed items recorders later failed2 more recorders2
+  follows_next item next recorded = λ s limits turns start follows.
+      follows_more s limits turns (used start later failed2) more follows.text follows.told item recorders2
+      (next.tells limits turns start follows.text follows.told follows.tells)
+      (recorded s (names_of more) follows.told (of_threads item (names_of more) next.known) follows.recorded)
+
+  -- a fault stops them
+  pub stops_next : (fault : LinesFault) → IsNextAnswer now failed items later failed2 more (Err fault) → StopsAfter now failed items recorders later failed2 more fault
+  stops_next fault next = λ s limits turns start follows.
+      stops_at s limits turns (used start later failed2) more follows.text follows.told fault next.leaves (next.tells limits turns start follows.text follows.told follows.tells)

@@ -14,12 +14,12 @@ use Rattle.gl_io.specs.Positions.{Position}
 use Rattle.gl_io.specs.Uses.{SourceUse, used}
 use Rattle.gl_std.specs.Lines.{ended_lines}
 use Rattle.gl_std.specs.Listed.{listed}
-use Rattle.gl_std.specs.Streaming.{names_of, with_item, CanBeAsked, CanReadOn, GoesOn, HasFault, HasNoFault, HasTold, HasToldAt, IsDone, Stage, Stream}
+use Rattle.gl_std.specs.Streaming.{names_of, with_item, CanBeAsked, CanReadOn, GoesOn, HasNoFault, HasTold, HasToldAt, IsAnswerAt, IsNextAnswer, IsOfNamed, Leaves, Stage, Stream}
 use Rattle.gl_std.specs.Streaming.Stage.{Reading, Done, Faulty}
 use Rattle.gl_std.specs.Trace.{IsTraceOver}
 use Rattle.gl_std.specs.declared.faults.LinesFault.{LinesFault}
 use Rattle.gl_std.specs.declared.stream.Item.{Item}
-use Rattle.gl_std.specs.declared.stream.Item.TheVariants.{Event as Told, End}
+use Rattle.gl_std.specs.declared.stream.Item.TheVariants.{Event as Told}
 use Rattle.gl_std.specs.declared.trace.Trace.{Trace}
 use Rattle.gl_std.proofs.WithinLimits.{trace_of_over}
 use Rattle.gl_engine.specs.Recording.{Recording, recorded}
@@ -65,14 +65,14 @@ told_over limits turns input items text told none tells = by items.stage refl te
 
 -- the limits are in range while items come
 in_range : (limits : Bounds) (turns : ℕ) (input : SourceUse) (items : Stream) (text : List ℕ) (told : Trace) (result : Result Item LinesFault) (thread : ℕ) (event : Event) → result ≡ Ok (Told thread event)
-    → (IsDone items → result ≡ Ok End) → ((fault : LinesFault) → HasFault items fault → result ≡ Err fault)
+    → IsAnswerAt items.stage result
     → CanBeAsked items input.failed → HasTold limits turns input items text told → AreWithinRange limits
-in_range limits turns input items text told result thread event is ends fails usable tells = by items.stage refl usable tells
+in_range limits turns input items text told result thread event is again usable tells = by items.stage again usable tells
   where
-    by : (stage : Stage) → items.stage ≡ stage → CanReadOn stage input.failed items.reader → HasToldAt stage limits turns input items.reader text told → AreWithinRange limits
+    by : (stage : Stage) → IsAnswerAt stage result → CanReadOn stage input.failed items.reader → HasToldAt stage limits turns input items.reader text told → AreWithinRange limits
     by Reading at fit on = subst AreWithinRange on.same fit.1.sound.in_range
-    by Done at fit on = let wrong = sym is ∙ ends at in cc
-    by (Faulty fault) at fit on = let wrong = sym is ∙ fails fault at in cc
+    by Done at fit on = let wrong = sym is ∙ at in cc
+    by (Faulty fault) at fit on = let wrong = sym is ∙ at in cc
 
 -- ---- a recorder
 
@@ -98,23 +98,22 @@ takes_next limits s threads lists recorders thread event known within few same e
     }
 
 pub can_be_taken : (now later : Position) (failed failed2 : Bool) (items more : Stream) (recorders : List Recording) (item : Item) (result : Result Item LinesFault) → result ≡ Ok item
-    → (recording : IsRecording now failed items recorders) → CanBeAsked items failed → HasNoFault more
-    → (IsDone items → result ≡ Ok End) → ((fault : LinesFault) → HasFault items fault → result ≡ Err fault)
-    → ((thread : ℕ) (event : Event) → result ≡ Ok (Told thread event) → thread < length (names_of more).threads)
-    → GoesOn recording.limits recording.turns (used recording.start later failed2) more recording.follows.text recording.follows.told result
-    → CanBeTaken recorders item
-can_be_taken now later failed failed2 items more recorders item result answer recording usable none ends fails known on = λ thread event its.
+    → (recording : IsRecording now failed items recorders) → CanBeAsked items failed → IsNextAnswer now failed items later failed2 more result → CanBeTaken recorders item
+can_be_taken now later failed failed2 items more recorders item result answer recording usable next = λ thread event its.
     let is : result ≡ Ok (Told thread event) = answer ∙ ap (λ x. Ok x) (is_told item thread event its) in
     let limits = recording.limits in
     let told = recording.follows.told in
     let names = names_of more in
+    let known = subst (IsOfNamed names) is next.known in
+    let none = subst (λ r. Leaves r more) is next.leaves in
+    let on = next.tells limits recording.turns recording.start recording.follows.text told recording.follows.tells in
     let tells = subst (λ r. GoesOn limits recording.turns (used recording.start later failed2) more recording.follows.text told r) is on in
     let over = told_over limits recording.turns (used recording.start later failed2) more (recording.follows.text ++ tells.piece) (with_item (Told thread event) names told) none tells.tells in
-    let range = in_range limits recording.turns (used recording.start now failed) items recording.follows.text told result thread event is ends fails usable recording.follows.tells in
+    let range = in_range limits recording.turns (used recording.start now failed) items recording.follows.text told result thread event is next.again usable recording.follows.tells in
     let s = recording.s.limits in
     let are = recording.follows.recorded in
-    takes_next limits s (length names.threads) told.lists recorders thread event (known thread event is)
-    (omega (arith, known thread event is, over.threads_fit, recording.as_many))
+    takes_next limits s (length names.threads) told.lists recorders thread event known
+    (omega (arith, known, over.threads_fit, recording.as_many))
     (omega (arith, range.events_fit, recording.events_are))
     recording.threads_are
     (λ r here. ((are.identities thread r here).limits, are.threads thread r here, are.events thread r here))
