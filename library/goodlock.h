@@ -58,8 +58,8 @@
  *
  * goodlock_record   a look through the at most 64 locks that the thread holds, and one push into its ring: tens of
  *                   nanoseconds. It never waits, takes no memory and makes no system call.
- * goodlock_pull     the same look: tens of nanoseconds for an event. It takes memory for what it keeps, which is all that
- *                   it pulled: 46 bytes for an event.
+ * goodlock_pull     the same look: tens of nanoseconds for an event. It takes memory for what it keeps, which is all
+ * that it pulled: 46 bytes for an event.
  *
  * So a session grows as long as it runs. A lane takes 4 KB, and 28 bytes for each note of its ring.
  * bench/library.sh measures it. */
@@ -209,8 +209,8 @@ uint32_t goodlock_settled_report(goodlock_session *session, uint32_t mode, uint3
                                  goodlock_report *report);
 
 /* The same, with locks and places numbered by first mention: thread 0's list first, event by event, then thread
-   1's, and so on; each new name gets the next number, of an event its lock's before its place's. So where the threads of
-   two runs did the same, by names, the two reports are the same, in whichever order the names were told. The report
+   1's, and so on; each new name gets the next number, of an event its lock's before its place's. So where the threads
+   of two runs did the same, by names, the two reports are the same, in whichever order the names were told. The report
    keeps its names: it is printed by them. A step for each event and for each byte of a name more.
    OK, RANGE, INCONSISTENT, MEMORY, MISUSE as above. UNNAMED: a number of a lock or of a place was recorded that was
    given no name (that alone: it is told before memory is asked for); *report is as it was. */
