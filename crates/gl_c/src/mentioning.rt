@@ -22,11 +22,7 @@ use gl_std::Names;
 use std::alloc::Global;
 
 // The Goodlock report of these lists.
-fn report_of(
-    alloc: Global,
-    lists: &[Vec<Event>],
-    query: &Query,
-) -> Result<Report, ReportFault>
+fn report_of(alloc: Global, lists: &[Vec<Event>], query: &Query) -> Result<Report, ReportFault>
     requires few { length lists.now ≤ 1024 }
     requires lawful { AreLawful greatest (map (λ list. list.items) lists.now) }
     ensures report { IfOk result

@@ -114,9 +114,7 @@ fn settled_report(alloc: Global, stage: &Stage, query: &Query, made: &mut Made) 
         made.old.value result made.new.value }
 {
     match stage {
-        Stage::Settled(settled) => {
-            keep_report(alloc, made, settled.report_alone(query), None)
-        }
+        Stage::Settled(settled) => keep_report(alloc, made, settled.report_alone(query), None),
         Stage::Running(_) | Stage::Gone => MISUSE,
     }
 }
