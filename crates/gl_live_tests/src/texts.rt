@@ -1,6 +1,7 @@
 //! Texts that a session is to record.
-ghost use Rattle.std.specs.Prelude.{◌≤◌, ℕ, List, Option, false, IfOk};
+ghost use Rattle.std.specs.Prelude.{◌≤◌, false, IfOk};
 ghost use Rattle.gl_event.specs.declared.limits.TheConstants.{MAX_THREADS};
+ghost use Rattle.gl_io.specs.Positions.{Position};
 ghost use Rattle.gl_std.specs.Streaming.{CanBeAsked};
 ghost use Rattle.gl_live.specs.Streamed.{IsUnread};
 
@@ -18,8 +19,7 @@ pub fn unread_items(alloc: Global, threads: u32) -> Result<Items, Fail>
     requires some_thread { 1 ≤ threads }
     requires threads_fit { threads ≤ MAX_THREADS }
     ensures usable { IfOk result (λ i. CanBeAsked i false) }
-    ensures unread { IfOk result
-        (λ i. (now : Option (List ℕ)) → IsUnread threads now false i) }
+    ensures unread { IfOk result (λ i. (now : Position) → IsUnread threads now false i) }
 {
     let limits = Limits::new(threads, 65_536, 4_000_000_000, 4_000_000_000)?;
     Ok(Items::new(alloc, &limits, 1_000, Seed::fixed())?)
