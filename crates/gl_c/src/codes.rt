@@ -1,4 +1,5 @@
 //! What a call answers, and the numbers that C gives.
+ghost use Rattle.std.specs.Prelude.{◌≡◌};
 
 /// The call was done.
 pub const OK: u32 = 0;
@@ -65,3 +66,22 @@ pub const BASIC: u32 = 0;
 pub const GUARDED: u32 = 1;
 /// The mode that asks for no order by forks and joins, too.
 pub const FULL_MODE: u32 = 2;
+
+/// The numbers that a program in C is compiled with, which `library/goodlock.h` says once more. It does nothing: its
+/// contract is the table.
+pub fn codes_in_numbers()
+    ensures done { OK ≡ 0 }
+    ensures no_memory { MEMORY ≡ 1 }
+    ensures lanes { (FULL ≡ 2) × (MISUSE ≡ 3) × (RANGE ≡ 4) × (NO_LANE ≡ 5) }
+    ensures settling { (UNCONFIRMED ≡ 6) × (STRANGE ≡ 7) × (MISSING ≡ 8) × (BROKEN ≡ 9) }
+    ensures reports { (INCONSISTENT ≡ 10) × (NAMES ≡ 11) × (UNNAMED ≡ 12) }
+    ensures full { EVENTS_FULL ≡ 20 }
+    ensures partners { (NO_SUCH_THREAD ≡ 21) × (ON_ITSELF ≡ 22) }
+    ensures not_held { NOT_HELD ≡ 23 }
+    ensures acquired { (HELD_FULL ≡ 24) × (DEPTH_FULL ≡ 25) × (UPGRADE ≡ 26) }
+    ensures acquires { (ACQUIRE ≡ 0) × (ACQUIRE_SHARED ≡ 1) }
+    ensures releases { (RELEASE ≡ 2) × (RELEASE_SHARED ≡ 3) }
+    ensures tries { (TRY_ACQUIRE ≡ 4) × (TRY_ACQUIRE_SHARED ≡ 5) }
+    ensures forks { (FORK ≡ 6) × (JOIN ≡ 7) }
+    ensures modes { (BASIC ≡ 0) × (GUARDED ≡ 1) × (FULL_MODE ≡ 2) }
+{}
