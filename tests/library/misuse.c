@@ -8,7 +8,9 @@
  *
  * Memory is refused by the linker's --wrap of malloc, calloc, realloc and aligned_alloc. What isn't as it has to be is
  * told on standard output; the last line is how many checks passed and failed. */
+#include "checks.h"
 #include "goodlock.h"
+#include "refusing.h"
 
 #include <pthread.h>
 #include <sched.h>
@@ -17,72 +19,6 @@
 #include <string.h>
 #include <sys/wait.h>
 #include <unistd.h>
-
-static unsigned passed, failed;
-
-static void check(bool is_right, const char *what)
-{
-    if (is_right) {
-        passed++;
-        return;
-    }
-    if (++failed <= 20)
-        printf("%s\n", what);
-}
-
-static void expect(const char *what, uint32_t got, uint32_t right)
-{
-    char text[300];
-    snprintf(text, sizeof text, "%s: answers %u (%s), and %u (%s) is right", what, got, goodlock_says(got), right,
-             goodlock_says(right));
-    check(got == right, text);
-}
-
-/* ---- Refused memory */
-
-static __thread bool is_counted; /* whether this thread is in a call of the library */
-static __thread long requests, refuse_at;
-static __thread bool is_onwards, was_refused;
-
-static bool refuses(void)
-{
-    if (!is_counted)
-        return false;
-    requests++;
-    if (refuse_at == 0 || requests < refuse_at || (requests > refuse_at && !is_onwards))
-        return false;
-    was_refused = true;
-    return true;
-}
-
-void *__real_malloc(size_t size);
-void *__real_calloc(size_t count, size_t size);
-void *__real_realloc(void *old, size_t size);
-void *__real_aligned_alloc(size_t alignment, size_t size);
-void *__wrap_malloc(size_t size);
-void *__wrap_calloc(size_t count, size_t size);
-void *__wrap_realloc(void *old, size_t size);
-void *__wrap_aligned_alloc(size_t alignment, size_t size);
-
-void *__wrap_malloc(size_t size)
-{
-    return refuses() ? NULL : __real_malloc(size);
-}
-
-void *__wrap_calloc(size_t count, size_t size)
-{
-    return refuses() ? NULL : __real_calloc(count, size);
-}
-
-void *__wrap_realloc(void *old, size_t size)
-{
-    return refuses() ? NULL : __real_realloc(old, size);
-}
-
-void *__wrap_aligned_alloc(size_t alignment, size_t size)
-{
-    return refuses() ? NULL : __real_aligned_alloc(alignment, size);
-}
 
 /* Makes a call; where memory is refused in it, and it says so, once more with ample memory. */
 #define TRY(call) \

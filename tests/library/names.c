@@ -13,6 +13,9 @@
 static void step(void);
 #include "goodlock_names.h"
 
+#include "checks.h"
+#include "refusing.h"
+
 #include <errno.h>
 #include <linux/seccomp.h>
 #include <pthread.h>
@@ -23,74 +26,6 @@ static void step(void);
 #include <sys/wait.h>
 #include <ucontext.h>
 #include <unistd.h>
-
-static unsigned passed, failed;
-
-static void check(bool is_right, const char *what)
-{
-    if (is_right) {
-        passed++;
-        return;
-    }
-    if (++failed <= 20)
-        printf("%s\n", what);
-}
-
-static void expect(const char *what, uint32_t got, uint32_t right)
-{
-    char text[300];
-    snprintf(text, sizeof text, "%s: answers %u (%s), and %u (%s) is right", what, got, goodlock_says(got), right,
-             goodlock_says(right));
-    check(got == right, text);
-}
-
-/* ---- Refused memory */
-
-static __thread bool is_counted; /* whether this thread is in a call of the header */
-static __thread long requests, refuse_at;
-
-static bool refuses(void)
-{
-    if (!is_counted)
-        return false;
-    requests++;
-    return requests == refuse_at;
-}
-
-#ifdef __cplusplus
-extern "C" {
-#endif
-void *__real_malloc(size_t size);
-void *__real_calloc(size_t count, size_t size);
-void *__real_realloc(void *old, size_t size);
-void *__real_aligned_alloc(size_t alignment, size_t size);
-void *__wrap_malloc(size_t size);
-void *__wrap_calloc(size_t count, size_t size);
-void *__wrap_realloc(void *old, size_t size);
-void *__wrap_aligned_alloc(size_t alignment, size_t size);
-
-void *__wrap_malloc(size_t size)
-{
-    return refuses() ? NULL : __real_malloc(size);
-}
-
-void *__wrap_calloc(size_t count, size_t size)
-{
-    return refuses() ? NULL : __real_calloc(count, size);
-}
-
-void *__wrap_realloc(void *old, size_t size)
-{
-    return refuses() ? NULL : __real_realloc(old, size);
-}
-
-void *__wrap_aligned_alloc(size_t alignment, size_t size)
-{
-    return refuses() ? NULL : __real_aligned_alloc(alignment, size);
-}
-#ifdef __cplusplus
-}
-#endif
 
 /* ---- Mentions, as they are asked for below */
 

@@ -2,34 +2,14 @@
  * alike, byte for byte.
  *
  *     library_order same       texts and JSON of both orders, against each other and against a text by hand
- *     library_order refused    what stands against such a report: no session, not settled, a number, a name that is
- * missing
+ *     library_order refused    what stands against such a report: no session, not settled, a number, no name
  *
  * What isn't as it has to be is told on standard output; the last line is how many checks passed and failed. */
+#include "checks.h"
 #include "goodlock.h"
 
 #include <stdio.h>
 #include <string.h>
-
-static unsigned passed, failed;
-
-static void check(bool is_right, const char *what)
-{
-    if (is_right) {
-        passed++;
-        return;
-    }
-    failed++;
-    printf("%s\n", what);
-}
-
-static void expect(const char *what, uint32_t got, uint32_t right)
-{
-    char text[300];
-    snprintf(text, sizeof text, "%s: answers %u (%s), and %u (%s) is right", what, got, goodlock_says(got), right,
-             goodlock_says(right));
-    check(got == right, text);
-}
 
 /* ---- What the threads do */
 
