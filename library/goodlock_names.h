@@ -51,9 +51,9 @@
  * ---- What it costs
  *
  * A mention of what is known takes a few nanoseconds by the address of a lock or of a literal, however long the name
- * is: half of what a mutex takes that nobody else wants, locked and unlocked. By its bytes it takes a step for each
- * eight of them and twice that mutex for 18 (bench/library.sh measures it). It is wait-free: some reads, and nothing is
- * written that another thread reads, so that no thread slows another.
+ * is: less than half of what a mutex takes that nobody else wants, locked and unlocked. By its bytes it takes a step
+ * for each eight of them, and one or two such mutexes for 18 (bench/library.sh measures it). It is wait-free: some
+ * reads, and nothing is written that another thread reads, so that no thread slows another.
  *
  * A first mention takes memory (malloc, once or twice) and some compare-and-swaps. It is lock-free: others that are new
  * may make it go round once more, but a thread that is stopped anywhere in a call, or is gone, keeps nobody waiting. It
@@ -61,7 +61,8 @@
  *
  * A table takes its memory when it is opened: 88 to 168 bytes for each name that it is made for, which most systems
  * give as they are touched. It has a fixed size and never moves. The hash has no seed: names that somebody chooses to
- * collide cost a look at each. */
+ * collide cost a look at each. A name that was told for an address which another thread gave a number first, by another
+ * name, keeps its slot: where threads race so again and again, a table answers GOODLOCK_NAMES before it is full. */
 #ifndef GOODLOCK_NAMES_H
 #define GOODLOCK_NAMES_H
 
