@@ -289,6 +289,15 @@ def without_its_library(clone):
     equal((out, status, calls), (OUT, 1, ["run"]))
 
 
+def without_sharing(clone):
+    """An rt that can't begin with what other copies kept has each crate proved all the same, several at once."""
+    rt = clone.tools / "rt"
+    rt.write_text(rt.read_text().replace("def share_work(", "def share_nothing("))
+    out, err, status, calls = clone.run(*WORDS, text="text", GOODLOCK_BUILD="1", JOBS="2")
+    equal((out, status, calls[0], calls[-1]), (OUT, 1, "low --jobs 2", "run"))
+    equal(sorted(names(calls[:-1])), sorted(LIBRARIES))
+
+
 def unproved(clone):
     out, err, status, calls = clone.run("predict", text="text", unproved="middle", GOODLOCK_BUILD="1")
     equal((out, status, "run" in calls), ("", 125, False))
@@ -313,6 +322,7 @@ TESTS = (
     another_carried_program,
     without_toolchain,
     without_its_library,
+    without_sharing,
     unproved,
     unbuilt,
 )

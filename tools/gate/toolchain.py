@@ -24,8 +24,8 @@ class NoToolchain(Exception):
 
 
 def load_command(*names):
-    """The code of `rt`, with these names; its `rtlib` is the library. Checks begin with what those in other copies of the
-    repository on this machine kept, as those of `rt` do."""
+    """The code of `rt`, with these names; its `rtlib` is the library. Where `rt` can have checks begin with what those in
+    other copies of the repository on this machine kept, they do so here too."""
     path = shutil.which("rt")
     if path is None:
         raise NoToolchain("the toolchain's rt isn't on PATH")
@@ -36,12 +36,12 @@ def load_command(*names):
     except (ImportError, OSError, SyntaxError) as error:  # it has no such library, or is no Python
         raise NoToolchain(f"{path} isn't written as the one that is known here: {error}") from None
     library = getattr(command, "rtlib", None)
-    lacking = [name for name in ("share_work", *names) if not hasattr(command, name)]
+    lacking = [name for name in names if not hasattr(command, name)]
     lacking += [name for name in NAMES if not hasattr(library, name)]
     if lacking:
         raise NoToolchain(f"{path} has no {', '.join(lacking)}")
     library.guarded()  # its first call sets a signal's handler, which only the main thread may
-    command.share_work(True)
+    getattr(command, "share_work", lambda _: None)(True)
     return command
 
 

@@ -24,10 +24,12 @@ impl Print {
         }
     }
 
-    // The place of the guess among so many.
+    // The place of the guess among so many, a power of two: the uppermost bits, since a name's last bytes
+    // have no part in the lower ones.
     #[inline(always)]
     fn place(self, count: usize) -> usize {
-        (self.hash >> 40) as usize & count.wrapping_sub(1)
+        self.hash
+            .wrapping_shr(count.wrapping_sub(1).leading_zeros()) as usize
     }
 
     // What tells prints of one place apart.

@@ -1,11 +1,11 @@
 //! What a line says, taken alone.
-ghost use Rattle.std.specs.Prelude.{◌≡◌};
+ghost use Rattle.std.specs.Prelude.{◌≡◌, Some, IsSome, IfSome, take, drop};
 ghost use Rattle.std.specs.Option.{option_map};
 ghost use Rattle.gl_std.specs.Line.{cut_at, before_close, is_on_itself, is_on_thread, operation_of, shape_of, shape_of_call, shape_of_fields};
 ghost use Rattle.gl_std.specs.bodies.Shown.{shown, shown_operation};
 
 use crate::faults::StdKind;
-use bstr::ByteSlice;
+use gl_bytes::find_from;
 use gl_event::LockMode;
 
 /// The longest line, in bytes, without what ends it.
@@ -68,7 +68,7 @@ pub(crate) enum Shape<'a> {
 pub(crate) fn cut(text: &[u8], byte: u8) -> Option<(&[u8], &[u8])>
     ensures { option_map (λ p. (p.0.now, p.1.now)) result ≡ cut_at byte text.now }
 {
-    match text.find_byte(byte) {
+    match find_from(byte, text, 0) {
         Some(place) => Some((&text[..place], &text[place + 1..])),
         None => None,
     }
@@ -102,25 +102,50 @@ fn shape_of_fields<'a>(thread: &'a [u8], field: &'a [u8], location: &'a [u8]) ->
     if thread.is_empty() {
         return Shape::Bad(StdKind::NoThread);
     }
+    if let Some(operation) = plain_operation(field) {
+        return shape_of_call(thread, Some(operation), before_close(&field[4..]), location);
+    }
     match cut(field, OPEN) {
-        Some((name, rest)) => shape_of_call(thread, name, before_close(rest), location),
-        None => shape_of_call(thread, field, None, location),
+        Some((name, rest)) => {
+            shape_of_call(thread, operation_of(name), before_close(rest), location)
+        }
+        None => shape_of_call(thread, operation_of(field), None, location),
     }
 }
 
-/// What the operation with this name and this operand says.
+/// The operation that most lines tell, an exclusive acquire or its release, where the field begins with its
+/// name and a parenthesis.
+#[inline(always)]
+fn plain_operation(field: &[u8]) -> Option<Operation>
+    ensures named { IfSome result
+        (λ operation. operation_of (take 3 field.now) ≡ Some (shown_operation operation)) }
+    ensures cut { IsSome result → cut_at OPEN field.now ≡ Some (take 3 field.now, drop 4 field.now) }
+{
+    if field.len() < 4 || field[3] != OPEN {
+        return None;
+    }
+    if field[0] == b'a' && field[1] == b'c' && field[2] == b'q' {
+        return Some(Operation::Acquire(LockMode::Exclusive));
+    }
+    if field[0] == b'r' && field[1] == b'e' && field[2] == b'l' {
+        return Some(Operation::Release(LockMode::Exclusive));
+    }
+    None
+}
+
+/// What this operation with this operand says.
 #[inline(always)]
 fn shape_of_call<'a>(
     thread: &'a [u8],
-    name: &[u8],
+    operation: Option<Operation>,
     operand: Option<&'a [u8]>,
     location: &'a [u8],
 ) -> Shape<'a>
     ensures { shown result
-        ≡ shape_of_call thread.now (operation_of name.now)
+        ≡ shape_of_call thread.now (option_map shown_operation operation)
         (option_map (λ o. o.now) operand.entry) location.now }
 {
-    match operation_of(name) {
+    match operation {
         Some(operation) => match operand {
             Some(operand) => {
                 if is_on_itself(operation, thread, operand) {

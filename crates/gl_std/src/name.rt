@@ -5,6 +5,7 @@ ghost use Rattle.std.specs.Cmp.Lexicographic.{bytes_decides, nat_list_eq_equiv};
 ghost use Rattle.std.specs.Str.{bytes_eq};
 ghost use Rattle.std.proofs.Common.{ap};
 
+use gl_bytes::is_same;
 use indexmap::Equivalent;
 use smallvec::SmallVec;
 use std::alloc::{AllocError, Global};
@@ -53,7 +54,7 @@ impl PartialEq for Name {
     ghost laws = { partial_equiv_from_equiv nat_list_eq_equiv };
 
     fn eq(&self, other: &Name) -> bool {
-        self.as_bytes() == other.as_bytes()
+        is_same(self.as_bytes(), other.as_bytes())
     }
 }
 
@@ -97,6 +98,6 @@ impl<'a> Equivalent<Name> for Wanted<'a> {
     ghost respects_eq = { λ w x y. nat_list_eq_equiv.congr w.bytes.now x y };
 
     fn equivalent(&self, name: &Name) -> bool {
-        self.bytes == name.as_bytes()
+        is_same(self.bytes, name.as_bytes())
     }
 }

@@ -6,6 +6,7 @@ use crate::guess::{Guesses, Print};
 use crate::line::Operation;
 use crate::name::{Name, Wanted};
 use crate::seed::Seed;
+use gl_bytes::is_same;
 use gl_event::{LocId, LockId, ThreadId};
 use indexmap::IndexSet;
 use std::alloc::{AllocError, Global};
@@ -126,10 +127,11 @@ impl NameList {
         if number >= self.len() {
             return false;
         }
-        name == self.name(number)
+        is_same(name, self.name(number))
     }
 
     /// Puts a new name at the end.
+    #[inline(never)]
     fn add(&mut self, alloc: Global, name: &[u8]) -> Result<(), AllocError>
         requires room { length self.old + 1 < 2 ^ 32 }
         requires absent { position (bytes_eq name.now) self.old ≡ None }
@@ -143,6 +145,7 @@ impl NameList {
     }
 
     /// Puts a name that has no number at the end.
+    #[inline(always)]
     fn tell(&mut self, alloc: Global, number: Option<u32>, name: &[u8]) -> Result<(), AllocError>
         requires room { number ≡ None → length self.old + 1 < 2 ^ 32 }
         requires found { number ≡ position (bytes_eq name.now) self.old }
@@ -389,6 +392,7 @@ impl Names {
     }
 
     /// Gives numbers to the names of a line that have none.
+    #[inline(always)]
     pub(crate) fn tell(
         &mut self,
         alloc: Global,
@@ -417,6 +421,7 @@ impl Names {
     }
 
     // Gives a number to an operand that has none.
+    #[inline(always)]
     fn tell_operand(
         &mut self,
         alloc: Global,

@@ -1,0 +1,2 @@
+mod Nearby
+mod Sameness
