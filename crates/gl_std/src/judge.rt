@@ -438,7 +438,8 @@ fn add_partner(
     }
 }
 
-// `stand_own`, for the first event of a thread.
+// `stand_own`, for the first event of a thread. It isn't inlined, since a new state is large.
+#[inline(never)]
 fn stand_first(
     standings: &mut Vec<ThreadState>,
     event: Event,

@@ -168,16 +168,28 @@ pub(crate) struct Found {
 }
 
 impl Found {
-    ghost use Rattle.std.specs.Prelude.{if◌then◌else◌};
+    ghost use Rattle.std.specs.Prelude.{if◌then◌else◌, IsSome};
     ghost use Rattle.gl_std.specs.Line.{is_on_thread};
     ghost use Rattle.gl_std.specs.bodies.Finding.{if_new};
     ghost use Rattle.gl_std.specs.bodies.Shown.{shown_operation};
 
+    /// Whether the three names have numbers.
+    #[inline(always)]
+    pub(crate) fn is_known(&self) -> bool
+        ensures { IsTrue result → (IsSome self.now.thread) × (IsSome self.now.operand) × IsSome self.now.loc }
+    {
+        self.thread.is_some() && self.operand.is_some() && self.loc.is_some()
+    }
+
     /// How many of the threads are new.
+    #[inline(always)]
     pub(crate) fn new_threads(&self, operation: Operation) -> u64
         ensures { result ≡ if_new self.now.thread +
             (if is_on_thread (shown_operation operation) then if_new self.now.operand else 0) }
     {
+        if self.is_known() {
+            return 0;
+        }
         let partner = if operation.is_on_thread() {
             u64::from(self.operand.is_none())
         } else {
@@ -187,11 +199,12 @@ impl Found {
     }
 
     /// How many of the locks are new.
+    #[inline(always)]
     pub(crate) fn new_locks(&self, operation: Operation) -> u64
         ensures { result ≡
             (if is_on_thread (shown_operation operation) then 0 else if_new self.now.operand) }
     {
-        if operation.is_on_thread() {
+        if self.is_known() || operation.is_on_thread() {
             return 0;
         }
         u64::from(self.operand.is_none())
@@ -412,6 +425,9 @@ impl Names {
             ≡ with_names self.old
             (shown_operation operation) found.now thread.now operand.now location.now) }
     {
+        if found.is_known() {
+            return Ok(());
+        }
         self.threads
             .tell(alloc, found.thread.map(ThreadId::number), thread)?;
         self.tell_operand(alloc, operation, found.operand, operand)?;
