@@ -7,7 +7,8 @@
 //!
 //! The locks that a thread holds, in the order in which it took them, lead from the root of a tree to a
 //! node: each node is a lock inside those of its parent. Where the nodes of the held locks are known, a
-//! step for each of them finds the last one, without their guards.
+//! step for each of them finds the last one, without their guards. Most of the held locks were held at
+//! the acquire before, too: so the latest node with so many locks around it is tried first.
 //!
 //! Places grow within a list, and with them the segments in which the held locks were opened. So an
 //! acquire with other locks held than before has an edge that is new. The same locks can be taken in
@@ -20,7 +21,7 @@ ghost use Rattle.gl_edges.specs.declared.edge.Edge.{Edge};
 ghost use Rattle.gl_edges.specs.declared.seen.Opened.{Opened};
 
 use crate::tracker::Tracker;
-use gl_event::{HeldEntry, LockId, LockMode, Memory, ThreadId};
+use gl_event::{HeldEntry, LockId, LockMode, MAX_HELD, Memory, ThreadId};
 use std::alloc::Global;
 use std::marker::Model;
 
@@ -79,6 +80,8 @@ struct Tree {
     // Numbers of nodes, each in the row of slots of its place, if it finds room there; 0 is none. What is
     // taken from here is compared. A node whose number isn't here is made a second time.
     guesses: Vec<u32>,
+    // The number of the node that was come to last with so many locks around it. It is compared too.
+    latest: [usize; MAX_HELD],
 }
 
 impl Model for Tree {
@@ -98,6 +101,7 @@ impl Tree {
         Tree {
             nodes: Vec::new(alloc),
             guesses: Vec::new(alloc),
+            latest: [0; MAX_HELD],
         }
     }
 
@@ -148,10 +152,10 @@ impl Tree {
         ensures { IfSome result (λ r. IsNode self.now place.now r.1 r.0) }
     {
         let slot = self.slot(place);
-        for step in 0..ROW {
+        for offset in 0..ROW {
             let guess = *self
                 .guesses
-                .get(slot.wrapping_add(step) & self.last_slot())?;
+                .get(slot.wrapping_add(offset) & self.last_slot())?;
             if guess == 0 {
                 return None;
             }
@@ -162,12 +166,16 @@ impl Tree {
         None
     }
 
-    // The first slot in a place's row with no number, or the first of all.
-    fn free_slot(&self, place: &Place) -> usize {
+    // The slot for the number of a node at this place: the first in its row with none, or with that of
+    // another node there, and else the first of all.
+    fn slot_for(&self, place: &Place) -> usize {
         let slot = self.slot(place);
-        for step in 0..ROW {
-            let next = slot.wrapping_add(step) & self.last_slot();
-            if let Some(0) = self.guesses.get(next) {
+        for offset in 0..ROW {
+            let next = slot.wrapping_add(offset) & self.last_slot();
+            let Some(guess) = self.guesses.get(next) else {
+                return slot;
+            };
+            if *guess == 0 || self.look(*guess as usize, place).is_some() {
                 return next;
             }
         }
@@ -181,7 +189,7 @@ impl Tree {
         let Ok(number) = u32::try_from(number) else {
             return;
         };
-        let slot = self.free_slot(place);
+        let slot = self.slot_for(place);
         if let Some(guess) = self.guesses.get_mut(slot) {
             *guess = number;
         }
@@ -246,6 +254,28 @@ impl Tree {
         Ok(Some(number))
     }
 
+    // The same, for a place with so many locks around it: most often the node is the latest there.
+    fn step(&mut self, depth: usize, place: Place, room: usize) -> Result<Option<usize>, Memory>
+        ensures leads { IfOk result
+            (λ found. IfSome found
+            (λ number. (held : List Opened) → LeadsTo self.old place.parent held
+            → LeadsTo self.new number (held ++ place.opened ∷ []))) }
+        ensures noted { OnOk result
+            ((thread : ℕ) → noted thread self.new ≡ noted thread self.old) }
+    {
+        let latest = *self.latest.get(depth).unwrap_or(&0);
+        if let Some(_) = self.look(latest, &place) {
+            return Ok(Some(latest));
+        }
+        let Some(number) = self.node_at(place, room)? else {
+            return Ok(None);
+        };
+        if let Some(latest) = self.latest.get_mut(depth) {
+            *latest = number;
+        }
+        Ok(Some(number))
+    }
+
     // The number of the node that these held locks lead to, if there is room for it.
     fn node_of(&mut self, entries: &[HeldEntry], room: usize) -> Result<Option<usize>, Memory>
         ensures leads { IfOk result
@@ -255,13 +285,13 @@ impl Tree {
             ((thread : ℕ) → noted thread self.new ≡ noted thread self.old) }
     {
         let mut parent = 0;
-        for entry in entries {
+        for (depth, entry) in entries.iter().enumerate() {
             let opened = Opened {
                 lock: entry.lock,
                 mode: entry.mode,
                 first: entry.seg,
             };
-            let Some(number) = self.node_at(Place { parent, opened }, room)? else {
+            let Some(number) = self.step(depth, Place { parent, opened }, room)? else {
                 return Ok(None);
             };
             parent = number;
