@@ -80,7 +80,8 @@ struct Tree {
     // Numbers of nodes, each in the row of slots of its place, if it finds room there; 0 is none. What is
     // taken from here is compared. A node whose number isn't here is made a second time.
     guesses: Vec<u32>,
-    // The number of the node that was come to last with so many locks around it. It is compared too.
+    // The number of the node that was come to last with so many locks around it, at an acquire or as a held
+    // lock. It is compared too.
     latest: [usize; MAX_HELD],
 }
 
@@ -270,10 +271,17 @@ impl Tree {
         let Some(number) = self.node_at(place, room)? else {
             return Ok(None);
         };
+        self.come_to(depth, number);
+        Ok(Some(number))
+    }
+
+    // The node of this number is the latest with so many locks around it.
+    fn come_to(&mut self, depth: usize, number: usize)
+        ensures { self.new ≡ self.old }
+    {
         if let Some(latest) = self.latest.get_mut(depth) {
             *latest = number;
         }
-        Ok(Some(number))
     }
 
     // The number of the node that these held locks lead to, if there is room for it.
@@ -299,9 +307,9 @@ impl Tree {
         Ok(Some(parent))
     }
 
-    // Notes an acquire at this place, if there is room. The answer is `true` only where it was noted
-    // before.
-    fn note(&mut self, place: Place, room: usize) -> Result<bool, Memory>
+    // Notes an acquire at this place, with so many locks around it, if there is room. The answer is
+    // `true` only where it was noted before.
+    fn note(&mut self, depth: usize, place: Place, room: usize) -> Result<bool, Memory>
         ensures known { IfOk result
             (λ known. IsTrue known → (thread : ℕ) (held : List Opened)
             → LeadsTo self.old place.parent held → (edge : Edge)
@@ -313,13 +321,15 @@ impl Tree {
             → Contains (noted thread self.old) edge
             ⊎ Contains (edges_inside thread held place.opened) edge) }
     {
-        if let Some((_, true)) = self.find(&place) {
+        if let Some((number, true)) = self.find(&place) {
+            self.come_to(depth, number);
             return Ok(true);
         }
         if self.nodes.len() >= room {
             return Ok(false);
         }
-        self.add(&place, true)?;
+        let number = self.add(&place, true)?;
+        self.come_to(depth, number);
         Ok(false)
     }
 }
@@ -394,6 +404,7 @@ impl Seen {
             mode,
             first: tracker.state.segment(),
         };
-        self.tree.note(Place { parent, opened }, room)
+        self.tree
+            .note(entries.len(), Place { parent, opened }, room)
     }
 }
