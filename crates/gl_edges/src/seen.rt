@@ -7,28 +7,39 @@
 //!
 //! The locks that a thread holds, in the order in which it took them, lead from the root of a tree to a
 //! node: each node is a lock inside those of its parent. Where the nodes of the held locks are known, a
-//! step for each of them finds the last one, without their guards.
+//! step for each of them finds the last one, without their guards. Most of the held locks were held at
+//! the acquire before, too: so the latest node with so many locks around it is tried first.
 //!
 //! Places grow within a list, and with them the segments in which the held locks were opened. So an
 //! acquire with other locks held than before has an edge that is new. The same locks can be taken in
 //! very many orders, though, which are as many nodes: so there are never more of them than the caller
-//! has room for, and what is not noted is looked up edge by edge.
+//! has room for, and what is not noted is looked up edge by edge. What is noted isn't always found
+//! again, since a node's number is only guessed, which costs the same look-ups.
 ghost use Rattle.std.specs.Prelude.{◌≡◌, ◌⊎◌, ◌+◌, ℕ, List, [], ◌∷◌, ◌++◌, map, length, Contains, IsTrue, IfOk, IfSome, OnOk};
 ghost use Rattle.gl_edges.specs.bodies.Seen.{edges_inside, edges_now, noted, opened_of, with_node, IsNode, LeadsTo};
 ghost use Rattle.gl_edges.specs.declared.edge.Edge.{Edge};
 ghost use Rattle.gl_edges.specs.declared.seen.Opened.{Opened};
 
 use crate::tracker::Tracker;
-use gl_event::{HeldEntry, LockId, LockMode, Memory, ThreadId};
+use gl_event::{HeldEntry, LockId, LockMode, MAX_HELD, Memory, ThreadId};
 use std::alloc::Global;
-use std::collections::BTreeMap;
 use std::marker::Model;
 
-// So many guesses there are at first.
-const GUESSES: usize = 256;
+// So many slots there are for guesses at first: a power of two.
+const SLOTS: usize = 256;
+
+// A place's number is guessed at so many slots in a row.
+const ROW: usize = 8;
+
+// Odd multipliers, whose products differ in their upper bits where their factors differ anywhere.
+const OF_PARENT: usize = 0xbf58_476d_1ce4_e5b9;
+
+const OF_FIRST: usize = 0x94d0_49bb_1331_11eb;
+
+const OF_ALL: usize = 0x9e37_79b9_7f4a_7c15;
 
 /// A lock that was taken, its mode, and the segment in which that was.
-#[derive(Clone, Copy, PartialEq, Eq, PartialOrd, Ord)]
+#[derive(Clone, Copy)]
 struct Opened {
     lock: LockId,
     mode: LockMode,
@@ -36,7 +47,7 @@ struct Opened {
 }
 
 /// A lock that was taken inside those of the node of this number: 0 is the root, where none is held.
-#[derive(Clone, Copy, PartialEq, Eq, PartialOrd, Ord)]
+#[derive(Clone, Copy)]
 struct Place {
     parent: usize,
     opened: Opened,
@@ -66,9 +77,12 @@ struct Node {
 #[derive(Drop)]
 struct Tree {
     nodes: Vec<Node>,
-    numbers: BTreeMap<Place, usize>,
-    // A place's number, perhaps: looked at first. What is taken from here is compared.
-    guesses: Vec<usize>,
+    // Numbers of nodes, each in the row of slots of its place, if it finds room there; 0 is none. What is
+    // taken from here is compared. A node whose number isn't here is made a second time.
+    guesses: Vec<u32>,
+    // The number of the node that was come to last with so many locks around it, at an acquire or as a held
+    // lock. It is compared too.
+    latest: [usize; MAX_HELD],
 }
 
 impl Model for Tree {
@@ -87,8 +101,8 @@ impl Tree {
     {
         Tree {
             nodes: Vec::new(alloc),
-            numbers: BTreeMap::new(alloc),
             guesses: Vec::new(alloc),
+            latest: [0; MAX_HELD],
         }
     }
 
@@ -97,7 +111,7 @@ impl Tree {
         ensures { self.new ≡ [] }
     {
         self.nodes.clear();
-        self.numbers.clear();
+        self.guesses.clear();
     }
 
     // Whether the node of this number stands at this place: then, whether it was noted.
@@ -114,51 +128,96 @@ impl Tree {
         Some(node.is_noted)
     }
 
-    // Where a place's number is guessed.
+    // The first slot of a place's row.
     fn slot(&self, place: &Place) -> usize {
+        let opened = &place.opened;
+        let lock = opened.lock.number() as usize;
+        let is_shared = opened.mode == LockMode::Shared;
         let mixed = place
             .parent
-            .wrapping_mul(61)
-            .wrapping_add(place.opened.lock.number() as usize);
-        mixed & self.guesses.len().wrapping_sub(1)
+            .wrapping_mul(OF_PARENT)
+            .wrapping_add((opened.first as usize).wrapping_mul(OF_FIRST))
+            .wrapping_add(lock.wrapping_mul(2).wrapping_add(is_shared as usize))
+            .wrapping_mul(OF_ALL);
+        // the upper bits, as many as a slot's number has
+        mixed.wrapping_shr(self.last_slot().leading_zeros())
     }
 
-    // The number of the node at this place, if there is one, and whether it was noted.
-    fn find(&mut self, place: &Place) -> Option<(usize, bool)>
-        ensures found { IfSome result (λ r. IsNode self.new place.now r.1 r.0) }
-        ensures same { self.new ≡ self.old }
+    // The number of the last slot: all its bits are set.
+    fn last_slot(&self) -> usize {
+        self.guesses.len().wrapping_sub(1)
+    }
+
+    // The number of a node at this place, where it is found, and whether it was noted.
+    fn find(&self, place: &Place) -> Option<(usize, bool)>
+        ensures { IfSome result (λ r. IsNode self.now place.now r.1 r.0) }
     {
         let slot = self.slot(place);
-        if let Some(guess) = self.guesses.get(slot) {
-            if let Some(is_noted) = self.look(*guess, place) {
-                return Some((*guess, is_noted));
+        for offset in 0..ROW {
+            let guess = *self
+                .guesses
+                .get(slot.wrapping_add(offset) & self.last_slot())?;
+            if guess == 0 {
+                return None;
+            }
+            if let Some(is_noted) = self.look(guess as usize, place) {
+                return Some((guess as usize, is_noted));
             }
         }
-        let number = *self.numbers.get(place)?;
-        let is_noted = self.look(number, place)?;
-        self.guess(slot, number);
-        Some((number, is_noted))
+        None
     }
 
-    // Guesses this number from now on.
-    fn guess(&mut self, slot: usize, number: usize)
+    // The slot for the number of a node at this place: the first in its row with none, or with that of
+    // another node there, and else the first of all.
+    fn slot_for(&self, place: &Place) -> usize {
+        let slot = self.slot(place);
+        for offset in 0..ROW {
+            let next = slot.wrapping_add(offset) & self.last_slot();
+            let Some(guess) = self.guesses.get(next) else {
+                return slot;
+            };
+            if *guess == 0 || self.look(*guess as usize, place).is_some() {
+                return next;
+            }
+        }
+        slot
+    }
+
+    // Guesses this number at the place from now on, if there is a slot for it.
+    fn guess(&mut self, place: &Place, number: usize)
         ensures { self.new ≡ self.old }
     {
+        let Ok(number) = u32::try_from(number) else {
+            return;
+        };
+        let slot = self.slot_for(place);
         if let Some(guess) = self.guesses.get_mut(slot) {
             *guess = number;
         }
     }
 
-    // Makes room for more guesses, where they are fewer than twice the nodes.
+    // Guesses the numbers of all nodes, where none was guessed.
+    fn guess_all(&mut self)
+        ensures { self.new ≡ self.old }
+    {
+        for at in 0..self.nodes.len() {
+            let place = self.nodes[at].place;
+            self.guess(&place, at + 1);
+        }
+    }
+
+    // Makes more slots, where they are fewer than four times the nodes: most rows then have room.
     fn widen(&mut self) -> Result<(), Memory>
         ensures { self.new ≡ self.old }
     {
         let count = self.guesses.len();
-        if count / 2 > self.nodes.len() {
+        if count / 4 > self.nodes.len() {
             return Ok(());
         }
-        let more = if count == 0 { GUESSES } else { count };
+        let more = if count == 0 { SLOTS } else { count };
+        self.guesses.clear();
         self.guesses.resize(count.saturating_add(more), 0)?;
+        self.guess_all();
         Ok(())
     }
 
@@ -173,7 +232,7 @@ impl Tree {
             is_noted,
         })?;
         let number = self.nodes.len();
-        self.numbers.insert(*place, number)?;
+        self.guess(place, number);
         Ok(number)
     }
 
@@ -196,6 +255,35 @@ impl Tree {
         Ok(Some(number))
     }
 
+    // The same, for a place with so many locks around it: most often the node is the latest there.
+    fn step(&mut self, depth: usize, place: Place, room: usize) -> Result<Option<usize>, Memory>
+        ensures leads { IfOk result
+            (λ found. IfSome found
+            (λ number. (held : List Opened) → LeadsTo self.old place.parent held
+            → LeadsTo self.new number (held ++ place.opened ∷ []))) }
+        ensures noted { OnOk result
+            ((thread : ℕ) → noted thread self.new ≡ noted thread self.old) }
+    {
+        let latest = *self.latest.get(depth).unwrap_or(&0);
+        if let Some(_) = self.look(latest, &place) {
+            return Ok(Some(latest));
+        }
+        let Some(number) = self.node_at(place, room)? else {
+            return Ok(None);
+        };
+        self.come_to(depth, number);
+        Ok(Some(number))
+    }
+
+    // The node of this number is the latest with so many locks around it.
+    fn come_to(&mut self, depth: usize, number: usize)
+        ensures { self.new ≡ self.old }
+    {
+        if let Some(latest) = self.latest.get_mut(depth) {
+            *latest = number;
+        }
+    }
+
     // The number of the node that these held locks lead to, if there is room for it.
     fn node_of(&mut self, entries: &[HeldEntry], room: usize) -> Result<Option<usize>, Memory>
         ensures leads { IfOk result
@@ -205,13 +293,13 @@ impl Tree {
             ((thread : ℕ) → noted thread self.new ≡ noted thread self.old) }
     {
         let mut parent = 0;
-        for entry in entries {
+        for (depth, entry) in entries.iter().enumerate() {
             let opened = Opened {
                 lock: entry.lock,
                 mode: entry.mode,
                 first: entry.seg,
             };
-            let Some(number) = self.node_at(Place { parent, opened }, room)? else {
+            let Some(number) = self.step(depth, Place { parent, opened }, room)? else {
                 return Ok(None);
             };
             parent = number;
@@ -219,9 +307,9 @@ impl Tree {
         Ok(Some(parent))
     }
 
-    // Notes an acquire at this place, if there is room. The answer is `true` only where it was noted
-    // before.
-    fn note(&mut self, place: Place, room: usize) -> Result<bool, Memory>
+    // Notes an acquire at this place, with so many locks around it, if there is room. The answer is
+    // `true` only where it was noted before.
+    fn note(&mut self, depth: usize, place: Place, room: usize) -> Result<bool, Memory>
         ensures known { IfOk result
             (λ known. IsTrue known → (thread : ℕ) (held : List Opened)
             → LeadsTo self.old place.parent held → (edge : Edge)
@@ -233,13 +321,15 @@ impl Tree {
             → Contains (noted thread self.old) edge
             ⊎ Contains (edges_inside thread held place.opened) edge) }
     {
-        if let Some((_, true)) = self.find(&place) {
+        if let Some((number, true)) = self.find(&place) {
+            self.come_to(depth, number);
             return Ok(true);
         }
         if self.nodes.len() >= room {
             return Ok(false);
         }
-        self.add(&place, true)?;
+        let number = self.add(&place, true)?;
+        self.come_to(depth, number);
         Ok(false)
     }
 }
@@ -284,7 +374,7 @@ impl Seen {
     /// edges of the acquire were noted before.
     ///
     /// It takes a step for each held lock. There are no more nodes than the room says. An acquire that
-    /// was noted before takes no memory, nor does one with no lock held, which isn't noted.
+    /// is found again takes no memory, nor does one with no lock held, which isn't noted.
     pub(crate) fn note(
         &mut self,
         tracker: &Tracker,
@@ -314,6 +404,7 @@ impl Seen {
             mode,
             first: tracker.state.segment(),
         };
-        self.tree.note(Place { parent, opened }, room)
+        self.tree
+            .note(entries.len(), Place { parent, opened }, room)
     }
 }
