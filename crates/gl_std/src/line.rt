@@ -119,7 +119,8 @@ fn shape_of_fields<'a>(thread: &'a [u8], field: &'a [u8], location: &'a [u8]) ->
 fn plain_operation(field: &[u8]) -> Option<Operation>
     ensures named { IfSome result
         (λ operation. operation_of (take 3 field.now) ≡ Some (shown_operation operation)) }
-    ensures cut { IsSome result → cut_at OPEN field.now ≡ Some (take 3 field.now, drop 4 field.now) }
+    ensures cut { IsSome result
+        → cut_at OPEN field.now ≡ Some (take 3 field.now, drop 4 field.now) }
 {
     if field.len() < 4 || field[3] != OPEN {
         return None;

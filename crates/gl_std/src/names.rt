@@ -176,7 +176,8 @@ impl Found {
     /// Whether the three names have numbers.
     #[inline(always)]
     pub(crate) fn is_known(&self) -> bool
-        ensures { IsTrue result → (IsSome self.now.thread) × (IsSome self.now.operand) × IsSome self.now.loc }
+        ensures { IsTrue result → (IsSome self.now.thread) × (IsSome self.now.operand)
+            × IsSome self.now.loc }
     {
         self.thread.is_some() && self.operand.is_some() && self.loc.is_some()
     }
