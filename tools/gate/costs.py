@@ -16,6 +16,7 @@ import collections
 import os
 import pathlib
 import re
+import shutil
 import subprocess
 import sys
 import tempfile
@@ -98,17 +99,22 @@ def children_seconds():
     return used.children_user + used.children_system
 
 
+def is_refused(command, answer):
+    """Whether the answer of `rt`'s must_fail says that the edit is refused: it is of a kind, or of two, or True."""
+    return answer in [getattr(command, kind) for kind in ("REFUSED", "AT_LIMIT") if hasattr(command, kind)] or answer is True
+
+
 def try_edits(command, crate, kept):
     """The seconds of each must-fail edit over a copy of what a check kept, with what was said where it isn't refused."""
     tried = []
     for edit in command.edits_of(crate)[0]:
         with tempfile.TemporaryDirectory(prefix="goodlock-costs-") as folder:
             over = os.path.join(folder, "kept")
-            command.linked(kept, over)
+            shutil.copytree(kept, over)
             before = children_seconds()
-            kind, said = command.must_fail(crate, edit, ["--jobs", "1"], over)
+            answer, said = command.must_fail(crate, edit, ["--jobs", "1"], over)
             seconds = children_seconds() - before
-        tried.append((seconds, os.path.basename(edit) if kind in (command.REFUSED, command.AT_LIMIT) else said))
+        tried.append((seconds, os.path.basename(edit) if is_refused(command, answer) else said))
     return tried
 
 
@@ -140,7 +146,7 @@ def main(words):
     parser.add_argument("--most", type=int, default=20)
     parser.add_argument("names", nargs="*")
     asked = parser.parse_args(words)
-    command = toolchain.load_command("edits_of", "linked", "must_fail", "REFUSED", "AT_LIMIT")
+    command = toolchain.load_command("edits_of", "must_fail")
     crates = toolchain.crates(command.rtlib, asked.names or None)
     wanted = [crate for crate in crates if crate.name in (asked.names or [crate.name])]
     total = 0.0
