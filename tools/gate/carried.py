@@ -89,7 +89,9 @@ class Carried:
             print("by which toolchain, and what it builds: SKIPPED, rt isn't on PATH")
             return
         is_same = is_built and self.is_as_built()
-        compare("by the toolchain at hand, or one that builds the same", is_same or says.endswith(f"\ntoolchain {own}\n"))
+        compare(
+            "by the toolchain at hand, or one that builds the same", is_same or says.endswith(f"\ntoolchain {own}\n")
+        )
         if is_built:
             compare(f"its bytes are those that {self.built.relative_to(TOP)} gives", is_same)
 

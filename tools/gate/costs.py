@@ -101,7 +101,10 @@ def children_seconds():
 
 def is_refused(command, answer):
     """Whether the answer of `rt`'s must_fail says that the edit is refused: it is of a kind, or of two, or True."""
-    return answer in [getattr(command, kind) for kind in ("REFUSED", "AT_LIMIT") if hasattr(command, kind)] or answer is True
+    return (
+        answer in [getattr(command, kind) for kind in ("REFUSED", "AT_LIMIT") if hasattr(command, kind)]
+        or answer is True
+    )
 
 
 def try_edits(command, crate, kept):
