@@ -9,6 +9,17 @@ ACQUIRES = [["acq", "racq"], ["tryacq", "tryracq"]]  # by whether it is tried, a
 RELEASES = ["rel", "rrel"]
 SKIPPED = ["r(x)", "w(y)", "begin", "end", "", "acquire(a)", "ACQ(a)", "acq ", "tryrel(a)", "rracq(a)", "try(a)"]
 
+# Names are compared, and ends of fields looked for, four, eight or sixteen bytes in a step, and from 64 bytes on otherwise.
+LENGTHS = [3, 4, 5, 7, 8, 9, 12, 15, 16, 17, 24, 31, 32, 33, 47, 48, 49, 63, 64, 65, 70, 100]
+
+
+def alike(random_, count):
+    """So many different names of one length, each of which differs from the others in a byte or two."""
+    length = random_.choice(LENGTHS)
+    whole = "".join(random_.choice("abcxyz019./:") for _ in range(length))
+    where = [random_.choice([0, length // 2, length - 1, random_.randrange(length)]) for _ in range(count)]
+    return [whole[:at] + letter + whole[at + 1 :] for at, letter in zip(where, "ABCDEFGHIJKL")]
+
 
 class Maker:
     """Makes one random trace; what it keeps only makes likely what is worth testing."""
@@ -22,18 +33,20 @@ class Maker:
         self.threads = random_.sample(names, random_.randint(4 if self.pieces else 1, 5))
         locks = ["a", "b", "c", "d", "e", "g"] + (["a ", "a)", "(", "\u00fc", "\r"] if odd else [])
         self.locks = random_.sample(locks, random_.randint(2 if self.pieces else 1, 5))
+        self.places = ["Pool.java:88", "", "a|b", "x y"] + (["\r", "(1)"] if odd else [])
+        if random_.random() < 0.3:
+            self.threads = alike(random_, len(self.threads))
+            self.locks = alike(random_, len(self.locks))
+            self.places += alike(random_, 6)
         self.stack = {}  # by thread, a lock and whether it is shared, once for each acquire
         self.made = []
         self.shared = random_.choice([0, 0, 0.2, 0.5, 0.8])
         self.tried = random_.choice([0, 0, 0.1, 0.4])
         self.upgrades = random_.choice([0, 0, 0, 0.2])
         self.size = random_.randint(0, most_lines)
-        self.odd = odd
 
     def line(self, thread, call, place=None):
-        places = (
-            [str(len(self.made) + 1)] * 4 + ["Pool.java:88", "", "a|b", "x y"] + (["\r", "(1)"] if self.odd else [])
-        )
+        places = [str(len(self.made) + 1)] * 4 + self.places
         self.made.append(f"{thread}|{call}|{self.random.choice(places) if place is None else place}")
 
     def acquire(self, thread, lock, place=None):
