@@ -4,8 +4,7 @@
     carried.py renew                 carries crates/goodlock/out/goodlock and crates/gl_c/out/libgl_c.a, which have to be
                                      built from the sources at hand
     carried.py check [--built]       compares: with what prebuilt/ says of them, with the sources at hand, with this
-                                     toolchain, and with --built with what was just built from the proved sources, and
-                                     then another toolchain is as good where it builds the same
+                                     toolchain, and with --built with what was just built from the proved sources
 
 The program is carried as it is linked, without symbols; the library with what it takes of the toolchain's C code as one
 object, of which the exports alone are seen. The last line of a check is `N passed, N failed`.
@@ -88,12 +87,9 @@ class Carried:
         if own is None:
             print("by which toolchain, and what it builds: SKIPPED, rt isn't on PATH")
             return
-        is_same = is_built and self.is_as_built()
-        compare(
-            "by the toolchain at hand, or one that builds the same", is_same or says.endswith(f"\ntoolchain {own}\n")
-        )
+        compare("by the toolchain at hand", says.endswith(f"\ntoolchain {own}\n"))
         if is_built:
-            compare(f"its bytes are those that {self.built.relative_to(TOP)} gives", is_same)
+            compare(f"its bytes are those that {self.built.relative_to(TOP)} gives", self.is_as_built())
 
     def is_as_built(self):
         if not self.built.is_file():

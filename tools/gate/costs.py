@@ -113,7 +113,7 @@ def try_edits(command, crate, kept):
     for edit in command.edits_of(crate)[0]:
         with tempfile.TemporaryDirectory(prefix="goodlock-costs-") as folder:
             over = os.path.join(folder, "kept")
-            shutil.copytree(kept, over)
+            getattr(command, "linked", shutil.copytree)(kept, over)
             before = children_seconds()
             answer, said = command.must_fail(crate, edit, ["--jobs", "1"], over)
             seconds = children_seconds() - before
