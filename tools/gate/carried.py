@@ -3,8 +3,9 @@
 
     carried.py renew                 carries crates/goodlock/out/goodlock and crates/gl_c/out/libgl_c.a, which have to be
                                      built from the sources at hand
-    carried.py check [--built]       compares: with what prebuilt/ says of them, with the sources at hand, with this
-                                     toolchain, and with --built with what was just built from the proved sources
+    carried.py check [--built]       compares: with what prebuilt/ says of them, with the sources at hand, with the logic
+                                     of this toolchain, and with --built with what was just built from the proved
+                                     sources
 
 The program is carried as it is linked, without symbols; the library with what it takes of the toolchain's C code as one
 object, of which the exports alone are seen. The last line of a check is `N passed, N failed`.
@@ -13,6 +14,7 @@ object, of which the exports alone are seen. The last line of a check is `N pass
 import hashlib
 import os
 import pathlib
+import re
 import shutil
 import subprocess
 import sys
@@ -60,7 +62,14 @@ class Carried:
         return subprocess.run(words, stdout=subprocess.PIPE, text=True, check=True).stdout.strip()
 
     def sum(self):
-        return f"{hashlib.sha256(self.file.read_bytes()).hexdigest()}  {self.name}\n"
+        """The sums of the file and of what is said of it, as `sha256sum -c` reads them."""
+        sums = ((hashlib.sha256(path.read_bytes()).hexdigest(), path.name) for path in (self.file, self.says))
+        return "".join(f"{digest}  {name}\n" for digest, name in sums)
+
+    def said(self):
+        """What is said of the file: the sum over its sources, and the toolchain's line. Nothing where it isn't so."""
+        found = re.fullmatch(re.escape(FORMAT).replace(r"\{\}", "(.+)"), self.says.read_text())
+        return found.groups() if found else (None, None)
 
     def renew(self):
         """Carries what was built here."""
@@ -72,22 +81,23 @@ class Carried:
         self.write(self.built, new)
         new.chmod(self.mode)
         new.replace(self.file)
-        self.sums.write_text(self.sum())
         self.says.write_text(FORMAT.format(of, toolchain()))
+        self.sums.write_text(self.sum())
         print(f"{self.file}: {self.file.stat().st_size} bytes, of sources {of}")
 
     def check(self, compare, is_built):
         """Compares it with what is said of it, and with what was built here."""
-        says, own = self.says.read_text(), toolchain()
+        (of, by), own = self.said(), toolchain()
         compare(
-            f"{self.file.relative_to(TOP)} is the file that {self.sums.name} names", self.sums.read_text() == self.sum()
+            f"{self.file.relative_to(TOP)} and {self.says.name} are the files that {self.sums.name} names",
+            self.sums.read_text() == self.sum(),
         )
         compare("it may be used as it stands", os.access(self.file, os.X_OK if self.mode & 0o100 else os.R_OK))
-        compare("it was built from the sources at hand", says.startswith(f"sources {self.sources()}\n"))
+        compare("it was built from the sources at hand", of == self.sources())
         if own is None:
             print("by which toolchain, and what it builds: SKIPPED, rt isn't on PATH")
             return
-        compare("by the toolchain at hand", says.endswith(f"\ntoolchain {own}\n"))
+        compare("by a toolchain of the logic at hand", by is not None and logic_of(by) == logic_of(own))
         if is_built:
             compare(f"its bytes are those that {self.built.relative_to(TOP)} gives", self.is_as_built())
 
@@ -111,6 +121,12 @@ def toolchain():
     if shutil.which("rt") is None:
         return None
     return subprocess.run(["rt", "version"], stdout=subprocess.PIPE, text=True, check=True).stdout.strip()
+
+
+def logic_of(line):
+    """The logic that a toolchain's line on itself names. Kits of one logic prove the same; that they build the same is
+    seen by comparing what they build."""
+    return line.partition(" logic ")[2]
 
 
 def check(is_built):
