@@ -153,13 +153,16 @@ impl Held {
         }
     }
 
-    // The place and the entry of the lock, if it has one. At most 64 entries are looked at.
+    // The place and the entry of the lock, if it has one. At most 64 entries are looked at, the newest
+    // first: most releases are of these.
     fn find(&self, lock: LockId) -> Option<(usize, HeldEntry)>
         ensures found { IfSome result
             (λ r. (slice_get self.now r.0 ≡ Some r.1) × (r.1.lock ≡ lock)) }
         ensures absent { IfNone result (All (λ h. h.lock ≢ lock) self.now) }
     {
-        for (i, entry) in self.entries.as_slice().iter().enumerate() {
+        let entries = self.entries.as_slice();
+        for i in (0..entries.len()).rev() {
+            let entry = &entries[i];
             if entry.lock == lock {
                 return Some((i, *entry));
             }

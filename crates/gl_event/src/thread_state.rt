@@ -38,14 +38,17 @@ impl Model for ThreadState {
     ghost invariant = { λ s. s.segments ≤ s.events };
 }
 
-// What is known of the lock, where it is held.
+// What is known of the lock, where it is held. The newest are looked at first: most releases are of
+// these.
 fn entry_of(held: &Held, lock: LockId) -> Option<HeldEntry>
     ensures found { (es : List Event) → StandsFor es held.now
         → IfSome result (λ entry. (entry ≡ entry_of es lock) × (0 < depth es lock)) }
     ensures absent { (es : List Event) → StandsFor es held.now
         → IfNone result (depth es lock ≡ 0) }
 {
-    for entry in held.entries() {
+    let entries = held.entries();
+    for i in (0..entries.len()).rev() {
+        let entry = &entries[i];
         if entry.lock == lock {
             return Some(*entry);
         }

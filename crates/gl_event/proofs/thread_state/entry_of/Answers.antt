@@ -1,4 +1,4 @@
-use Rattle.std.proofs.Common.{sym, ◌∙◌, arith, subst}
+use Rattle.std.proofs.Common.{◌-◌, sym, ◌∙◌, arith, subst}
 use Rattle.std.proofs.lemmas.Bool.{eqb-true}
 use Rattle.gl_event.specs.Standing.{StandsFor}
 use Rattle.gl_event.proofs.HeldLemmas.{absent_depth}
@@ -9,10 +9,10 @@ pub returns-then-eq-clause-found : goal.returns-then-eq-clause-found
 returns-then-eq-clause-found c =
     let same = eqb-true _ _ (sym c.eq.ensures ∙ c.if-eq.true) in
     λ es stands.
-    let standing : StandsFor es c.entries-entry-items.result.now = subst (StandsFor es) (sym c.entries-entry-items.ensures) stands in
-    entry_found es c.entries-entry-items.result.now standing c.loop-entry.entry-index c.entry-item.result c.loop-entry-test.true c.entry-item.is c.args.lock same
+    let standing : StandsFor es c.entries-entries.result.now = subst (StandsFor es) (sym c.entries-entries.ensures) stands in
+    entry_found es c.entries-entries.result.now standing (c.loop-i.i - 1) c.index-entries-i.result (omega arith) c.index-entries-i.is c.args.lock same
 
 pub returns-clause-absent : goal.returns-clause-absent
 returns-clause-absent c = λ es stands.
-    let standing : StandsFor es c.entries-entry-items.result.now = subst (StandsFor es) (sym c.entries-entry-items.ensures) stands in
-    absent_depth es _ standing c.args.lock (λ k d within. c.loop-entry.invariant k d (omega arith))
+    let standing : StandsFor es c.entries-entries.result.now = subst (StandsFor es) (sym c.entries-entries.ensures) stands in
+    absent_depth es _ standing c.args.lock (λ k d within. c.loop-i.invariant k d (omega arith) (omega arith))
