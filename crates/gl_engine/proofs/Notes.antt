@@ -1,8 +1,10 @@
 -- What a recorder keeps, note by note.
-use Rattle.std.proofs.Common.{◌≡◌, ℕ, ◌<◌, List, [], ◌∷◌, ◌++◌, length, None, refl, sym, ap, ◌∙◌, arith}
+use Rattle.std.proofs.Common.{◌≡◌, ℕ, ◌<◌, List, [], ◌∷◌, ◌++◌, length, Option, Some, None, Ok, Err, refl, sym, ap, ◌∙◌, arith}
+use Rattle.std.specs.Option.{option_map_or}
 use Rattle.gl_event.specs.Bounds.{Bounds}
 use Rattle.gl_event.specs.Lawful.{refusal}
 use Rattle.gl_event.specs.declared.events.Event.{Event}
+use Rattle.gl_event.specs.declared.events.Refusal.{Refusal}
 use Rattle.gl_event.specs.declared.notes.Note.{Note}
 use Rattle.gl_recorder.specs.Taking.{Taking, Tracks, MayFollow, event_note, end_note}
 use Rattle.gl_intake.specs.Stream.{events_of, has_ended, IsNext}
@@ -28,6 +30,11 @@ notes_push limits thread notes are note own next =
 pub recorder_new : (limits : Bounds) (thread : ℕ) (taker : Taking) → thread < limits.threads → Tracks limits thread [] taker → IsRecorder limits thread [] taker
 unfolding events_of has_ended
 recorder_new limits thread taker known tracks = record { known = known; tracks = tracks; notes = notes_nil limits thread; running = refl }
+
+-- an event that was answered by a note had no refusal, and the note is its own
+pub answered : (refused : Option Refusal) (own note : Note) → Ok note ≡ option_map_or Err refused (Ok own) → (refused ≡ None) × (note ≡ own)
+answered (Some why) own note is = absurd (cc)
+answered None own note is = (refl, cc)
 
 module _ (limits : Bounds) (thread : ℕ) (pushed : List Note) (taker : Taking) (is : IsRecorder limits thread pushed taker) where
   -- the recorder's half may take what is lawful next

@@ -1,7 +1,8 @@
 //! The recorder of a running thread.
-ghost use Rattle.std.specs.Prelude.{◌≡◌, ◌<◌, ◌≤◌, ◌+◌, false, None, Some, [], length, IsOk, OnOk, OnErr, IfOk, IfErr};
+ghost use Rattle.std.specs.Prelude.{◌≡◌, ◌<◌, ◌≤◌, ◌+◌, ◌∷◌, ◌++◌, false, None, Some, [], length, IsOk, OnOk, OnErr, IfOk, IfErr};
 ghost use Rattle.gl_event.specs.Lawful.{refusal, IsLawful};
 ghost use Rattle.gl_intake.specs.Stream.{has_ended};
+ghost use Rattle.gl_lane.specs.Rule.{IsPlaced};
 ghost use Rattle.gl_engine.specs.Recording.{recorded, next_note, with_pushed, seen_full, closed_of};
 ghost use Rattle.gl_engine.specs.declared.recorder.RecordFault.TheVariants.{Full};
 ghost use Rattle.gl_engine.specs.Faults.{IsNotRecorded, IsNotClosed, IsUnconfirmed};
@@ -61,6 +62,21 @@ impl Model for Recorder {
     } };
 
     ghost invariant = { λ r. IsRecorder r.limits r.taker.thread r.lane.pushed r.taker };
+}
+
+// Pushes the note into a lane that certainly has room for it.
+fn push_certainly(lane: &mut LaneIn, note: &Note)
+    requires placed { IsPlaced note.now }
+    requires known { 0 < lane.old.room }
+    ensures lane { lane.new.lane ≡ lane.old.lane }
+    ensures pushed { lane.new.pushed ≡ lane.old.pushed ++ note.now ∷ [] }
+    ensures room { lane.old.room ≤ lane.new.room + 1 }
+{
+    match lane.push(*note) {
+        Ok(()) => {}
+        // there is room for it
+        Err(_) => unreachable!(),
+    }
 }
 
 impl Recorder {
@@ -199,8 +215,34 @@ impl Recorder {
             → refusal self.old.limits self.old.thread (recorded self.old) event.now ≡ None
             → IsOk result }
     {
+        if self.lane.has_room() {
+            return self.record_known(event);
+        }
         match self.taker.check(*event) {
             Ok(note) => self.push(event, &note),
+            Err(refusal) => Err(RecordFault::Refused(refusal)),
+        }
+    }
+
+    // Records the event, where it may come next: there is certainly room for it. The held locks are
+    // looked through once.
+    fn record_known(&mut self, event: &Event) -> Result<u32, RecordFault>
+        requires known { 0 < self.old.room }
+        ensures lawful { OnOk result
+            (refusal self.old.limits self.old.thread (recorded self.old) event.now ≡ None) }
+        ensures place { IfOk result (λ place. place ≡ length (recorded self.old)) }
+        ensures pushed { OnOk result
+            (self.new ≡ with_pushed self.old (next_note self.old event.now) self.new.room) }
+        ensures room { OnOk result (self.old.room ≤ self.new.room + 1) }
+        ensures fault { IfErr result (λ fault. IsNotRecorded self.old event.now fault self.new) }
+        ensures succeeds { refusal self.old.limits self.old.thread (recorded self.old) event.now ≡ None
+            → IsOk result }
+    {
+        match self.taker.take(*event) {
+            Ok(note) => {
+                push_certainly(&mut self.lane, &note);
+                Ok(note.place)
+            }
             Err(refusal) => Err(RecordFault::Refused(refusal)),
         }
     }

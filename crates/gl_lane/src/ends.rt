@@ -1,5 +1,5 @@
 //! The two ends of a lane, and what the recorder's end leaves behind.
-ghost use Rattle.std.specs.Prelude.{◌≡◌, ◌+◌, ◌<◌, ◌≤◌, [], ◌∷◌, ◌++◌, length, IsOk, OnOk, IfOk, IfErr, IfSome, IfNone, MatchOption};
+ghost use Rattle.std.specs.Prelude.{◌≡◌, ◌+◌, ◌<◌, ◌≤◌, [], ◌∷◌, ◌++◌, length, IsOk, OnOk, IfOk, IfErr, IfSome, IfNone, IsTrue, MatchOption, ◌↔◌};
 ghost use mathlib.Core.List.{IsPrefix};
 ghost use Rattle.gl_event.specs.declared.limits.TheConstants.{MAX_RING};
 ghost use Rattle.gl_lane.specs.Rule.{IsPlaced};
@@ -111,6 +111,15 @@ impl LaneIn {
             Ok(()) => Ok(()),
             Err(PushError::Full(back)) => Err(back),
         }
+    }
+
+    /// Whether there is certainly room for a note: a push is then certain. Where there isn't, the
+    /// collector may have made some since, and `push` looks. It takes one step.
+    #[inline(always)]
+    pub fn has_room(&self) -> bool
+        ensures { IsTrue result ↔ (0 < self.now.room) }
+    {
+        self.producer.cached_slots() > 0
     }
 
     /// Ends the pushing, and answers what stands for all notes that were pushed; `None` where the
