@@ -70,6 +70,7 @@ cp "$MADE" out/goodlock
 # As the library that the toolchain's command is written over; a crate is proved where it isn't named in UNPROVED.
 LIBRARY = r"""
 import os
+import time
 
 RATTLE = KIT = None
 TOP = os.environ["CLONE"]
@@ -101,6 +102,10 @@ class Crate:
         if self.name in os.environ["UNPROVED"].split():
             print("an open goal", file=self.out)
             return 1
+        if "SECONDS" in os.environ:
+            time.sleep(float(os.environ["SECONDS"]))
+            with open(os.environ["CALLS"], "a") as calls:
+                calls.write(f"end {self.name}\n")
         return 0
 
 
@@ -220,11 +225,14 @@ def built_where_asked(clone):
     equal(clone.run(*WORDS, text="text"), CARRIED)
 
 
-def jobs_that_are_free(clone):
-    """The crate that leads the longest chain has all processes; those beside it share what half of them leave."""
-    calls = clone.run(*WORDS, GOODLOCK_BUILD="1", JOBS="2")[3]
-    equal(calls[:2], ["share", "low --jobs 2"])
-    equal(sorted(calls[2:]), ["middle --jobs 1", "run", "twin --jobs 2"])
+def processes_at_once(clone):
+    """Each crate has as many processes as there are jobs, and no more than twice as many run."""
+    clone.write("crates.txt", CRATES.replace("goodlock:", "third: low\ngoodlock: third"))
+    clone.write("crates/third/src/lib.rt", "fn f() {}\n")
+    calls = clone.run(*WORDS, GOODLOCK_BUILD="1", JOBS="2", SECONDS="0.5")[3]
+    equal((calls[:3], calls[-1]), (["share", "low --jobs 2", "end low"], "run"))
+    equal(sorted(calls[3:5]), ["middle --jobs 2", "twin --jobs 2"])
+    equal((calls[5][:3], calls.index("third --jobs 2") > 5), ("end", True))
 
 
 def progress_is_told(clone):
@@ -315,7 +323,7 @@ def unbuilt(clone):
 TESTS = (
     carried_program,
     built_where_asked,
-    jobs_that_are_free,
+    processes_at_once,
     progress_is_told,
     changed_source,
     what_is_no_source,

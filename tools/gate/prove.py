@@ -3,11 +3,11 @@
 
     prove.py [--jobs N] [CRATE ..]      (the program goodlock, where no crate is named)
 
-A crate begins once those that it stands on are proved. The one that leads the longest chain gets every processor, and
-the others share what half of them leave; --jobs says how many there are (one for each processor, as long as there is
-memory for them). Programs themselves are left to `rt run`. Standard output has a line for each crate that is done, and
-what a check said that failed. Status: 0 proved, 1 not proved, 2 the words were wrong, 3 the toolchain at hand can't be
-used so.
+A crate begins once those that it stands on are proved, the one that leads the longest chain first. It gets as many
+processes as --jobs says (one for each processor, as long as there is memory for them), and twice as many run at once at
+the most: a check begins and ends with one process alone, and what stands beside it fills the others' time. Programs
+themselves are left to `rt run`. Standard output has a line for each crate that is done, and what a check said that
+failed. Status: 0 proved, 1 not proved, 2 the words were wrong, 3 the toolchain at hand can't be used so.
 """
 
 import argparse
@@ -29,35 +29,27 @@ def weigh(crates):
     return chains
 
 
-def jobs_for(leads, others, processes, idle, memory):
-    """How many processes a crate's check gets, beside `others` crates that could begin too: all of them where its chain is
-    the longest, since all waits for it, and else its share of those that are idle."""
-    share = processes if leads else idle // (others + 1)
+def jobs_for(processes, idle, memory):
+    """How many processes a crate's check gets: all of them, where so many are idle and there is memory for each."""
     room = 1 + (memory - toolchain.MEMORY_OF_A_CHECK) // toolchain.MEMORY_OF_A_JOB
-    return max(1, min(share, room))
+    return max(1, min(processes, idle, room))
 
 
 def in_order(crates, processes, work, told):
-    """Calls work(crate, jobs) for each crate once those below it have passed; tells of each. Whether all passed.
-
-    The crate that leads the longest chain of those that are left counts as half of the processes that it gets, so that
-    others go on beside it."""
+    """Calls work(crate, jobs) for each crate once those below it have passed; tells of each. Whether all passed."""
     chains = weigh(crates)
     left = sorted(crates, key=lambda crate: -chains[crate])
     running, passed, taken = {}, set(), {}
-    with ThreadPoolExecutor(processes) as pool:
+    with ThreadPoolExecutor(2 * processes) as pool:
         while left or running:
-            ready = [crate for crate in left if passed.issuperset(crate.below())]
-            for at, crate in enumerate(ready):
-                idle = processes - sum(taken[crate] for crate in running.values())
+            for crate in [crate for crate in left if passed.issuperset(crate.below())]:
+                idle = 2 * processes - sum(taken[crate] for crate in running.values())
                 memory = toolchain.free_memory()
                 if idle <= 0 or running and memory < toolchain.MEMORY_OF_A_CHECK:
                     break
-                leads = crate is left[0] and all(chains[other] < chains[crate] for other in running.values())
-                jobs = jobs_for(leads, len(ready) - at - 1, processes, idle, memory)
+                taken[crate] = jobs_for(processes, idle, memory)
                 left.remove(crate)
-                taken[crate] = (jobs + 1) // 2 if leads else jobs
-                running[pool.submit(timed, work, crate, jobs)] = crate
+                running[pool.submit(timed, work, crate, taken[crate])] = crate
             if not running:
                 break
             for done in wait(running, return_when=FIRST_COMPLETED).done:
