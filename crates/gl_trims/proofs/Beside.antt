@@ -1,27 +1,26 @@
 -- Steps of trimming.
-use Rattle.std.proofs.Common.{◌≡◌, ◌≢◌, ℕ, zero, suc, ◌+◌, ◌-◌, ◌<◌, ◌≤◌, Bool, true, false, not, List, [], length, set, get_or, replicate, Option, Some, None, Result, Ok, Err, OnOk, is_some, refl, sym, ap, subst, ◌∙◌, arith, inl, inr}
+use Rattle.std.proofs.Common.{◌≡◌, ◌≢◌, ℕ, ◌+◌, ◌-◌, ◌<◌, ◌≤◌, Bool, true, false, not, List, [], length, set, get_or, replicate, Option, Some, None, Result, Ok, Err, OnOk, is_some, refl, sym, ap, subst, ◌∙◌, arith, inl, inr}
 use Rattle.std.specs.Prelude.{slice_get, unwrap_or, IfSome, Contains}
 use Rattle.std.proofs.lemmas.Bool.{cases_eq, false≢true, cases_lt, and_parts, false_from_ne_true}
 use Rattle.std.proofs.lemmas.List.{length-set, length-replicate}
 use Rattle.std.proofs.lemmas.Option.{slice_get_within, same_Some}
 use Rattle.gl_event.specs.declared.events.Segment.{Segment}
 use Rattle.gl_edges.specs.declared.edge.Edge.{Edge}
-use Rattle.gl_edges.proofs.Membership.{contains_none}
 use Rattle.gl_filters.specs.declared.query.Mode.{Mode}
 use Rattle.gl_index.specs.declared.sides.Side.{Side}
 use Rattle.gl_index.specs.declared.sides.Side.TheVariants.{Follower, Leader}
 use Rattle.gl_trims.specs.Trims.{is_beside, HasBeside, IsStuck, IsFirstStuck}
 use Rattle.gl_trims.specs.bodies.Trimming.{IsFlagged, NoneBeside, IsStart, IsHint, IsPlaced, KeepPlaced, AreHints, AreBothHints, AreAwake, HasBesideAt, TellsStuck, AreSettled, places_of, watched_at}
+use Rattle.gl_trims.specs.bodies.Waiting.{waits}
+use Rattle.gl_trims.specs.declared.waiting.Waiting.{Waiting}
 use Rattle.gl_index.specs.Indexes.{AreChained}
 use Rattle.gl_index.specs.Sides.{opposite, lock_towards}
 use Rattle.gl_index.specs.Listed.{IsNextWith}
 use Rattle.gl_trims.specs.declared.trims.Hints.{Hints}
 use Rattle.gl_trims.specs.declared.trims.Sides.{Sides}
-use Rattle.std.specs.BTreeSet.{BTreeSet, contains}
-use Rattle.std.specs.Ordering.{nat_cmp}
 use Rattle.gl_filters.specs.Test.{is_compatible, leads_to, is_clear}
 use Rattle.gl_filters.proofs.Cycling.{leads_same}
-use Rattle.gl_trims.proofs.Watching.{length_watched, watched_has, watched_keeps, watched_only}
+use Rattle.gl_trims.proofs.Watching.{length_watched, watched_has, watched_keeps}
 use Rattle.gl_index.proofs.Lists.{element_at, set_here, set_elsewhere}
 
 -- an edge may come beside another one only where they share a lock
@@ -121,11 +120,6 @@ module _ (before : Segment → Segment → Bool) (mode : Mode) (edges : List Edg
                     let inside = slice_get_within (set old.places.items i place) j (Some p) there in
                     watched_keeps place i old.watchers p j in_watchers (had.watched j p (below j early other) (sym (set_elsewhere old.places.items i j place other (omega (arith, length-set old.places.items i place))) ∙ there) left)
               ]);
-          within = λ p j among.
-              elim (watched_only place i old.watchers p j in_watchers (subst (λ w. Contains (get_or w p []) j) watchers among)) [
-                | inl before ↦ had.within p j before
-                | inr is_i ↦ subst (λ m. m < length edges) is_i within
-              ];
         }
 
     -- where no place is left nothing is
@@ -193,7 +187,7 @@ module _ (before : Segment → Segment → Bool) (mode : Mode) (edges : List Edg
   }
 
   -- what doesn't wait is settled
-  pub settled_below : (size n : ℕ) (sides : Sides) (waiting : BTreeSet ℕ) → AreBothHints before mode edges gone size sides → AreAwake gone size sides waiting → n ≤ size → ((j : ℕ) → j < n → contains nat_cmp waiting j ≡ false)
+  pub settled_below : (size n : ℕ) (sides : Sides) (waiting : Waiting) → AreBothHints before mode edges gone size sides → AreAwake gone size sides waiting → n ≤ size → ((j : ℕ) → j < n → waits waiting j ≡ false)
       → AreSettled before mode edges gone n
   settled_below size n sides waiting are awake le none = λ j e side below at_e left. placed_on size sides side j e are (omega arith) at_e (awake.placed j side (omega arith) left (none j below))
 
@@ -235,13 +229,7 @@ hints_none before mode edges gone side hints size same long empty chain = record
   chain = chain;
   each = λ i place early at. absurd (omega arith);
   watched = λ i p early at left. absurd (omega arith);
-  within = λ p i among. absurd (contains_none i (subst (λ l. Contains l i) (nobody size p) (subst (λ w. Contains (get_or w p []) i) empty among)));
 }
-  where
-    nobody : (n p : ℕ) → get_or {A = List ℕ} (replicate n []) p [] ≡ []
-    nobody zero p = refl
-    nobody (suc n) zero = refl
-    nobody (suc n) (suc p) = nobody n p
 
 -- three facts of a result, and what follows from them
 pub on_ok_three : {T E A B C D : Type 0} (r : Result T E) → OnOk r A → OnOk r B → OnOk r C → (A → B → C → D) → OnOk r D

@@ -1,8 +1,8 @@
 -- One edge more is removed.
-use Rattle.std.proofs.Common.{◌≡◌, ◌≢◌, ℕ, zero, suc, ◌+◌, ◌<◌, ◌≤◌, ◌⊎◌, Bool, true, false, not, ◌||◌, cond, eqb, ltb, List, [], ◌∷◌, ◌++◌, length, filter, take, set, get_or, replicate, Some, refl, sym, ap, subst, ◌∙◌, arith, inl, inr}
+use Rattle.std.proofs.Common.{◌≡◌, ◌≢◌, ℕ, zero, suc, ◌+◌, ◌<◌, ◌≤◌, Bool, true, false, not, ◌||◌, cond, eqb, List, [], ◌∷◌, ◌++◌, length, filter, take, set, get_or, replicate, Some, refl, sym, ap, subst, ◌∙◌, arith, inl, inr}
 use Rattle.std.specs.Prelude.{slice_get, Contains}
 use Rattle.std.specs.List.{list_any, range_with_len}
-use Rattle.std.proofs.lemmas.Bool.{cases_eq, false≢true, ne_eqb, eq-eqb, ltb-true, ltb-false}
+use Rattle.std.proofs.lemmas.Bool.{cases_eq, false≢true, ne_eqb, eq-eqb}
 use Rattle.std.proofs.lemmas.List.{length-set, length_push, length-replicate, take-append-le, take_all}
 use Rattle.std.proofs.lemmas.Option.{slice_get_within, same_Some}
 use Rattle.gl_event.specs.declared.events.Segment.{Segment}
@@ -13,13 +13,13 @@ use Rattle.gl_index.specs.declared.sides.Side.{Side}
 use Rattle.gl_trims.specs.declared.trims.Hints.{Hints}
 use Rattle.gl_trims.specs.Trims.{HasBeside, IsStuck, IsFirstStuck, IsTrimOrder}
 use Rattle.gl_trims.specs.bodies.Trimming.{IsFlagged, AreFlagsOf, AreHints, AreBothHints, AreAwake, AreSettled, IsPlaced, IsWoken, places_of}
+use Rattle.gl_trims.specs.bodies.Waiting.{waits, AreEarlier}
+use Rattle.gl_trims.specs.declared.waiting.Waiting.{Waiting}
 use Rattle.gl_index.specs.Indexes.{AreChained}
 use Rattle.gl_index.specs.Sides.{opposite}
 use Rattle.gl_trims.specs.declared.trims.Sides.{Sides}
 use Rattle.gl_index.specs.declared.sides.Side.TheVariants.{Follower, Leader}
-use Rattle.std.specs.BTreeSet.{BTreeSet, contains}
-use Rattle.std.specs.Ordering.{nat_cmp}
-use Rattle.gl_trims.proofs.Watching.{left_other, left_only}
+use Rattle.gl_trims.proofs.Watching.{left_other}
 use Rattle.gl_index.proofs.Lists.{filter-append, range-more, set_here, set_elsewhere, push_before, push_at_end}
 use Rattle.gl_trims.proofs.Beside.{not_stuck}
 
@@ -71,10 +71,11 @@ flags_none size gone many same none = record {
     unset (suc n) (suc i) within = unset n i (omega arith)
 
 -- and all wait
-pub awake_all : (gone : List Bool) (size : ℕ) (sides : Sides) (waiting : BTreeSet ℕ) → ((i : ℕ) → contains nat_cmp waiting i ≡ ltb i size) → AreAwake gone size sides waiting
-awake_all gone size sides waiting all = record {
-  within = λ i waits. ltb-true i size (sym (all i) ∙ waits);
-  placed = λ i side below left silent. absurd (let above = ltb-false i size (sym (all i) ∙ silent) in omega arith);
+pub awake_all : (gone : List Bool) (size : ℕ) (sides : Sides) (waiting : Waiting) → ((i : ℕ) → waits waiting i ≡ true) → AreEarlier waiting → waiting.next ≡ 0 → AreAwake gone size sides waiting
+awake_all gone size sides waiting all earlier next = record {
+  earlier = earlier;
+  within = omega (arith, next);
+  placed = λ i side below left silent. absurd (false≢true (sym silent ∙ all i));
 }
 
 -- fewer flags are left
@@ -112,12 +113,6 @@ was_unset : (gone : List Bool) (i q : ℕ) → q < length gone → i < length go
 was_unset gone i q within inside unset =
     let other : q ≢ i = (λ same. false≢true (same_Some false true (sym unset ∙ ap (slice_get (set gone i true)) same ∙ set_here gone i true inside))) in
     (other, sym (set_elsewhere gone i q true other within) ∙ unset)
-
--- of three tests one passes, or none
-one_true : (a b c : Bool) → ((a || b) || c) ≡ true → (a ≡ true) ⊎ ((b ≡ true) ⊎ (c ≡ true))
-one_true true b c is = inl refl
-one_true false true c is = inr (inl refl)
-one_true false false c is = inr (inr is)
 
 all_false : (a b c : Bool) → ((a || b) || c) ≡ false → (a ≡ false) × (b ≡ false) × (c ≡ false)
 all_false true b c is = absurd (false≢true (sym is))
@@ -220,7 +215,6 @@ module _ (before : Segment → Segment → Bool) (mode : Mode) (edges : List Edg
         let hint = are.each j (Some p) early (sym (ap (λ l. slice_get l j) woken.places) ∙ at) in
         let was = was_unset gone i p (omega (arith, long, hint.fits.0)) (omega (arith, long, inside)) unset in
         subst (λ w. Contains (get_or w p []) j) (sym woken.watchers) (left_other old.watchers i p j was.0 (are.watched j p early (sym (ap (λ l. slice_get l j) woken.places) ∙ at) was.1));
-    within = λ p j among. are.within p j (left_only old.watchers i p j (omega (arith, inside, are.as_long)) (subst (λ w. Contains (get_or w p []) j) woken.watchers among));
   }
 
   pub both_gone : (gone : List Bool) (n : ℕ) (old new : Sides) (i : ℕ) → length gone ≡ length edges → i < length edges → AreBothHints before mode edges gone n old
@@ -244,18 +238,15 @@ module _ (before : Segment → Segment → Bool) (mode : Mode) (edges : List Edg
         }
       ]
 
-  pub awake_gone : (gone : List Bool) (size : ℕ) (old new : Sides) (i : ℕ) (had has : BTreeSet ℕ) → length gone ≡ length edges → size ≡ length edges → i < size → AreBothHints before mode edges gone size old
+  pub awake_gone : (gone : List Bool) (size : ℕ) (old new : Sides) (i : ℕ) (had has : Waiting) → length gone ≡ length edges → size ≡ length edges → i < size → AreBothHints before mode edges gone size old
       → IsWoken i old.followers new.followers → IsWoken i old.leaders new.leaders
-      → ((j : ℕ) → contains nat_cmp has j ≡ ((contains nat_cmp had j || list_any (λ w. eqb w j) (get_or old.followers.watchers i [])) || list_any (λ w. eqb w j) (get_or old.leaders.watchers i [])))
-      → AreAwake gone size old had → AreAwake (set gone i true) size new has
-  awake_gone gone size old new i had has long same inside are followers leaders told awake = record {
-    within = λ j waits. elim (one_true _ _ _ (sym (told j) ∙ waits)) [
-      | inl before ↦ awake.within j before
-      | inr (inl follows) ↦ omega (arith, same, are.followers.within i j (contains_from_any _ j follows))
-      | inr (inr leads) ↦ omega (arith, same, are.leaders.within i j (contains_from_any _ j leads))
-    ];
+      → ((j : ℕ) → waits has j ≡ ((waits had j || list_any (λ w. eqb w j) (get_or old.followers.watchers i [])) || list_any (λ w. eqb w j) (get_or old.leaders.watchers i [])))
+      → AreEarlier has → has.next ≡ had.next → AreAwake gone size old had → AreAwake (set gone i true) size new has
+  awake_gone gone size old new i had has long same inside are followers leaders told earlier next awake = record {
+    earlier = earlier;
+    within = omega (arith, next, awake.within);
     placed = λ j side below unset silent.
-        let none : (contains nat_cmp had j ≡ false) × (list_any (λ w. eqb w j) (get_or old.followers.watchers i []) ≡ false) × (list_any (λ w. eqb w j) (get_or old.leaders.watchers i []) ≡ false) = all_false _ _ _ (sym (told j) ∙ silent) in
+        let none : (waits had j ≡ false) × (list_any (λ w. eqb w j) (get_or old.followers.watchers i []) ≡ false) × (list_any (λ w. eqb w j) (get_or old.leaders.watchers i []) ≡ false) = all_false _ _ _ (sym (told j) ∙ silent) in
         let was = was_unset gone i j (omega (arith, long, same)) (omega (arith, long, same)) unset in
         on side j below none.1 none.2 (awake.placed j side below was.1 none.0);
   }

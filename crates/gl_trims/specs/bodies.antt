@@ -1,2 +1,3 @@
 -- The words of loops and private functions. No public contract cites them.
 pub mod Trimming
+pub mod Waiting

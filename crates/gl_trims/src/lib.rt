@@ -10,6 +10,7 @@
 
 mod removals;
 mod trims;
+mod waiting;
 mod watchers;
 
 pub use removals::removal_fault;

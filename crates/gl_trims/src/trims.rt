@@ -1,17 +1,17 @@
 //! Trimming: edges that nothing may follow in a cycle, or that may follow nothing, go one by one.
 ghost use Rattle.std.specs.Prelude.{◌≡◌, ◌+◌, ◌<◌, ◌||◌, ℕ, true, false, List, [], Some, length, set, get_or, slice_get, nat_lt, ◌==◌, IfOk, IfSome, OnOk, MatchOption, vec_len};
-ghost use Rattle.std.specs.BTreeSet.{contains};
 ghost use Rattle.std.specs.List.{list_any};
-ghost use Rattle.std.specs.Ordering.{nat_cmp};
 ghost use Rattle.gl_segments.specs.Clocks.{is_before};
 ghost use Rattle.gl_filters.specs.Picked.{edges_of_table};
 ghost use Rattle.gl_trims.specs.Trims.{is_beside, IsFirstStuck, IsTrimmed, others};
 ghost use Rattle.gl_index.specs.declared.sides.Side.{Side};
 ghost use Rattle.gl_edges.specs.declared.edge.Edge.{Edge};
 ghost use Rattle.gl_trims.specs.bodies.Trimming.{IsFlagged, IsStart, IsHint, AreHints, AreBothHints, HasBesideAt, TellsStuck, KeepPlaced, AreSettled, AreFlagsOf, AreAwake, AreTaken, IsWoken, places_of, watched_at};
+ghost use Rattle.gl_trims.specs.bodies.Waiting.{waits, AreEarlier};
 ghost use Rattle.gl_index.specs.Indexes.{AreChained};
 ghost use Rattle.gl_index.specs.Sides.{opposite};
 
+use crate::waiting::Waiting;
 use crate::watchers::Watchers;
 use gl_edges::{Edge, EdgeList, Sample};
 use gl_event::Memory;
@@ -19,7 +19,6 @@ use gl_filters::{Mode, compatible};
 use gl_index::{Chain, Side};
 use gl_segments::Order;
 use std::alloc::Global;
-use std::collections::BTreeSet;
 
 /// What trimming leaves of a list of edges, and what it takes away, by their positions.
 #[derive(Drop, Debug)]
@@ -232,7 +231,7 @@ impl Trimming<'_> {
         &self,
         gone: &[bool],
         sides: &mut Sides,
-        waiting: &mut BTreeSet<usize>,
+        waiting: &mut Waiting,
     ) -> Result<Option<usize>, Memory>
         requires flags { length gone.now ≡ length self.now.table.now }
         requires hints { AreBothHints (is_before self.now.order.now) self.now.mode
@@ -250,26 +249,14 @@ impl Trimming<'_> {
             (λ i. IsFirstStuck (is_before self.now.order.now) self.now.mode
             (edges_of_table self.now.table.now) (IsFlagged gone.now) i)) }
     {
-        while let Some(i) = waiting.first().copied() {
+        let end = self.table.len();
+        while let Some(i) = waiting.first(end) {
             if self.is_stuck(gone, sides, i)? {
                 return Ok(Some(i));
             }
-            waiting.remove(&i);
+            waiting.pass(i, end);
         }
         Ok(None)
-    }
-
-    // All edges wait to be looked at.
-    fn all_wait(&self, alloc: Global) -> Result<BTreeSet<usize>, Memory>
-        ensures { IfOk result
-            (λ waiting. (i : ℕ)
-            → contains nat_cmp waiting i ≡ nat_lt i (length self.now.table.now)) }
-    {
-        let mut waiting = BTreeSet::new(alloc);
-        for i in 0..self.table.len() {
-            waiting.insert(i)?;
-        }
-        Ok(waiting)
     }
 
     // Takes away the first edge that is stuck.
@@ -278,7 +265,7 @@ impl Trimming<'_> {
         alloc: Global,
         gone: &mut Vec<bool>,
         sides: &mut Sides,
-        waiting: &mut BTreeSet<usize>,
+        waiting: &mut Waiting,
         removed: &mut Vec<usize>,
         i: usize,
     ) -> Result<(), Memory>
@@ -307,7 +294,7 @@ impl Trimming<'_> {
     {
         let mut gone = vec![in alloc; false; self.table.len()]?;
         let mut sides = self.both_hints(alloc, &gone)?;
-        let mut waiting = self.all_wait(alloc)?;
+        let mut waiting = Waiting::all(alloc);
         let mut removed = Vec::new(alloc);
         while let Some(i) = self.first_stuck(&gone, &mut sides, &mut waiting)? {
             self.take_away(alloc, &mut gone, &mut sides, &mut waiting, &mut removed, i)?;
@@ -318,33 +305,34 @@ impl Trimming<'_> {
 }
 
 // These wait to be looked at again.
-fn all_of(waiting: &mut BTreeSet<usize>, watchers: &[usize]) -> Result<(), Memory>
-    ensures { OnOk result
-        ((i : ℕ) → contains nat_cmp waiting.new i
-        ≡ (contains nat_cmp waiting.old i || list_any (λ w. w == i) watchers.now)) }
+fn all_of(waiting: &mut Waiting, watchers: &[usize]) -> Result<(), Memory>
+    requires { AreEarlier waiting.old }
+    ensures waits { OnOk result
+        ((i : ℕ) → waits waiting.new i
+        ≡ (waits waiting.old i || list_any (λ w. w == i) watchers.now)) }
+    ensures earlier { OnOk result (AreEarlier waiting.new) }
+    ensures next { OnOk result (waiting.new.next ≡ waiting.old.next) }
 {
     for i in 0..watchers.len() {
-        waiting.insert(watchers[i])?;
+        waiting.add(watchers[i])?;
     }
     Ok(())
 }
 
 // Those that watch the edge at a position wait to be looked at again, as it goes.
-fn wake(
-    alloc: Global,
-    sides: &mut Sides,
-    waiting: &mut BTreeSet<usize>,
-    i: usize,
-) -> Result<(), Memory>
+fn wake(alloc: Global, sides: &mut Sides, waiting: &mut Waiting, i: usize) -> Result<(), Memory>
     requires followers { i < length sides.old.followers.watchers }
     requires leaders { i < length sides.old.leaders.watchers }
+    requires earlier { AreEarlier waiting.old }
     ensures followers { OnOk result (IsWoken i sides.old.followers sides.new.followers) }
     ensures leaders { OnOk result (IsWoken i sides.old.leaders sides.new.leaders) }
     ensures waiting { OnOk result
-        ((j : ℕ) → contains nat_cmp waiting.new j
-        ≡ ((contains nat_cmp waiting.old j || list_any (λ w. w == j)
+        ((j : ℕ) → waits waiting.new j
+        ≡ ((waits waiting.old j || list_any (λ w. w == j)
         (get_or sides.old.followers.watchers i [])) || list_any (λ w. w == j)
         (get_or sides.old.leaders.watchers i []))) }
+    ensures earlier { OnOk result (AreEarlier waiting.new) }
+    ensures next { OnOk result (waiting.new.next ≡ waiting.old.next) }
 {
     let before = sides.followers.watchers.take(alloc, i);
     all_of(waiting, &before)?;

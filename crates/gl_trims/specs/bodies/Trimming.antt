@@ -1,18 +1,18 @@
 -- What trimming knows as it goes: flags of the edges that are gone, and for each edge where one stands that may come beside it.
-use Rattle.std.specs.Prelude.{◌≡◌, ℕ, ◌<◌, Bool, true, false, List, [], ◌∷◌, ◌++◌, length, set, get_or, slice_get, unwrap_or, Option, Some, None, IfSome, Contains, ◌==◌}
-use Rattle.std.specs.BTreeSet.{BTreeSet, contains}
+use Rattle.std.specs.Prelude.{◌≡◌, ℕ, ◌<◌, ◌≤◌, Bool, true, false, List, [], ◌∷◌, ◌++◌, length, set, get_or, slice_get, unwrap_or, Option, Some, None, IfSome, Contains, ◌==◌}
 use Rattle.std.specs.List.{list_any}
-use Rattle.std.specs.Ordering.{nat_cmp}
 use Rattle.gl_event.specs.declared.events.Segment.{Segment}
 use Rattle.gl_edges.specs.declared.edge.Edge.{Edge}
 use Rattle.gl_filters.specs.declared.query.Mode.{Mode}
 use Rattle.gl_index.specs.Indexes.{AreChained}
 use Rattle.gl_index.specs.Sides.{opposite, lock_towards}
 use Rattle.gl_trims.specs.Trims.{is_beside, HasBeside, IsStuck, IsTrimOrder}
+use Rattle.gl_trims.specs.bodies.Waiting.{waits, AreEarlier}
 use Rattle.gl_trims.specs.declared.trims.Hints.{Hints}
 use Rattle.gl_index.specs.declared.sides.Side.{Side}
 use Rattle.gl_index.specs.declared.sides.Side.TheVariants.{Follower, Leader}
 use Rattle.gl_trims.specs.declared.trims.Sides.{Sides}
+use Rattle.gl_trims.specs.declared.waiting.Waiting.{Waiting}
 
 -- the flag at this position is set
 abbrev pub IsFlagged : List Bool → ℕ → Type 0
@@ -51,9 +51,10 @@ module _ (gone : List Bool) where
   KeepPlaced old new = (i : ℕ) → IsPlaced old i → IsPlaced new i
 
   -- each edge that is left has one on both sides, or waits to be looked at
-  pub record AreAwake (size : ℕ) (sides : Sides) (waiting : BTreeSet ℕ) : Type 0 where
-    pub within : (i : ℕ) → contains nat_cmp waiting i ≡ true → i < size
-    pub placed : (i : ℕ) (side : Side) → i < size → slice_get gone i ≡ Some false → contains nat_cmp waiting i ≡ false → IsPlaced (places_of side sides) i
+  pub record AreAwake (size : ℕ) (sides : Sides) (waiting : Waiting) : Type 0 where
+    pub earlier : AreEarlier waiting
+    pub within : waiting.next ≤ size
+    pub placed : (i : ℕ) (side : Side) → i < size → slice_get gone i ≡ Some false → waits waiting i ≡ false → IsPlaced (places_of side sides) i
 
 module _ (before : Segment → Segment → Bool) (mode : Mode) (edges : List Edge) (gone : List Bool) where
   module _ (side : Side) where
@@ -79,7 +80,6 @@ module _ (before : Segment → Segment → Bool) (mode : Mode) (edges : List Edg
       pub chain : AreChained (opposite side) edges 0 hints.chain
       pub each : (i : ℕ) (place : Option ℕ) → i < n → slice_get hints.places.items i ≡ Some place → IsHint i place
       pub watched : (i p : ℕ) → i < n → slice_get hints.places.items i ≡ Some (Some p) → slice_get gone p ≡ Some false → Contains (get_or hints.watchers p []) i
-      pub within : (p i : ℕ) → Contains (get_or hints.watchers p []) i → i < length edges
 
     -- whether an edge is left that may come beside the edge at i
     pub record HasBesideAt (i : ℕ) (places : List (Option ℕ)) (has : Bool) : Type 0 where
@@ -101,7 +101,7 @@ module _ (before : Segment → Segment → Bool) (mode : Mode) (edges : List Edg
   AreSettled n = (j : ℕ) (e : Edge) (side : Side) → j < n → slice_get edges j ≡ Some e → slice_get gone j ≡ Some false → HasBeside before mode edges (IsFlagged gone) side e
 
 -- what is known where these of the edges were taken away
-pub record AreTaken (before : Segment → Segment → Bool) (mode : Mode) (edges : List Edge) (size : ℕ) (gone : List Bool) (sides : Sides) (waiting : BTreeSet ℕ) (removed : List ℕ) : Type 0 where
+pub record AreTaken (before : Segment → Segment → Bool) (mode : Mode) (edges : List Edge) (size : ℕ) (gone : List Bool) (sides : Sides) (waiting : Waiting) (removed : List ℕ) : Type 0 where
   pub flags : AreFlagsOf (length edges) gone removed
   pub hints : AreBothHints before mode edges gone size sides
   pub awake : AreAwake gone size sides waiting

@@ -1,8 +1,8 @@
 use Rattle.std.proofs.Common.{length}
-use Rattle.std.specs.BTreeSet.{btree_set_len}
 use Rattle.gl_segments.specs.Clocks.{is_before}
 use Rattle.gl_filters.specs.Picked.{edges_of_table}
 use Rattle.gl_trims.specs.bodies.Trimming.{AreBothHints, AreAwake}
+use Rattle.gl_trims.specs.bodies.Waiting.{still_waiting}
 use Rattle.gl_trims.proofs.trims.Trimming.first_stuck.Given as goal
 
 -- what doesn't wait has a follower and a leader
@@ -14,4 +14,4 @@ invariant-loop-i l = record {
 
 -- how many wait
 abbrev pub decreases-loop-i : goal.decreases-loop-i
-decreases-loop-i l = btree_set_len l.waiting
+decreases-loop-i l = still_waiting l.end l.waiting

@@ -18,7 +18,7 @@ loop-removed-init c =
     record {
       flags = subst (AreFlagsOf (length edges) gone) (sym none) (flags_none (length edges) gone (length s.table.now) (sym (length-map s.table.now (λ pair. pair.0))) (c.in_ok-gone.ensures.items_if_clones_equal (λ y is. is)));
       hints = rw c.deref.ensures.value at c.in_ok-sides.ensures;
-      awake = awake_all gone (length s.table.now) _ c.in_ok-waiting.waiting c.in_ok-waiting.ensures;
+      awake = awake_all gone (length s.table.now) _ c.all-waiting.result c.all-waiting.ensures.waits c.all-waiting.ensures.earlier c.all-waiting.ensures.next;
       in_order = subst (IsTrimOrder before s.mode edges) (sym none) (order_none before s.mode edges);
     }
 
