@@ -122,7 +122,7 @@ fn history(alloc: Global, steps: &Steps, thread: ThreadId) -> Result<History, Or
             let ring = search.ring(alloc)?;
             return Err(OrderFault::Inconsistent { at, ring });
         }
-        growing.push(alloc, &search.clock)?;
+        growing.push(alloc, &search.clock, &search.found)?;
     }
     Ok(growing.finish()?)
 }

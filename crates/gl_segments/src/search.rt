@@ -1,5 +1,5 @@
 //! A search backwards, over the steps, from one segment to all that are before it.
-ghost use Rattle.std.specs.Prelude.{◌≡◌, ℕ, ◌+◌, ◌-◌, ◌<◌, ◌≤◌, ◌++◌, ◌^◌, [], ◌∷◌, length, max, replicate, slice_get, slice_index, slice_set, Some, IfOk, OnOk};
+ghost use Rattle.std.specs.Prelude.{◌≡◌, ℕ, ◌+◌, ◌-◌, ◌<◌, ◌≤◌, ◌++◌, ◌^◌, List, [], ◌∷◌, length, max, replicate, slice_get, slice_index, slice_set, Some, IfOk, OnOk};
 ghost use Rattle.gl_segments.specs.bodies.Search.{links_back, FollowsLinks};
 
 use crate::clock::Clock;
@@ -38,7 +38,7 @@ impl Drop for Search {
 
 impl Search {
     ghost use Rattle.gl_segments.specs.bodies.Tables.{IsSound, Has};
-    ghost use Rattle.gl_segments.specs.bodies.Search.{Counts, MayStart, Explores, IsFound, unseen};
+    ghost use Rattle.gl_segments.specs.bodies.Search.{Counts, MayStart, Explores, IsFound, GrowsBy, unseen};
 
     /// A search among these many threads that has found nothing.
     pub fn new(alloc: Global, threads: usize, target: Segment) -> Result<Search, AllocError>
@@ -60,6 +60,7 @@ impl Search {
         ensures explored { OnOk result
             (Explores steps.now target self.new.clock self.new.found.items
             (length self.new.found.items)) }
+        ensures grown { OnOk result (GrowsBy self.old.clock self.new.found.items self.new.clock) }
     {
         self.begin(target)?;
         let mut done = 0;
@@ -99,6 +100,9 @@ impl Search {
         ensures room { OnOk result
             (unseen steps.now self.new.clock + length self.new.found.items
             ≡ unseen steps.now self.old.clock + length self.old.found.items) }
+        ensures grown { OnOk result
+            ((start : List ℕ) → GrowsBy start self.old.found.items self.old.clock
+            → GrowsBy start self.new.found.items self.new.clock) }
     {
         let segment = self.found[at].segment;
         for source in steps.sources(segment) {
