@@ -2,6 +2,7 @@ pub mod Chains
 pub mod Searching
 pub mod Cutting
 pub mod Tabling
+pub mod Forking
 pub mod Stepping
 pub mod Clocking
 pub mod Ordering

@@ -1,4 +1,5 @@
 -- The words of loops and private functions. No public contract cites them.
+pub mod Forked
 pub mod Histories
 pub mod Packing
 pub mod Rows

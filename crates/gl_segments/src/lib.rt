@@ -13,6 +13,7 @@
 
 mod clock;
 mod faults;
+mod forked;
 mod history;
 mod laws;
 mod order;
