@@ -5,6 +5,8 @@ pub mod Tabling
 pub mod Forking
 pub mod Stepping
 pub mod Clocking
+pub mod Starting
+pub mod Ending
 pub mod Ordering
 pub mod LawLemmas
 pub mod Tabulating

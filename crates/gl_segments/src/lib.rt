@@ -19,6 +19,7 @@ mod laws;
 mod order;
 mod packed;
 mod search;
+mod starts;
 mod steps;
 
 pub use faults::OrderFault;

@@ -38,6 +38,8 @@ pub record IsSound (steps : Sources) : Type 0 where
   pub few : length steps ≤ MAX_THREADS
   -- the segments of a thread can be counted by a u32
   pub small : (thread : ℕ) → length (row steps thread) < 2 ^ 32
+  -- each thread has a segment
+  pub some : (thread : ℕ) → thread < length steps → 0 < length (row steps thread)
   -- a step leads from a segment of the table
   pub inside : (a b : Segment) → LeadsTo steps a b → Has steps a
   -- a thread's segment is one step before its next one
