@@ -46,7 +46,7 @@ thread_inside steps a has =
     ]
 
 -- a segment to which a step leads has its place in the table
-leads_has : (steps : Sources) (a b : Segment) → LeadsTo steps a b → Has steps b
+pub leads_has : (steps : Sources) (a b : Segment) → LeadsTo steps a b → Has steps b
 leads_has steps a b h =
     elim (cases_lt b.index (length (row steps b.thread))) [
       | inl below ↦ below

@@ -2,7 +2,7 @@
 use Rattle.std.proofs.Common.{◌≡◌, ℕ, zero, suc, ◌+◌, ◌<◌, List, [], ◌∷◌, ◌++◌, length, replicate, Some, refl, sym, ap, subst, ◌∙◌, inl, inr, arith}
 use Rattle.std.specs.Prelude.{slice_get, slice_index}
 use Rattle.std.proofs.lemmas.Bool.{cases_lt}
-use Rattle.std.proofs.lemmas.List.{length_push, length-replicate, get_or_append_left, get_or_push}
+use Rattle.std.proofs.lemmas.List.{length_push, get_or_append_left, get_or_push}
 use Rattle.std.proofs.lemmas.Option.{same_Some, slice_get_within}
 use Rattle.gl_event.specs.declared.events.Segment.{Segment}
 use Rattle.gl_segments.specs.declared.search.Link.{Link}
@@ -45,15 +45,6 @@ pub none_counted : (n t : ℕ) → slice_index (replicate n 0) t ≡ 0
 none_counted zero t = refl
 none_counted (suc n) zero = refl
 none_counted (suc n) (suc t) = none_counted n t
-
--- a search may start with a clock that counts nothing
-pub may_start_zero : (steps : Sources) (target : Segment) → MayStart steps (replicate (length steps) 0) target
-may_start_zero steps target = record {
-  width = length-replicate (length steps) 0;
-  before = λ s counted. absurd (omega (arith, none_counted (length steps) s.thread));
-  fresh = λ counted. omega (arith, none_counted (length steps) target.thread);
-  closed = λ s counted. absurd (omega (arith, none_counted (length steps) s.thread));
-}
 
 -- nothing follows the first entry
 no_links : (found : List Link) (rest : List Segment) → FollowsLinks found 0 rest → rest ≡ []

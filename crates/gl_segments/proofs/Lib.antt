@@ -2,8 +2,11 @@ pub mod Chains
 pub mod Searching
 pub mod Cutting
 pub mod Tabling
+pub mod Forking
 pub mod Stepping
 pub mod Clocking
+pub mod Starting
+pub mod Ending
 pub mod Ordering
 pub mod LawLemmas
 pub mod Tabulating

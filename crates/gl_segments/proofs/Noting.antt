@@ -1,13 +1,17 @@
 -- What growths tell as clocks come one by one.
-use Rattle.std.proofs.Common.{◌≡◌, ◌≢◌, ℕ, ◌+◌, ◌-◌, ◌<◌, ◌≤◌, Bool, true, false, cond, List, [], ◌∷◌, ◌++◌, length, replicate, take, refl, sym, ap, subst, ◌∙◌, inl, inr, arith}
-use Rattle.std.specs.Prelude.{All, filter, slice_index, slice_index_or, slice_set}
+use Rattle.std.proofs.Common.{◌≡◌, ◌≢◌, ℕ, ◌+◌, ◌-◌, ◌<◌, ◌≤◌, Bool, true, false, cond, List, [], ◌∷◌, ◌++◌, length, replicate, Some, refl, sym, ap, subst, ◌∙◌, ◌⊎◌, inl, inr, arith}
+use Rattle.std.specs.Prelude.{All, filter, slice_get, slice_index, slice_index_or, slice_set}
 use Rattle.std.proofs.lemmas.Bool.{cases_eq, cases_lt}
-use Rattle.std.proofs.lemmas.List.{length_push, append-nil, get_or_append_left, get_or_push, get_or-set_other, length-set, take_more, take_more_set, take_all}
+use Rattle.std.proofs.lemmas.List.{length_push, append-nil, get_or_append_left, get_or_push, get_or-set_other, length-set}
+use Rattle.std.proofs.lemmas.Option.{same_Some, slice_get_within}
 use Rattle.std.proofs.lemmas.Grind.{get_or-set_at}
 use Rattle.std.proofs.lemmas.List.Elements.{filter-append, All-nil, All-head, All-tail, All-push, All-weaker}
 use Rattle.std.proofs.lemmas.List.Sorted.{IsNonDecreasingBy-push}
 use Rattle.gl_segments.specs.declared.history.Growth.{Growth}
+use Rattle.gl_segments.specs.declared.search.Link.{Link}
+use Rattle.gl_segments.specs.bodies.Search.{GrowsBy}
 use Rattle.gl_segments.proofs.Clocking.{none_counted}
+use Rattle.gl_segments.proofs.Tabulating.{tabulated_is}
 use Rattle.gl_segments.specs.bodies.Histories.{is_past, last_count, count_at, Tells}
 
 -- the count of the last growth
@@ -153,14 +157,54 @@ tells_none own threads first gs no_first no_growths = record {
   own_counts = λ index below. absurd (omega arith);
 }
 
--- one more of the latest counts is the clock's
-pub latest_more : (latest clock : List ℕ) (n thread count : ℕ) → thread ≡ n → n < length clock → length latest ≡ length clock → count ≡ slice_index clock thread → take n latest ≡ take n clock
-    → take (n + 1) (slice_set latest thread count) ≡ take (n + 1) clock
-latest_more latest clock n thread count is within size counted same =
-    rw is
-    (take_more_set latest n count (omega arith) ∙ ap (λ xs. xs ++ count ∷ []) same ∙ ap (λ x. take n clock ++ x ∷ []) (counted ∙ ap (slice_index clock) is)
-    ∙ sym (take_more clock n 0 within))
+-- of the threads of the first n entries the latest counts are the clock's
+abbrev pub AreCounted : List Link → List ℕ → List ℕ → ℕ → Type 0
+AreCounted found latest clock n = (k : ℕ) (x : Link) → k < n → slice_get found k ≡ Some x → slice_index latest x.segment.thread ≡ slice_index clock x.segment.thread
 
--- lists whose first elements are the same, as many as they have
-pub same_when_all : (latest clock : List ℕ) (n : ℕ) → length clock ≤ n → length latest ≡ length clock → take n latest ≡ take n clock → latest ≡ clock
-same_when_all latest clock n all size same = sym (take_all n latest (omega arith)) ∙ same ∙ take_all n clock all
+-- each of the latest counts is the clock's or the old one
+abbrev pub AreEither : List ℕ → List ℕ → List ℕ → Type 0
+AreEither old latest clock = (thread : ℕ) → (slice_index latest thread ≡ slice_index clock thread) ⊎ (slice_index latest thread ≡ slice_index old thread)
+
+-- one more count is the clock's
+pub counted_more : (found : List Link) (latest clock : List ℕ) (n : ℕ) (link : Link) → slice_get found n ≡ Some link → link.segment.thread < length latest → AreCounted found latest clock n
+    → AreCounted found (slice_set latest link.segment.thread (slice_index clock link.segment.thread)) clock (n + 1)
+counted_more found latest clock n link at within so_far k x below here =
+    let thread = link.segment.thread in
+    elim (cases_eq x.segment.thread thread) [
+      | inl same ↦ get_or-set_at latest thread x.segment.thread (slice_index clock thread) 0 same within ∙ ap (slice_index clock) (sym same)
+      | inr apart ↦
+          get_or-set_other latest thread x.segment.thread (slice_index clock thread) 0 apart
+          ∙ elim (cases_lt k n) [
+            | inl lower ↦ so_far k x lower here
+            | inr upper ↦
+                let last : k ≡ n = omega arith in
+                absurd (apart (ap (λ (l : Link). l.segment.thread) (same_Some x link (sym here ∙ ap (slice_get found) last ∙ at))))
+          ]
+    ]
+
+-- the others stay as they were
+pub either_more : (old latest clock : List ℕ) (t : ℕ) → t < length latest → AreEither old latest clock → AreEither old (slice_set latest t (slice_index clock t)) clock
+either_more old latest clock t within so_far thread =
+    elim (cases_eq thread t) [
+      | inl same ↦ inl (get_or-set_at latest t thread (slice_index clock t) 0 same within ∙ ap (slice_index clock) (sym same))
+      | inr apart ↦
+          let kept = get_or-set_other latest t thread (slice_index clock t) 0 apart in
+          elim (so_far thread) [
+            | inl is ↦ inl (kept ∙ is)
+            | inr was ↦ inr (kept ∙ was)
+          ]
+    ]
+
+-- once all entries were counted, the latest counts are the clock
+pub latest_is : (old latest clock : List ℕ) (found : List Link) (n : ℕ) → length found ≤ n → length latest ≡ length clock → GrowsBy old found clock → AreCounted found latest clock n → AreEither old latest clock → latest ≡ clock
+latest_is old latest clock found n all size grown counted either =
+    let each : (thread : ℕ) → slice_index latest thread ≡ slice_index clock thread = λ thread.
+    elim (grown thread) [
+      | inl same ↦
+          elim (either thread) [
+            | inl is ↦ is
+            | inr was ↦ was ∙ sym same
+          ]
+      | inr (k, x, here, is) ↦ subst (λ t. slice_index latest t ≡ slice_index clock t) is (counted k x (let w = slice_get_within found k x here in omega arith) here)
+    ] in
+    sym (tabulated_is latest (λ i. slice_index clock i) 0 (length latest) refl (λ i below. sym (each i))) ∙ tabulated_is clock (λ i. slice_index clock i) 0 (length latest) (sym size) (λ i below. refl)

@@ -8,7 +8,7 @@ use Rattle.gl_event.specs.declared.events.Segment.{Segment}
 use Rattle.gl_event.proofs.Depths.{slice_get_before, slice_get_last}
 use Rattle.gl_segments.specs.declared.search.Link.{Link}
 use Rattle.gl_segments.specs.bodies.Tables.{Sources, row, sources, Has, LeadsTo, Precedes, IsSound}
-use Rattle.gl_segments.specs.bodies.Search.{Counts, IsFound, MayStart, AreLinks, Explores, links_back, unseen}
+use Rattle.gl_segments.specs.bodies.Search.{Counts, IsFound, MayStart, AreLinks, Explores, IsAmong, HasThread, GrowsBy, links_back, unseen}
 use Rattle.gl_segments.proofs.Chains.{precedes_cons, precedes_step, precedes_inside, thread_inside}
 
 -- a place within a list that grew by one
@@ -128,6 +128,34 @@ module _ (steps : Sources) (sound : IsSound steps) (target : Segment) where
               | inr above ↦ inr (same, above, omega arith)
             ]
         | inr other ↦ inl (subst (λ n. s.index < n) (get_or-set_other clock a.thread s.thread _ 0 other) h)
+      ]
+
+  -- an entry of a thread stays
+  thread_more : (found more : List Link) (thread : ℕ) → HasThread found thread → HasThread (found ++ more) thread
+  thread_more found more thread (k, l, here, is) = (k, l, slice_get_before found more k (slice_get_within found k l here) ∙ here, is)
+
+  -- where the count of a thread grows, there is an entry of it
+  pub reach_grows : (start clock : List ℕ) (found : List Link) (at : ℕ) (a : Segment) → a.thread < length clock → GrowsBy start found clock
+      → GrowsBy start (found ++ links_back a at (length found) (a.index + 1 - slice_index clock a.thread)) (raised clock a)
+  reach_grows start clock found at a within so_far thread =
+      let more : List Link = links_back a at (length found) (a.index + 1 - slice_index clock a.thread) in
+      let as_before : slice_index (raised clock a) thread ≡ slice_index clock thread → (slice_index (raised clock a) thread ≡ slice_index start thread) ⊎ HasThread (found ++ more) thread = λ same.
+      elim (so_far thread) [
+        | inl old ↦ inl (same ∙ old)
+        | inr has ↦ inr (thread_more found more thread has)
+      ] in
+      elim (cases_eq thread a.thread) [
+        | inl same ↦
+            elim (cases_lt a.index (slice_index clock a.thread)) [
+              | inl known ↦
+                  let now : slice_index (raised clock a) thread ≡ max (slice_index clock a.thread) (a.index + 1) = ap (slice_index (raised clock a)) same ∙ get_or-set_same clock a.thread _ 0 within in
+                  let old : slice_index clock thread ≡ slice_index clock a.thread = ap (slice_index clock) same in
+                  as_before (omega arith)
+              | inr new ↦
+                  let r = links_back_finds (a.index + 1 - slice_index clock a.thread) a at (length found) a.index (omega arith) (omega arith) in
+                  inr (length found + r.0, r.1, slice_get_after found more r.0 ∙ r.2, ap (λ s. s.thread) r.3 ∙ sym same)
+            ]
+        | inr other ↦ as_before (get_or-set_other clock a.thread thread _ 0 other)
       ]
 
   -- what was counted stays counted
@@ -266,6 +294,10 @@ module _ (steps : Sources) (sound : IsSound steps) (target : Segment) where
       let same : m.segment ≡ target = ap (λ l. l.segment) (same_Some m links.begins.0 (sym at ∙ links.begins.1)) ∙ links.begins.2 in
       subst (Has steps) (sym same) has
   entry_has found links has (suc k) m at = precedes_inside steps sound m.segment target (links.precedes (suc k) m (omega arith) at)
+
+  -- the entries of a search are of the table's threads
+  pub found_among : (found : List Link) (threads : ℕ) → AreLinks steps target found → Has steps target → threads ≡ length steps → IsAmong found threads
+  found_among found threads links has are k l here = let within = thread_inside steps l.segment (entry_has found links has k l here) in omega arith
 
   -- a search begins
   pub begin_explores : (clock : List ℕ) → MayStart steps clock target → Explores steps target clock (record { segment = target; next = 0 } ∷ []) 0

@@ -241,6 +241,10 @@ module _ (lists : List (List Event)) (steps : Sources) (long : length steps ≡ 
               omega arith
           | inr past ↦ let none : row steps t ≡ [] = get_or_past steps t [] (omega arith) in let zero_long = ap length none in omega arith
         ];
+    some = λ t below.
+        let es = some_at lists t (omega arith) in
+        let size = row_length t es.0 es.1 in
+        omega arith;
     inside = shows_inside;
     next = λ a b has thread index. shown a b (inl (record { real = has_list b has; same_thread = thread; one_later = index }));
   }

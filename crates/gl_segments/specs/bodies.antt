@@ -1,6 +1,10 @@
 -- The words of loops and private functions. No public contract cites them.
+pub mod Ends
+pub mod Forked
+pub mod Fronts
 pub mod Histories
 pub mod Packing
 pub mod Rows
 pub mod Search
+pub mod Starts
 pub mod Tables

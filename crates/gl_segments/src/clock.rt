@@ -1,5 +1,5 @@
 //! Clocks: of each thread, how many of its segments are before a segment.
-ghost use Rattle.std.specs.Prelude.{◌≡◌, ℕ, ◌<◌, List, length, replicate, slice_index, slice_set, IfOk};
+ghost use Rattle.std.specs.Prelude.{◌≡◌, ℕ, ◌<◌, ◌≤◌, List, length, replicate, slice_index, slice_set, IfOk};
 
 use gl_event::ThreadId;
 use std::alloc::{AllocError, Global};
@@ -9,14 +9,19 @@ use std::marker::Model;
 #[derive(Drop)]
 pub struct Clock {
     ahead: Vec<u32>,
+    /// From here on there are only zeros.
+    end: usize,
 }
 
 impl Model for Clock {
     ghost use Rattle.std.specs.Prelude.{ℕ, List};
+    ghost use Rattle.gl_segments.specs.bodies.Ends.{IsEnd};
 
     ghost Value = { List ℕ };
 
     ghost view = { λ c. c.ahead.items };
+
+    ghost invariant = { λ c. IsEnd c.ahead.items c.end };
 }
 
 impl Clock {
@@ -26,7 +31,22 @@ impl Clock {
     {
         Ok(Clock {
             ahead: vec![in alloc; 0; threads]?,
+            end: 0,
         })
+    }
+
+    /// The clock that has these counts, and zeros for all threads after them.
+    pub fn from_front(alloc: Global, front: &[u32], threads: usize) -> Result<Clock, AllocError>
+        requires { length front.now ≤ threads }
+        ensures width { IfOk result (λ c. length c ≡ threads) }
+        ensures counts { IfOk result
+            (λ c. (thread : ℕ) → slice_index c thread ≡ slice_index front.now thread) }
+    {
+        let end = front.len();
+        let mut ahead = Vec::with_capacity(alloc, threads)?;
+        ahead.extend_from_slice(front)?;
+        ahead.resize(threads, 0)?;
+        Ok(Clock { ahead, end })
     }
 
     /// How many threads there are.
@@ -51,7 +71,9 @@ impl Clock {
         requires { thread < length self.old }
         ensures { self.new ≡ slice_set self.old thread count }
     {
-        self.ahead[thread.number() as usize] = count;
+        let place = thread.number() as usize;
+        self.ahead[place] = count;
+        self.end = self.end.max(place + 1);
     }
 
     /// The same clock once more.
@@ -60,20 +82,16 @@ impl Clock {
     {
         Ok(Clock {
             ahead: Vec::from_slice(alloc, &self.ahead)?,
+            end: self.end,
         })
     }
 
-    /// The counts up to the last one that isn't 0.
+    /// The counts, without zeros after them.
     pub fn front(&self, alloc: Global) -> Result<Vec<u32>, AllocError>
-        ensures { IfOk result
+        ensures short { IfOk result (λ v. length v.items ≤ length self.now) }
+        ensures counts { IfOk result
             (λ v. (thread : ℕ) → slice_index v.items thread ≡ slice_index self.now thread) }
     {
-        let mut end = 0;
-        for (thread, count) in self.ahead.iter().enumerate() {
-            if *count > 0 {
-                end = thread + 1;
-            }
-        }
-        Vec::from_slice(alloc, &self.ahead[..end])
+        Vec::from_slice(alloc, &self.ahead[..self.end])
     }
 }

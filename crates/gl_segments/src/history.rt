@@ -6,8 +6,10 @@
 ghost use Rattle.std.specs.Prelude.{◌≡◌, ℕ, ◌+◌, ◌<◌, ◌≤◌, ◌^◌, List, [], ◌∷◌, ◌++◌, length, slice_index, slice_index_or, slice_set, IfOk, OnOk};
 ghost use Rattle.std.specs.List.Sorted.{IsNonDecreasingBy};
 ghost use Rattle.gl_segments.specs.bodies.Histories.{count_at, is_up_to, AreOrdered, IsNoted};
+ghost use Rattle.gl_segments.specs.bodies.Search.{IsAmong, GrowsBy};
 
 use crate::clock::Clock;
+use crate::search::Link;
 use gl_event::ThreadId;
 use std::alloc::{AllocError, Global};
 use std::marker::Model;
@@ -142,28 +144,31 @@ impl Growing {
         })
     }
 
-    /// Adds the clock of the thread's next segment.
-    pub fn push(&mut self, alloc: Global, clock: &Clock) -> Result<(), AllocError>
+    /// Adds the clock of the thread's next segment. What was found since the last one has an entry
+    /// of each thread whose count is another: no other threads are looked at.
+    pub fn push(&mut self, alloc: Global, clock: &Clock, found: &[Link]) -> Result<(), AllocError>
         requires room { self.old.segments + 1 < 2 ^ 32 }
-        requires few { length clock.now ≤ 1024 }
         requires width { length clock.now ≡ length self.old.latest }
+        requires among { IsAmong found.now (length clock.now) }
+        requires grown { 0 < self.old.segments → GrowsBy self.old.latest found.now clock.now }
         ensures thread { self.new.thread ≡ self.old.thread }
-        ensures threads { OnOk result (length self.new.latest ≡ length self.old.latest) }
+        ensures latest { OnOk result (self.new.latest ≡ clock.now) }
         ensures segments { OnOk result (self.new.segments ≡ self.old.segments + 1) }
         ensures noted { OnOk result
             ((clocks : List (List ℕ)) → IsNoted self.old clocks
             → slice_index clock.now self.old.thread ≡ length clocks
             → IsNoted self.new (clocks ++ clock.now ∷ [])) }
     {
-        self.keep(alloc, clock)?;
+        self.keep(alloc, clock, found)?;
         self.segments += 1;
         Ok(())
     }
 
     // Makes the next clock the latest one, and keeps what is new in it.
-    fn keep(&mut self, alloc: Global, clock: &Clock) -> Result<(), AllocError>
-        requires few { length clock.now ≤ 1024 }
+    fn keep(&mut self, alloc: Global, clock: &Clock, found: &[Link]) -> Result<(), AllocError>
         requires width { length clock.now ≡ length self.old.latest }
+        requires among { IsAmong found.now (length clock.now) }
+        requires grown { 0 < self.old.segments → GrowsBy self.old.latest found.now clock.now }
         ensures thread { self.new.thread ≡ self.old.thread }
         ensures segments { self.new.segments ≡ self.old.segments }
         ensures latest { OnOk result (self.new.latest ≡ clock.now) }
@@ -173,7 +178,7 @@ impl Growing {
         if self.segments == 0 {
             return self.begin(alloc, clock);
         }
-        self.note(clock)
+        self.note(clock, found)
     }
 
     // Keeps the first clock.
@@ -191,9 +196,10 @@ impl Growing {
     }
 
     // Notes where the next clock differs from the last one, which it becomes.
-    fn note(&mut self, clock: &Clock) -> Result<(), AllocError>
-        requires few { length clock.now ≤ 1024 }
+    fn note(&mut self, clock: &Clock, found: &[Link]) -> Result<(), AllocError>
         requires width { length clock.now ≡ length self.old.latest }
+        requires among { IsAmong found.now (length clock.now) }
+        requires grown { GrowsBy self.old.latest found.now clock.now }
         ensures thread { self.new.thread ≡ self.old.thread }
         ensures segments { self.new.segments ≡ self.old.segments }
         ensures latest { OnOk result (self.new.latest ≡ clock.now) }
@@ -201,8 +207,8 @@ impl Growing {
             ((clocks : List (List ℕ)) → 0 < length clocks → IsNoted self.old clocks
             → IsNoted self.new clocks) }
     {
-        for number in 0..clock.threads() {
-            let thread = ThreadId::new(number as u32);
+        for link in found {
+            let thread = link.segment.thread;
             self.note_count(thread, clock.ahead(thread))?;
         }
         Ok(())

@@ -13,11 +13,13 @@
 
 mod clock;
 mod faults;
+mod forked;
 mod history;
 mod laws;
 mod order;
 mod packed;
 mod search;
+mod starts;
 mod steps;
 
 pub use faults::OrderFault;

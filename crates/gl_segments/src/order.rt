@@ -5,11 +5,13 @@ ghost use Rattle.gl_segments.specs.Orders.{IsFaultOf};
 ghost use Rattle.gl_segments.specs.Segments.{IsConsistent};
 ghost use Rattle.gl_segments.specs.bodies.Tables.{IsSound, ShowsSteps};
 ghost use Rattle.gl_segments.specs.bodies.Rows.{AreClocksOf, IsThreadFault};
+ghost use Rattle.gl_segments.specs.bodies.Starts.{AreStarts};
 ghost use Rattle.std.specs.Prelude.{◌≡◌, ℕ, ◌<◌, ◌≤◌, List, length, slice_get, Some, IfOk, OnOk, IfErr};
 
 use crate::faults::OrderFault;
 use crate::history::{Growing, History};
 use crate::search::Search;
+use crate::starts::Starts;
 use crate::steps::Steps;
 use gl_event::{Event, Segment, ThreadId};
 use std::alloc::Global;
@@ -38,10 +40,12 @@ impl Order {
     /// The order of the segments of these lists, one list a thread, by number.
     ///
     /// It errs with [`OrderFault::Inconsistent`] exactly where some segment is before itself, and
-    /// with [`OrderFault::Memory`] only where a growth was refused. It reads each event once;
-    /// otherwise it takes time as there are segments, times the number of threads. It takes memory
-    /// as there are forks and joins, as there are pairs of threads, and as there are places along
-    /// threads from which more segments of another thread are before.
+    /// with [`OrderFault::Memory`] only where a growth was refused. It reads each event once, and
+    /// sorts the forks; otherwise it takes time as there are segments and pairs of threads, and for
+    /// each thread as there are segments that are before it and not before the one that forks it,
+    /// where that is of a lesser thread. It takes memory as there are forks and joins, as there are
+    /// pairs of threads, and as there are places along threads from which more segments of another
+    /// thread are before.
     pub fn of(alloc: Global, lists: &[Vec<Event>]) -> Result<Order, OrderFault>
         requires few { length lists.now ≤ 1024 }
         requires lawful { (thread : ℕ) (es : List Event)
@@ -97,22 +101,32 @@ fn histories(alloc: Global, steps: &Steps) -> Result<Vec<History>, OrderFault>
         (λ fault. (lists : List (List Event)) → ShowsSteps lists steps.now
         → IsFaultOf lists fault) }
 {
+    let mut starts = Starts::new(alloc, steps)?;
     let mut histories = Vec::new(alloc);
     for thread in 0..steps.threads() {
-        histories.push(history(alloc, steps, ThreadId::new(thread as u32))?)?;
+        let thread = ThreadId::new(thread as u32);
+        histories.push(history(alloc, steps, &mut starts, thread)?)?;
     }
     Ok(histories)
 }
 
 // The clocks of a thread's segments, or the first of them that is before itself, with a ring.
-fn history(alloc: Global, steps: &Steps, thread: ThreadId) -> Result<History, OrderFault>
+fn history(
+    alloc: Global,
+    steps: &Steps,
+    starts: &mut Starts,
+    thread: ThreadId,
+) -> Result<History, OrderFault>
     requires sound { IsSound steps.now }
     requires within { thread < length steps.now }
+    requires starts { AreStarts steps.now starts.old }
+    ensures starts { OnOk result (AreStarts steps.now starts.new) }
     ensures ok { IfOk result (λ h. AreClocksOf steps.now thread h) }
     ensures fault { IfErr result (λ fault. IsThreadFault steps.now thread fault) }
 {
     let first = Segment { thread, index: 0 };
-    let mut search = Search::new(alloc, steps.threads(), first)?;
+    let mut search = Search::new(alloc, steps.threads(), starts.front(thread), first)?;
+    starts.forget(alloc, thread);
     let mut growing = Growing::new(alloc, thread, steps.threads())?;
     for index in 0..steps.segments(thread) {
         let index = index as u32;
@@ -122,7 +136,8 @@ fn history(alloc: Global, steps: &Steps, thread: ThreadId) -> Result<History, Or
             let ring = search.ring(alloc)?;
             return Err(OrderFault::Inconsistent { at, ring });
         }
-        growing.push(alloc, &search.clock)?;
+        growing.push(alloc, &search.clock, &search.found)?;
+        starts.note(alloc, at, &search.clock)?;
     }
     Ok(growing.finish()?)
 }

@@ -1,9 +1,11 @@
 //! The steps between segments, by the segment to which they lead.
-ghost use Rattle.std.specs.Prelude.{◌≡◌, ◌↔◌, ◌⊎◌, ℕ, ◌+◌, ◌<◌, ◌^◌, List, ◌∷◌, filter, length, slice_get, Some, Contains, IsTrue, IfOk, OnOk};
+ghost use Rattle.std.specs.Prelude.{◌≡◌, ◌<◌, List, ◌∷◌, filter, length, slice_get, Some, IfOk};
 ghost use Rattle.gl_event.specs.Events.{closes};
-ghost use Rattle.gl_segments.specs.bodies.Tables.{cuts_of, AreSmall, Forks, joined_last, IsRowOf, AddsForks};
+ghost use Rattle.gl_segments.specs.bodies.Forked.{AreAllForks};
+ghost use Rattle.gl_segments.specs.bodies.Tables.{cuts_of, AreSmall, joined_last, IsRowOf};
 ghost use Rattle.gl_segments.specs.Orders.{lists_of};
 
+use crate::forked::Forked;
 use crate::packed::Packed;
 use gl_event::{Event, Segment, ThreadId};
 use std::alloc::{AllocError, Global};
@@ -27,17 +29,18 @@ impl Steps {
     ghost use Rattle.gl_segments.specs.Orders.{AreLawful};
     ghost use Rattle.gl_segments.specs.bodies.Tables.{Has, IsSound, ShowsSteps, row, sources};
 
-    /// The steps between the segments of these lists. Takes time and memory as there are forks and
-    /// joins, times the number of threads.
+    /// The steps between the segments of these lists. It reads each event once, and sorts the forks;
+    /// otherwise it takes time and memory as there are threads, forks and joins.
     pub fn of(alloc: Global, lists: &[Vec<Event>]) -> Result<Steps, AllocError>
         requires { AreLawful (lists_of lists.now) }
         ensures shows { IfOk result (λ s. ShowsSteps (lists_of lists.now) s) }
         ensures sound { IfOk result (λ s. IsSound s) }
     {
         let cuts = cuts(alloc, lists)?;
+        let forked = Forked::of(alloc, &cuts)?;
         let mut rows = Vec::new(alloc);
         for thread in 0..cuts.len() {
-            rows.push(row(alloc, &cuts, ThreadId::new(thread as u32))?)?;
+            rows.push(row(alloc, &cuts, &forked, ThreadId::new(thread as u32))?)?;
         }
         Ok(Steps { rows })
     }
@@ -95,15 +98,21 @@ fn is_closer(event: Event) -> bool
 }
 
 // What is one step before each segment of the thread.
-fn row(alloc: Global, cuts: &[Vec<Event>], thread: ThreadId) -> Result<Packed, AllocError>
+fn row(
+    alloc: Global,
+    cuts: &[Vec<Event>],
+    forked: &Forked,
+    thread: ThreadId,
+) -> Result<Packed, AllocError>
     requires small { AreSmall (lists_of cuts.now) }
+    requires forked { AreAllForks (lists_of cuts.now) forked.now }
     requires within { thread < length cuts.now }
     ensures { IfOk result
         (λ v. (es : List Event) → slice_get (lists_of cuts.now) thread ≡ Some es
         → IsRowOf (lists_of cuts.now) thread es v) }
 {
     let mut row = Packed::new(alloc)?;
-    row.push(&forks(alloc, cuts, thread)?)?;
+    row.push(&forked.segments(alloc, thread)?)?;
     for (index, cut) in cuts[thread.number() as usize].iter().enumerate() {
         let closed = Segment {
             thread,
@@ -134,48 +143,4 @@ fn after(
         }
     }
     Ok(sources)
-}
-
-// The segments that forks of the thread close.
-fn forks(alloc: Global, cuts: &[Vec<Event>], thread: ThreadId) -> Result<Vec<Segment>, AllocError>
-    requires { AreSmall (lists_of cuts.now) }
-    ensures { IfOk result
-        (λ v. (a : Segment) → Contains v.items a ↔ Forks (lists_of cuts.now) thread a) }
-{
-    let mut forks = Vec::new(alloc);
-    for (from, list) in cuts.iter().enumerate() {
-        add_forks(&mut forks, ThreadId::new(from as u32), list, thread)?;
-    }
-    Ok(forks)
-}
-
-// Adds the segments of one thread that forks of another close.
-fn add_forks(
-    forks: &mut Vec<Segment>,
-    from: ThreadId,
-    cuts: &[Event],
-    thread: ThreadId,
-) -> Result<(), AllocError>
-    requires { length cuts.now < 2 ^ 32 }
-    ensures { OnOk result (AddsForks forks.old.items forks.new.items from cuts.now thread) }
-{
-    for (index, cut) in cuts.iter().enumerate() {
-        if is_fork(*cut, thread) {
-            forks.push(Segment {
-                thread: from,
-                index: index as u32,
-            })?;
-        }
-    }
-    Ok(())
-}
-
-// Whether the event forks this thread.
-fn is_fork(event: Event, thread: ThreadId) -> bool
-    ensures { IsTrue result ↔ ((loc : ℕ) × (event ≡ Event.Fork thread loc)) }
-{
-    match event {
-        Event::Fork { thread: forked, .. } => forked.number() == thread.number(),
-        _ => false,
-    }
 }

@@ -55,6 +55,18 @@ pub record Explores (steps : Sources) (target : Segment) (clock : List ℕ) (fou
   -- what is one step before an entry that was looked at is counted
   pub looked : (k : ℕ) (l : Link) → k < done → slice_get found k ≡ Some l → CountsSources steps clock l.segment
 
+-- each entry of what was found is of one of so many threads
+abbrev pub IsAmong : List Link → ℕ → Type 0
+IsAmong found threads = (k : ℕ) (l : Link) → slice_get found k ≡ Some l → l.segment.thread < threads
+
+-- an entry of what was found is of this thread
+abbrev pub HasThread : List Link → ℕ → Type 0
+HasThread found thread = (k : ℕ) × (l : Link) × (slice_get found k ≡ Some l) × (l.segment.thread ≡ thread)
+
+-- each count of the new clock is the old one's, or an entry of what was found is of its thread
+abbrev pub GrowsBy : List ℕ → List Link → List ℕ → Type 0
+GrowsBy old found new = (thread : ℕ) → (slice_index new thread ≡ slice_index old thread) ⊎ HasThread found thread
+
 -- the links of n segments of one thread, from s downwards: the first links to `next`, each other to the one before it, which stand from p on
 abbrev pub links_back : Segment → ℕ → ℕ → ℕ → List Link
 links_back s next p zero = []

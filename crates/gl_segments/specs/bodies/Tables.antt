@@ -1,5 +1,5 @@
 -- The steps, by the segment to which they lead.
-use Rattle.std.specs.Prelude.{◌≡◌, ◌↔◌, ℕ, ◌+◌, ◌<◌, ◌≤◌, ◌^◌, ◌⊎◌, List, [], ◌∷◌, length, Option, Some, map, filter, Contains, slice_get, slice_index_or, option_and_then}
+use Rattle.std.specs.Prelude.{◌≡◌, ◌↔◌, ℕ, ◌+◌, ◌<◌, ◌≤◌, ◌^◌, List, [], ◌∷◌, length, Option, Some, map, filter, Contains, slice_get, slice_index_or, option_and_then}
 use Rattle.std.specs.Option.{option_map_or}
 use Rattle.gl_event.specs.Events.{segment, closes}
 use Rattle.gl_event.specs.declared.events.Event.{Event}
@@ -38,6 +38,8 @@ pub record IsSound (steps : Sources) : Type 0 where
   pub few : length steps ≤ MAX_THREADS
   -- the segments of a thread can be counted by a u32
   pub small : (thread : ℕ) → length (row steps thread) < 2 ^ 32
+  -- each thread has a segment
+  pub some : (thread : ℕ) → thread < length steps → 0 < length (row steps thread)
   -- a step leads from a segment of the table
   pub inside : (a b : Segment) → LeadsTo steps a b → Has steps a
   -- a thread's segment is one step before its next one
@@ -89,12 +91,3 @@ pub record IsRowOf (cuts : List (List Event)) (thread : ℕ) (es : List Event) (
   pub first : (a : Segment) → Contains (slice_index_or sources 0 []) a ↔ Forks cuts thread a
   -- before a later one: the thread's segment before it, and what was joined there
   pub later : (i : ℕ) (e : Event) → slice_get es i ≡ Some e → slice_index_or sources (i + 1) [] ≡ record { thread = thread; index = i } ∷ joined_last cuts e
-
--- what stood there stays, and what was added is the segments of one thread that forks of another close
-pub record AddsForks (old new : List Segment) (from : ℕ) (es : List Event) (thread : ℕ) : Type 0 where
-  -- what stood there stays
-  pub kept : (a : Segment) → Contains old a → Contains new a
-  -- the segment that each fork of the thread closes was added
-  pub added : (i loc : ℕ) → slice_get es i ≡ Some (Fork thread loc) → Contains new (record { thread = from; index = i })
-  -- nothing else was added
-  pub only : (a : Segment) → Contains new a → Contains old a ⊎ ((a.thread ≡ from) × ((loc : ℕ) × (slice_get es a.index ≡ Some (Fork thread loc))))

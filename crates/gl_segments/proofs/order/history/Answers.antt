@@ -1,20 +1,46 @@
-use Rattle.std.proofs.Common.{◌≡◌, ℕ, ◌+◌, ◌++◌, ◌∷◌, [], List, length, refl, sym, ap, subst, ◌∙◌, arith}
+use Rattle.std.proofs.Common.{◌≡◌, ℕ, ◌+◌, ◌<◌, ◌++◌, ◌∷◌, [], List, length, refl, sym, ap, subst, ◌∙◌, arith}
 use Rattle.std.specs.Prelude.{slice_index}
 use Rattle.gl_event.specs.declared.events.Segment.{Segment}
 use Rattle.gl_segments.specs.Segments.{Leads}
 use Rattle.gl_segments.specs.bodies.Tables.{row, Has, LeadsTo}
 use Rattle.gl_segments.specs.bodies.Search.{Counts, IsClockOf}
 use Rattle.gl_segments.specs.bodies.Rows.{AreClocksBelow}
-use Rattle.gl_segments.proofs.Clocking.{explored_clock, may_start_next, may_start_zero, chain_of_links, clocks_more, own_count}
+use Rattle.gl_segments.proofs.Clocking.{explored_clock, may_start_next, chain_of_links, clocks_more, own_count}
+use Rattle.gl_segments.proofs.Searching.{found_among}
+use Rattle.gl_segments.proofs.Starting.{may_start_front, starts_inside}
 use Rattle.gl_segments.proofs.order.history.Goals as goal
 
 pub loop-index-init : goal.loop-index-init
 loop-index-init c = record {
   same_thread = c.in_ok-growing.ensures.thread;
   width = c.in_ok-growing.ensures.threads ∙ c.threads-2.ensures;
+  latest = λ some. absurd (omega arith);
   clocks = ([], c.in_ok-growing.ensures.noted, record { size = refl; each = λ i below. absurd (omega arith); apart = λ i below. absurd (omega arith) });
-  ready = λ _. rw (c.in_ok-search.ensures, c.threads.ensures) (may_start_zero c.args.steps.now (record { thread = c.args.thread; index = 0 }));
+  starts = c.forget.ensures c.args.steps.now c.requires.starts;
+  ready = λ _.
+      let front = c.front.ensures c.args.steps.now c.requires.starts in
+      may_start_front c.args.steps.now c.in_ok-search.search.clock _ (record { thread = c.args.thread; index = 0 }) (c.in_ok-search.ensures.width ∙ c.threads.ensures) c.in_ok-search.ensures.counts front;
 }
+
+-- the entries of the search are of the table's threads
+pub push-requires-clause-among : goal.push-requires-clause-among
+push-requires-clause-among c =
+    let steps = c.args.steps.now in
+    let at : Segment = record { thread = c.args.thread; index = c.loop-index.index } in
+    let explored = c.in_ok-run.ensures.explored in
+    let has : Has steps at = let e = c.segments-index-end.ensures in let t = c.loop-index-test.true in omega arith in
+    rw c.deref.ensures.value (found_among steps c.requires.sound at _ _ explored.links has explored.width)
+
+-- after the first segment the search went on from the latest clock
+pub push-requires-clause-grown : goal.push-requires-clause-grown
+push-requires-clause-grown c =
+    let inv = c.loop-index.invariant in
+    λ some.
+    let later : 0 < c.loop-index.index = let a = inv.clocks.1.size in let b = inv.clocks.2.size in omega arith in
+    rw (c.deref.ensures.value, inv.latest later) c.in_ok-run.ensures.grown
+
+pub note-requires : goal.note-requires
+note-requires c = starts_inside c.args.steps.now _ c.loop-index.invariant.starts
 
 pub loop-index-preserved : goal.loop-index-preserved
 loop-index-preserved c =
@@ -32,8 +58,10 @@ loop-index-preserved c =
     let own_here : slice_index clock c.loop-index.growing.thread ≡ length inv.clocks.0 = ap (slice_index clock) inv.same_thread ∙ own ∙ sym inv.clocks.2.size in
     record {
       same_thread = c.push.ensures.thread ∙ inv.same_thread;
-      width = c.in_ok-push.ensures.threads ∙ inv.width;
+      width = ap length c.in_ok-push.ensures.latest ∙ explored.width;
+      latest = λ _. c.in_ok-push.ensures.latest;
       clocks = (inv.clocks.0 ++ clock ∷ [], c.in_ok-push.ensures.noted inv.clocks.0 inv.clocks.1 own_here, more);
+      starts = c.in_ok-note.ensures steps explored.width is apart inv.starts;
       ready = λ has_next. may_start_next steps c.requires.sound clock at next explored.width is apart refl refl has_next;
     }
 

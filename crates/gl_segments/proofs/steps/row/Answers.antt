@@ -9,7 +9,11 @@ use Rattle.gl_segments.proofs.steps.row.Goals as goal
 pub loop-index-init : goal.loop-index-init
 loop-index-init c =
     rw (c.in_ok-push.ensures, c.deref.ensures.value)
-    (row_begins (lists_of c.args.cuts.now) c.args.thread c.deref-cut-items.result.now c.in_ok-row.row c.in_ok-forks.field-0.items c.in_ok-row.ensures c.in_ok-forks.ensures)
+    (row_begins (lists_of c.args.cuts.now) c.args.thread c.deref-cut-items.result.now c.in_ok-row.row c.in_ok-segments.field-0.items c.in_ok-row.ensures
+    (λ a.
+    let forks = c.requires.forked (record { thread = c.args.thread; from = a }) in
+    let segments = c.in_ok-segments.ensures a in
+    (λ h. forks.0 (segments.0 h), λ f. segments.1 (forks.1 f))))
 
 pub overflow_cast-closed : goal.overflow_cast-closed
 overflow_cast-closed c =

@@ -1,13 +1,15 @@
-use Rattle.std.proofs.Common.{◌≡◌, ℕ, ◌<◌, List, length, take}
+use Rattle.std.proofs.Common.{◌≡◌, ℕ, ◌<◌, List, length}
 use Rattle.gl_segments.specs.bodies.Histories.{IsNoted}
+use Rattle.gl_segments.proofs.Noting.{AreCounted, AreEither}
 use Rattle.gl_segments.proofs.history.Growing.note.Given as goal
 
--- the counts so far are the clock's
-abbrev pub invariant-loop-number : goal.invariant-loop-number
-invariant-loop-number l = record {
+-- the counts of the threads so far are the clock's
+abbrev pub invariant-loop-link : goal.invariant-loop-link
+invariant-loop-link l = record {
   same_thread : l.self.thread ≡ l.fn.self.thread;
   same_segments : l.self.segments ≡ l.fn.self.segments;
   width : length l.self.latest ≡ length l.clock;
-  so_far : take l.number l.self.latest ≡ take l.number l.clock;
+  counted : AreCounted l.found l.self.latest l.clock l.link-index;
+  either : AreEither l.fn.self.latest l.self.latest l.clock;
   noted : (clocks : List (List ℕ)) → 0 < length clocks → IsNoted l.fn.self clocks → IsNoted l.self clocks;
 }

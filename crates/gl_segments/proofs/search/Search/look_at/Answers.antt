@@ -3,7 +3,7 @@ use Rattle.std.proofs.lemmas.List.{length-append}
 use Rattle.std.proofs.lemmas.Option.{slice_get_read, slice_get_within}
 use Rattle.gl_event.proofs.Depths.{slice_get_before}
 use Rattle.gl_segments.proofs.Chains.{thread_inside}
-use Rattle.gl_segments.proofs.Searching.{reach_explores, reach_room, item_leads, item_small, counted_more, look_done, entry_has}
+use Rattle.gl_segments.proofs.Searching.{reach_explores, reach_grows, reach_room, item_leads, item_small, counted_more, look_done, entry_has}
 use Rattle.gl_segments.proofs.search.Search.look_at.Goals as goal
 
 pub sources-source-items-requires : goal.sources-source-items-requires
@@ -21,6 +21,7 @@ loop-source-init c =
       entry = (c.index.result.now, slice_get_read found (length found) c.args.at c.index.result.now refl c.requires.within c.index.ensures, c.sources-source-items.ensures);
       counted = λ k a below. absurd (omega arith);
       longer = omega arith;
+      grown = λ start before. before;
       room = refl;
     }
 
@@ -52,6 +53,7 @@ loop-source-preserved c =
       entry = (m, rw c.in_ok-reach.ensures.found (slice_get_before old.found.items _ c.args.at (slice_get_within old.found.items c.args.at m inv.entry.1) ∙ inv.entry.1), inv.entry.2);
       counted = rw c.in_ok-reach.ensures.clock (counted_more steps c.requires.sound target old.clock _ c.loop-source.source-index a within c.loop-source-test.true c.source-item.is inv.counted);
       longer = rw (c.in_ok-reach.ensures.found, length-append) (omega (arith, inv.longer));
+      grown = λ start before. rw (c.in_ok-reach.ensures.clock, c.in_ok-reach.ensures.found) (reach_grows steps c.requires.sound target start old.clock old.found.items c.args.at a within (inv.grown start before));
       room = rw (c.in_ok-reach.ensures.clock, c.in_ok-reach.ensures.found) (reach_room steps c.requires.sound target old.clock old.found.items c.args.at m a inv.explored leads ∙ inv.room);
     }
 

@@ -1,5 +1,5 @@
 use Rattle.std.proofs.Common.{◌≡◌, ◌+◌, ◌-◌, ◌≤◌, length}
-use Rattle.gl_segments.specs.bodies.Search.{Explores, unseen}
+use Rattle.gl_segments.specs.bodies.Search.{Explores, GrowsBy, unseen}
 use Rattle.gl_segments.proofs.search.Search.run.Given as goal
 
 -- the entries before `done` were looked at
@@ -8,6 +8,7 @@ invariant-loop-done l = record {
   same_target : l.self.target ≡ l.fn.target;
   within : l.done ≤ length l.self.found.items;
   explored : Explores l.steps l.fn.target l.self.clock l.self.found.items l.done;
+  grown : GrowsBy l.fn.self.clock l.self.found.items l.self.clock;
 }
 
 -- what is neither seen nor looked at

@@ -8,21 +8,30 @@ use Rattle.gl_event.specs.declared.events.Event.{Event}
 use Rattle.gl_event.specs.declared.events.Segment.{Segment}
 use Rattle.gl_segments.specs.Orders.{lists_of}
 use Rattle.gl_segments.specs.bodies.Tables.{cuts_of, AreSmall, IsRowOf, row}
+use Rattle.gl_segments.specs.bodies.Forked.{AreAllForks}
 use Rattle.gl_segments.proofs.Tabling.{rows_more}
 use Rattle.gl_segments.proofs.Stepping.{cuts_small, shows_steps, steps_sound}
 use Rattle.gl_segments.proofs.steps.Steps.of.Goals as goal
 
 pub row-requires-clause-small : goal.row-requires-clause-small
 row-requires-clause-small c =
+    let is = ap lists_of c.deref-in-loop-thread.ensures.value ∙ c.in_ok-cuts.ensures in
+    subst AreSmall (sym is) (cuts_small _ c.requires)
+
+pub of-requires : goal.of-requires
+of-requires c =
     let is = ap lists_of c.deref.ensures.value ∙ c.in_ok-cuts.ensures in
     subst AreSmall (sym is) (cuts_small _ c.requires)
+
+pub row-requires-clause-forked : goal.row-requires-clause-forked
+row-requires-clause-forked c = subst (λ xs. AreAllForks (lists_of xs) c.in_ok-forked.forked) (c.deref.ensures.value ∙ sym c.deref-in-loop-thread.ensures.value) c.in_ok-forked.ensures
 
 pub loop-thread-preserved : goal.loop-thread-preserved
 loop-thread-preserved c =
     let cuts : List (List Event) = lists_of c.in_ok-cuts.cuts.items in
     let old = c.loop-thread.rows.items in
     let new : (es : List Event) → slice_get cuts c.loop-thread.thread ≡ Some es → IsRowOf cuts c.loop-thread.thread es c.in_ok-row.field-0
-    = rw (c.deref.ensures.value, c.new.ensures) at c.in_ok-row.ensures in
+    = rw (c.deref-in-loop-thread.ensures.value, c.new.ensures) at c.in_ok-row.ensures in
     record {
       size = rw (c.in_ok-push.ensures.items, length_push) (ap (λ n. n + 1) c.loop-thread.invariant.size);
       each = rw c.in_ok-push.ensures.items (rows_more cuts old c.loop-thread.thread c.in_ok-row.field-0 c.loop-thread.invariant.size new c.loop-thread.invariant.each);

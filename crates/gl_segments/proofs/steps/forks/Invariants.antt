@@ -1,7 +1,0 @@
-use Rattle.gl_segments.specs.Orders.{lists_of}
-use Rattle.gl_segments.proofs.Tabling.{ForksBelow}
-use Rattle.gl_segments.proofs.steps.forks.Given as goal
-
--- those of the threads so far
-abbrev pub invariant-loop-from : goal.invariant-loop-from
-invariant-loop-from l = ForksBelow (lists_of l.cuts) l.thread l.forks.items l.from
