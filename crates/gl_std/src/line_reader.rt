@@ -186,6 +186,13 @@ impl LineReader {
     pub(crate) fn into_parts(self) -> (Names, u64, u64)
         ensures { result ≡ (self.judge.names, self.judge.skipped, self.judge.stray) }
     {
+        self.into_judge().into_parts()
+    }
+
+    /// What was judged.
+    pub(crate) fn into_judge(self) -> Judge
+        ensures { result ≡ self.judge }
+    {
         let LineReader {
             judge,
             unfinished,
@@ -194,7 +201,7 @@ impl LineReader {
             end: _,
             turns: _,
         } = self;
-        judge.into_parts()
+        judge
     }
 
     // One read, where nothing is left of the one before. Whether it gave any bytes.
