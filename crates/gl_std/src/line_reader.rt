@@ -122,8 +122,7 @@ impl LineReader {
         match self.take_line() {
             Ok(Some(judged)) => Ok(Step::Told(judged)),
             Ok(None) => self.read_on(input),
-            Err(ReadFault::Line { line, kind }) => Err(LinesFault::Line { line, kind }),
-            Err(ReadFault::Memory) => Err(LinesFault::Memory),
+            Err(fault) => Err(LinesFault::from(fault)),
         }
     }
 
