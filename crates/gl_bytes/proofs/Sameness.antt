@@ -65,14 +65,6 @@ pub same_whole : (xs ys : List ℕ) (i j : ℕ) → length xs ≡ length ys → 
 same_whole xs ys i j long near front back =
     sym ((bytes_eq-Decides xs ys).1 (ext_get_or 0 xs ys long (λ k within. ⊎_elim (λ below. front k (omega arith) below) (λ from. back k (omega arith) within) (cases_lt k j))))
 
--- texts of different lengths
-pub other_lengths : (xs ys : List ℕ) → (length xs ≡ length ys → ⊥) → false ≡ bytes_eq xs ys
-other_lengths xs ys apart = by (bytes_eq xs ys) refl
-  where
-    by : (v : Bool) → bytes_eq xs ys ≡ v → false ≡ v
-    by false e = refl
-    by true e = absurd (apart (ap length ((bytes_eq-Decides xs ys).0 e)))
-
 -- two pieces of one size that cover the texts
 pub by_two : (xs ys : List ℕ) (n : ℕ) → length xs ≡ length ys → n ≤ length xs → length xs ≤ n + n
     → (bytes_eq (take n (drop 0 xs)) (take n (drop 0 ys)) && bytes_eq (take n (drop (length xs - n) xs)) (take n (drop (length xs - n) ys))) ≡ bytes_eq xs ys

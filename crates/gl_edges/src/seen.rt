@@ -31,7 +31,8 @@ const SLOTS: usize = 256;
 // A place's number is guessed at so many slots in a row.
 const ROW: usize = 8;
 
-// Odd multipliers, whose products differ in their upper bits where their factors differ anywhere.
+// Odd multipliers: factors that differ have products that differ, if not always in the upper bits. A bit of a
+// factor changes no bit of the product below its own place, so that slots go by the uppermost bits.
 const OF_PARENT: usize = 0xbf58_476d_1ce4_e5b9;
 
 const OF_FIRST: usize = 0x94d0_49bb_1331_11eb;

@@ -1,34 +1,23 @@
--- What a reader knows between two lines.
-use Rattle.std.proofs.Common.{◌≡◌, ℕ, List, Ok, sym, ap, subst, ◌∙◌}
+-- What is known of a text between two of its lines.
+use Rattle.std.proofs.Common.{◌≡◌, ℕ, ◌+◌, List, [], ◌∷◌, Result, Ok, Err, sym, ap, ◌∙◌}
 use Rattle.gl_event.specs.Bounds.{Bounds}
-use Rattle.gl_std.specs.bodies.States.{HasJudged, IsSound}
-use Rattle.gl_std.specs.bodies.Telling.{with_judged}
-use Rattle.gl_std.specs.bodies.Reading.{told_by, IsReady}
-use Rattle.gl_std.specs.Trace.{after_line, IsTraceOver}
-use Rattle.gl_std.specs.declared.judge.Judged.{Judged}
-use Rattle.gl_std.specs.declared.whole_text.Reader.{Reader}
+use Rattle.gl_std.specs.Trace.{after_line, and_then, read_from}
+use Rattle.gl_std.specs.declared.faults.ReadFault.{ReadFault}
 use Rattle.gl_std.specs.declared.trace.Trace.{Trace}
-use Rattle.gl_std.proofs.WithinLimits.{after_line_over}
 
--- what is judged and the lists beside it are the trace
-pub told_is : (r : Reader) (told : Trace) → HasJudged r.judge told → r.lists ≡ told.lists → told_by r ≡ told
-told_is r told judged lists = λ i. record { names = judged.names i; lists = lists i; skipped = judged.skipped i; stray = judged.stray i }
+-- after a line that isn't at fault the text is what it was
+pub line_on : (limits limits2 : Bounds) (number next : ℕ) (told more : Trace) (line : List ℕ) (ls rest : List (List ℕ)) (all : Result Trace ReadFault) → limits2 ≡ limits → next ≡ number + 1 → ls ≡ line ∷ rest → after_line limits2 number told line ≡ Ok more → read_from limits number told ls ≡ all → read_from limits next more rest ≡ all
+line_on limits limits2 number next told more line ls rest all same is first after so_far =
+    ap (λ n. read_from limits n more rest) is
+    ∙ sym (ap (λ r. and_then r (λ t. read_from limits (number + 1) t rest)) (ap (λ l. after_line l number told line) (sym same) ∙ after))
+    ∙ sym (ap (read_from limits number told) first) ∙ so_far
 
--- a reader whose lists are those of a sound judge's trace
-pub ready_of : (r : Reader) (limits : Bounds) (told : Trace) → HasJudged r.judge told → r.lists ≡ told.lists → IsSound r.judge → r.judge.limits ≡ limits → IsTraceOver limits told → IsReady r
-ready_of r limits told judged lists sound same over =
-    let is = sym (told_is r told judged lists) in
-    record {
-      judge = sound;
-      judged = subst (HasJudged r.judge) is judged;
-      sound = subst (λ l. IsTraceOver l (told_by r)) (sym same) (subst (IsTraceOver limits) is over);
-    }
+-- a line at fault is the text's first one
+pub line_fault : (limits limits2 : Bounds) (number : ℕ) (told : Trace) (line : List ℕ) (ls rest : List (List ℕ)) (all : Result Trace ReadFault) (fault : ReadFault) → limits2 ≡ limits → ls ≡ line ∷ rest → after_line limits2 number told line ≡ Err fault → read_from limits number told ls ≡ all → all ≡ Err fault
+line_fault limits limits2 number told line ls rest all fault same first after so_far =
+    sym so_far ∙ ap (read_from limits number told) first
+    ∙ ap (λ r. and_then r (λ t. read_from limits (number + 1) t rest)) (ap (λ l. after_line l number told line) (sym same) ∙ after)
 
--- a line that isn't at fault, judged beside lists with what it adds
-pub line_taken : (old new : Reader) (line : List ℕ) (judged : Judged) → IsReady old → after_line old.judge.limits old.judge.line (told_by old) line ≡ Ok (with_judged judged new.judge.names (told_by old)) → HasJudged new.judge (with_judged judged new.judge.names (told_by old)) → new.lists ≡ (with_judged judged new.judge.names (told_by old)).lists → after_line old.judge.limits old.judge.line (told_by old) line ≡ Ok (told_by new)
-line_taken old new line judged ready after has lists = after ∙ ap (λ t. Ok t) (sym (told_is new _ has lists))
-
-pub line_ready : (old new : Reader) (line : List ℕ) (judged : Judged) → IsReady old → after_line old.judge.limits old.judge.line (told_by old) line ≡ Ok (with_judged judged new.judge.names (told_by old)) → HasJudged new.judge (with_judged judged new.judge.names (told_by old)) → new.lists ≡ (with_judged judged new.judge.names (told_by old)).lists → IsSound new.judge → new.judge.limits ≡ old.judge.limits → IsReady new
-line_ready old new line judged ready after has lists sound same =
-    ready_of new old.judge.limits (with_judged judged new.judge.names (told_by old)) has lists sound same
-    (after_line_over old.judge.limits old.judge.line (told_by old) (with_judged judged new.judge.names (told_by old)) line ready.sound after)
+-- after the last line all was told
+pub no_line : (limits : Bounds) (number : ℕ) (told : Trace) (ls : List (List ℕ)) (all : Result Trace ReadFault) → ls ≡ [] → read_from limits number told ls ≡ all → all ≡ Ok told
+no_line limits number told ls all none so_far = sym so_far ∙ ap (read_from limits number told) none

@@ -1,22 +1,26 @@
 -- A trace that is read item by item.
-use Rattle.std.proofs.Common.{◌≡◌, ℕ, ◌+◌, Bool, true, false, List, ◌++◌, length, take, Result, Ok, Err, sym, ap, subst, ◌∙◌, inl, arith}
+use Rattle.std.proofs.Common.{◌≡◌, ℕ, ◌+◌, Bool, true, false, List, ◌++◌, length, take, Result, Ok, Err, sym, ap, subst, ◌∙◌, inl, inr, arith}
 use Rattle.std.proofs.lemmas.Bool.{false≢true}
 use Rattle.std.proofs.lemmas.List.{length-drop, length-take-le}
 use Rattle.gl_event.specs.Bounds.{Bounds}
 use Rattle.gl_io.specs.Positions.{Position}
 use Rattle.gl_io.specs.Reads.{HasRead}
-use Rattle.gl_io.specs.Uses.{used}
+use Rattle.gl_io.specs.Uses.{used, SourceUse}
 use Rattle.gl_std.specs.LineReading as line_reading
 use Rattle.gl_std.specs.bodies.Lasts as lasts
 use Rattle.gl_std.specs.Streaming.{with_item, GoesOn, HasNoFault, HasTold, HasToldAt, IsAnswerAt, IsOfNamed, Leaves, Stream, Stage as StageOf}
+use Rattle.gl_std.specs.Faults.{lines_fault}
 use Rattle.gl_std.specs.Names.{NameLists}
 use Rattle.gl_std.specs.Streaming.Stage.{Reading, Done, Faulty}
 use Rattle.gl_std.specs.Trace.{trace_of}
-use Rattle.gl_std.specs.bodies.States.{reader_of, left_of, stage_of, stream_of, HasJudged, IsBuffered, IsFit, IsHeld, ReadsOn}
+use Rattle.gl_std.specs.bodies.States.{reader_of, left_of, stage_of, stream_of, HasJudged, IsBuffered, IsFit, IsHeld, IsOver, ReadsOn}
 use Rattle.gl_std.specs.bodies.Stepping.{is_idle, HasStepped, Steps}
+use Rattle.gl_std.specs.bodies.Taking.{TakesLast}
 use Rattle.gl_std.specs.bodies.Telling.{item_in, with_judged, IsKnown}
 use Rattle.gl_std.specs.declared.faults.LinesFault.{LinesFault}
 use Rattle.gl_std.specs.declared.faults.LinesFault.TheVariants.{Line, Read, Memory}
+use Rattle.gl_std.specs.declared.faults.ReadFault.{ReadFault}
+use Rattle.gl_std.specs.declared.faults.ReadFault.TheVariants.{Line as LineFault, Memory as Refused}
 use Rattle.gl_std.specs.declared.line_reader.LineReader.{LineReader}
 use Rattle.gl_std.specs.declared.line_reader.Step.{Step}
 use Rattle.gl_std.specs.declared.line_reader.Step.TheVariants.{Told}
@@ -88,6 +92,14 @@ pub last_told : (limits : Bounds) (turns : ℕ) (start now : Position) (failed :
 last_told limits turns start now failed old f text told judged item is same read trace has =
     subst (λ x. HasToldAt Done limits turns (used start now failed) (reader_of f) text (with_item x f.judge.names told)) (sym is)
     (read, ap (λ l. trace_of l text) (sym same) ∙ trace, has)
+
+-- the last line, which is at fault, or memory was refused
+pub last_faulty : (limits : Bounds) (turns : ℕ) (input : SourceUse) (old f : LineReader) (text : List ℕ) (told : Trace) (fault : ReadFault) (reason : LinesFault) → reason ≡ lines_fault fault → old.judge.limits ≡ limits → HasRead turns input.before input.after input.failed text true → TakesLast old f (Err fault) → IsOver old text told → HasToldAt (Faulty reason) limits turns input (reader_of f) text told
+last_faulty limits turns input old f text told fault reason is same read taken over = subst (λ e. HasToldAt (Faulty e) limits turns input (reader_of f) text told) (sym is) (by fault taken)
+  where
+    by : (e : ReadFault) → TakesLast old f (Err e) → HasToldAt (Faulty (lines_fault e)) limits turns input (reader_of f) text told
+    by (LineFault number kind) faulty = inr (read, ap (λ l. trace_of l text) (sym same) ∙ faulty text told over)
+    by Refused refused = tt
 
 -- a line that LF ended
 pub told_item : (limits : Bounds) (turns : ℕ) (start now : Position) (failed : Bool) (stage : Stage) (f : LineReader) (text : List ℕ) (told : Trace) (step : Step) (judged : Judged) (item : Item) → stage_of stage ≡ Reading → step ≡ Told judged → item ≡ item_in judged → Steps limits turns start now failed f text told (Ok step) → GoesOn limits turns (used start now failed) (stream_of stage f) text told (Ok item)

@@ -22,6 +22,7 @@ use Rattle.gl_std.specs.bodies.Telling.{with_judged, IsKnown}
 use Rattle.gl_std.specs.bodies.Judgements.{FailsAs, HasJudgedMore, TellsAs}
 use Rattle.gl_std.specs.bodies.Stepping.{fuel, is_idle, HasBroken, HasFilled, HasFilledBuffer, HasStepped, IsRead, IsStep, OnlyReads, Steps}
 use Rattle.gl_std.specs.bodies.Taking.{EndsLine, HasTakenLine, HasTakenRest, OnlyTakes, TakesLast, TakesLine}
+use Rattle.gl_std.specs.Faults.{lines_fault}
 use Rattle.gl_std.specs.Lines.{LF, CR, ended_lines, without_cr}
 use Rattle.gl_std.specs.Pieces.{IsFaulty}
 use Rattle.gl_std.specs.Trace.{after_line, after_shape, and_then, nothing, trace_of}
@@ -405,6 +406,23 @@ front_of limits old text told at none same =
 pub stepped_here : (limits : Bounds) (turns : ℕ) (start now : Position) (failed : Bool) (f : LineReader) (text : List ℕ) (told : Trace) (r : Result Step LinesFault) → HasStepped limits turns start now failed f text told r → Steps limits turns start now failed f text told r
 stepped_here limits turns start now failed f text told r is =
     record { piece = []; stepped = subst (λ t. HasStepped limits turns start now failed f t told r) (sym (append_nil text)) is }
+
+-- a line at fault, or a refused growth: there is no step
+pub no_step : (now : Position) (failed : Bool) (old new : LineReader) (fault : ReadFault) (reason : LinesFault) → reason ≡ lines_fault fault → TakesLine old new (Err fault) → OnlyTakes old new → failed ≡ false → IsStep now old now failed new (Err reason)
+no_step now failed old new fault reason is taken same sound = subst (λ e. IsStep now old now failed new (Err e)) (sym is) (by fault taken)
+  where
+    by : (f : ReadFault) → TakesLine old new (Err f) → IsStep now old now failed new (Err (lines_fault f))
+    by (Line number kind) faulty = record {
+      tells = λ limits turns start text told is.
+          stepped_here limits turns start now failed new text told (Err (lines_fault (Line number kind))) (
+            subst (λ left. HasGiven turns start now left text) (sym same.same_turns) is.given,
+            subst (λ l. IsFaulty l text number kind) is.same (faulty text told is.at),
+          );
+      known = tt;
+      leaves = sound;
+      same_size = same.same_size;
+    }
+    by Memory refused = record { tells = λ limits turns start text told is. record { piece = []; stepped = tt }; known = tt; leaves = tt; same_size = same.same_size }
 
 -- ---- what a step leaves
 

@@ -12,7 +12,7 @@ use Rattle.gl_std.specs.Line.Says.{too_long, blank, no_bar, one_bar, fields}
 use Rattle.gl_std.specs.Line.FieldsSay.{no_thread, other_word, no_operand, other_call, call, on_itself, bad_operand}
 use Rattle.gl_std.specs.declared.faults.StdKind.TheVariants.{TooLong, NoBar, NoLocation, NoThread, OnItself}
 use Rattle.gl_std.specs.declared.line.TheConstants.{MAX_LINE}
-use Rattle.gl_std.specs.bodies.Reading.{AreApart}
+use Rattle.gl_std.specs.bodies.Judgements.{AreApart}
 use Rattle.std.specs.Str.{bytes_eq}
 use Rattle.std.proofs.lemmas.Slice.Eq.{bytes_eq-Decides}
 use Rattle.gl_std.proofs.Cutting.{holds, cut_at-Some, cut_at-None}

@@ -17,7 +17,7 @@ use Rattle.gl_event.specs.declared.events.Event.TheVariants.{Acquire, Release, T
 use Rattle.gl_event.specs.declared.events.Refusal.{Refusal}
 use Rattle.gl_event.specs.declared.events.Refusal.TheVariants.{PlaceFull, NoSuchThread, OnItself, NotHeld, HeldFull as NoRoom, DepthFull as TooDeep, Upgrade as IsUpgrade}
 use Rattle.gl_std.specs.Line.{Operation, Shape, shape_of, is_on_itself, is_on_thread}
-use Rattle.gl_std.specs.bodies.Reading.{AreApart}
+use Rattle.gl_std.specs.bodies.Judgements.{AreApart}
 use Rattle.gl_std.proofs.Shapes.{shape_of_apart}
 use Rattle.gl_std.specs.Line.Shape.{Blank, Bad, Other, Call}
 use Rattle.gl_std.specs.Laws.{ReadingGoesOn}

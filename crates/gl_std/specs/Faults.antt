@@ -33,3 +33,8 @@ abbrev pub lines_text_of : LinesFault → List ℕ
 lines_text_of (LinesLine line kind) = codes "line " ++ decimal line ++ codes ": " ++ text_of kind
 lines_text_of Read = codes "the text could not be read whole"
 lines_text_of LinesMemory = codes "out of memory"
+
+-- why no further item comes, where a text would give no trace for that reason
+abbrev pub lines_fault : ReadFault → LinesFault
+lines_fault (Line line kind) = LinesLine line kind
+lines_fault Memory = LinesMemory

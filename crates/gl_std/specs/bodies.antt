@@ -4,7 +4,6 @@ pub mod Finding
 pub mod Hearing
 pub mod Judgements
 pub mod Lasts
-pub mod Reading
 pub mod Shown
 pub mod States
 pub mod Stepping

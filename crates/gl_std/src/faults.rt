@@ -141,3 +141,16 @@ impl fmt::Display for LinesFault {
 }
 
 impl Error for LinesFault {}
+
+impl From<ReadFault> for LinesFault {
+    ghost use Rattle.gl_std.specs.Faults.{lines_fault};
+
+    ghost from_gives = { λ fault e. e ≡ lines_fault fault };
+
+    fn from(fault: ReadFault) -> LinesFault {
+        match fault {
+            ReadFault::Line { line, kind } => LinesFault::Line { line, kind },
+            ReadFault::Memory => LinesFault::Memory,
+        }
+    }
+}

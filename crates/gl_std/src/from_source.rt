@@ -1,16 +1,15 @@
 //! Reading the text that a source gives.
-ghost use Rattle.std.specs.Prelude.{◌≡◌, ℕ, ◌^◌, ◌≤◌, List, [], IfOk, vec_len, false, true};
-ghost use Rattle.gl_event.specs.Bounds.{Bounds};
+ghost use Rattle.std.specs.Prelude.{◌≡◌, ◌^◌, ◌≤◌, Bool, false, Ok, Err, IfOk, vec_len};
 ghost use Rattle.gl_io.specs.Positions.{Position};
 ghost use Rattle.gl_io.specs.declared.source.TheConstants.{CHUNK};
-ghost use Rattle.gl_std.specs.LineReading.{HasGiven};
-ghost use Rattle.gl_std.specs.bodies.States.{HasBegun, IsFit, IsOver};
+ghost use Rattle.gl_std.specs.bodies.States.{IsFit};
+ghost use Rattle.gl_std.specs.bodies.Stepping.{StepLeaves};
 ghost use Rattle.gl_std.specs.Heard.{HasHeard};
-ghost use Rattle.gl_std.specs.bodies.Hearing.{listed_by, MeetsOn, ProgressLeaves};
-ghost use Rattle.gl_std.specs.Pieces.{IsFaulty};
-ghost use Rattle.gl_std.specs.Trace.{trace_of, IsTraceOver};
+ghost use Rattle.gl_std.specs.bodies.Hearing.{Hears};
+ghost use Rattle.gl_std.specs.Trace.{IsTraceOver};
+ghost use Rattle.gl_std.specs.declared.line_reader.Step.TheVariants.{End};
 
-use crate::faults::{LinesFault, ReadFault, StdKind};
+use crate::faults::{LinesFault, ReadFault};
 use crate::line_reader::{LineReader, Step};
 use crate::lists::Lists;
 use crate::seed::Seed;
@@ -29,113 +28,57 @@ pub struct Heard {
     pub is_whole: bool,
 }
 
-/// The lists of the lines so far, beside what comes after them.
-#[derive(Drop)]
-pub(crate) struct Listing {
-    alloc: Global,
-    reader: LineReader,
-    lists: Lists,
-}
-
-// What a step of reading met.
-#[derive(Clone, Copy)]
-enum Progress {
-    More,
-    End,
-    Fault { line: u64, kind: StdKind },
-    Broke,
-}
-
-impl Listing {
-    /// No line was read.
-    fn new(alloc: Global, limits: &Limits, turns: u64, seed: Seed) -> Result<Listing, AllocError>
-        requires few_turns { turns ≤ 2 ^ 40 }
-        ensures fit { IfOk result (λ l. IsFit l.reader) }
-        ensures begun { IfOk result (λ l. HasBegun limits.now turns l.reader) }
-        ensures none { IfOk result (λ l. l.lists ≡ []) }
-    {
-        Ok(Listing {
-            alloc,
-            reader: LineReader::new(alloc, limits, turns, seed)?,
-            lists: Lists::new(Vec::new(alloc)),
-        })
-    }
-
-    /// One line, or one read.
-    fn take<R: Source>(&mut self, input: &mut R) -> Result<Progress, AllocError>
-        requires fit { IsFit self.old.reader }
-        requires not_failed { R.failed input.old ≡ false }
-        ensures meets { IfOk result
-            (MeetsOn (R.position input.old) self.old
-            (R.position input.new) (R.failed input.new) self.new) }
-        ensures leaves { IfOk result
-            (ProgressLeaves self.old.reader (R.failed input.new) self.new.reader) }
-        ensures room { vec_len self.new.reader.buffer ≡ vec_len self.old.reader.buffer }
-    {
-        match self.reader.step(input) {
-            Ok(Step::More) => Ok(Progress::More),
-            Ok(Step::Told(judged)) => {
-                self.lists.add(self.alloc, self.reader.names(), judged)?;
-                Ok(Progress::More)
-            }
-            Ok(Step::End) => Ok(Progress::End),
-            Err(LinesFault::Line { line, kind }) => Ok(Progress::Fault { line, kind }),
-            Err(LinesFault::Read) => Ok(Progress::Broke),
-            Err(LinesFault::Memory) => Err(AllocError),
-        }
-    }
-
-    /// What was heard, where the source has ended.
-    fn finish(mut self) -> Result<Heard, AllocError>
-        requires fit { IsFit self.reader }
-        ensures trace { IfOk result
-            (λ h. (text : List ℕ) → IsOver self.reader text (listed_by self)
-            → trace_of self.reader.judge.limits text ≡ h.trace) }
-        ensures whole { IfOk result (λ h. h.is_whole ≡ true) }
-    {
-        match self.reader.last() {
-            Ok(judged) => {
-                self.lists.add(self.alloc, self.reader.names(), judged)?;
-                Ok(Heard {
-                    trace: Ok(self.into_trace()),
-                    is_whole: true,
-                })
-            }
-            Err(ReadFault::Line { line, kind }) => Ok(Heard {
-                trace: Err(ReadFault::Line { line, kind }),
+// What was heard, where the source has ended. It is done once, so it stays out of the loop over lines.
+#[inline(never)]
+fn finish(alloc: Global, mut reader: LineReader, mut lists: Lists) -> Result<Heard, AllocError>
+    requires fit { IsFit reader }
+    ensures heard { (now : Position) (failed : Bool)
+        → IfOk result (Hears now failed reader lists (Ok End) now failed) }
+{
+    match reader.last() {
+        Ok(judged) => {
+            lists.add(alloc, reader.names(), judged)?;
+            Ok(Heard {
+                trace: Ok(Trace::of(reader.into_judge(), lists)),
                 is_whole: true,
-            }),
-            Err(ReadFault::Memory) => Err(AllocError),
+            })
         }
-    }
-
-    /// What was heard, where a line is at fault. The source is still read to its end.
-    fn drain<R: Source>(mut self, input: &mut R, line: u64, kind: StdKind) -> Heard
-        requires room { vec_len self.reader.buffer ≡ CHUNK }
-        requires not_failed { R.failed input.old ≡ false }
-        ensures { (limits : Bounds) (turns : ℕ) (start : Position) (text : List ℕ)
-            → HasGiven turns start (R.position input.old) self.reader.turns text
-            → IsFaulty limits text line kind
-            → HasHeard limits turns start (R.position input.new) (R.failed input.new) result }
-    {
-        let is_whole = self.reader.drain(input);
-        Heard {
+        Err(ReadFault::Line { line, kind }) => Ok(Heard {
             trace: Err(ReadFault::Line { line, kind }),
-            is_whole,
-        }
+            is_whole: true,
+        }),
+        Err(ReadFault::Memory) => Err(AllocError),
     }
+}
 
-    /// The trace of the lines so far.
-    fn into_trace(self) -> Trace
-        ensures { result ≡ listed_by self }
-    {
-        let (names, skipped, stray) = self.reader.into_parts();
-        Trace {
-            names,
-            lists: self.lists,
-            skipped,
-            stray,
+// What was heard, where there is no next line for this reason. After a line at fault the source is still
+// read to its end. It is done once, too.
+#[inline(never)]
+fn stop<R: Source>(
+    mut reader: LineReader,
+    lists: Lists,
+    input: &mut R,
+    fault: LinesFault,
+) -> Result<Heard, AllocError>
+    requires left { StepLeaves (Err fault) (R.failed input.old) reader }
+    requires room { vec_len reader.buffer ≡ CHUNK }
+    ensures heard { IfOk result
+        (Hears (R.position input.old) (R.failed input.old) reader lists (Err fault)
+        (R.position input.new) (R.failed input.new)) }
+{
+    match fault {
+        LinesFault::Line { line, kind } => {
+            let is_whole = reader.drain(input);
+            Ok(Heard {
+                trace: Err(ReadFault::Line { line, kind }),
+                is_whole,
+            })
         }
+        LinesFault::Read => Ok(Heard {
+            trace: Ok(Trace::of(reader.into_judge(), lists)),
+            is_whole: false,
+        }),
+        LinesFault::Memory => Err(AllocError),
     }
 }
 
@@ -162,18 +105,14 @@ pub fn read_source<R: Source>(
         (R.failed input.new)) }
     ensures over { IfOk result (λ h. IfOk h.trace (IsTraceOver limits.now)) }
 {
-    let mut listing = Listing::new(alloc, limits, turns, seed)?;
+    let mut reader = LineReader::new(alloc, limits, turns, seed)?;
+    let mut lists = Lists::new(Vec::new(alloc));
     'lines: loop {
-        match listing.take(input)? {
-            Progress::More => {}
-            Progress::End => return listing.finish(),
-            Progress::Fault { line, kind } => return Ok(listing.drain(input, line, kind)),
-            Progress::Broke => {
-                return Ok(Heard {
-                    trace: Ok(listing.into_trace()),
-                    is_whole: false,
-                });
-            }
+        match reader.step(input) {
+            Ok(Step::More) => {}
+            Ok(Step::Told(judged)) => lists.add(alloc, reader.names(), judged)?,
+            Ok(Step::End) => return finish(alloc, reader, lists),
+            Err(fault) => return stop(reader, lists, input, fault),
         }
     }
 }

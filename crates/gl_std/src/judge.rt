@@ -52,10 +52,9 @@ impl Judge {
     ghost use Rattle.gl_std.specs.Line.{is_on_itself};
     ghost use Rattle.gl_std.specs.bodies.Counting.{count_of};
     ghost use Rattle.gl_std.specs.bodies.States.{HasJudged, IsSound};
-    ghost use Rattle.gl_std.specs.bodies.Judgements.{FailsAs, HasJudgedMore, TellsAs};
+    ghost use Rattle.gl_std.specs.bodies.Judgements.{AreApart, FailsAs, HasJudgedMore, TellsAs};
     ghost use Rattle.gl_std.specs.bodies.Telling.{IsKnown};
     ghost use Rattle.gl_std.specs.bodies.Finding.{found_in, limit_found};
-    ghost use Rattle.gl_std.specs.bodies.Reading.{AreApart};
     ghost use Rattle.gl_std.specs.bodies.Shown.{shown};
     ghost use Rattle.gl_std.specs.Trace.{after_line, after_shape, after_call, nothing};
     ghost use Rattle.gl_std.specs.declared.faults.StdKind.{StdKind};

@@ -122,8 +122,7 @@ impl LineReader {
         match self.take_line() {
             Ok(Some(judged)) => Ok(Step::Told(judged)),
             Ok(None) => self.read_on(input),
-            Err(ReadFault::Line { line, kind }) => Err(LinesFault::Line { line, kind }),
-            Err(ReadFault::Memory) => Err(LinesFault::Memory),
+            Err(fault) => Err(LinesFault::from(fault)),
         }
     }
 
@@ -186,6 +185,13 @@ impl LineReader {
     pub(crate) fn into_parts(self) -> (Names, u64, u64)
         ensures { result ≡ (self.judge.names, self.judge.skipped, self.judge.stray) }
     {
+        self.into_judge().into_parts()
+    }
+
+    /// What was judged.
+    pub(crate) fn into_judge(self) -> Judge
+        ensures { result ≡ self.judge }
+    {
         let LineReader {
             judge,
             unfinished,
@@ -194,7 +200,7 @@ impl LineReader {
             end: _,
             turns: _,
         } = self;
-        judge.into_parts()
+        judge
     }
 
     // One read, where nothing is left of the one before. Whether it gave any bytes.

@@ -10,7 +10,7 @@ ghost use Rattle.gl_std.specs.Streaming.Stage.{Reading};
 ghost use Rattle.gl_std.specs.Trace.{nothing};
 ghost use Rattle.gl_std.specs.bodies.Telling.{item_in};
 
-use crate::faults::{LinesFault, ReadFault};
+use crate::faults::LinesFault;
 use crate::judge::Judged;
 use crate::line_reader::{LineReader, Step};
 use crate::names::Names;
@@ -143,13 +143,10 @@ impl Items {
                 self.stage = Stage::Done;
                 Ok(item_of(judged))
             }
-            Err(ReadFault::Line { line, kind }) => {
-                self.stage = Stage::Faulty(LinesFault::Line { line, kind });
-                Err(LinesFault::Line { line, kind })
-            }
-            Err(ReadFault::Memory) => {
-                self.stage = Stage::Faulty(LinesFault::Memory);
-                Err(LinesFault::Memory)
+            Err(fault) => {
+                let fault = LinesFault::from(fault);
+                self.stage = Stage::Faulty(fault);
+                Err(fault)
             }
         }
     }

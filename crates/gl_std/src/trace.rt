@@ -1,4 +1,5 @@
 //! What a text says.
+use crate::judge::Judge;
 use crate::lists::Lists;
 use crate::names::Names;
 
@@ -13,4 +14,23 @@ pub struct Trace {
     pub skipped: u64,
     /// How many releases were dropped, since their thread didn't hold the lock.
     pub stray: u64,
+}
+
+impl Trace {
+    ghost use Rattle.std.specs.Prelude.{◌≡◌};
+    ghost use Rattle.gl_std.specs.bodies.States.{HasJudged};
+    ghost use Rattle.gl_std.specs.declared.trace.Trace.{Trace};
+
+    /// What was judged, with the lists of its events.
+    pub(crate) fn of(judge: Judge, lists: Lists) -> Trace
+        ensures { (told : Trace) → HasJudged judge told → lists ≡ told.lists → result ≡ told }
+    {
+        let (names, skipped, stray) = judge.into_parts();
+        Trace {
+            names,
+            lists,
+            skipped,
+            stray,
+        }
+    }
 }

@@ -1,7 +1,6 @@
 //! Reading a text that is there as a whole.
-ghost use Rattle.std.specs.Prelude.{◌≡◌, ℕ, ◌+◌, ◌^◌, ◌<◌, Ok, Err, IfOk, OnOk};
-ghost use Rattle.gl_std.specs.bodies.Reading.{told_by, IsReady};
-ghost use Rattle.gl_std.specs.Trace.{after_line, nothing, trace_of, IsTraceOver};
+ghost use Rattle.std.specs.Prelude.{◌≡◌, ℕ, Ok, Err, IfOk};
+ghost use Rattle.gl_std.specs.Trace.{trace_of, IsTraceOver};
 ghost use Rattle.gl_std.specs.declared.faults.StdKind.{StdKind};
 ghost use Rattle.gl_std.specs.declared.faults.ReadFault.TheVariants.{Line};
 
@@ -13,62 +12,6 @@ use crate::seed::Seed;
 use crate::trace::Trace;
 use gl_event::Limits;
 use std::alloc::Global;
-
-/// The trace of the lines so far: what is judged of them, and the lists beside it.
-#[derive(Drop)]
-struct Reader {
-    alloc: Global,
-    judge: Judge,
-    lists: Lists,
-}
-
-impl Reader {
-    /// No line was read.
-    fn new(alloc: Global, limits: Limits, seed: Seed) -> Reader
-        ensures told { told_by result ≡ nothing }
-        ensures ready { IsReady result }
-        ensures limits { result.judge.limits ≡ limits }
-        ensures line { result.judge.line ≡ 1 }
-    {
-        Reader {
-            alloc,
-            judge: Judge::new(alloc, limits, seed),
-            lists: Lists::new(Vec::new(alloc)),
-        }
-    }
-
-    /// Reads the next line. After a fault the reader is of no use.
-    fn take(&mut self, line: &[u8]) -> Result<(), ReadFault>
-        requires ready { IsReady self.old }
-        requires countable { self.old.judge.line + 1 < 2 ^ 64 }
-        ensures ok { OnOk result
-            (after_line self.old.judge.limits self.old.judge.line (told_by self.old) line.now
-            ≡ Ok (told_by self.new)) }
-        ensures fault { (number : ℕ) (kind : StdKind) → result ≡ Err (Line number kind)
-            → after_line self.old.judge.limits self.old.judge.line (told_by self.old) line.now
-            ≡ Err (Line number kind) }
-        ensures ready { OnOk result (IsReady self.new) }
-        ensures limits { self.new.judge.limits ≡ self.old.judge.limits }
-        ensures line { OnOk result (self.new.judge.line ≡ self.old.judge.line + 1) }
-    {
-        let judged = self.judge.take(line)?;
-        self.lists.add(self.alloc, self.judge.names(), judged)?;
-        Ok(())
-    }
-
-    /// The trace of all lines.
-    fn into_trace(self) -> Trace
-        ensures { result ≡ told_by self }
-    {
-        let (names, skipped, stray) = self.judge.into_parts();
-        Trace {
-            names,
-            lists: self.lists,
-            skipped,
-            stray,
-        }
-    }
-}
 
 /// The trace of a text, or the fault of its first line that is no event.
 ///
@@ -97,11 +40,13 @@ pub fn read_seeded(
         → trace_of limits.now bytes.now ≡ Err (Line line kind) }
     ensures over { IfOk result (IsTraceOver limits.now) }
 {
-    let mut reader = Reader::new(alloc, *limits, seed);
+    let mut judge = Judge::new(alloc, *limits, seed);
+    let mut lists = Lists::new(Vec::new(alloc));
     let mut rest = bytes;
     while let Some((line, after)) = next_line(rest) {
-        reader.take(line)?;
+        let judged = judge.take(line)?;
+        lists.add(alloc, judge.names(), judged)?;
         rest = after;
     }
-    Ok(reader.into_trace())
+    Ok(Trace::of(judge, lists))
 }

@@ -1,5 +1,7 @@
 -- What a judged line does to each trace that a judge stands for.
-use Rattle.std.specs.Prelude.{◌≡◌, ℕ, Result, Ok, Err}
+use Rattle.std.specs.Prelude.{◌≡◌, ℕ, false, Result, Ok, Err}
+use Rattle.gl_std.specs.Line.{Shape, is_on_itself}
+use Rattle.gl_std.specs.Line.Shape.{Blank, Bad, Other, Call}
 use Rattle.gl_std.specs.bodies.States.{HasJudged}
 use Rattle.gl_std.specs.bodies.Telling.{with_judged}
 use Rattle.gl_std.specs.declared.faults.ReadFault.{ReadFault}
@@ -20,3 +22,10 @@ HasJudgedMore old new judged = (told : Trace) → HasJudged old told → HasJudg
 -- a fault that is answered is what comes after each of them
 abbrev pub FailsAs : Judge → (Trace → Result Trace ReadFault) → Result Judged ReadFault → Type 0
 FailsAs old after result = (number : ℕ) (kind : StdKind) → result ≡ Err (Line number kind) → (told : Trace) → HasJudged old told → after told ≡ Err (Line number kind)
+
+-- no thread forks or joins itself, if this is what a line says
+abbrev pub AreApart : Shape → Type 0
+AreApart Blank = Unit {0}
+AreApart (Bad kind) = Unit {0}
+AreApart Other = Unit {0}
+AreApart (Call operation thread operand location) = is_on_itself operation thread operand ≡ false

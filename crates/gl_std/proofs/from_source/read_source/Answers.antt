@@ -1,104 +1,78 @@
-use Rattle.std.proofs.Common.{◌++◌, [], Ok, sym, ap, subst, ◌∙◌}
+use Rattle.std.proofs.Common.{◌++◌, [], map, Vec, Global, Ok, Err, sym, ap, subst, ◌∙◌}
 use Rattle.std.proofs.lemmas.Result.{err_from_is_err_and}
-use Rattle.gl_std.specs.bodies.States.{ReadsOn}
-use Rattle.gl_std.specs.bodies.Hearing.{listed_by, Meets, ProgressLeaves}
+use Rattle.gl_event.specs.declared.events.Event.{Event}
+use Rattle.gl_std.specs.bodies.Stepping.{IsStep}
+use Rattle.gl_std.specs.bodies.Telling.{with_judged}
 use Rattle.gl_std.specs.Trace.{nothing}
-use Rattle.gl_std.proofs.HeardSources.{heard_over, heard_trace_over, heard_whole, listed_is}
+use Rattle.gl_std.specs.declared.line_reader.Step.TheVariants.{End}
+use Rattle.gl_std.proofs.HeardSources.{heard_of, heard_over}
 use Rattle.gl_std.proofs.from_source.read_source.Goals as goal
 
 pub lines-init : goal.lines-init
-lines-init g c =
-    let listing = c.in_ok-listing.listing in
-    let reads = c.in_ok-listing.ensures.begun (g.R.Source.position c.args.input.now) in
-    record {
-      text = [];
-      reads = subst (ReadsOn c.args.limits.now c.args.turns _ _ listing.reader []) (sym (listed_is listing nothing reads.at.reaches.judged c.in_ok-listing.ensures.none)) reads;
-      fit = c.in_ok-listing.ensures.fit;
-      sound = c.requires.not_failed;
-    }
+lines-init g c = record {
+  text = [];
+  told = nothing;
+  reads = c.in_ok-reader.ensures.begun (g.R.Source.position c.args.input.now);
+  listed = c.new-lists.ensures ∙ ap (map (λ (v : Vec Event Global). v.items)) c.new-2.ensures.items;
+  fit = c.in_ok-reader.ensures.fit;
+  sound = c.requires.not_failed;
+}
 
+-- no line yet
+pub lines-preserved-in-Ok-More : goal.lines-preserved-in-Ok-More
+lines-preserved-in-Ok-More g c =
+    let so_far = c.lines.invariant in
+    let new = c.step.new in
+    let step = subst (λ s. IsStep (g.R.Source.position c.lines.input) c.lines.reader (g.R.Source.position new.input) (g.R.Source.failed new.input) new.self (Ok s)) c.in-Ok-More.field-0-is c.in-Ok-More.ensures.steps in
+    let steps = step.tells c.args.limits.now c.args.turns (g.R.Source.position c.args.input.now) so_far.text so_far.told so_far.reads in
+    record { text = so_far.text ++ steps.piece; told = so_far.told; reads = steps.stepped; listed = so_far.listed; fit = step.leaves.1; sound = step.leaves.0 }
+
+-- a line
 pub lines-preserved : goal.lines-preserved
 lines-preserved g c =
     let so_far = c.lines.invariant in
-    let new = c.take.new in
-    let meets = subst (Meets c.args.limits.now c.args.turns (g.R.Source.position c.args.input.now) (g.R.Source.position new.input) (g.R.Source.failed new.input) new.self so_far.text) c.in-More.is (c.in_ok-take.ensures.meets c.args.limits.now c.args.turns (g.R.Source.position c.args.input.now) so_far.text so_far.reads) in
-    let leaves = subst (ProgressLeaves c.lines.listing.reader (g.R.Source.failed new.input) new.self.reader) c.in-More.is c.in_ok-take.ensures.leaves in
+    let new = c.step.new in
+    let step = subst (λ s. IsStep (g.R.Source.position c.lines.input) c.lines.reader (g.R.Source.position new.input) (g.R.Source.failed new.input) new.self (Ok s)) c.in-Ok-Told.field-0-is c.in-Ok-Told.ensures.steps in
+    let steps = step.tells c.args.limits.now c.args.turns (g.R.Source.position c.args.input.now) so_far.text so_far.told so_far.reads in
     record {
-      text = so_far.text ++ meets.piece;
-      reads = meets.met;
-      fit = leaves.0;
-      sound = leaves.1;
+      text = so_far.text ++ steps.piece;
+      told = with_judged c.in-Ok-Told.judged new.self.judge.names so_far.told;
+      reads = steps.stepped;
+      listed = rw c.names.ensures at (c.in_ok-add-in-Ok-Told.ensures so_far.told (sym so_far.listed));
+      fit = step.leaves.1;
+      sound = step.leaves.0;
     }
 
 -- the source has ended
-pub returns-in-End-clause-heard : goal.returns-in-End-clause-heard
-returns-in-End-clause-heard g c =
+pub returns-in-Ok-End-clause-heard : goal.returns-in-Ok-End-clause-heard
+returns-in-Ok-End-clause-heard g c =
     let so_far = c.lines.invariant in
-    let new = c.take.new in
-    let meets = subst (Meets c.args.limits.now c.args.turns (g.R.Source.position c.args.input.now) (g.R.Source.position new.input) (g.R.Source.failed new.input) new.self so_far.text) c.in-End.is (c.in_ok-take.ensures.meets c.args.limits.now c.args.turns (g.R.Source.position c.args.input.now) so_far.text so_far.reads) in
-    heard_whole c.args.limits.now new.self.reader.judge.limits c.args.turns _ _ _ new.self.reader (so_far.text ++ meets.piece) (listed_by new.self) c.finish.result meets.met.1 meets.met.0 meets.met.2 c.finish.ensures.trace c.finish.ensures.whole
+    let new = c.step.new in
+    let step = subst (λ s. IsStep (g.R.Source.position c.lines.input) c.lines.reader (g.R.Source.position new.input) (g.R.Source.failed new.input) new.self (Ok s)) c.in-Ok-End.field-0-is c.in-Ok-End.ensures.steps in
+    let steps = step.tells c.args.limits.now c.args.turns (g.R.Source.position c.args.input.now) so_far.text so_far.told so_far.reads in
+    heard_of c.args.limits.now c.args.turns (g.R.Source.position c.args.input.now) (g.R.Source.position new.input) (g.R.Source.position new.input) (g.R.Source.failed new.input) (g.R.Source.failed new.input) new.self c.lines.lists (so_far.text ++ steps.piece) so_far.told (Ok End) c.finish.result (c.finish.ensures.heard (g.R.Source.position new.input) (g.R.Source.failed new.input)) steps.stepped so_far.listed
 
-pub returns-in-End-clause-over : goal.returns-in-End-clause-over
-returns-in-End-clause-over g c = heard_over c.args.limits.now c.args.turns _ _ _ c.finish.result (returns-in-End-clause-heard g c)
+pub returns-in-Ok-End-clause-over : goal.returns-in-Ok-End-clause-over
+returns-in-Ok-End-clause-over g c = heard_over c.args.limits.now c.args.turns _ _ _ c.finish.result (returns-in-Ok-End-clause-heard g c)
 
--- a line is at fault
-pub returns-in-Fault-clause-heard : goal.returns-in-Fault-clause-heard
-returns-in-Fault-clause-heard g c =
+-- no further line comes
+pub returns-in-Err-clause-heard : goal.returns-in-Err-clause-heard
+returns-in-Err-clause-heard g c =
     let so_far = c.lines.invariant in
-    let new = c.take.new in
-    let meets = subst (Meets c.args.limits.now c.args.turns (g.R.Source.position c.args.input.now) (g.R.Source.position new.input) (g.R.Source.failed new.input) new.self so_far.text) c.in-Fault.is (c.in_ok-take.ensures.meets c.args.limits.now c.args.turns (g.R.Source.position c.args.input.now) so_far.text so_far.reads) in
-    c.drain.ensures c.args.limits.now c.args.turns _ (so_far.text ++ meets.piece) meets.met.0 meets.met.1
+    let new = c.step.new in
+    let steps = c.in-Err.ensures.steps.tells c.args.limits.now c.args.turns (g.R.Source.position c.args.input.now) so_far.text so_far.told so_far.reads in
+    heard_of c.args.limits.now c.args.turns (g.R.Source.position c.args.input.now) (g.R.Source.position new.input) (g.R.Source.position c.stop.new.input) (g.R.Source.failed new.input) (g.R.Source.failed c.stop.new.input) new.self c.lines.lists (so_far.text ++ steps.piece) so_far.told (Err c.in-Err.fault) c.stop.result c.stop.ensures.heard steps.stepped so_far.listed
 
-pub returns-in-Fault-clause-over : goal.returns-in-Fault-clause-over
-returns-in-Fault-clause-over g c = heard_trace_over c.args.limits.now c.args.turns _ _ _ c.drain.result (returns-in-Fault-clause-heard g c)
-
--- a read failed, or no turn was left
-pub returns-in-Broke-clause-heard : goal.returns-in-Broke-clause-heard
-returns-in-Broke-clause-heard g c =
-    let so_far = c.lines.invariant in
-    let new = c.take.new in
-    let meets = subst (Meets c.args.limits.now c.args.turns (g.R.Source.position c.args.input.now) (g.R.Source.position new.input) (g.R.Source.failed new.input) new.self so_far.text) c.in-Broke.is (c.in_ok-take.ensures.meets c.args.limits.now c.args.turns (g.R.Source.position c.args.input.now) so_far.text so_far.reads) in
-    record {
-      text = so_far.text ++ meets.piece;
-      read = meets.met.0;
-      trace = meets.met.1 ∙ ap (λ t. Ok t) (sym c.into_trace.ensures);
-    }
-
-pub returns-in-Broke-clause-over : goal.returns-in-Broke-clause-over
-returns-in-Broke-clause-over g c = heard_trace_over c.args.limits.now c.args.turns _ _ _ _ (returns-in-Broke-clause-heard g c)
-
-pub take-requires-clause-fit : goal.take-requires-clause-fit
-take-requires-clause-fit g c = c.lines.invariant.fit
-
-pub take-requires-clause-not_failed : goal.take-requires-clause-not_failed
-take-requires-clause-not_failed g c = c.lines.invariant.sound
-
-pub lines-smaller : goal.lines-smaller
-lines-smaller g c = (subst (ProgressLeaves c.lines.listing.reader (g.R.Source.failed c.take.new.input) c.take.new.self.reader) c.in-More.is c.in_ok-take.ensures.leaves).2
-
-pub finish-requires : goal.finish-requires
-finish-requires g c = record { fit = subst (ProgressLeaves c.lines.listing.reader (g.R.Source.failed c.take.new.input) c.take.new.self.reader) c.in-End.is c.in_ok-take.ensures.leaves }
-
-pub drain-requires-clause-not_failed : goal.drain-requires-clause-not_failed
-drain-requires-clause-not_failed g c = subst (ProgressLeaves c.lines.listing.reader (g.R.Source.failed c.take.new.input) c.take.new.self.reader) c.in-Fault.is c.in_ok-take.ensures.leaves
+pub returns-in-Err-clause-over : goal.returns-in-Err-clause-over
+returns-in-Err-clause-over g c = heard_over c.args.limits.now c.args.turns _ _ _ c.stop.result (returns-in-Err-clause-heard g c)
 
 -- memory was refused
-pub returns-in_err-listing-clause-heard : goal.returns-in_err-listing-clause-heard
-returns-in_err-listing-clause-heard g c =
+pub returns-in_err-reader-clause-heard : goal.returns-in_err-reader-clause-heard
+returns-in_err-reader-clause-heard g c =
     let p = err_from_is_err_and c.from_residual.result c.from_residual.ensures.1 in
     rw p.1 tt
 
-pub returns-in_err-listing-clause-over : goal.returns-in_err-listing-clause-over
-returns-in_err-listing-clause-over g c =
+pub returns-in_err-reader-clause-over : goal.returns-in_err-reader-clause-over
+returns-in_err-reader-clause-over g c =
     let p = err_from_is_err_and c.from_residual.result c.from_residual.ensures.1 in
-    rw p.1 tt
-
-pub returns-in_err-take-clause-heard : goal.returns-in_err-take-clause-heard
-returns-in_err-take-clause-heard g c =
-    let p = err_from_is_err_and c.from_residual-in_err-take.result c.from_residual-in_err-take.ensures.1 in
-    rw p.1 tt
-
-pub returns-in_err-take-clause-over : goal.returns-in_err-take-clause-over
-returns-in_err-take-clause-over g c =
-    let p = err_from_is_err_and c.from_residual-in_err-take.result c.from_residual-in_err-take.ensures.1 in
     rw p.1 tt

@@ -1,16 +1,18 @@
 use Rattle.std.proofs.Common.{◌≡◌, false, List, ℕ}
 use Rattle.gl_std.specs.bodies.States.{IsFit, ReadsOn}
 use Rattle.gl_std.specs.bodies.Stepping.{fuel}
-use Rattle.gl_std.specs.bodies.Hearing.{listed_by}
+use Rattle.gl_std.specs.declared.trace.Trace.{Trace}
 use Rattle.gl_std.proofs.from_source.read_source.Given as goal
 
 abbrev pub invariant-lines : goal.invariant-lines
 invariant-lines g l = record {
   text : List ℕ;
-  reads : ReadsOn l.limits l.turns (g.R.Source.position l.initial.input) (g.R.Source.position l.input) l.listing.reader text (listed_by l.listing);
-  fit : IsFit l.listing.reader;
+  told : Trace;
+  reads : ReadsOn l.limits l.turns (g.R.Source.position l.initial.input) (g.R.Source.position l.input) l.reader text told;
+  listed : l.lists ≡ told.lists;
+  fit : IsFit l.reader;
   sound : g.R.Source.failed l.input ≡ false;
 }
 
 abbrev pub decreases-lines : goal.decreases-lines
-decreases-lines g l = fuel l.listing.reader
+decreases-lines g l = fuel l.reader

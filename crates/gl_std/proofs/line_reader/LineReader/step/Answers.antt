@@ -1,8 +1,7 @@
-use Rattle.std.proofs.Common.{[], Ok, Err, sym, subst, ◌∙◌}
+use Rattle.std.proofs.Common.{Ok, sym, subst, ◌∙◌}
 use Rattle.gl_std.specs.LineReading.{HasGiven}
-use Rattle.gl_std.specs.Pieces.{IsFaulty}
 use Rattle.gl_std.specs.bodies.Taking.{TakesLine}
-use Rattle.gl_std.proofs.LineByLine.{line_fit, line_less, rest_fit, rest_less, stepped_here}
+use Rattle.gl_std.proofs.LineByLine.{line_fit, line_less, no_step, rest_fit, rest_less, stepped_here}
 use Rattle.gl_std.proofs.line_reader.LineReader.step.Goals as goal
 
 -- a whole line was left
@@ -70,28 +69,7 @@ returns-in-Ok-None-clause-smaller g c =
     let new = c.take_line.new.self in
     rest_less old new c.read_on.new.self c.read_on.result (subst (λ line. TakesLine old new (Ok line)) c.in-Ok-None.field-0-is c.in-Ok-None.ensures.takes) c.take_line.ensures.same c.read_on.ensures.smaller
 
--- the next line is at fault
-pub returns-in-Err-Line-clause-steps : goal.returns-in-Err-Line-clause-steps
-returns-in-Err-Line-clause-steps g c =
-    let old = c.args.self.now in
-    let new = c.take_line.new.self in
-    let same = c.take_line.ensures.same in
-    let faulty = subst (λ fault. TakesLine old new (Err fault)) c.in-Err-Line.field-0-is c.in-Err-Line.ensures.takes in
-    record {
-      tells = λ limits turns start text told is.
-          stepped_here limits turns start _ _ new text told _ (
-            subst (λ left. HasGiven turns start (g.R.Source.position c.args.input.now) left text) (sym same.same_turns) is.given,
-            subst (λ l. IsFaulty l text c.in-Err-Line.line c.in-Err-Line.kind) is.same (faulty text told is.at),
-          );
-      known = tt;
-      leaves = c.requires.not_failed;
-      same_size = same.same_size;
-    }
-
-pub returns-in-Err-Memory-clause-steps : goal.returns-in-Err-Memory-clause-steps
-returns-in-Err-Memory-clause-steps g c = record {
-  tells = λ limits turns start text told is. record { piece = []; stepped = tt };
-  known = tt;
-  leaves = tt;
-  same_size = c.take_line.ensures.same.same_size;
-}
+-- the next line is at fault, or memory was refused
+pub returns-in-Err-clause-steps : goal.returns-in-Err-clause-steps
+returns-in-Err-clause-steps g c =
+    no_step (g.R.Source.position c.args.input.now) (g.R.Source.failed c.args.input.now) c.args.self.now c.take_line.new.self c.in-Err.fault c.from.result c.from.ensures c.in-Err.ensures.takes c.take_line.ensures.same c.requires.not_failed

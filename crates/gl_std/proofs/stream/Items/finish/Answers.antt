@@ -1,8 +1,6 @@
-use Rattle.std.proofs.Common.{Err, refl, sym, ap, subst, ◌∙◌, inr}
+use Rattle.std.proofs.Common.{refl, ap, ◌∙◌}
 use Rattle.gl_std.specs.Streaming.{Stream}
-use Rattle.gl_std.specs.Trace.{trace_of}
-use Rattle.gl_std.specs.bodies.Taking.{TakesLast}
-use Rattle.gl_std.proofs.ItemByItem.{known_item, last_told, leaves_done, over_shown}
+use Rattle.gl_std.proofs.ItemByItem.{known_item, last_faulty, last_told, leaves_done, over_shown}
 use Rattle.gl_std.proofs.stream.Items.finish.Goals as goal
 
 -- the last line, or none
@@ -19,15 +17,14 @@ returns-in-Ok-clause-last c =
       leaves = leaves_done c.item_of.result _ refl;
     }
 
--- it is at fault
-pub returns-in-Err-Line-clause-last : goal.returns-in-Err-Line-clause-last
-returns-in-Err-Line-clause-last c =
+-- it is at fault, or memory was refused
+pub returns-in-Err-clause-last : goal.returns-in-Err-clause-last
+returns-in-Err-clause-last c =
     let old = c.self.inside in
     let shown = c.self.view_is in
-    let faulty = subst (λ fault. TakesLast old.reader c.last.new.self (Err fault)) c.in-Err-Line.field-0-is c.in-Err-Line.ensures.takes in
     record {
       tells = λ limits turns input text told read same over.
-          inr (read, ap (λ l. trace_of l text) (sym (ap (λ (s : Stream). s.reader.judge.limits) shown ∙ same)) ∙ faulty text told (over_shown old.stage old.reader c.args.self.now text told shown over));
+          last_faulty limits turns input old.reader c.last.new.self text told c.in-Err.fault c.from-fault.result c.from-fault.ensures (ap (λ (s : Stream). s.reader.judge.limits) shown ∙ same) read c.in-Err.ensures.takes (over_shown old.stage old.reader c.args.self.now text told shown over);
       known = tt;
       leaves = refl;
     }
