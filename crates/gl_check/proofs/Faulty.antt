@@ -1,16 +1,14 @@
 -- The fault of a report whose shape is right.
-use Rattle.std.proofs.Common.{◌≡◌, ◌⊎◌, Bool, true, List, ℕ, Some, sym, subst, inl, inr}
+use Rattle.std.proofs.Common.{◌≡◌, ◌⊎◌, Bool, true, List, ℕ, sym, subst, inl, inr}
 use Rattle.serde_json.specs.Data.{Data}
 use Rattle.gl_std.specs.declared.trace.Trace.{Trace}
 use Rattle.gl_event.specs.declared.events.Segment.{Segment}
 use Rattle.gl_std.specs.Names.{NameLists}
 use Rattle.gl_edges.specs.declared.edge.Edge.{Edge as AnyEdge}
 use Rattle.gl_edges.specs.declared.edge.Sample.{Sample}
-use Rattle.gl_filters.specs.Picked.{edges_of_table}
-use Rattle.gl_trims.specs.Trims.{IsRemovalFault}
-use Rattle.gl_check.specs.Checked.{AreListedAt, HasTable, IsCheckFault, IsFalseOf, IsFirstFalse, IsOrderFault, Reads}
+use Rattle.gl_check.specs.Checked.{AreListedAt, HasTable, IsCheckFault, IsFalseOf, IsFaultOfTrim, IsFirstFalse, IsOrderFault, Reads}
 use Rattle.gl_check.specs.Cycles.{IsFirstFault}
-use Rattle.gl_check.specs.Shape.{asked_in, cycles_in, format_in, is_report, trim_in}
+use Rattle.gl_check.specs.Shape.{asked_in, cycles_in, format_in, is_report}
 use Rattle.gl_check.specs.declared.faults.CheckFault.{CheckFault}
 use Rattle.gl_check.specs.declared.faults.CheckFault.TheVariants.{Json, Shape, Inconsistent, Table, Edge, Verdict, Order, Trim, Memory}
 
@@ -32,11 +30,16 @@ module _ (names : NameLists) (table : List (AnyEdge × Sample)) (before : Segmen
   false_cycles fault has (inr first) = cycle_fault fault has first
 
   -- the trim order is, as the table and the cycles are right
-  pub false_trim : (fault : CheckFault) (found : List (List ℕ)) → HasTable names table before d (format_in d) → AreListedAt names table before d found
-      → (fault ≡ Memory) ⊎ ((i : ℕ) × (fault ≡ Trim i) × ((removed : List ℕ) × (trim_in d ≡ Some removed) × IsRemovalFault before (asked_in d).mode (edges_of_table table) removed i)) → IsFirstFalse names table before d fault
-  false_trim fault found has are (inl refused) = subst (IsFirstFalse names table before d) (sym refused) tt
-  false_trim fault found has are (inr wrong) =
-      subst (IsFirstFalse names table before d) (sym wrong.1) (record { printed_table = has; found = found; cycles = are; removed = wrong.2.0; given = wrong.2.1; wrong = wrong.2.2 })
+  pub false_trim : (fault : CheckFault) (found : List (List ℕ)) → HasTable names table before d (format_in d) → AreListedAt names table before d found → IsFaultOfTrim names table before d fault → IsFirstFalse names table before d fault
+  false_trim Json found has are none = absurd none
+  false_trim Shape found has are none = absurd none
+  false_trim (Inconsistent at ring) found has are none = absurd none
+  false_trim (Table k) found has are none = absurd none
+  false_trim (Edge i k) found has are none = absurd none
+  false_trim (Verdict i verdict) found has are none = absurd none
+  false_trim (Order i) found has are none = absurd none
+  false_trim (Trim i) found has are wrong = record { printed_table = has; found = found; cycles = are; trim = wrong }
+  false_trim Memory found has are refused = tt
 
 -- the trace has no order, or something that is said is false
 pub check_fault : (trace : Trace) (json : List ℕ) (d : Data) (fault : CheckFault) → Reads json d → is_report d ≡ true → IsOrderFault trace.lists fault ⊎ IsFalseOf trace d fault → IsCheckFault trace json fault

@@ -95,11 +95,33 @@ module _ (names : NameLists) (table : List (Edge × Sample)) (before : Segment �
   abbrev pub AreListedAt : List (List ℕ) → Type 0
   AreListedAt found = AreCyclesOf (format_in said) names table before (asked_in said) (cycles_in said) found
 
+  -- the trim order, if one is said, takes away each edge
+  abbrev pub HasWholeTrim : Type 0
+  HasWholeTrim = IfSome (trim_in said) (IsWholeRemoval before (asked_in said).mode (edges_of_table table))
+
+  -- this is the first place at which the trim order that is said is wrong
+  pub record IsWrongTrim (place : ℕ) : Type 0 where
+    pub removed : List ℕ
+    pub given : trim_in said ≡ Some removed
+    pub wrong : IsRemovalFault before (asked_in said).mode (edges_of_table table) removed place
+
+  -- the trim order is at fault so, or memory was refused
+  abbrev pub IsFaultOfTrim : CheckFault → Type 0
+  IsFaultOfTrim (Trim i) = IsWrongTrim i
+  IsFaultOfTrim Memory = Unit {0}
+  IsFaultOfTrim Json = ⊥
+  IsFaultOfTrim Shape = ⊥
+  IsFaultOfTrim (Inconsistent at ring) = ⊥
+  IsFaultOfTrim (Table k) = ⊥
+  IsFaultOfTrim (AnEdge i k) = ⊥
+  IsFaultOfTrim (Verdict i verdict) = ⊥
+  IsFaultOfTrim (Order i) = ⊥
+
   -- all that is said holds
   pub record Holds (found : List (List ℕ)) : Type 0 where
     pub printed_table : HasTable (format_in said)
     pub cycles : AreListedAt found
-    pub trim : IfSome (trim_in said) (IsWholeRemoval before (asked_in said).mode (edges_of_table table))
+    pub trim : HasWholeTrim
 
   -- the table is right, and this is the fault of the first listed cycle that has one
   pub record IsCyclesFault (fault : CheckFault) : Type 0 where
@@ -111,9 +133,7 @@ module _ (names : NameLists) (table : List (Edge × Sample)) (before : Segment �
     pub printed_table : HasTable (format_in said)
     pub found : List (List ℕ)
     pub cycles : AreListedAt found
-    pub removed : List ℕ
-    pub given : trim_in said ≡ Some removed
-    pub wrong : IsRemovalFault before (asked_in said).mode (edges_of_table table) removed place
+    pub trim : IsWrongTrim place
 
   -- this is the first thing said that is false
   abbrev pub IsFirstFalse : CheckFault → Type 0

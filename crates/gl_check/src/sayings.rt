@@ -1,11 +1,9 @@
 //! What a report says, held against its trace: the table, the cycles, the trim order.
-ghost use Rattle.std.specs.Prelude.{◌≡◌, ◌≤◌, ◌⊎◌, ℕ, List, Some, true, codes, is_some, length, map, IfErr, IfOk, IfSome};
+ghost use Rattle.std.specs.Prelude.{◌≡◌, ◌≤◌, ◌⊎◌, ℕ, List, true, codes, is_some, length, map, IfErr, IfOk, OnOk};
 ghost use Rattle.serde_json.specs.View.{view};
-ghost use Rattle.gl_trims.specs.Trims.{IsRemovalFault, IsWholeRemoval};
-ghost use Rattle.gl_filters.specs.Picked.{edges_of_table};
 ghost use Rattle.gl_report.specs.Tree.{edge_tree};
 ghost use Rattle.gl_segments.specs.Clocks.{is_before};
-ghost use Rattle.gl_check.specs.Checked.{HasTable, Holds, IsFirstFalse, ShowsTable};
+ghost use Rattle.gl_check.specs.Checked.{HasTable, HasWholeTrim, Holds, IsFaultOfTrim, IsFirstFalse, ShowsTable};
 ghost use Rattle.gl_check.specs.Edges.{IsFirstDifference};
 ghost use Rattle.gl_check.specs.Shape.{asked_in, format_in, is_report, items_under, listing_of, listings_in, trim_in};
 ghost use Rattle.gl_check.specs.declared.faults.CheckFault.TheVariants.{Memory};
@@ -49,16 +47,12 @@ impl Known<'_> {
     fn check_trim(&self, alloc: Global, value: &Value) -> Result<bool, CheckFault>
         requires { self.now.query ≡ asked_in (view value.now) }
         ensures trimmed { IfOk result (λ trimmed. trimmed ≡ is_some (trim_in (view value.now))) }
-        ensures whole { IfOk result
-            (λ _. IfSome (trim_in (view value.now))
-            (IsWholeRemoval (is_before self.now.order.now) (asked_in (view value.now)).mode
-            (edges_of_table self.now.edges.now))) }
+        ensures whole { OnOk result
+            (HasWholeTrim self.now.names.now self.now.edges.now (is_before self.now.order.now)
+            (view value.now)) }
         ensures fault { IfErr result
-            (λ fault. (fault ≡ Memory)
-            ⊎ ((i : ℕ) × (fault ≡ CheckFault.Trim i)
-            × ((removed : List ℕ) × (trim_in (view value.now) ≡ Some removed)
-            × IsRemovalFault (is_before self.now.order.now) (asked_in (view value.now)).mode
-            (edges_of_table self.now.edges.now) removed i))) }
+            (IsFaultOfTrim self.now.names.now self.now.edges.now (is_before self.now.order.now)
+            (view value.now)) }
     {
         let Some(removed) = trim_in(alloc, value)? else {
             return Ok(false);
