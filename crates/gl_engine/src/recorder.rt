@@ -235,7 +235,8 @@ impl Recorder {
             (self.new ≡ with_pushed self.old (next_note self.old event.now) self.new.room) }
         ensures room { OnOk result (self.old.room ≤ self.new.room + 1) }
         ensures fault { IfErr result (λ fault. IsNotRecorded self.old event.now fault self.new) }
-        ensures succeeds { refusal self.old.limits self.old.thread (recorded self.old) event.now ≡ None
+        ensures succeeds { refusal self.old.limits self.old.thread
+            (recorded self.old) event.now ≡ None
             → IsOk result }
     {
         match self.taker.take(*event) {

@@ -96,8 +96,8 @@ fn add_forks(forks: &mut Vec<Spawn>, from: ThreadId, cuts: &[Event]) -> Result<(
 fn start_of(forks: &[Spawn], thread: ThreadId) -> usize
     requires { IsNonDecreasingBy (λ s. s.thread) forks.now }
     ensures bound { result ≤ length forks.now }
-    ensures parted { IsPartitionPoint (λ s. s.thread < thread) (λ s. thread ≤ s.thread) forks.now
-        result }
+    ensures parted { IsPartitionPoint (λ s. s.thread < thread)
+        (λ s. thread ≤ s.thread) forks.now result }
 {
     forks.partition_point(
         |s: &Spawn| -> bool
@@ -110,8 +110,8 @@ fn start_of(forks: &[Spawn], thread: ThreadId) -> usize
 fn end_of(forks: &[Spawn], thread: ThreadId) -> usize
     requires { IsNonDecreasingBy (λ s. s.thread) forks.now }
     ensures bound { result ≤ length forks.now }
-    ensures parted { IsPartitionPoint (λ s. s.thread ≤ thread) (λ s. thread < s.thread) forks.now
-        result }
+    ensures parted { IsPartitionPoint (λ s. s.thread ≤ thread)
+        (λ s. thread < s.thread) forks.now result }
 {
     forks.partition_point(
         |s: &Spawn| -> bool

@@ -23,7 +23,8 @@ impl Trace {
 
     /// What was judged, with the lists of its events.
     pub(crate) fn of(judge: Judge, lists: Lists) -> Trace
-        ensures { (told : Trace) → HasJudged judge told → lists ≡ told.lists → result ≡ told }
+        ensures { (told : Trace) → HasJudged judge told
+            → lists ≡ told.lists → result ≡ told }
     {
         let (names, skipped, stray) = judge.into_parts();
         Trace {
