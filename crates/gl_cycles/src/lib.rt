@@ -33,5 +33,7 @@ pub use laws::{
     cycles_are_all, cycles_are_level, cycles_ascend, cycles_ascend_by_edges, cycles_survive_trims,
     no_cycle_if_all_go, reports_are_unique, trims_are_unique,
 };
-pub use reports::{report_by, report_by_parallel, report_over, report_over_parallel};
+pub use reports::{
+    report_by, report_by_parallel, report_of_lists, report_over, report_over_parallel,
+};
 pub use searches::{search, search_parallel};

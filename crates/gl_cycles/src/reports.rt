@@ -7,12 +7,12 @@ ghost use Rattle.gl_segments.specs.Clocks.{is_before};
 ghost use Rattle.gl_segments.specs.Orders.{lists_of, IsFaultOf};
 ghost use Rattle.gl_filters.specs.Picked.{edges_of_table};
 ghost use Rattle.gl_cycles.specs.AllCycles.{all_cycles};
-ghost use Rattle.gl_cycles.specs.Reports.{IsReport, IsReportFault, report_by};
+ghost use Rattle.gl_cycles.specs.Reports.{IsGoodlockReport, IsReport, IsReportFault, report_by};
 ghost use Rattle.gl_trims.specs.Trims.{whole_trim};
 
 use crate::found::{Found, Report, ReportFault, TrimOrder};
 use crate::searches::{search, search_parallel};
-use gl_edges::EdgeList;
+use gl_edges::{EdgeList, edges_of};
 use gl_event::{Event, Memory};
 use gl_filters::Query;
 use gl_segments::{Order, OrderFault};
@@ -163,4 +163,25 @@ pub fn report_over_parallel(
         Err(fault) => return Err(no_report(fault)),
     };
     Ok(report_by_parallel(rt, alloc, edges, &order, query)?)
+}
+
+/// The Goodlock report of these lists (Havelund 2000; Bensalem and Havelund 2005), made on the calling
+/// thread: that over the edges which it finds in them.
+///
+/// Err where a segment of the lists is before itself, with the least such one and a ring through it,
+/// and where memory was refused.
+pub fn report_of_lists(
+    alloc: Global,
+    lists: &[Vec<Event>],
+    query: &Query,
+) -> Result<Report, ReportFault>
+    requires few { length lists.now ≤ 1024 }
+    requires lawful { (thread : ℕ) (es : List Event)
+        → slice_get (lists_of lists.now) thread ≡ Some es → IsLawful greatest thread es }
+    ensures report { IfOk result
+        (λ report. IsGoodlockReport query.now (lists_of lists.now) report) }
+    ensures fault { IfErr result (λ fault. IsReportFault (lists_of lists.now) fault) }
+{
+    let edges = edges_of(alloc, lists)?;
+    report_over(alloc, edges, lists, query)
 }

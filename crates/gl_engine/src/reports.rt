@@ -3,8 +3,7 @@ ghost use Rattle.std.specs.Prelude.{IfOk, IfErr};
 ghost use Rattle.gl_cycles.specs.Reports.{IsGoodlockReport, IsReportFault};
 ghost use Rattle.gl_intake.specs.Stream.{logs_of};
 
-use gl_cycles::{Report, ReportFault, report_over};
-use gl_edges::edges_of;
+use gl_cycles::{Report, ReportFault, report_of_lists};
 use gl_filters::Query;
 use gl_intake::Intake;
 use std::alloc::Global;
@@ -21,7 +20,5 @@ pub(crate) fn report_of_all(
     ensures fault { IfErr result
         (λ fault. IsReportFault (logs_of intake.now.limits.threads intake.now.stream) fault) }
 {
-    let logs = intake.logs();
-    let edges = edges_of(alloc, logs)?;
-    report_over(alloc, edges, logs, query)
+    report_of_lists(alloc, intake.logs(), query)
 }

@@ -1,5 +1,5 @@
 use Rattle.std.proofs.lemmas.Result.{err_from_is_err_and}
-use Rattle.gl_engine.proofs.reports.report_of_all.Goals as goal
+use Rattle.gl_cycles.proofs.reports.report_of_lists.Goals as goal
 
 pub returns-in_err-edges-clause-report : goal.returns-in_err-edges-clause-report
 returns-in_err-edges-clause-report c =
