@@ -44,6 +44,7 @@ mod faults;
 mod gathered;
 mod lane_input;
 mod laws;
+pub mod preallocated;
 mod pull_and_ship;
 mod pulled;
 mod receipt;

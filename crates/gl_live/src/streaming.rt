@@ -15,11 +15,11 @@ ghost use Rattle.gl_live.specs.bodies.Rosters.{Roster, gathered_from, AreReceipt
 ghost use Rattle.gl_live.specs.bodies.Streams.{AreRecorded, CanBeTaken, FollowOn, HasGathered, HasTaken, IsOfThreads, IsReadyToRead, IsRecording, MayTake, StopsAfter, StreamsOn};
 
 use crate::faults::{LiveFault, StreamFault};
-use crate::preallocated::keep;
 use crate::recording::close_wait;
 use crate::run::Ran;
 use crate::session::{SESSION, feeds, session_limits};
 use crate::working::{Working, join_workers, start_workers};
+use gl_engine::preallocated::keep;
 use gl_engine::{Collector, Gathered, Receipt, Recorder, open};
 use gl_event::{Event, Memory};
 use gl_shards::{Gate, Inlet, Outlet, Served};
