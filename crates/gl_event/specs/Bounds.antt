@@ -37,3 +37,7 @@ first_out_of_range b =
 -- the greatest limits
 abbrev pub greatest : Bounds
 greatest = record { threads = MAX_THREADS; ring = MAX_RING; events = MAX_EVENTS; names = MAX_NAMES }
+
+-- the limits of a session of so many threads, with rings of so many entries: its events and names are bounded as the greatest limits bound them
+abbrev pub of_session : ℕ → ℕ → Bounds
+of_session threads ring = record greatest { threads = threads; ring = ring }

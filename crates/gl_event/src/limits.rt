@@ -86,7 +86,7 @@ impl Model for Limits {
 }
 
 impl Limits {
-    ghost use Rattle.gl_event.specs.Bounds.{first_out_of_range, greatest, AreWithinRange};
+    ghost use Rattle.gl_event.specs.Bounds.{first_out_of_range, greatest, of_session, AreWithinRange};
 
     /// The limits with these four numbers, or the first of them that is out of its range.
     pub fn new(threads: u32, ring: u32, events: u32, names: u32) -> Result<Limits, BadLimits>
@@ -126,6 +126,23 @@ impl Limits {
         Limits {
             threads: MAX_THREADS,
             ring: MAX_RING,
+            events: MAX_EVENTS,
+            names: MAX_NAMES,
+        }
+    }
+
+    /// The limits of a session of so many threads, with rings of so many entries, which may have as many
+    /// events and names as the greatest limits allow.
+    pub fn of_session(threads: u32, ring: u32) -> Limits
+        requires some_thread { 1 ≤ threads }
+        requires threads_fit { threads ≤ MAX_THREADS }
+        requires some_ring { 1 ≤ ring }
+        requires ring_fits { ring ≤ MAX_RING }
+        ensures { result ≡ of_session threads ring }
+    {
+        Limits {
+            threads,
+            ring,
             events: MAX_EVENTS,
             names: MAX_NAMES,
         }
