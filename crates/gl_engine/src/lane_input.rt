@@ -4,11 +4,11 @@ ghost use mathlib.Core.List.{IsPrefix};
 ghost use Rattle.gl_event.specs.States.{StandsAfter};
 ghost use Rattle.gl_event.specs.declared.events.Event.{Event};
 ghost use Rattle.gl_event.specs.declared.notes.Note.{Note};
-ghost use Rattle.gl_intake.specs.Stream.{events_of, note_refusal, accepted_as, spare_of, IsRefusedFor};
+ghost use Rattle.gl_intake.specs.Stream.{note_refusal, accepted_as, spare_of, IsRefusedFor};
 ghost use Rattle.gl_world.specs.Keeping.{with_body};
 ghost use Rattle.gl_world.specs.Machine.{edges_due};
 ghost use Rattle.gl_engine.specs.Collecting.{as_of, pulled_of, IsSidePull};
-ghost use Rattle.gl_engine.specs.Dealing.{made_by};
+ghost use Rattle.gl_engine.specs.Dealing.{edges_of_next, made_by};
 ghost use Rattle.gl_engine.specs.Keeping.{pulling_of, BreaksForCause};
 ghost use Rattle.gl_engine.specs.bodies.Fronts.{IsFront};
 
@@ -66,10 +66,7 @@ pub fn prepare(
         (note_refusal intake.old.limits intake.old.stream note.now ≡ None) }
     ensures reserved { OnOk result (1 ≤ spare_of intake.new note.now.thread) }
     ensures grown { OnOk result
-        (made.new.items
-        ≡ made.old.items ++ edges_due note.now.thread
-        (events_of note.now.thread
-        (intake.old.stream ++ note.now ∷ [])) note.now.place note.now.body) }
+        (made.new.items ≡ made.old.items ++ edges_of_next intake.old.stream note.now) }
     ensures refused { IfErr result
         (λ why. IsRefusedFor intake.old.limits intake.old.stream note.now why) }
     ensures unchanged { OnErr result (made.new.items ≡ made.old.items) }
@@ -179,11 +176,7 @@ impl LaneInput {
         requires refused { IfErr grown
             (λ why. IsRefusedFor intake.old.limits intake.old.stream note.now why) }
         ensures pull { (made later : List (Edge × Sample))
-            → OnOk grown
-            (later
-            ≡ made ++ edges_due note.now.thread
-            (events_of note.now.thread
-            (intake.old.stream ++ note.now ∷ [])) note.now.place note.now.body)
+            → OnOk grown (later ≡ made ++ edges_of_next intake.old.stream note.now)
             → OnErr grown (later ≡ made)
             → IsSidePull intake.old.limits note.now.thread
             (record {
