@@ -1,6 +1,6 @@
 -- What a pull makes of a collector's inputs, stream and edges.
-use Rattle.std.proofs.Common.{◌≡◌, ◌≢◌, ℕ, ◌<◌, List, [], ◌∷◌, ◌++◌, length, map, take, set, get_or, Some, Result, Ok, Err, Vec, Global, refl, sym, ap, ◌∙◌, subst, inl, inr}
-use Rattle.std.specs.Prelude.{slice_get, IfOk}
+use Rattle.std.proofs.Common.{◌≡◌, ◌≢◌, ℕ, ◌<◌, List, [], ◌∷◌, ◌++◌, length, map, take, set, get_or, None, Some, Result, Ok, Err, Vec, Global, refl, sym, ap, ◌∙◌, subst, inl, inr}
+use Rattle.std.specs.Prelude.{slice_get, IfOk, OnOk, OnErr}
 use Rattle.std.proofs.Math.Seq.{take-append_seam, map-set_same}
 use Rattle.std.proofs.lemmas.Bool.{cases_eq}
 use Rattle.std.specs.Option.{option_map}
@@ -135,6 +135,12 @@ took limits thread old front note is answer new running none answer_is moved =
       answer_is = answer_is ∙ ap (λ (n : Note). pulled_of (accepted_as n.place n.body)) (sym is);
       moved = moved ∙ ap (λ n. taken_side old front n) (sym is);
     })
+
+-- the edges of a stream that a note joined, or didn't
+pub made_if : {X E : Type 0} (result : Result X E) (before after : List Note) (note : Note) → OnOk result (after ≡ before ++ note ∷ []) → OnErr result (after ≡ before)
+    → OnOk result (made_by after ≡ made_by before ++ edges_of_next before note) × OnErr result (made_by after ≡ made_by before)
+made_if (Ok done) before after note grown same = (ap made_by grown ∙ made_by_more before note, tt)
+made_if (Err why) before after note grown same = (tt, ap made_by same)
 
 -- ---- the collector after a pull
 
