@@ -51,7 +51,6 @@ mod receipt;
 mod receipts;
 mod recorder;
 mod replay;
-mod reports;
 mod session;
 mod settled;
 mod settlement;

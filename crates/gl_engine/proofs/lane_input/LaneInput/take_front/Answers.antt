@@ -1,4 +1,3 @@
-use Rattle.std.proofs.Common.{◌≡◌}
 use Rattle.gl_engine.specs.Collecting.{Side}
 use Rattle.gl_engine.specs.Keeping.{pulling_of}
 use Rattle.gl_engine.proofs.Sides.{took}
