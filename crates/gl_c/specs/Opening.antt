@@ -2,7 +2,6 @@
 use Rattle.std.specs.Prelude.{◌≡◌, ℕ, List, [], Option, Some, None, reverse}
 use Rattle.std.specs.Option.{option_map}
 use Rattle.gl_event.specs.Bounds.{Bounds, first_out_of_range}
-use Rattle.gl_event.specs.declared.limits.TheConstants.{MAX_EVENTS, MAX_NAMES}
 use Rattle.gl_engine.specs.Collecting.{Collecting, IsOpened}
 use Rattle.gl_engine.specs.Recording.{Recording}
 use Rattle.gl_c.specs.Calls.{IsAnswer}
@@ -10,10 +9,6 @@ use Rattle.gl_c.specs.declared.codes.TheConstants.{OK, MISUSE, RANGE}
 use Rattle.gl_c.specs.declared.session_state.SessionState.{SessionState}
 use Rattle.gl_c.specs.declared.session_state.Stage.{Stage}
 use Rattle.gl_c.specs.declared.session_state.Stage.TheVariants.{Running as Runs, Settled as HasSettled, Gone}
-
--- the limits of a session of so many threads, with rings of so many entries
-abbrev pub limits_of : ℕ → ℕ → Bounds
-limits_of threads ring = record { threads = threads; ring = ring; events = MAX_EVENTS; names = MAX_NAMES }
 
 -- these are the recorders of a session that was opened, the last thread's first
 pub record AreOpened (number : ℕ) (limits : Bounds) (recorders : List Recording) (collector : Collecting) : Type 0 where

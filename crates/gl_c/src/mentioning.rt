@@ -3,7 +3,6 @@ ghost use Rattle.std.specs.Prelude.{◌≡◌, ◌≤◌, ℕ, List, Some, lengt
 ghost use Rattle.gl_event.specs.Bounds.{greatest};
 ghost use Rattle.gl_event.specs.Lawful.{IsLawful};
 ghost use Rattle.gl_event.specs.declared.events.Event.{Event};
-ghost use Rattle.gl_cycles.specs.Reports.{IsGoodlockReport, IsReportFault};
 ghost use Rattle.gl_renumbering.specs.Tales.{have_names, AreLawful};
 ghost use Rattle.gl_c.specs.Mentioning.{IsMakingByMention, IsReportByMention, IsReportingByMention};
 ghost use Rattle.gl_c.specs.Reporting.{query_of, settled_lists};
@@ -13,26 +12,12 @@ use crate::made::Made;
 use crate::reporting::{keep_report, query_of};
 use crate::session::Session;
 use crate::session_state::Stage;
-use gl_cycles::{Report, ReportFault, report_over};
-use gl_edges::edges_of;
+use gl_cycles::report_of_lists;
 use gl_event::Event;
 use gl_filters::Query;
 use gl_renumbering::{ByMention, RenumberingFault, by_mention};
 use gl_std::Names;
 use std::alloc::Global;
-
-// The Goodlock report of these lists.
-fn report_of(alloc: Global, lists: &[Vec<Event>], query: &Query) -> Result<Report, ReportFault>
-    requires few { length lists.now ≤ 1024 }
-    requires lawful { AreLawful greatest (map (λ list. list.items) lists.now) }
-    ensures report { IfOk result
-        (λ report. IsGoodlockReport query.now (map (λ list. list.items) lists.now) report) }
-    ensures fault { IfErr result
-        (λ fault. IsReportFault (map (λ list. list.items) lists.now) fault) }
-{
-    let edges = edges_of(alloc, lists)?;
-    report_over(alloc, edges, lists, query)
-}
 
 // Makes the report of the lists by mention, if all their locks and places have names.
 fn make_by_mention(
@@ -51,7 +36,7 @@ fn make_by_mention(
     match by_mention(alloc, names, lists) {
         Ok(told) => {
             let ByMention { lists, names } = told;
-            let report = report_of(alloc, &lists, query);
+            let report = report_of_lists(alloc, &lists, query);
             keep_report(alloc, made, report, Some(names))
         }
         Err(RenumberingFault::Unnamed) => UNNAMED,

@@ -1,6 +1,7 @@
 //! Opening a session, and freeing it.
 ghost use Rattle.std.specs.Prelude.{◌≡◌, [], None, IfOk};
-ghost use Rattle.gl_c.specs.Opening.{limits_of, IsNewSession, IsOpening};
+ghost use Rattle.gl_event.specs.Bounds.{of_session};
+ghost use Rattle.gl_c.specs.Opening.{IsNewSession, IsOpening};
 
 use crate::codes::{MEMORY, MISUSE, OK, RANGE};
 use crate::session::Session;
@@ -65,7 +66,7 @@ pub extern "C" fn goodlock_open(
     ring: u32,
     session: &mut Session,
 ) -> u32
-    ensures { IsOpening number (limits_of threads ring) session.old.value result session.new.value }
+    ensures { IsOpening number (of_session threads ring) session.old.value result session.new.value }
 {
     if let Some(state) = session.take(alloc) {
         session.put(state);

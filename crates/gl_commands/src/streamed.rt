@@ -1,7 +1,6 @@
 //! What is answered to a text by a session that records it as it comes.
 ghost use Rattle.std.specs.Prelude.{◌≡◌, ◌≤◌, ◌^◌, ℕ, true, false, Ok, Err, IfOk, IfErr};
 ghost use Rattle.gl_event.specs.Bounds.{Bounds};
-ghost use Rattle.gl_event.specs.declared.limits.TheConstants.{MAX_THREADS};
 ghost use Rattle.gl_live.specs.Streamed.{Becomes, FailsInTime};
 ghost use Rattle.gl_live.specs.declared.faults.LiveFault.TheVariants.{Inconsistent};
 ghost use Rattle.gl_live.specs.declared.faults.StreamFault.TheVariants.{Session};
@@ -18,7 +17,7 @@ use crate::ended::Ended;
 use crate::recorded::listing_of;
 use crate::refusal_lines::{fault_line, inconsistent_line};
 use gl_cycles::Report;
-use gl_event::{Limits, MAX_EVENTS, MAX_NAMES, MAX_RING, Segment};
+use gl_event::{Limits, MAX_RING, Segment};
 use gl_io::Source;
 use gl_live::{LiveFault, StreamFault, StreamOptions, stream_listing};
 use gl_options::LiveOptions;
@@ -27,18 +26,6 @@ use gl_std::{Items, LinesFault, Names, Seed};
 use std::alloc::Global;
 use std::sync::Wait;
 use std::thread::Threads;
-
-// The greatest limits, but for the threads.
-fn limits_of(threads: u32) -> Limits
-    requires some { 1 ≤ threads }
-    requires fit { threads ≤ MAX_THREADS }
-    ensures { result ≡ with_threads threads }
-{
-    match Limits::new(threads, MAX_RING, MAX_EVENTS, MAX_NAMES) {
-        Ok(limits) => limits,
-        Err(_) => unreachable!(),
-    }
-}
 
 // How a session ends over a text of which this fault was met.
 fn end_of_text(alloc: Global, fault: LinesFault) -> Ended
@@ -194,7 +181,8 @@ pub(crate) fn streamed<R: AllocGlobal + Threads + Wait + Sync, I: Source, G: Gat
         (used (I.position input.old) (I.position input.new) (I.failed input.new))) }
 {
     let alloc = rt.alloc();
-    let items = Items::new(alloc, &limits_of(options.threads), turns, seed)?;
+    let limits = Limits::of_session(options.threads, MAX_RING);
+    let items = Items::new(alloc, &limits, turns, seed)?;
     let listing = listing_of(options);
     let session = StreamOptions {
         threads: options.threads,

@@ -1,6 +1,6 @@
 -- What a pull makes of a collector's inputs, stream and edges.
-use Rattle.std.proofs.Common.{◌≡◌, ◌≢◌, ℕ, ◌<◌, List, [], ◌∷◌, ◌++◌, length, map, take, set, get_or, Some, Result, Ok, Err, Vec, Global, refl, sym, ap, ◌∙◌, subst, inl, inr}
-use Rattle.std.specs.Prelude.{slice_get, IfOk}
+use Rattle.std.proofs.Common.{◌≡◌, ◌≢◌, ℕ, ◌<◌, List, [], ◌∷◌, ◌++◌, length, map, take, set, get_or, None, Some, Result, Ok, Err, Vec, Global, refl, sym, ap, ◌∙◌, subst, inl, inr}
+use Rattle.std.specs.Prelude.{slice_get, IfOk, OnOk, OnErr}
 use Rattle.std.proofs.Math.Seq.{take-append_seam, map-set_same}
 use Rattle.std.proofs.lemmas.Bool.{cases_eq}
 use Rattle.std.specs.Option.{option_map}
@@ -17,6 +17,7 @@ use Rattle.gl_edges.specs.declared.edge.Sample.{Sample}
 use Rattle.gl_edges.specs.Edges.{edges_after}
 use Rattle.gl_edges.proofs.Steps.{newest}
 use Rattle.gl_intake.specs.Stream.{accepted_as, events_of, note_refusal, AreInOrder, IsNext}
+use Rattle.gl_intake.proofs.Next.{next_of_none}
 use Rattle.gl_intake.proofs.Order.{AreInOrder-push}
 use Rattle.gl_intake.proofs.Streams.{ended_other, events_ended, events_more, events_other}
 use Rattle.gl_world.specs.Machine.{Lane, edges_due}
@@ -24,8 +25,8 @@ use Rattle.gl_world.specs.Keeping.{notes_of, IsFrontOf, AreMade, with_body}
 use Rattle.gl_world.proofs.Lists.{same_some, get_at, get_set_same, get_set_other}
 use Rattle.gl_world.proofs.Makings.{made_pulled}
 use Rattle.gl_world.proofs.Sound.{notes_own, notes_other}
-use Rattle.gl_engine.specs.Collecting.{Pulling, Collecting, Side, as_of, pulled_of, HasPulled, IsSidePull, IsPull}
-use Rattle.gl_engine.specs.Dealing.{made_by}
+use Rattle.gl_engine.specs.Collecting.{Pulling, Collecting, Side, as_of, pop_note, pulled_of, HasPulled, IsSidePull, IsPull}
+use Rattle.gl_engine.specs.Dealing.{edges_of_next, made_by}
 use Rattle.gl_engine.specs.Keeping.{AreInputs, BreaksForCause, IsCollector, IsStuck, pulling_of}
 use Rattle.gl_engine.proofs.Dealt.{made_by_more}
 use Rattle.gl_engine.specs.declared.pulled.Pulled.{Pulled}
@@ -117,6 +118,29 @@ pub pull_ok : (limits : Bounds) (thread : ℕ) (old : Side) (answer : Pulled) (n
 pull_ok limits thread old Empty new has = absurd (never_empty has.note.place has.note.body has.answer_is)
 pull_ok limits thread old (Answered place) new has = has
 pull_ok limits thread old (Closing count) new has = has
+
+-- the side with the front note popped, which joined the stream as this one
+abbrev pub taken_side : Side → Note → Note → Side
+taken_side old front note = record { input = pop_note old.input front; stream = old.stream ++ note ∷ []; made = old.made ++ edges_of_next old.stream note }
+
+-- the front note was taken, read as one of the thread
+pub took : (limits : Bounds) (thread : ℕ) (old : Side) (front note : Note) → as_of thread front ≡ note → (answer : Pulled) (new : Side) → old.input.broken ≡ None → note_refusal limits old.stream note ≡ None
+    → answer ≡ pulled_of (accepted_as note.place note.body) → new ≡ taken_side old front note → IsSidePull limits thread old (Ok answer) new
+took limits thread old front note is answer new running none answer_is moved =
+    pull_ok limits thread old answer new
+    (record {
+      running = running;
+      note = front;
+      next = next_of_none limits old.stream (as_of thread front) (ap (note_refusal limits old.stream) is ∙ none);
+      answer_is = answer_is ∙ ap (λ (n : Note). pulled_of (accepted_as n.place n.body)) (sym is);
+      moved = moved ∙ ap (λ n. taken_side old front n) (sym is);
+    })
+
+-- the edges of a stream that a note joined, or didn't
+pub made_if : {X E : Type 0} (result : Result X E) (before after : List Note) (note : Note) → OnOk result (after ≡ before ++ note ∷ []) → OnErr result (after ≡ before)
+    → OnOk result (made_by after ≡ made_by before ++ edges_of_next before note) × OnErr result (made_by after ≡ made_by before)
+made_if (Ok done) before after note grown same = (ap made_by grown ∙ made_by_more before note, tt)
+made_if (Err why) before after note grown same = (tt, ap made_by same)
 
 -- ---- the collector after a pull
 

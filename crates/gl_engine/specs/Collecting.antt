@@ -4,12 +4,12 @@ use Rattle.gl_event.specs.Bounds.{Bounds}
 use Rattle.gl_event.specs.declared.notes.Note.{Note}
 use Rattle.gl_edges.specs.declared.edge.Edge.{Edge}
 use Rattle.gl_edges.specs.declared.edge.Sample.{Sample}
-use Rattle.gl_intake.specs.Stream.{events_of, note_refusal, accepted_as, IsNext}
+use Rattle.gl_intake.specs.Stream.{note_refusal, accepted_as, IsNext}
 use Rattle.gl_intake.specs.declared.notes.Accepted.{Accepted}
 use Rattle.gl_intake.specs.declared.notes.Accepted.TheVariants as accepted
 use Rattle.gl_intake.specs.declared.notes.Refused.{Refused}
 use Rattle.gl_lane.specs.Lanes.{LaneId}
-use Rattle.gl_world.specs.Machine.{edges_due}
+use Rattle.gl_engine.specs.Dealing.{edges_of_next}
 use Rattle.gl_engine.specs.Recording.{Recording, IsFresh}
 use Rattle.gl_engine.specs.declared.pulled.Pulled.{Pulled}
 use Rattle.gl_engine.specs.declared.pulled.Pulled.TheVariants.{Empty, Event, Ended}
@@ -77,12 +77,8 @@ with_side c thread side = record c { inputs = slice_set c.inputs thread side.inp
 -- this note is popped, joins the stream as one of the thread, and its edges join those made
 abbrev pub with_pulled : ℕ → Side → Note → Side
 with_pulled thread side note =
-    let stream = side.stream ++ as_of thread note ∷ [] in
-    record {
-      input = pop_note side.input note;
-      stream = stream;
-      made = side.made ++ edges_due thread (events_of thread stream) note.place note.body;
-    }
+    let own = as_of thread note in
+    record { input = pop_note side.input note; stream = side.stream ++ own ∷ []; made = side.made ++ edges_of_next side.stream own }
 
 -- the lane is broken
 abbrev pub break_lane : Side → Refused → Side

@@ -1,4 +1,5 @@
 -- The words of loops, private functions and private fields. No public contract cites them.
 pub mod Breaking
+pub mod Fronts
 pub mod Opening
 pub mod Whole

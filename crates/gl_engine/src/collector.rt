@@ -6,8 +6,7 @@ ghost use Rattle.gl_engine.specs.Collecting.{Pulling, lanes_of, IsPull};
 
 use crate::lane_input::LaneInput;
 use crate::pulled::{PullFault, Pulled};
-use crate::reports::report_of_all;
-use gl_cycles::{Report, ReportFault};
+use gl_cycles::{Report, ReportFault, report_of_lists};
 use gl_event::{Event, Limits, Note, ThreadId};
 use gl_filters::Query;
 use gl_intake::Intake;
@@ -95,6 +94,6 @@ impl Collector {
         ensures fault { IfErr result
             (λ fault. IsReportFault (logs_of self.now.limits.threads self.now.stream) fault) }
     {
-        report_of_all(self.alloc, &self.intake, query)
+        report_of_lists(self.alloc, self.intake.logs(), query)
     }
 }

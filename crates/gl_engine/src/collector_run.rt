@@ -16,23 +16,12 @@ use crate::collector::Collector;
 use crate::discarding::discard_all;
 use crate::faults::RunFault;
 use crate::gathered::Gathered;
+use crate::preallocated::keep;
 use crate::pull_and_ship::collect_all;
 use crate::replay::made_by_notes;
 use gl_edges::{Edge, Sample};
 use gl_shards::{Gone, Outlet, Sent};
 use std::sync::Wait;
-
-// Keeps a feed that was ended, in the room that is there for it.
-fn keep(sent: &mut Vec<Sent>, ended: Sent)
-    requires room { vec_len sent.old < vec_capacity sent.old }
-    ensures items { sent.new.items ≡ sent.old.items ++ ended ∷ [] }
-    ensures len { vec_len sent.new ≡ vec_len sent.old + 1 }
-    ensures capacity { vec_capacity sent.old ≤ vec_capacity sent.new }
-{
-    let Ok(()) = sent.push(ended) else {
-        unreachable!()
-    };
-}
 
 // Ends the outlet of this shard, and keeps the feed where its worker is there. The first shard whose
 // worker is gone, this one or one before, if there is one.

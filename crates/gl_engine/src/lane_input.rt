@@ -4,12 +4,13 @@ ghost use mathlib.Core.List.{IsPrefix};
 ghost use Rattle.gl_event.specs.States.{StandsAfter};
 ghost use Rattle.gl_event.specs.declared.events.Event.{Event};
 ghost use Rattle.gl_event.specs.declared.notes.Note.{Note};
-ghost use Rattle.gl_intake.specs.Stream.{events_of, note_refusal, accepted_as, spare_of, IsRefusedFor};
+ghost use Rattle.gl_intake.specs.Stream.{note_refusal, accepted_as, spare_of, IsRefusedFor};
 ghost use Rattle.gl_world.specs.Keeping.{with_body};
 ghost use Rattle.gl_world.specs.Machine.{edges_due};
 ghost use Rattle.gl_engine.specs.Collecting.{as_of, pulled_of, IsSidePull};
-ghost use Rattle.gl_engine.specs.Dealing.{made_by};
+ghost use Rattle.gl_engine.specs.Dealing.{edges_of_next, made_by};
 ghost use Rattle.gl_engine.specs.Keeping.{pulling_of, BreaksForCause};
+ghost use Rattle.gl_engine.specs.bodies.Fronts.{IsFront};
 
 use crate::pulled::{PullFault, Pulled};
 use gl_edges::{Edge, Sample, next_edges};
@@ -65,10 +66,7 @@ pub fn prepare(
         (note_refusal intake.old.limits intake.old.stream note.now ≡ None) }
     ensures reserved { OnOk result (1 ≤ spare_of intake.new note.now.thread) }
     ensures grown { OnOk result
-        (made.new.items
-        ≡ made.old.items ++ edges_due note.now.thread
-        (events_of note.now.thread
-        (intake.old.stream ++ note.now ∷ [])) note.now.place note.now.body) }
+        (made.new.items ≡ made.old.items ++ edges_of_next intake.old.stream note.now) }
     ensures refused { IfErr result
         (λ why. IsRefusedFor intake.old.limits intake.old.stream note.now why) }
     ensures unchanged { OnErr result (made.new.items ≡ made.old.items) }
@@ -123,14 +121,8 @@ impl LaneInput {
             return Ok(Pulled::Empty);
         };
         let note = Note { thread, ..front };
-        match intake.ready(&note) {
-            Ok(()) => Ok(accept(&mut self.lane, intake, &note)),
-            Err(Refused::Memory) => Err(PullFault::Memory),
-            Err(refused) => {
-                self.broken = Some(refused);
-                Err(PullFault::Broken(refused))
-            }
-        }
+        let grown = intake.ready(&note);
+        self.take_front(intake, &note, grown)
     }
 
     /// The same, and adds the note's edges to those made.
@@ -163,8 +155,48 @@ impl LaneInput {
             return Ok(Pulled::Empty);
         };
         let note = Note { thread, ..front };
-        match prepare(alloc, intake, made, &note) {
-            Ok(()) => Ok(accept(&mut self.lane, intake, &note)),
+        let grown = prepare(alloc, intake, made, &note);
+        self.take_front(intake, &note, grown)
+    }
+
+    // The end of a pull, whose front note is this one, read as one of the thread. Where every growth for it
+    // was made it is popped and accepted, where it was refused the lane is broken, and where there was no
+    // memory it stays.
+    fn take_front(
+        &mut self,
+        intake: &mut Intake,
+        note: &Note,
+        grown: Result<(), Refused>,
+    ) -> Result<Pulled, PullFault>
+        requires running { self.old.broken ≡ None }
+        requires front { IsFront self.old.lane note.now }
+        requires next { OnOk grown
+            (note_refusal intake.old.limits intake.old.stream note.now ≡ None) }
+        requires reserved { OnOk grown (1 ≤ spare_of intake.old note.now.thread) }
+        requires refused { IfErr grown
+            (λ why. IsRefusedFor intake.old.limits intake.old.stream note.now why) }
+        ensures pull { (made later : List (Edge × Sample))
+            → OnOk grown (later ≡ made ++ edges_of_next intake.old.stream note.now)
+            → OnErr grown (later ≡ made)
+            → IsSidePull intake.old.limits note.now.thread
+            (record {
+              input = pulling_of self.old;
+              stream = intake.old.stream;
+              made = made;
+            }) result
+            (record {
+              input = pulling_of self.new;
+              stream = intake.new.stream;
+              made = later;
+            }) }
+        ensures accepted { OnOk grown (intake.new.stream ≡ intake.old.stream ++ note.now ∷ []) }
+        ensures left { OnErr grown (intake.new.stream ≡ intake.old.stream) }
+        ensures limits { intake.new.limits ≡ intake.old.limits }
+        ensures cause { BreaksForCause intake.old.limits note.now.thread intake.new.stream
+            self.new }
+    {
+        match grown {
+            Ok(()) => Ok(accept(&mut self.lane, intake, note)),
             Err(Refused::Memory) => Err(PullFault::Memory),
             Err(refused) => {
                 self.broken = Some(refused);

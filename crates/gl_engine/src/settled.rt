@@ -10,8 +10,7 @@ ghost use Rattle.gl_shards.specs.Tables.{union};
 ghost use Rattle.gl_engine.specs.Recording.{Closed};
 ghost use Rattle.gl_engine.specs.Settling.{IsSettled};
 
-use crate::reports::report_of_all;
-use gl_cycles::{Report, ReportFault, report_over_parallel};
+use gl_cycles::{Report, ReportFault, report_of_lists, report_over_parallel};
 use gl_edges::EdgeList;
 use gl_event::{Event, Memory};
 use gl_filters::Query;
@@ -102,6 +101,6 @@ impl Settled {
         ensures report { IfOk result (λ report. IsGoodlockReport query.now self.now report) }
         ensures fault { IfErr result (λ fault. IsReportFault self.now fault) }
     {
-        report_of_all(self.alloc, &self.intake, query)
+        report_of_lists(self.alloc, self.intake.logs(), query)
     }
 }

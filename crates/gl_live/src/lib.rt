@@ -10,7 +10,6 @@
 
 mod faults;
 mod live;
-mod preallocated;
 mod recording;
 mod reports;
 mod run;

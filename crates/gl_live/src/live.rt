@@ -20,12 +20,12 @@ ghost use Rattle.gl_live.specs.bodies.Runs.{HasRun};
 ghost use Rattle.gl_live.specs.bodies.Rosters.{gathered_from, AreReceipts, IsReceiptOf};
 
 use crate::faults::{LiveFault, unserved, unsettled};
-use crate::preallocated::keep;
 use crate::reports::report_over;
 use crate::run::{Ran, run_session};
 use crate::session::{SessionOptions, prepare};
 use gl_cycles::Report;
 use gl_edges::EdgeList;
+use gl_engine::preallocated::keep;
 use gl_engine::{Gathered, Receipt, Settled};
 use gl_event::Event;
 use gl_filters::Query;

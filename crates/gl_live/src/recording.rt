@@ -9,8 +9,8 @@ ghost use Rattle.gl_engine.specs.Recording.{recorded, recorded_whole};
 ghost use Rattle.gl_live.specs.bodies.Workloads.{HasRoom, IsWorkloadOf};
 ghost use Rattle.gl_live.specs.bodies.Rosters.{Roster, roster_of, identity_of, left_by, IsRecorderOf, IsReceiptOf};
 
-use crate::preallocated::keep;
 use crate::start_gate::StartGate;
+use gl_engine::preallocated::keep;
 use gl_engine::{CloseFault, Collector, Receipt, Recorder};
 use gl_event::{Event, Memory, ThreadId};
 use std::snapshot::Snapshot;

@@ -2,7 +2,7 @@
 ghost use Rattle.std.specs.Prelude.{◌≡◌, ◌<◌, ◌≤◌, ◌+◌, [], map, length, IfOk, OnOk};
 ghost use Rattle.std.specs.List.{All};
 ghost use Rattle.std.specs.Vec.{vec_len, vec_capacity};
-ghost use Rattle.gl_event.specs.declared.limits.TheConstants.{MAX_EVENTS, MAX_THREADS, MAX_RING};
+ghost use Rattle.gl_event.specs.declared.limits.TheConstants.{MAX_THREADS, MAX_RING};
 ghost use Rattle.gl_shards.specs.declared.shard.TheConstants.{MAX_SHARDS};
 ghost use Rattle.gl_live.specs.bodies.Workloads.{IsWorkloadOf};
 ghost use Rattle.gl_live.specs.bodies.Rosters.{Roster, roster_of, IsRecorderOf};
@@ -10,7 +10,7 @@ ghost use Rattle.gl_live.specs.bodies.Ready.{IsReady};
 
 use crate::recording::Workload;
 use gl_engine::{Collector, Receipt, Recorder, open};
-use gl_event::{Limits, MAX_EVENTS, MAX_NAMES, Memory};
+use gl_event::{Limits, Memory};
 use gl_shards::{Inlet, Outlet, Served, feed};
 use std::alloc::Global;
 
@@ -38,21 +38,6 @@ pub struct Session {
 
 /// The number of each session: there is one at a time.
 pub const SESSION: u64 = 0;
-
-/// The limits of a session with so many threads.
-pub fn session_limits(threads: u32, ring: u32) -> Limits
-    requires some_thread { 1 ≤ threads }
-    requires threads_fit { threads ≤ MAX_THREADS }
-    requires some_ring { 1 ≤ ring }
-    requires ring_fits { ring ≤ MAX_RING }
-    ensures threads { result.threads ≡ threads }
-    ensures events { result.events ≡ MAX_EVENTS }
-{
-    let Ok(limits) = Limits::new(threads, ring, MAX_EVENTS, MAX_NAMES) else {
-        unreachable!()
-    };
-    limits
-}
 
 // So many groups without recorders.
 fn empty_groups(alloc: Global, count: u32) -> Result<Vec<Vec<Recorder>>, Memory>
@@ -163,7 +148,7 @@ pub fn prepare(alloc: Global, threads: u32, options: &SessionOptions) -> Result<
     ensures ready { IfOk result (IsReady threads) }
     ensures shards { IfOk result (λ session. length session.outlets.items ≡ options.now.shards) }
 {
-    let limits = session_limits(threads, options.ring);
+    let limits = Limits::of_session(threads, options.ring);
     let (recorders, collector) = open(alloc, SESSION, &limits)?;
     let workloads = workloads(alloc, recorders, options.recorders)?;
     let (outlets, inlets) = feeds(alloc, options.shards, options.ring)?;

@@ -15,13 +15,13 @@ ghost use Rattle.gl_live.specs.bodies.Rosters.{Roster, gathered_from, AreReceipt
 ghost use Rattle.gl_live.specs.bodies.Streams.{AreRecorded, CanBeTaken, FollowOn, HasGathered, HasTaken, IsOfThreads, IsReadyToRead, IsRecording, MayTake, StopsAfter, StreamsOn};
 
 use crate::faults::{LiveFault, StreamFault};
-use crate::preallocated::keep;
 use crate::recording::close_wait;
 use crate::run::Ran;
-use crate::session::{SESSION, feeds, session_limits};
+use crate::session::{SESSION, feeds};
 use crate::working::{Working, join_workers, start_workers};
+use gl_engine::preallocated::keep;
 use gl_engine::{Collector, Gathered, Receipt, Recorder, open};
-use gl_event::{Event, Memory};
+use gl_event::{Event, Limits, Memory};
 use gl_shards::{Gate, Inlet, Outlet, Served};
 use gl_std::{Item, Items, LinesFault, Source};
 use std::alloc::Global;
@@ -71,7 +71,7 @@ pub fn prepare_to_read(alloc: Global, options: &StreamOptions) -> Result<ReadSes
     let receipts = Vec::with_capacity(alloc, options.threads as usize)?;
     let served = Vec::with_capacity(alloc, options.shards as usize)?;
     let (outlets, inlets) = feeds(alloc, options.shards, options.ring)?;
-    let limits = session_limits(options.threads, options.ring);
+    let limits = Limits::of_session(options.threads, options.ring);
     let (recorders, collector) = open(alloc, SESSION, &limits)?;
     Ok(ReadSession {
         collector,

@@ -3,7 +3,7 @@ ghost use Rattle.std.specs.Prelude.{◌≡◌, ◌≤◌, ◌+◌, true, [], map
 ghost use Rattle.std.specs.Vec.{vec_len, vec_capacity};
 ghost use Rattle.gl_shards.specs.declared.shard.TheConstants.{MAX_SHARDS};
 
-use crate::preallocated::keep;
+use gl_engine::preallocated::keep;
 use gl_shards::{Gate, Inlet, Served, serve};
 use std::alloc::Global;
 use std::snapshot::Snapshot;

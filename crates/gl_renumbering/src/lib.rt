@@ -2,8 +2,7 @@
 //!
 //! ```text
 //! let told = by_mention(alloc, &names, lists)?;
-//! let edges = edges_of(alloc, &told.lists)?;
-//! let report = report_over(alloc, edges, &told.lists, &query)?;
+//! let report = report_of_lists(alloc, &told.lists, &query)?;
 //! ```
 //!
 //! A program that records itself numbers its locks and places in the order in which it comes to them, which may

@@ -1,21 +1,17 @@
 -- What a thread's part keeps, and its turns case by case.
-use Rattle.std.proofs.Common.{◌≡◌, ℕ, ◌+◌, Bool, true, false, List, [], ◌∷◌, ◌++◌, length, take, drop, ◌≤◌, cond, Option, Some, None, Result, Ok, Err, Vec, Global, refl, sym, ap, ◌∙◌, subst, arith, length-append}
-use Rattle.std.specs.Prelude.{IfOk, slice_get, nat_le}
+use Rattle.std.proofs.Common.{◌≡◌, ℕ, ◌+◌, Bool, true, false, List, [], ◌∷◌, ◌++◌, length, take, drop, Option, None, Result, Ok, Err, Vec, Global, refl, sym, ap, ◌∙◌, subst, arith, length-append}
+use Rattle.std.specs.Prelude.{IfOk, slice_get}
 use Rattle.std.specs.List.{filter_map}
-use Rattle.std.specs.Option.{option_map_or}
-use Rattle.std.proofs.lemmas.Bool.{leb-false, lt-leb}
 use Rattle.std.proofs.lemmas.List.Elements.{filter_map-append}
 use Rattle.std.proofs.lemmas.List.{take-append-le, take-append-drop, length_push}
 use Rattle.std.proofs.lemmas.Option.{slice_get_within}
 use Rattle.gl_event.specs.Bounds.{Bounds, AreWithinRange, greatest}
 use Rattle.gl_event.specs.Lawful.{refusal}
 use Rattle.gl_event.specs.declared.events.Event.{Event}
-use Rattle.gl_event.specs.declared.events.Refusal.{Refusal}
 use Rattle.gl_event.specs.declared.notes.Note.{Note}
 use Rattle.gl_event.specs.declared.notes.Body.{Body}
 use Rattle.gl_event.specs.declared.notes.Body.TheVariants.{Happened, Ended as EndMark}
-use Rattle.gl_event.specs.Events.{partner}
-use Rattle.gl_event.specs.declared.limits.TheConstants.{MAX_THREADS, MAX_EVENTS}
+use Rattle.gl_event.proofs.Lawfulness.{allowed_by_greatest}
 use Rattle.gl_edges.specs.Edges.{edges_at, edges_after}
 use Rattle.gl_edges.specs.Tracking.{Tracks as Follows}
 use Rattle.gl_edges.specs.declared.edge.Edge.{Edge}
@@ -116,25 +112,6 @@ end_lane old now same running free pushed grown is = rw (end_room now.limits now
 pub events_cut : (thread n : ℕ) (notes : List Note) → events_of thread (take n notes) ++ events_of thread (drop n notes) ≡ events_of thread notes
 unfolding events_of
 events_cut thread n notes = sym (filter_map-append (event_in thread) (take n notes) (drop n notes)) ∙ ap (filter_map (event_in thread)) (take-append-drop n notes)
-
--- what may come next under some limits may come next under the greatest
-by_places : (limit most n : ℕ) → limit ≤ most → nat_le limit n ≡ false → nat_le most n ≡ false
-by_places limit most n fits within = lt-leb most n (let w = leb-false limit n within in omega arith)
-
-by_threads : (limit most : ℕ) (other : Option ℕ) → limit ≤ most → option_map_or (nat_le limit) other false ≡ false → option_map_or (nat_le most) other false ≡ false
-by_threads limit most None fits known = refl
-by_threads limit most (Some other) fits known = by_places limit most other fits known
-
-first_two : (a b : Bool) (x y : Refusal) (rest : Option Refusal) → cond a (Some x) (cond b (Some y) rest) ≡ None → (a ≡ false) × (b ≡ false) × (rest ≡ None)
-first_two true b x y rest none = absurd (cc)
-first_two false true x y rest none = absurd (cc)
-first_two false false x y rest none = (refl, refl, none)
-
-pub allowed_by_greatest : (limits : Bounds) (thread : ℕ) (es : List Event) (e : Event) → AreWithinRange limits → refusal limits thread es e ≡ None → refusal greatest thread es e ≡ None
-unfolding refusal
-allowed_by_greatest limits thread es e range allowed =
-    let (few, known, rest) = first_two (nat_le limits.events (length es)) (option_map_or (nat_le limits.threads) (partner e) false) _ _ _ allowed in
-    rw (by_places limits.events MAX_EVENTS (length es) range.events_fit few, by_threads limits.threads MAX_THREADS (partner e) range.threads_fit known) rest
 
 module _ (limits : Bounds) (thread : ℕ) (lane : Lane) (note : Note) (front : IsFrontOf limits thread lane note) where
   pub events_popped : with_body (events_of thread (take lane.popped lane.pushed)) note.body ≡ events_of thread (take (lane.popped + 1) lane.pushed)

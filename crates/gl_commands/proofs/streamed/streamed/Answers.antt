@@ -21,26 +21,26 @@ pub stream_listing-reported-requires-clause-unread : goal.stream_listing-reporte
 stream_listing-reported-requires-clause-unread g c κs within =
     let start = g.I.Source.position c.args.input.now in
     record {
-      limits = c.limits_of.result;
+      limits = c.of_session-limits.result;
       turns = c.args.turns;
       start = start;
-      as_many = ap (λ (b : Bounds). b.threads) c.limits_of.ensures;
-      tells = subst (λ (failed : Bool). HasTold c.limits_of.result c.args.turns (used start start failed) c.in_ok-items.items [] nothing) (sym c.requires.readable) (c.in_ok-items.ensures.tells start);
+      as_many = ap (λ (b : Bounds). b.threads) c.of_session-limits.ensures;
+      tells = subst (λ (failed : Bool). HasTold c.of_session-limits.result c.args.turns (used start start failed) c.in_ok-items.items [] nothing) (sym c.requires.readable) (c.in_ok-items.ensures.tells start);
     }
 
 pub returns-clause-printed : goal.returns-clause-printed
 returns-clause-printed g c =
     let limits = with_threads c.args.options.now.threads in
     let start = g.I.Source.position c.args.input.now in
-    let told = subst (λ (b : Bounds). HasTold b c.args.turns (used start start (g.I.Source.failed c.args.input.now)) c.in_ok-items.items [] nothing) c.limits_of.ensures
-    (subst (λ (failed : Bool). HasTold c.limits_of.result c.args.turns (used start start failed) c.in_ok-items.items [] nothing) (sym c.requires.readable) (c.in_ok-items.ensures.tells start)) in
+    let told = subst (λ (b : Bounds). HasTold b c.args.turns (used start start (g.I.Source.failed c.args.input.now)) c.in_ok-items.items [] nothing) c.of_session-limits.ensures
+    (subst (λ (failed : Bool). HasTold c.of_session-limits.result c.args.turns (used start start failed) c.in_ok-items.items [] nothing) (sym c.requires.readable) (c.in_ok-items.ensures.tells start)) in
     c.answered.ensures.printed limits c.args.turns (used start (g.I.Source.position c.stream_listing-reported.new.input) (g.I.Source.failed c.stream_listing-reported.new.input)) (rw c.listing_of-listing.ensures at (c.stream_listing-reported.ensures.becomes limits c.args.turns start refl told))
 
 pub returns-clause-stopped : goal.returns-clause-stopped
 returns-clause-stopped g c =
     let limits = with_threads c.args.options.now.threads in
     let start = g.I.Source.position c.args.input.now in
-    let told = subst (λ (b : Bounds). HasTold b c.args.turns (used start start (g.I.Source.failed c.args.input.now)) c.in_ok-items.items [] nothing) c.limits_of.ensures
-    (subst (λ (failed : Bool). HasTold c.limits_of.result c.args.turns (used start start failed) c.in_ok-items.items [] nothing) (sym c.requires.readable) (c.in_ok-items.ensures.tells start)) in
+    let told = subst (λ (b : Bounds). HasTold b c.args.turns (used start start (g.I.Source.failed c.args.input.now)) c.in_ok-items.items [] nothing) c.of_session-limits.ensures
+    (subst (λ (failed : Bool). HasTold c.of_session-limits.result c.args.turns (used start start failed) c.in_ok-items.items [] nothing) (sym c.requires.readable) (c.in_ok-items.ensures.tells start)) in
     c.answered.ensures.stopped limits c.args.turns (used start (g.I.Source.position c.stream_listing-reported.new.input) (g.I.Source.failed c.stream_listing-reported.new.input)) (rw c.listing_of-listing.ensures at (c.stream_listing-reported.ensures.becomes limits c.args.turns start refl told))
     c.stream_listing-reported.ensures.in_time

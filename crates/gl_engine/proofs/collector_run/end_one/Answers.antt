@@ -3,7 +3,7 @@ use Rattle.gl_engine.proofs.collector_run.end_one.Goals as goal
 
 pub returns-in-Ok-clause-ended : goal.returns-in-Ok-clause-ended
 returns-in-Ok-clause-ended g c feeds before count are =
-    ended_there feeds before c.args.sent.now.items c.args.gone are c.in-Ok.ended c.keep.new.sent.items c.args.outlet.feed c.args.outlet.sent c.keep.ensures.items c.in-Ok.ensures.feed c.in-Ok.ensures.sent
+    ended_there feeds before c.args.sent.now.items c.args.gone are c.in-Ok.ended c.keep.new.list.items c.args.outlet.feed c.args.outlet.sent c.keep.ensures.items c.in-Ok.ensures.feed c.in-Ok.ensures.sent
 
 pub returns-in-Some-clause-ended : goal.returns-in-Some-clause-ended
 returns-in-Some-clause-ended g c feeds before count are =

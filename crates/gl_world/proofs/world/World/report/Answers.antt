@@ -1,4 +1,4 @@
-use Rattle.std.proofs.Common.{◌≡◌, ap, ◌∙◌, subst, arith}
+use Rattle.std.proofs.Common.{◌≡◌, ap, ◌∙◌, subst}
 use Rattle.gl_event.specs.Bounds.{Bounds}
 use Rattle.gl_segments.specs.Orders.{lists_of}
 use Rattle.gl_shards.specs.Tables.{union}
@@ -7,18 +7,8 @@ use Rattle.gl_world.specs.Dispatch.{worked_edges}
 use Rattle.gl_world.specs.Keeping.{IsSound}
 use Rattle.gl_world.specs.Headline.{collected_lists, worked_table}
 use Rattle.gl_world.proofs.Dispatching.{union_is}
-use Rattle.gl_world.proofs.Reporting.{logs_few, logs_lawful, reported, faulted, report_if, fault_if}
+use Rattle.gl_world.proofs.Reporting.{reported, faulted, report_if, fault_if}
 use Rattle.gl_world.proofs.world.World.report.Goals as goal
-
-pub report_over-requires-clause-few : goal.report_over-requires-clause-few
-report_over-requires-clause-few c =
-    let fit = c.self.invariant.range.threads_fit in
-    let same = ap (λ (b : Bounds). b.threads) c.self.invariant.same_limits in
-    logs_few c.logs.result.now c.self.inside.intake.limits.threads c.self.inside.intake.stream c.logs.ensures.value (omega arith)
-
-pub report_over-requires-clause-lawful : goal.report_over-requires-clause-lawful
-report_over-requires-clause-lawful c =
-    logs_lawful c.self.inside.intake.limits c.logs.result.now c.self.inside.intake.stream c.logs.ensures.value (rw c.self.invariant.same_limits c.self.invariant.range) c.logs.ensures.lawful
 
 pub returns-clause-report : goal.returns-clause-report
 returns-clause-report c =
