@@ -5,7 +5,7 @@ use Rattle.gl_live.specs.bodies.Rosters.{roster_of}
 use Rattle.gl_live.specs.declared.run.Ran.{Ran}
 use Rattle.gl_live.proofs.Leaving.{as_long}
 use Rattle.gl_live.proofs.Streamings.{begins, has_gathered, ours_streamed, streamed, unstreamed}
-use Rattle.gl_live.proofs.streaming.record_text.Goals as goal
+use Rattle.gl_live.proofs.streaming.record_in_room.Goals as goal
 
 pub join_workers-requires-clause-room : goal.join_workers-requires-clause-room
 join_workers-requires-clause-room g c =
