@@ -1,21 +1,11 @@
 //! The lines for standard error that say why a text is refused.
-ghost use Rattle.std.specs.Prelude.{◌≡◌, ◌++◌, decimal, IfOk, OnOk};
+ghost use Rattle.std.specs.Prelude.{◌≡◌, IfOk};
 ghost use Rattle.gl_commands.specs.RefusalLines.{fault_line, inconsistent_line};
-ghost use Rattle.gl_report.specs.Text.{name_of};
 
-use gl_event::{Memory, Segment, ThreadId};
+use gl_event::{Memory, Segment};
+use gl_report::{put_number, thread_name};
 use gl_std::{Names, StdKind};
-use itoa::Buffer;
 use std::alloc::Global;
-
-// Adds a number.
-fn put_number(out: &mut Vec<u8>, number: u64) -> Result<(), Memory>
-    ensures { OnOk result (out.new.items ≡ out.old.items ++ decimal number) }
-{
-    let mut buffer = Buffer::new();
-    out.extend_from_slice(buffer.format(number).as_bytes())?;
-    Ok(())
-}
 
 /// What is said of a fault in a line.
 pub(crate) fn fault_line(alloc: Global, line: u64, kind: StdKind) -> Result<Vec<u8>, Memory>
@@ -28,16 +18,6 @@ pub(crate) fn fault_line(alloc: Global, line: u64, kind: StdKind) -> Result<Vec<
     out.extend_from_slice(kind.text().as_bytes())?;
     out.extend_from_slice(b"\n")?;
     Ok(out)
-}
-
-// The thread's name, or nothing where the number has none.
-fn thread_name(names: &Names, thread: ThreadId) -> &[u8]
-    ensures { result.now ≡ name_of names.now.threads thread }
-{
-    if thread.number() < names.threads() {
-        return names.thread(thread);
-    }
-    &[]
 }
 
 /// What is said of a segment that is before itself.

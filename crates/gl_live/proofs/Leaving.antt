@@ -1,5 +1,5 @@
 -- What a session's threads leave, and the lists that are settled.
-use Rattle.std.proofs.Common.{◌≡◌, ℕ, suc, ◌<◌, List, [], ◌∷◌, length, map, get_or, Some, refl, sym, ap, ◌∙◌, subst, arith}
+use Rattle.std.proofs.Common.{◌≡◌, ℕ, suc, ◌<◌, List, [], ◌∷◌, length, ◌++◌, map, get_or, Some, refl, sym, ap, ◌∙◌, subst, append_assoc, arith}
 use Rattle.std.specs.Prelude.{slice_get}
 use Rattle.std.specs.List.{All}
 use Rattle.std.proofs.lemmas.List.{length-map}
@@ -25,6 +25,21 @@ unsent_at outlets all shard o here = all_get (λ (x : Sending). x.sent ≡ []) o
 
 pub as_long : {X Y Z : Type 0} (f : X → Z) (g : Y → Z) (xs : List X) (ys : List Y) → map f xs ≡ map g ys → length xs ≡ length ys
 as_long f g xs ys same = sym (length-map xs f) ∙ ap length same ∙ length-map ys g
+
+-- the first of two lists that are of the same, and the rest
+pub first_alike : {X Y Z : Type 0} (f : X → Z) (g : Y → Z) (x : X) (y : Y) (xs left : List X) (ys rest : List Y) → xs ≡ x ∷ left → ys ≡ y ∷ rest → map f xs ≡ map g ys → (f x ≡ g y) × (map f left ≡ map g rest)
+first_alike f g x y xs left ys rest of_xs of_ys same =
+    let both : f x ∷ map f left ≡ g y ∷ map g rest = sym (ap (map f) of_xs) ∙ same ∙ ap (map g) of_ys in
+    ((cc), (cc))
+
+-- what is kept is what the first of the others gives
+pub one_kept : {X Y : Type 0} (f : X → Y) (kept after all : List Y) (y : Y) (x : X) (xs left : List X) → after ≡ kept ++ y ∷ [] → y ≡ f x → xs ≡ x ∷ left → kept ++ map f xs ≡ all → after ++ map f left ≡ all
+one_kept f kept after all y x xs left is gives first before =
+    ap (λ ys. ys ++ map f left) is
+    ∙ append_assoc kept (y ∷ []) (map f left)
+    ∙ ap (λ z. kept ++ z ∷ map f left) gives
+    ∙ sym (ap (λ zs. kept ++ map f zs) first)
+    ∙ before
 
 -- ---- receipts of what was gathered
 

@@ -1,10 +1,10 @@
 -- The recorders of a session that was opened, and what is ready to run.
-use Rattle.std.proofs.Common.{◌≡◌, ℕ, ◌≤◌, List, [], ◌∷◌, length, map, get_or, Some, refl, sym, ap, ◌∙◌, subst, arith}
+use Rattle.std.proofs.Common.{◌≡◌, ℕ, ◌≤◌, List, [], ◌∷◌, ◌++◌, length, map, get_or, Some, refl, sym, ap, ◌∙◌, subst, arith}
 use Rattle.std.specs.Prelude.{slice_get}
 use Rattle.std.specs.List.{All}
 use Rattle.std.specs.Option.{option_map}
 use Rattle.std.specs.Vec.{vec_len, vec_capacity}
-use Rattle.std.proofs.lemmas.List.{length-map}
+use Rattle.std.proofs.lemmas.List.{length-map, map-append}
 use Rattle.std.proofs.lemmas.Option.{slice_get-map}
 use Rattle.gl_event.specs.Bounds.{Bounds}
 use Rattle.gl_event.specs.declared.limits.TheConstants.{MAX_EVENTS}
@@ -25,6 +25,29 @@ use Rattle.gl_intake.specs.Stream.{events_of}
 lanes_of_fresh : (lanes : List LaneId) → map (λ input. input.lane) (map fresh_input lanes) ≡ lanes
 lanes_of_fresh [] = refl
 lanes_of_fresh (lane ∷ lanes) = ap (λ ls. lane ∷ ls) (lanes_of_fresh lanes)
+
+-- one more at the end of both
+pub one_more : {X Y Z : Type 0} (f : X → Z) (g : Y → Z) (xs xs_after : List X) (ys ys_after : List Y) (x : X) (y : Y) → xs_after ≡ xs ++ x ∷ [] → ys_after ≡ ys ++ y ∷ [] → map f xs ≡ map g ys → f x ≡ g y → map f xs_after ≡ map g ys_after
+one_more f g xs xs_after ys ys_after x y left right same one =
+    ap (map f) left ∙ map-append f xs (x ∷ []) ∙ (λ i. same i ++ one i ∷ []) ∙ sym (map-append g ys (y ∷ [])) ∙ sym (ap (map g) right)
+
+-- what is ready to run
+pub ready : (threads shards : ℕ) → 1 ≤ shards → shards ≤ MAX_SHARDS → (x : Session) → x.collector.limits.threads ≡ threads → All (IsWorkloadOf (roster_of x.collector)) x.workloads.items
+    → length x.outlets.items ≡ shards → map (λ i. i.feed) x.inlets.items ≡ map (λ o. o.feed) x.outlets.items → All (λ o. o.sent ≡ []) x.outlets.items
+    → x.receipts.items ≡ [] → x.served.items ≡ [] → vec_len x.served ≡ 0 → shards ≤ vec_capacity x.served → IsReady threads x
+ready threads shards some fit x known workloads count feeds unsent no_receipt none_served empty room =
+    let inlets : length x.inlets.items ≡ shards = sym (length-map x.inlets.items (λ i. i.feed)) ∙ ap length feeds ∙ length-map x.outlets.items (λ o. o.feed) ∙ count in
+    record {
+      threads_are = known;
+      workloads = workloads;
+      some = omega (arith, some, count);
+      fit = subst (λ n. n ≤ MAX_SHARDS) (sym count) fit;
+      unsent = unsent;
+      feeds = feeds;
+      no_receipt = no_receipt;
+      none_served = none_served;
+      room = omega (arith, room, empty, inlets);
+    }
 
 module _ (session : ℕ) (limits : Bounds) (recorders : List Recording) (c : Collecting) (opened : IsOpened session limits recorders c) where
   lanes_are : lanes_of c ≡ map (λ r. r.lane) recorders
@@ -48,24 +71,6 @@ module _ (session : ℕ) (limits : Bounds) (recorders : List Recording) (c : Col
 
   pub opened_ours : All (IsRecorderOf (roster_of c)) recorders
   opened_ours thread d within = one_ours thread (get_or recorders thread d) (get_in recorders thread d within)
-
-  pub ready : (threads shards : ℕ) → limits.threads ≡ threads → 1 ≤ shards → shards ≤ MAX_SHARDS → (x : Session) → x.collector ≡ c
-      → ((s : Roster) → All (IsRecorderOf s) recorders → All (IsWorkloadOf s) x.workloads.items)
-      → length x.outlets.items ≡ shards → map (λ i. i.feed) x.inlets.items ≡ map (λ o. o.feed) x.outlets.items → All (λ o. o.sent ≡ []) x.outlets.items
-      → x.receipts.items ≡ [] → x.served.items ≡ [] → vec_len x.served ≡ 0 → shards ≤ vec_capacity x.served → IsReady threads x
-  ready threads shards known some fit x is workloads count feeds unsent no_receipt none_served empty room =
-      let inlets : length x.inlets.items ≡ shards = sym (length-map x.inlets.items (λ i. i.feed)) ∙ ap length feeds ∙ length-map x.outlets.items (λ o. o.feed) ∙ count in
-      record {
-        threads_are = ap (λ (y : Collecting). y.limits.threads) (is ∙ opened.collects) ∙ known;
-        workloads = subst (λ (y : Collecting). All (IsWorkloadOf (roster_of y)) x.workloads.items) (sym is) (workloads (roster_of c) opened_ours);
-        some = omega (arith, some, count);
-        fit = subst (λ n. n ≤ MAX_SHARDS) (sym count) fit;
-        unsent = unsent;
-        feeds = feeds;
-        no_receipt = no_receipt;
-        none_served = none_served;
-        room = omega (arith, room, empty, inlets);
-      }
 
   -- what is ready to record a text
   pub ready_to_read : (threads shards : ℕ) → limits.threads ≡ threads → limits.events ≡ MAX_EVENTS → 1 ≤ shards → shards ≤ MAX_SHARDS → (x : ReadSession) → x.collector ≡ c → x.recorders.items ≡ recorders

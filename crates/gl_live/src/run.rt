@@ -115,9 +115,9 @@ fn join_threads<'s, R: Threads>(
     }
 }
 
-// Starts the workers and the recorder threads, and then runs the collector. No recorder records before
-// all threads are started.
-fn run_threads<'s, E, R: Threads + Wait + Sync, G: Gate + Sync>(
+// Starts the workers and the recorder threads, in the room that is there for their handles, and then
+// runs the collector. No recorder records before all threads are started.
+fn run_in_room<'s, E, R: Threads + Wait + Sync, G: Gate + Sync>(
     scope: &'s Scope<'s, E>,
     rt: &'s R,
     alloc: Global,
@@ -125,8 +125,15 @@ fn run_threads<'s, E, R: Threads + Wait + Sync, G: Gate + Sync>(
     lists: &'s [Vec<Event>],
     gate: &'s G,
     session: Session,
+    workers: Vec<Working>,
+    recorders: Vec<Recording<'s>>,
 ) -> Result<Ran, LiveFault>
     requires ready { IsReady (length lists.now) session }
+    requires none_works { workers.items ≡ [] }
+    requires work_room { vec_len workers + length session.inlets.items ≤ vec_capacity workers }
+    requires none_records { recorders.items ≡ [] }
+    requires record_room { vec_len recorders + length session.workloads.items
+        ≤ vec_capacity recorders }
     ensures run { IfOk result
         (λ ran. HasRun (length session.outlets.items) ran.gathered ran.served.items) }
     ensures threads { IfOk result (λ ran. ran.gathered.limits.threads ≡ length lists.now) }
@@ -135,12 +142,6 @@ fn run_threads<'s, E, R: Threads + Wait + Sync, G: Gate + Sync>(
         (IsReceiptOf (gathered_from ran.gathered) (lists_of lists.now)) ran.receipts.items) }
     ensures fault { (all : List (List Event)) → IfErr result (IsLiveFault all) }
 {
-    let Ok(mut workers) = Vec::with_capacity(alloc, session.inlets.len()) else {
-        return Err(LiveFault::Memory);
-    };
-    let Ok(mut recorders) = Vec::with_capacity(alloc, session.workloads.len()) else {
-        return Err(LiveFault::Memory);
-    };
     let Session {
         collector,
         workloads,
@@ -149,6 +150,8 @@ fn run_threads<'s, E, R: Threads + Wait + Sync, G: Gate + Sync>(
         receipts,
         served,
     } = session;
+    let mut workers = workers;
+    let mut recorders = recorders;
     if !start_threads(
         scope,
         rt,
@@ -168,6 +171,37 @@ fn run_threads<'s, E, R: Threads + Wait + Sync, G: Gate + Sync>(
     start.begin();
     let gathered = collector.run(rt, outlets);
     join_threads(rt, gathered, workers, recorders, receipts, served)
+}
+
+// Makes room for the threads' handles, and runs the session. No recorder records before all threads are
+// started.
+fn run_threads<'s, E, R: Threads + Wait + Sync, G: Gate + Sync>(
+    scope: &'s Scope<'s, E>,
+    rt: &'s R,
+    alloc: Global,
+    start: &'s StartGate,
+    lists: &'s [Vec<Event>],
+    gate: &'s G,
+    session: Session,
+) -> Result<Ran, LiveFault>
+    requires ready { IsReady (length lists.now) session }
+    ensures run { IfOk result
+        (λ ran. HasRun (length session.outlets.items) ran.gathered ran.served.items) }
+    ensures threads { IfOk result (λ ran. ran.gathered.limits.threads ≡ length lists.now) }
+    ensures receipts { IfOk result
+        (λ ran. All
+        (IsReceiptOf (gathered_from ran.gathered) (lists_of lists.now)) ran.receipts.items) }
+    ensures fault { (all : List (List Event)) → IfErr result (IsLiveFault all) }
+{
+    let Ok(workers) = Vec::with_capacity(alloc, session.inlets.len()) else {
+        return Err(LiveFault::Memory);
+    };
+    let Ok(recorders) = Vec::with_capacity(alloc, session.workloads.len()) else {
+        return Err(LiveFault::Memory);
+    };
+    run_in_room(
+        scope, rt, alloc, start, lists, gate, session, workers, recorders,
+    )
 }
 
 /// Runs the session: each recorder thread records the lists of its lanes, each worker fills a table, and

@@ -134,6 +134,27 @@ pub fn feeds(alloc: Global, count: u32, capacity: u32) -> Result<(Vec<Outlet>, V
     Ok((outlets, inlets))
 }
 
+// A collector for so many threads, and the workloads of its recorders.
+fn open_workloads(
+    alloc: Global,
+    threads: u32,
+    options: &SessionOptions,
+) -> Result<(Collector, Vec<Workload>), Memory>
+    requires some_thread { 1 ≤ threads }
+    requires threads_fit { threads ≤ MAX_THREADS }
+    requires some_recorder { 1 ≤ options.now.recorders }
+    requires some_ring { 1 ≤ options.now.ring }
+    requires ring_fits { options.now.ring ≤ MAX_RING }
+    ensures threads { IfOk result (λ opened. opened.0.limits.threads ≡ threads) }
+    ensures workloads { IfOk result
+        (λ opened. All (IsWorkloadOf (roster_of opened.0)) opened.1.items) }
+{
+    let limits = Limits::of_session(threads, options.ring);
+    let (recorders, collector) = open(alloc, SESSION, &limits)?;
+    let workloads = workloads(alloc, recorders, options.recorders)?;
+    Ok((collector, workloads))
+}
+
 /// A session for so many threads.
 ///
 /// It makes every growth of the run but those of the collector, of the workers and of the report.
@@ -148,16 +169,16 @@ pub fn prepare(alloc: Global, threads: u32, options: &SessionOptions) -> Result<
     ensures ready { IfOk result (IsReady threads) }
     ensures shards { IfOk result (λ session. length session.outlets.items ≡ options.now.shards) }
 {
-    let limits = Limits::of_session(threads, options.ring);
-    let (recorders, collector) = open(alloc, SESSION, &limits)?;
-    let workloads = workloads(alloc, recorders, options.recorders)?;
+    let receipts = Vec::with_capacity(alloc, threads as usize)?;
+    let served = Vec::with_capacity(alloc, options.shards as usize)?;
     let (outlets, inlets) = feeds(alloc, options.shards, options.ring)?;
+    let (collector, workloads) = open_workloads(alloc, threads, options)?;
     Ok(Session {
         collector,
         workloads,
         outlets,
         inlets,
-        receipts: Vec::with_capacity(alloc, threads as usize)?,
-        served: Vec::with_capacity(alloc, options.shards as usize)?,
+        receipts,
+        served,
     })
 }

@@ -268,7 +268,72 @@ fn start_collecting<'s, E, R: Threads + Wait + Sync, G: Gate + Sync>(
     start_collector(scope, rt, collector, outlets)
 }
 
-// Starts the workers and the collector, and then reads and records.
+// Starts the workers, in the room that is there for their handles, and the collector, and then reads and
+// records.
+fn record_in_room<'s, E, R: Threads + Wait + Sync, S: Source, G: Gate + Sync>(
+    scope: &'s Scope<'s, E>,
+    rt: &'s R,
+    alloc: Global,
+    gate: &'s G,
+    session: ReadSession,
+    workers: Vec<Working>,
+    items: &mut Items,
+    input: &mut S,
+) -> Result<Ran, StreamFault>
+    requires ready { IsReadyToRead session }
+    requires none_works { workers.items ≡ [] }
+    requires work_room { vec_len workers + length session.inlets.items ≤ vec_capacity workers }
+    requires usable { CanBeAsked items.old (S.failed input.old) }
+    requires unread { IsUnread (length session.recorders.items) (S.position input.old)
+        (S.failed input.old) items.old }
+    ensures ours { IfOk result
+        (λ ran. AreReceipts (gathered_from ran.gathered) ran.receipts.items) }
+    ensures run { IfOk result
+        (λ ran. HasRun (length session.outlets.items) ran.gathered ran.served.items) }
+    ensures threads { IfOk result
+        (λ ran. ran.gathered.limits.threads ≡ length session.recorders.items) }
+    ensures streamed { StreamsOn (S.position input.old) (S.failed input.old) items.old
+        (S.position input.new) (S.failed input.new)
+        (length session.recorders.items) items.new result }
+    ensures done { OnOk result (IsDone items.new) }
+    ensures in_time { FailsInTime (S.position input.old) (S.position input.new) items.new result }
+{
+    let ReadSession {
+        collector,
+        mut recorders,
+        outlets,
+        inlets,
+        mut receipts,
+        mut served,
+    } = session;
+    let mut workers = workers;
+    let Some(gathering) = start_collecting(
+        scope,
+        rt,
+        alloc,
+        gate,
+        collector,
+        outlets,
+        inlets,
+        &mut workers,
+    ) else {
+        return Err(StreamFault::Session(LiveFault::Unconfirmed));
+    };
+    let read = record_items(rt, items, input, &mut recorders);
+    close_all(rt, recorders, &mut receipts);
+    let gathered = gathering.join(rt);
+    join_workers(rt, workers, &mut served);
+    match read {
+        Ok(()) => Ok(Ran {
+            gathered,
+            receipts,
+            served,
+        }),
+        Err(fault) => Err(StreamFault::Text(fault)),
+    }
+}
+
+// Makes room for the workers' handles, starts the workers and the collector, and then reads and records.
 fn record_text<'s, E, R: Threads + Wait + Sync, S: Source, G: Gate + Sync>(
     scope: &'s Scope<'s, E>,
     rt: &'s R,
@@ -294,41 +359,10 @@ fn record_text<'s, E, R: Threads + Wait + Sync, S: Source, G: Gate + Sync>(
     ensures done { OnOk result (IsDone items.new) }
     ensures in_time { FailsInTime (S.position input.old) (S.position input.new) items.new result }
 {
-    let Ok(mut workers) = Vec::with_capacity(alloc, session.inlets.len()) else {
+    let Ok(workers) = Vec::with_capacity(alloc, session.inlets.len()) else {
         return Err(StreamFault::Session(LiveFault::Memory));
     };
-    let ReadSession {
-        collector,
-        mut recorders,
-        outlets,
-        inlets,
-        mut receipts,
-        mut served,
-    } = session;
-    let Some(gathering) = start_collecting(
-        scope,
-        rt,
-        alloc,
-        gate,
-        collector,
-        outlets,
-        inlets,
-        &mut workers,
-    ) else {
-        return Err(StreamFault::Session(LiveFault::Unconfirmed));
-    };
-    let read = record_items(rt, items, input, &mut recorders);
-    close_all(rt, recorders, &mut receipts);
-    let gathered = gathering.join(rt);
-    join_workers(rt, workers, &mut served);
-    match read {
-        Ok(()) => Ok(Ran {
-            gathered,
-            receipts,
-            served,
-        }),
-        Err(fault) => Err(StreamFault::Text(fault)),
-    }
+    record_in_room(scope, rt, alloc, gate, session, workers, items, input)
 }
 
 // As `record_text`, with the items and the source handed back.

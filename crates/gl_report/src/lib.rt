@@ -17,7 +17,7 @@ mod words;
 pub use escapes::escaped_name;
 pub use exclusive::{is_exclusive, lists_exclusive};
 pub use findings::{findings_json, findings_json_text};
-pub use printing::{findings_text, text};
+pub use printing::{findings_text, put_number, text, thread_name};
 pub use stats::{Stats, stats_text};
 pub use tree::{edge_json, json, json_text};
 pub use tree_v1::{edge_json_v1, json_text_v1, json_v1};

@@ -16,8 +16,8 @@ use gl_std::Names;
 use itoa::Buffer;
 use std::alloc::Global;
 
-// The thread's name, or nothing where the number has none.
-pub(crate) fn thread_name(names: &Names, thread: ThreadId) -> &[u8]
+/// The thread's name, or nothing where the number has none.
+pub fn thread_name(names: &Names, thread: ThreadId) -> &[u8]
     ensures { result.now ≡ name_of names.now.threads thread }
 {
     if thread.number() < names.threads() {
@@ -111,8 +111,8 @@ fn put_edge_text(
     Ok(())
 }
 
-// Adds a number.
-pub(crate) fn put_number(out: &mut Vec<u8>, number: u64) -> Result<(), Memory>
+/// Adds a number in decimal digits.
+pub fn put_number(out: &mut Vec<u8>, number: u64) -> Result<(), Memory>
     ensures { OnOk result (out.new.items ≡ out.old.items ++ decimal number) }
 {
     let mut buffer = Buffer::new();

@@ -3,7 +3,7 @@ use Rattle.gl_segments.specs.Orders.{lists_of}
 use Rattle.gl_shards.specs.declared.shard.TheConstants.{MAX_SHARDS}
 use Rattle.gl_event.specs.Bounds.{Bounds}
 use Rattle.gl_live.proofs.Leaving.{unsent_at, as_long, roster_same}
-use Rattle.gl_live.proofs.run.run_threads.Goals as goal
+use Rattle.gl_live.proofs.run.run_in_room.Goals as goal
 
 pub run-gathered-requires-clause-unsent : goal.run-gathered-requires-clause-unsent
 run-gathered-requires-clause-unsent g c = unsent_at c.args.session.outlets.items c.requires.ready.unsent
