@@ -66,7 +66,8 @@ pub extern "C" fn goodlock_open(
     ring: u32,
     session: &mut Session,
 ) -> u32
-    ensures { IsOpening number (of_session threads ring) session.old.value result session.new.value }
+    ensures { IsOpening number (of_session threads ring)
+        session.old.value result session.new.value }
 {
     if let Some(state) = session.take(alloc) {
         session.put(state);
