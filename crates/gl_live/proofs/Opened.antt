@@ -15,7 +15,7 @@ use Rattle.gl_engine.specs.Recording.{Recording}
 use Rattle.gl_shards.specs.declared.shard.TheConstants.{MAX_SHARDS}
 use Rattle.gl_live.specs.bodies.Workloads.{IsWorkloadOf}
 use Rattle.gl_live.specs.bodies.Ready.{IsReady}
-use Rattle.gl_live.specs.bodies.Rosters.{Roster, roster_of, IsRecorderOf}
+use Rattle.gl_live.specs.bodies.Rosters.{roster_of, IsRecorderOf}
 use Rattle.gl_live.specs.bodies.Streams.{AreRecorded, IsReadyToRead}
 use Rattle.gl_live.specs.declared.session.Session.{Session}
 use Rattle.gl_live.specs.declared.streaming.ReadSession.{ReadSession}

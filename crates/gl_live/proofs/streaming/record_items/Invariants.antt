@@ -1,4 +1,4 @@
-use Rattle.std.proofs.Common.{◌≡◌, ℕ, List, length}
+use Rattle.std.proofs.Common.{◌≡◌, ℕ, length}
 use Rattle.gl_event.specs.Bounds.{Bounds}
 use Rattle.gl_io.specs.Positions.{Position}
 use Rattle.gl_io.specs.Uses.{used}
