@@ -2,12 +2,12 @@
 //! predicts, counts of the trace, or the trace itself.
 #![tactic(auto)]
 
-ghost use Rattle.std.specs.Prelude.{◌≡◌, false};
+ghost use Rattle.std.specs.Prelude.{◌≡◌};
 ghost use Rattle.gl_options.specs.Sessions.{CanRun};
 ghost use Rattle.goodlock.specs.Usages.{refused_text, shown_text, usage_status};
 
 use gl_commands::{Ended, perform, said};
-use gl_io::{FromStd, Sink, Source};
+use gl_io::FromStd;
 use gl_options::{Command, Usage, parse};
 use gl_std::Seed;
 use std::env;
@@ -42,21 +42,6 @@ fn words(rt: &HostRuntime) -> Result<Vec<String>, Usage> {
     }
 }
 
-// Does what the words ask for. What `perform` says of it isn't needed here.
-fn performed<T: AllocGlobal + Threads + Wait + Sync, I: Source, O: Sink>(
-    threads: &T,
-    input: &mut I,
-    output: &mut O,
-    seed: Seed,
-    command: &Command,
-) -> Ended
-    requires readable { I.failed input.old ≡ false }
-    requires writable { O.failed output.old ≡ false }
-    requires runs { CanRun command.now }
-{
-    perform(threads, input, output, seed, command)
-}
-
 // Does what the words ask for, from standard input to standard output. Where no seed can be drawn for
 // the names, the input isn't read. Threads are started with the second handle.
 fn run<T: AllocGlobal + Threads + Wait + Sync>(
@@ -69,7 +54,7 @@ fn run<T: AllocGlobal + Threads + Wait + Sync>(
     let mut input = FromStd::new(rt.stdin());
     let mut output = FromStd::new(rt.stdout());
     let ended = match Seed::random(rt) {
-        Ok(seed) => performed(threads, &mut input, &mut output, seed, command),
+        Ok(seed) => perform(threads, &mut input, &mut output, seed, command),
         Err(_) => Ended::ReadFailed,
     };
     let (line, status) = said(&ended);
