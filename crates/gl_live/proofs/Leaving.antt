@@ -2,7 +2,7 @@
 use Rattle.std.proofs.Common.{◌≡◌, ℕ, suc, ◌<◌, List, [], ◌∷◌, length, ◌++◌, map, get_or, Some, refl, sym, ap, ◌∙◌, subst, append_assoc, arith}
 use Rattle.std.specs.Prelude.{slice_get}
 use Rattle.std.specs.List.{All}
-use Rattle.std.proofs.lemmas.List.{length-map}
+use Rattle.std.proofs.lemmas.List.{append-nil, length-map}
 use Rattle.std.proofs.lemmas.Option.{slice_get_within}
 use Rattle.gl_event.specs.declared.events.Event.{Event}
 use Rattle.gl_shards.specs.Feeds.{Sending, AllSent}
@@ -40,6 +40,11 @@ one_kept f kept after all y x xs left is gives first before =
     ∙ ap (λ z. kept ++ z ∷ map f left) gives
     ∙ sym (ap (λ zs. kept ++ map f zs) first)
     ∙ before
+
+-- all is kept where none is left
+pub all_kept : {X Y Z W : Type 0} (f : X → Y) (g : X → W) (h : Z → W) (kept all : List Y) (xs : List X) (zs : List Z) → length zs ≡ 0 → map h zs ≡ map g xs → kept ++ map f xs ≡ all → kept ≡ all
+all_kept f g h kept all [] zs none same before = sym (append-nil kept) ∙ before
+all_kept f g h kept all (x ∷ xs) zs none same before = absurd (omega (arith, none, as_long h g zs (x ∷ xs) same))
 
 -- ---- receipts of what was gathered
 

@@ -1,6 +1,6 @@
-use Rattle.std.proofs.Common.{length, ap, arith}
+use Rattle.std.proofs.Common.{sym, ◌∙◌, length, ap, arith}
 use Rattle.gl_edges.specs.Edges.{once}
-use Rattle.gl_live.proofs.Leaving.{first_alike, one_kept}
+use Rattle.gl_live.proofs.Leaving.{all_kept, first_alike, one_kept}
 use Rattle.gl_live.proofs.live.settle_workers.Goals as goal
 
 pub settle-requires : goal.settle-requires
@@ -20,3 +20,14 @@ loop-worker-preserved c =
       feeds = (first_alike (λ s. s.feed) (λ s. s.feed) c.in-Some.worker c.in-Some-next.feed _ _ _ _ steps.0 c.in-Some-next.ensures.items was.feeds).1;
       tables = one_kept (λ s. once s.sent) _ _ _ c.in-Ok.table c.in-Some-next.feed _ _ c.keep.ensures.items c.in-Ok.ensures.table c.in-Some-next.ensures.items was.tables;
     }
+
+pub returns-clause-tables : goal.returns-clause-tables
+returns-clause-tables c =
+    let was = c.loop-worker.invariant in
+    all_kept (λ s. once s.sent) (λ s. s.feed) (λ s. s.feed) _ _ _ _ (sym was.counted ∙ c.in-None.ensures.steps.0) was.feeds was.tables
+
+pub returns-clause-fault : goal.returns-clause-fault
+returns-clause-fault c = λ lists. tt
+
+pub returns-in-Err-clause-fault : goal.returns-in-Err-clause-fault
+returns-in-Err-clause-fault c = c.unserved.ensures.fault
