@@ -10,6 +10,7 @@ pub mod KeptLines
 pub mod LineByLine
 pub mod LinesOfTexts
 pub mod NameBytes
+pub mod NumberedLines
 pub mod PieceByPiece
 pub mod Places
 pub mod Shapes

@@ -18,6 +18,8 @@ use crate::standing::{Ruling, rule};
 use gl_event::{Event, Limits, LocId, LockId, ThreadId, ThreadState};
 use std::alloc::{AllocError, Global};
 
+mod blocks;
+
 /// What a line is that isn't at fault.
 #[derive(Clone, Copy)]
 pub(crate) enum Judged {

@@ -38,6 +38,7 @@
 //! fault in the order of the reasons decides. gl_writing writes a trace as a text.
 #![tactic(auto)]
 
+mod block;
 mod faults;
 mod from_source;
 mod guess;
@@ -49,6 +50,7 @@ mod line_reader;
 mod lists;
 mod name;
 mod names;
+mod said;
 mod seed;
 mod standing;
 mod stream;

@@ -1,0 +1,41 @@
+use Rattle.std.proofs.Common.{sym, ◌∙◌}
+use Rattle.gl_std.specs.bodies.Blocks.{named}
+use Rattle.gl_std.specs.Trace.{operands}
+use Rattle.gl_std.specs.bodies.Finding.{found_in}
+use Rattle.gl_std.specs.bodies.Shown.{shown_operation}
+use Rattle.gl_std.proofs.NumberedLines.{fails_alike, named_of, tells_alike}
+use Rattle.gl_std.proofs.judge.Judge.judge_call.Goals as goal
+
+-- the numbers are those of the names
+pub take_found-requires-clause-found : goal.take_found-requires-clause-found
+take_found-requires-clause-found c =
+    let names = c.args.names.now in
+    let o = shown_operation c.args.operation in
+    let t = named_of names.threads c.args.thread c.thread.result.now c.thread.ensures in
+    let p = named_of (operands o names) c.args.operand c.operand.result.now c.operand.ensures in
+    let l = named_of names.locs c.args.location c.loc.result.now c.loc.ensures in
+    c.find_said-found.ensures.found ∙ (λ i. found_in ((sym c.find_said-found.ensures.same i).names) o (t i) (p i) (l i))
+
+pub returns-clause-ok : goal.returns-clause-ok
+returns-clause-ok c =
+    let names = c.args.names.now in
+    let o = shown_operation c.args.operation in
+    tells_alike c.find_said-found.new.self c.args.self.now c.take_found.new.self c.take_found.result o
+    c.thread.result.now (named names.threads c.args.thread) c.operand.result.now (named (operands o names) c.args.operand) c.loc.result.now (named names.locs c.args.location)
+    (sym c.find_said-found.ensures.same)
+    (named_of names.threads c.args.thread c.thread.result.now c.thread.ensures)
+    (named_of (operands o names) c.args.operand c.operand.result.now c.operand.ensures)
+    (named_of names.locs c.args.location c.loc.result.now c.loc.ensures)
+    c.take_found.ensures.ok
+
+pub returns-clause-fault : goal.returns-clause-fault
+returns-clause-fault c =
+    let names = c.args.names.now in
+    let o = shown_operation c.args.operation in
+    fails_alike c.find_said-found.new.self c.args.self.now c.take_found.result o
+    c.thread.result.now (named names.threads c.args.thread) c.operand.result.now (named (operands o names) c.args.operand) c.loc.result.now (named names.locs c.args.location)
+    (sym c.find_said-found.ensures.same)
+    (named_of names.threads c.args.thread c.thread.result.now c.thread.ensures)
+    (named_of (operands o names) c.args.operand c.operand.result.now c.operand.ensures)
+    (named_of names.locs c.args.location c.loc.result.now c.loc.ensures)
+    c.take_found.ensures.fault
