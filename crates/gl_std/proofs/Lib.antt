@@ -12,6 +12,7 @@ pub mod LinesOfTexts
 pub mod NameBytes
 pub mod NumberedLines
 pub mod PieceByPiece
+pub mod PiecesAhead
 pub mod Places
 pub mod Shapes
 pub mod WithinLimits

@@ -64,6 +64,8 @@ impl Block {
         ensures numbered { OnOk result (AreNumbered self.new) }
         ensures lines { OnOk result
             (shapes_of self.new ≡ shapes_of self.old ++ map shape_of (lines text.now)) }
+        ensures count { OnOk result
+            (vec_len self.new.said ≡ vec_len self.old.said + length (lines text.now)) }
     {
         let mut rest = text;
         while let Some((line, after)) = next_line(rest) {

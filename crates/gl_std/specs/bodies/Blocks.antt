@@ -59,6 +59,7 @@ between piece = option_map_or (λ parts. ended_lines parts.1) (cut_at LF piece) 
 pub record IsBlockOf (piece : List ℕ) (block : Block) : Type 0 where
   pub numbered : AreNumbered block
   pub says : shapes_of block ≡ map shape_of (lines (between piece))
+  pub count : vec_len block.said ≡ length (lines (between piece))
 
 -- ---- names of a block
 

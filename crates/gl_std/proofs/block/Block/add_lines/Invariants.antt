@@ -13,6 +13,7 @@ invariant-loop-line l =
       few : AreFew l.self;
       room : vec_len l.self.said + length l.rest ≤ CHUNK;
       says : shapes_of l.self ++ map shape_of (lines l.rest) ≡ shapes_of l.initial.self ++ map shape_of (lines l.text);
+      count : vec_len l.self.said + length (lines l.rest) ≡ vec_len l.initial.self.said + length (lines l.text);
     }
 
 abbrev pub decreases-loop-line : goal.decreases-loop-line

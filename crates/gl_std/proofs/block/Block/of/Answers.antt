@@ -21,4 +21,5 @@ pub returns-in-None : goal.returns-in-None
 returns-in-None c = record {
   numbered = c.new.ensures.numbered;
   says = c.new.ensures.none ∙ sym (ap (λ cut. map shape_of (lines (option_map_or (λ (p : List ℕ × List ℕ). ended_lines p.1) cut []))) (sym c.in-None.ensures));
+  count = c.new.ensures.count ∙ sym (ap (λ cut. length (lines (option_map_or (λ (p : List ℕ × List ℕ). ended_lines p.1) cut []))) (sym c.in-None.ensures));
 }
