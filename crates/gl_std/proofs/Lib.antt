@@ -3,6 +3,7 @@ pub mod Cutting
 pub mod FirstFaults
 pub mod FoundNames
 pub mod Growth
+pub mod HeardAhead
 pub mod HeardSources
 pub mod ItemByItem
 pub mod JudgedLines

@@ -1,5 +1,5 @@
 -- Lines by numbers in place of names.
-use Rattle.std.proofs.Common.{◌≡◌, ◌≢◌, ℕ, zero, suc, ◌+◌, ◌<◌, ◌≤◌, Bool, true, false, position, List, [], ◌∷◌, ◌++◌, length, map, take, replicate, Option, Some, None, All, Result, Ok, Err, get_or, refl, sym, ap, subst, ◌∙◌, append_assoc, length-append, add-zero, add-one, cond, inl, inr, arith}
+use Rattle.std.proofs.Common.{◌≡◌, ℕ, zero, suc, ◌+◌, ◌<◌, ◌≤◌, Bool, true, false, position, List, [], ◌∷◌, ◌++◌, length, map, take, replicate, Option, Some, None, Result, Ok, Err, get_or, refl, sym, ap, subst, ◌∙◌, length-append, add-zero, add-one, cond, inl, inr, arith}
 use Rattle.std.specs.Prelude.{slice_get, slice_set, IfOk}
 use Rattle.std.specs.Str.{bytes_eq}
 use Rattle.std.proofs.lemmas.Bool.{cases_eq}
@@ -13,7 +13,7 @@ use Rattle.gl_std.specs.Line.{Operation, Shape, is_on_thread, shape_of}
 use Rattle.gl_std.specs.Line.Shape.{Call}
 use Rattle.gl_std.specs.Names.{NameLists}
 use Rattle.gl_std.specs.Trace.{after_call, after_line, after_shape, and_then, operands, read_from}
-use Rattle.gl_std.specs.bodies.Blocks.{after_shapes, named, shape_in, shapes_of, AreKnown, GoOn, HasTakenShapes, IsKnownOf, IsNumbered, TakesShapes}
+use Rattle.gl_std.specs.bodies.Blocks.{after_shapes, named, shape_in, AreKnown, GoOn, HasTakenShapes, IsKnownOf, IsNumbered, TakesShapes}
 use Rattle.gl_std.specs.bodies.Judgements.{AreApart, FailsAs, TellsAs}
 use Rattle.gl_std.specs.bodies.Shown.{shown_operation}
 use Rattle.gl_std.specs.bodies.States.{HasJudged}

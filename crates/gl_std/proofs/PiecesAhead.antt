@@ -1,7 +1,7 @@
 -- Pieces that are read and cut before they are judged.
-use Rattle.std.proofs.Common.{◌≡◌, ◌≢◌, ℕ, zero, suc, ◌+◌, ◌*◌, ◌<◌, ◌≤◌, ◌⊎◌, inl, inr, ◌||◌, ◌&&◌, Bool, true, false, cond, eqb, List, [], ◌∷◌, ◌++◌, length, map, take, drop, Contains, Option, Some, None, All, Result, Ok, Err, get_or, refl, sym, ap, subst, ◌∙◌, append_assoc, length-append, add-zero, add-one, arith}
+use Rattle.std.proofs.Common.{◌≡◌, ℕ, zero, suc, ◌+◌, ◌<◌, ◌≤◌, ◌⊎◌, inl, inr, ◌||◌, ◌&&◌, Bool, true, false, cond, eqb, List, [], ◌∷◌, ◌++◌, length, map, take, drop, Contains, Some, All, Result, Ok, Err, get_or, refl, sym, ap, subst, ◌∙◌, append_assoc, length-append, add-zero, add-one, arith}
 use Rattle.std.specs.Prelude.{IfOk}
-use Rattle.std.specs.List.{flat_map, onto_first}
+use Rattle.std.specs.List.{onto_first}
 use Rattle.std.specs.declared.alloc.AllocError.{AllocError}
 use Rattle.std.specs.Option.{option_map_or}
 use Rattle.std.proofs.lemmas.Bool.{false≢true}
@@ -18,7 +18,7 @@ use Rattle.gl_std.specs.LineReading.{TELLING, HasGiven}
 use Rattle.gl_std.specs.Lines.{LF, CR, begins_with, ended_lines, lines}
 use Rattle.gl_std.specs.Pieces.{IsFaulty, IsTold}
 use Rattle.gl_std.specs.Trace.{and_then, read_from, trace_of}
-use Rattle.gl_std.specs.bodies.Ahead.{bytes_of, text_of, turns_left, FailsPiece, GivesOn, HasReadOn, HasTakenPiece, IsShort, OnlyJudges, ReadsNothing, TakesPiece}
+use Rattle.gl_std.specs.bodies.Ahead.{bytes_of, text_of, FailsPiece, GivesOn, HasReadOn, IsShort, OnlyJudges, ReadsNothing, TakesPiece}
 use Rattle.gl_std.specs.bodies.Blocks.{after_shapes, between, FailsShapes, TakesShapes}
 use Rattle.gl_std.specs.bodies.Taking.{HasEndedLine}
 use Rattle.gl_std.specs.bodies.Telling.{with_judged}
@@ -341,3 +341,13 @@ reads_nothing_next old mid new one two = record {
   same_buffer = two.same_buffer ∙ one.same_buffer;
   same_turns = two.same_turns ∙ one.same_turns;
 }
+
+-- pieces that were cut give the same text
+pub text_alike : (old new : List Piece) → length new ≡ length old → ((k : ℕ) (d : Piece) → k < length old → bytes_of (get_or new k d) ≡ bytes_of (get_or old k d)) → text_of new ≡ text_of old
+text_alike [] [] size same = refl
+text_alike [] (q ∷ new) size same = absurd (omega (arith, size))
+text_alike (p ∷ old) [] size same = absurd (omega (arith, size))
+text_alike (p ∷ old) (q ∷ new) size same =
+    let first = same 0 p (omega arith) in
+    let rest = text_alike old new (omega (arith, size)) (λ k d within. same (suc k) d (omega (arith, within))) in
+    (λ i. first i ++ rest i)

@@ -1,5 +1,5 @@
 -- Reading ahead: pieces that were read and cut before they are judged.
-use Rattle.std.specs.Prelude.{◌≡◌, ◌+◌, ◌*◌, ◌^◌, ◌<◌, ◌≤◌, ℕ, List, [], ◌++◌, All, Bool, true, false, Result, Ok, Err, IfSome, length, take, vec_len}
+use Rattle.std.specs.Prelude.{◌≡◌, ◌+◌, ◌*◌, ◌^◌, ◌<◌, ◌≤◌, ℕ, List, ◌++◌, All, Bool, true, false, Result, Err, IfSome, length, take, vec_len}
 use Rattle.std.specs.List.{flat_map}
 use Rattle.gl_event.specs.Bounds.{Bounds}
 use Rattle.gl_event.specs.declared.events.Event.{Event}
@@ -10,7 +10,7 @@ use Rattle.gl_std.specs.Heard.{HasHeard}
 use Rattle.gl_std.specs.LineReading.{HasGiven}
 use Rattle.gl_std.specs.Pieces.{IsFaulty}
 use Rattle.gl_std.specs.bodies.Blocks.{IsBlockOf}
-use Rattle.gl_std.specs.bodies.States.{left_of, IsSound, Reaches}
+use Rattle.gl_std.specs.bodies.States.{IsSound, Reaches}
 use Rattle.gl_std.specs.declared.faults.ReadFault.{ReadFault}
 use Rattle.gl_std.specs.declared.faults.ReadFault.TheVariants.{Line}
 use Rattle.gl_std.specs.declared.faults.StdKind.{StdKind}
@@ -68,12 +68,11 @@ pub record HasReadOn (now : Position) (old : LineReader) (pieces : List Piece) (
   pub gives : GivesOn now old later failed new gave ending
   pub within : length gave + turns_left new ending * CHUNK ≤ old.turns * CHUNK
 
--- nothing was judged, and nothing is left
+-- nothing was judged
 pub record OnlyReadsAhead (old new : LineReader) : Type 0 where
   pub same_judge : new.judge ≡ old.judge
   pub same_beginning : new.unfinished ≡ old.unfinished
   pub same_size : vec_len new.buffer ≡ vec_len old.buffer
-  pub spent : new.start ≡ new.end
 
 -- ---- what is judged
 
@@ -115,6 +114,11 @@ HasReadTo More turns start now failed left text = HasGiven turns start now left 
 HasReadTo End turns start now failed left text = HasRead turns start now failed text true
 HasReadTo Broke turns start now failed left text = HasRead turns start now failed text false
 
+-- this was heard where a line of a text is at fault that was read whole, or not
+abbrev pub HearsFaulty : ℕ → StdKind → Bool → Heard → Type 0
+HearsFaulty number kind whole heard =
+    (limits : Bounds) (turns : ℕ) (start now : Position) (failed : Bool) (text : List ℕ) → HasRead turns start now failed text whole → IsFaulty limits text number kind → HasHeard limits turns start now failed heard
+
 -- this was heard where a line of the text is at fault that was read by then
 abbrev pub HearsFault : Ending → Position → Bool → ℕ → ℕ → StdKind → Position → Bool → Heard → Type 0
 HearsFault ending now failed left number kind later failed_later heard =
@@ -135,10 +139,15 @@ pub record ReadsAhead (limits : Bounds) (turns : ℕ) (start now : Position) (f 
   pub reaches : Reaches f.judge f.unfinished.items seen told
   pub listed : lists ≡ told.lists
 
--- and can go on: the buffer is empty, and nothing is counted beyond what numbers hold
+-- pieces can be judged: nothing is counted beyond what numbers hold
+pub record CanJudge (f : LineReader) (pieces : List ℕ) : Type 0 where
+  pub sound : IsSound f.judge
+  pub few : length f.unfinished.items ≤ KEPT
+  pub countable : f.judge.line + length pieces + 1 < 2 ^ 64
+
+-- and can go on: nothing is counted beyond what numbers hold
 pub record CanReadAhead (f : LineReader) (pieces : List ℕ) : Type 0 where
   pub sound : IsSound f.judge
   pub few : length f.unfinished.items ≤ KEPT
   pub room : vec_len f.buffer ≡ CHUNK
-  pub spent : f.start ≡ f.end
   pub countable : f.judge.line + length pieces + f.turns * CHUNK + 1 < 2 ^ 64

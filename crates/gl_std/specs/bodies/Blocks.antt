@@ -1,5 +1,5 @@
 -- Blocks: what the lines of a piece say, by numbers of its own for names.
-use Rattle.std.specs.Prelude.{◌≡◌, ℕ, ◌+◌, ◌*◌, ◌<◌, ◌≤◌, List, [], ◌∷◌, ◌++◌, All, Option, Some, Result, Ok, Err, length, map, position, slice_get, slice_index_or, vec_len}
+use Rattle.std.specs.Prelude.{◌≡◌, ℕ, ◌+◌, ◌*◌, ◌<◌, ◌≤◌, List, [], ◌∷◌, All, Option, Some, Result, Ok, Err, length, map, position, slice_get, slice_index_or, vec_len}
 use Rattle.std.specs.Option.{option_map_or}
 use Rattle.std.specs.Str.{bytes_eq}
 use Rattle.gl_event.specs.Bounds.{Bounds}

@@ -83,7 +83,6 @@ impl LineReader {
         most: usize,
     ) -> Result<Ending, AllocError>
         requires room { vec_len self.old.buffer ≡ CHUNK }
-        requires spent { self.old.start ≡ self.old.end }
         requires not_failed { R.failed input.old ≡ false }
         requires short { AreShort pieces.old.items }
         requires few { vec_len pieces.old < most }
@@ -112,7 +111,6 @@ impl LineReader {
         pieces: &mut Vec<Piece>,
     ) -> Result<Ending, AllocError>
         requires room { vec_len self.old.buffer ≡ CHUNK }
-        requires spent { self.old.start ≡ self.old.end }
         requires not_failed { R.failed input.old ≡ false }
         requires short { AreShort pieces.old.items }
         ensures reads { IfOk result
@@ -132,14 +130,8 @@ impl LineReader {
                 pieces.push(self.take_buffer(fresh))?;
                 Ok(Ending::More)
             }
-            Ok(false) => {
-                self.end = self.start;
-                Ok(Ending::End)
-            }
-            Err(Failed) => {
-                self.end = self.start;
-                Ok(Ending::Broke)
-            }
+            Ok(false) => Ok(Ending::End),
+            Err(Failed) => Ok(Ending::Broke),
         }
     }
 

@@ -1,4 +1,4 @@
-use Rattle.std.proofs.Common.{ℕ, ◌<◌, ◌++◌, ◌∷◌, [], length, get_or, sym, subst, ◌∙◌}
+use Rattle.std.proofs.Common.{ℕ, ◌<◌, length, get_or, sym, subst, ◌∙◌}
 use Rattle.gl_std.specs.bodies.Blocks.{IsNumbered}
 use Rattle.gl_std.specs.declared.said.Said.{Said}
 use Rattle.gl_std.proofs.NumberedLines.{all_later, all_push, shapes_push}

@@ -1,8 +1,7 @@
-use Rattle.std.proofs.Common.{ℕ, List, ◌++◌, ◌∷◌, [], length, length-append, map, sym, ap, ◌∙◌, arith}
+use Rattle.std.proofs.Common.{ℕ, List, ◌∷◌, [], length, length-append, map, sym, ap, ◌∙◌, arith}
 use Rattle.std.specs.Option.{option_map_or}
 use Rattle.gl_std.specs.Line.{shape_of}
 use Rattle.gl_std.specs.Lines.{LF, ended_lines, lines}
-use Rattle.gl_std.specs.bodies.Blocks.{between, shapes_of}
 use Rattle.gl_std.proofs.PieceByPiece.{ended-part, first_end}
 use Rattle.gl_std.proofs.block.Block.of.Goals as goal
 

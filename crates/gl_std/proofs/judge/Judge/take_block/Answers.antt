@@ -1,8 +1,6 @@
-use Rattle.std.proofs.Common.{◌≡◌, ◌+◌, ◌<◌, ◌++◌, ◌∷◌, [], Err, length, map, take, get_or, sym, ap, subst, ◌∙◌, arith}
+use Rattle.std.proofs.Common.{◌≡◌, ◌+◌, ◌<◌, Err, length, map, take, sym, ap, subst, ◌∙◌, arith}
 use Rattle.std.proofs.lemmas.Grind.{common_steps}
-use Rattle.gl_std.specs.Line.{Shape}
-use Rattle.gl_std.specs.Trace.{after_shape}
-use Rattle.gl_std.specs.bodies.Blocks.{after_shapes, shape_in, shapes_of, HasTakenShapes}
+use Rattle.gl_std.specs.bodies.Blocks.{after_shapes, shape_in, HasTakenShapes}
 use Rattle.gl_std.specs.bodies.Judgements.{AreApart}
 use Rattle.gl_std.specs.declared.faults.ReadFault.TheVariants.{Line}
 use Rattle.std.proofs.lemmas.List.{get_or-map, length-map}

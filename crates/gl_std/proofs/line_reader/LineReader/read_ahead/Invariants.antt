@@ -1,5 +1,4 @@
-use Rattle.std.proofs.Common.{◌≡◌, ◌<◌, ◌≤◌, false}
-use Rattle.std.specs.Prelude.{vec_len}
+use Rattle.std.proofs.Common.{◌≡◌, ◌≤◌, false}
 use Rattle.gl_std.specs.bodies.Ahead.{AreShort, HasReadOn, OnlyReadsAhead}
 use Rattle.gl_std.specs.declared.line_reader.pieces.Ending.TheVariants.{More}
 use Rattle.gl_std.proofs.line_reader.LineReader.read_ahead.Given as goal

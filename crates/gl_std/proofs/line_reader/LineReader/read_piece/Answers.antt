@@ -1,4 +1,4 @@
-use Rattle.std.proofs.Common.{◌≡◌, Ok, sym, ap, subst, ◌∙◌, arith}
+use Rattle.std.proofs.Common.{Ok, sym, subst, arith}
 use Rattle.gl_std.specs.bodies.Ahead.{AreShort}
 use Rattle.gl_std.specs.bodies.Stepping.{IsRead}
 use Rattle.gl_std.proofs.PiecesAhead.{all_short_push, read_on_broke, read_on_end, read_on_more}

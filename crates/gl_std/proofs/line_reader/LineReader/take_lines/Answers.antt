@@ -1,9 +1,8 @@
-use Rattle.std.proofs.Common.{◌≡◌, ◌<◌, ℕ, get_or, List, ◌∷◌, [], ◌++◌, Ok, Err, length, length-append, map, refl, sym, ap, ◌+◌, subst, ◌∙◌, arith}
-use Rattle.std.specs.Option.{option_map_or}
+use Rattle.std.proofs.Common.{◌≡◌, ◌<◌, ℕ, get_or, ◌++◌, Err, length, map, sym, ap, ◌+◌, subst, ◌∙◌, arith}
 use Rattle.std.proofs.lemmas.Grind.{common_steps}
 use Rattle.gl_std.specs.Line.{Shape, shape_of}
-use Rattle.gl_std.specs.Lines.{LF, ended_lines, lines}
-use Rattle.gl_std.specs.bodies.Blocks.{after_shapes, between, shapes_of}
+use Rattle.gl_std.specs.Lines.{lines}
+use Rattle.gl_std.specs.bodies.Blocks.{between, shapes_of}
 use Rattle.gl_std.specs.bodies.Judgements.{AreApart}
 use Rattle.gl_std.specs.declared.faults.ReadFault.TheVariants.{Line}
 use Rattle.gl_std.specs.declared.line_reader.TheConstants.{KEPT}

@@ -1,5 +1,5 @@
-use Rattle.std.proofs.Common.{◌≡◌, ◌++◌, length, take, refl, sym, ap, subst, ◌∙◌, arith}
-use Rattle.gl_std.specs.bodies.Ahead.{bytes_of, FailsPiece, OnlyJudges, TakesPiece}
+use Rattle.std.proofs.Common.{◌++◌, refl, sym, subst, arith}
+use Rattle.gl_std.specs.bodies.Ahead.{FailsPiece}
 use Rattle.gl_std.specs.bodies.States.{Reaches}
 use Rattle.gl_std.specs.declared.line_reader.TheConstants.{KEPT}
 use Rattle.gl_std.proofs.LineByLine.{few_kept, reached_more}

@@ -1,9 +1,8 @@
-use Rattle.std.proofs.Common.{◌≡◌, ◌++◌, ◌<◌, Err, length, length-append, take, refl, sym, ap, subst, ◌∙◌, arith}
+use Rattle.std.proofs.Common.{◌++◌, ◌<◌, length, length-append, take, sym, ap, subst, ◌∙◌, arith}
 use Rattle.std.proofs.lemmas.List.{take_all}
 use Rattle.std.proofs.lemmas.Grind.{common_steps}
 use Rattle.gl_std.specs.bodies.Ahead.{bytes_of, text_of, OnlyJudges, TakesPiece}
-use Rattle.gl_std.specs.declared.faults.ReadFault.TheVariants.{Line}
-use Rattle.gl_std.proofs.PiecesAhead.{failed_next, only_next, reads_nothing_next, taken_next, taken_no_piece, text_take_next, text_take_rest}
+use Rattle.gl_std.proofs.PiecesAhead.{failed_next, only_next, reads_nothing_next, taken_next, text_take_next, text_take_rest}
 use Rattle.gl_std.proofs.line_reader.LineReader.take_pieces.Goals as goal
 
 pub take_piece-requires-clause-countable : goal.take_piece-requires-clause-countable

@@ -1,4 +1,4 @@
-use Rattle.std.proofs.Common.{◌≡◌, position, sym, ap, subst, ◌∙◌, arith}
+use Rattle.std.proofs.Common.{position, sym, ap, subst, ◌∙◌, arith}
 use Rattle.std.specs.Str.{bytes_eq}
 use Rattle.gl_std.specs.bodies.Blocks.{named, AreKnown}
 use Rattle.gl_std.proofs.NumberedLines.{known_set, named_of}

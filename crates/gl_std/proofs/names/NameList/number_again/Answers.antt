@@ -1,4 +1,4 @@
-use Rattle.std.proofs.Common.{◌≡◌, Some, sym, ap, subst, ◌∙◌}
+use Rattle.std.proofs.Common.{◌≡◌, Some, sym, subst}
 use Rattle.std.specs.Prelude.{slice_get}
 use Rattle.gl_std.proofs.NumberedLines.{new_stands, place_stands}
 use Rattle.gl_std.proofs.names.NameList.number_again.Goals as goal

@@ -1,4 +1,4 @@
-use Rattle.std.proofs.Common.{◌≡◌, position, cond, sym, ap, ◌∙◌}
+use Rattle.std.proofs.Common.{position, cond, sym, ap, ◌∙◌}
 use Rattle.std.specs.Str.{bytes_eq}
 use Rattle.gl_std.specs.bodies.Blocks.{named}
 use Rattle.gl_std.proofs.names.Names.find_known_operand.Goals as goal
