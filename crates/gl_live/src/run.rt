@@ -125,8 +125,8 @@ fn run_in_room<'s, E, R: Threads + Wait + Sync, G: Gate + Sync>(
     lists: &'s [Vec<Event>],
     gate: &'s G,
     session: Session,
-    workers: Vec<Working>,
-    recorders: Vec<Recording<'s>>,
+    mut workers: Vec<Working>,
+    mut recorders: Vec<Recording<'s>>,
 ) -> Result<Ran, LiveFault>
     requires ready { IsReady (length lists.now) session }
     requires none_works { workers.items ≡ [] }
@@ -150,8 +150,6 @@ fn run_in_room<'s, E, R: Threads + Wait + Sync, G: Gate + Sync>(
         receipts,
         served,
     } = session;
-    let mut workers = workers;
-    let mut recorders = recorders;
     if !start_threads(
         scope,
         rt,

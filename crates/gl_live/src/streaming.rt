@@ -276,7 +276,7 @@ fn record_in_room<'s, E, R: Threads + Wait + Sync, S: Source, G: Gate + Sync>(
     alloc: Global,
     gate: &'s G,
     session: ReadSession,
-    workers: Vec<Working>,
+    mut workers: Vec<Working>,
     items: &mut Items,
     input: &mut S,
 ) -> Result<Ran, StreamFault>
@@ -306,7 +306,6 @@ fn record_in_room<'s, E, R: Threads + Wait + Sync, S: Source, G: Gate + Sync>(
         mut receipts,
         mut served,
     } = session;
-    let mut workers = workers;
     let Some(gathering) = start_collecting(
         scope,
         rt,
