@@ -48,7 +48,7 @@ module _ (s : Roster) (r : Recording) (is : IsRecorderOf s r) (lists : List (Lis
         ap (λ (x : Identity). slice_get lists x.thread) identity
         ∙ ap (slice_get lists) (sym same)
         ∙ there
-        ∙ ap Some (sym (whole ∙ ap (λ pushed. events_of r.thread pushed ++ list) is.unused ∙ ap (λ es. es ++ list) (events_none r.thread)));
+        ∙ ap Some (sym (whole ∙ ap (λ es. es ++ list) is.unused));
   }
 
   pub receipt_whole : (receipt : Option Closed) → IfSome receipt (λ x. left_by x ≡ identity_of r) → IfSome receipt (λ x. recorded_whole x ≡ recorded r ++ list) → IfSome receipt (IsReceiptOf s lists)

@@ -22,7 +22,7 @@ ghost use Rattle.gl_live.specs.bodies.Rosters.{gathered_from, AreReceipts, IsRec
 use crate::faults::{LiveFault, unserved, unsettled};
 use crate::reports::report_over;
 use crate::run::{Ran, run_session};
-use crate::session::{SessionOptions, prepare};
+use crate::session::{SessionOptions, prepare, workloads};
 use gl_cycles::Report;
 use gl_edges::EdgeList;
 use gl_engine::preallocated::keep;
@@ -186,13 +186,17 @@ pub fn live_listing<R: Threads + Wait + Sync, G: Gate + Sync>(
     if lists.is_empty() {
         return report_of_none(rt, alloc, lists, listing, query);
     }
-    let Ok(session) = prepare(alloc, lists.len() as u32, options) else {
+    let threads = lists.len() as u32;
+    let Ok((recorders, session)) = prepare(alloc, threads, options.shards, options.ring) else {
+        return Err(LiveFault::Memory);
+    };
+    let Ok(workloads) = workloads(alloc, recorders, options.recorders) else {
         return Err(LiveFault::Memory);
     };
     let Ok(tables) = Vec::with_capacity(alloc, options.shards as usize) else {
         return Err(LiveFault::Memory);
     };
-    match run_session(rt, alloc, lists, gate, session) {
+    match run_session(rt, alloc, lists, gate, session, workloads) {
         Ok(ran) => conclude(rt, alloc, ran, tables, listing, query),
         Err(fault) => Err(fault),
     }

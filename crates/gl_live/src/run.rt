@@ -125,15 +125,16 @@ fn run_in_room<'s, E, R: Threads + Wait + Sync, G: Gate + Sync>(
     lists: &'s [Vec<Event>],
     gate: &'s G,
     session: Session,
-    workers: Vec<Working>,
-    recorders: Vec<Recording<'s>>,
+    workloads: Vec<Workload>,
+    mut workers: Vec<Working>,
+    mut recorders: Vec<Recording<'s>>,
 ) -> Result<Ran, LiveFault>
     requires ready { IsReady (length lists.now) session }
+    requires workloads { All (IsWorkloadOf (roster_of session.collector)) workloads.items }
     requires none_works { workers.items ≡ [] }
     requires work_room { vec_len workers + length session.inlets.items ≤ vec_capacity workers }
     requires none_records { recorders.items ≡ [] }
-    requires record_room { vec_len recorders + length session.workloads.items
-        ≤ vec_capacity recorders }
+    requires record_room { vec_len recorders + length workloads.items ≤ vec_capacity recorders }
     ensures run { IfOk result
         (λ ran. HasRun (length session.outlets.items) ran.gathered ran.served.items) }
     ensures threads { IfOk result (λ ran. ran.gathered.limits.threads ≡ length lists.now) }
@@ -144,14 +145,11 @@ fn run_in_room<'s, E, R: Threads + Wait + Sync, G: Gate + Sync>(
 {
     let Session {
         collector,
-        workloads,
         outlets,
         inlets,
         receipts,
         served,
     } = session;
-    let mut workers = workers;
-    let mut recorders = recorders;
     if !start_threads(
         scope,
         rt,
@@ -183,8 +181,10 @@ fn run_threads<'s, E, R: Threads + Wait + Sync, G: Gate + Sync>(
     lists: &'s [Vec<Event>],
     gate: &'s G,
     session: Session,
+    workloads: Vec<Workload>,
 ) -> Result<Ran, LiveFault>
     requires ready { IsReady (length lists.now) session }
+    requires workloads { All (IsWorkloadOf (roster_of session.collector)) workloads.items }
     ensures run { IfOk result
         (λ ran. HasRun (length session.outlets.items) ran.gathered ran.served.items) }
     ensures threads { IfOk result (λ ran. ran.gathered.limits.threads ≡ length lists.now) }
@@ -196,11 +196,11 @@ fn run_threads<'s, E, R: Threads + Wait + Sync, G: Gate + Sync>(
     let Ok(workers) = Vec::with_capacity(alloc, session.inlets.len()) else {
         return Err(LiveFault::Memory);
     };
-    let Ok(recorders) = Vec::with_capacity(alloc, session.workloads.len()) else {
+    let Ok(recorders) = Vec::with_capacity(alloc, workloads.len()) else {
         return Err(LiveFault::Memory);
     };
     run_in_room(
-        scope, rt, alloc, start, lists, gate, session, workers, recorders,
+        scope, rt, alloc, start, lists, gate, session, workloads, workers, recorders,
     )
 }
 
@@ -214,8 +214,10 @@ pub fn run_session<R: Threads + Wait + Sync, G: Gate + Sync>(
     lists: &[Vec<Event>],
     gate: &G,
     session: Session,
+    workloads: Vec<Workload>,
 ) -> Result<Ran, LiveFault>
     requires ready { IsReady (length lists.now) session }
+    requires workloads { All (IsWorkloadOf (roster_of session.collector)) workloads.items }
     ensures run { IfOk result
         (λ ran. HasRun (length session.outlets.items) ran.gathered ran.served.items) }
     ensures threads { IfOk result (λ ran. ran.gathered.limits.threads ≡ length lists.now) }
@@ -231,6 +233,7 @@ pub fn run_session<R: Threads + Wait + Sync, G: Gate + Sync>(
         rt,
         move |scope| -> Result<Ran, LiveFault>
             requires ready { IsReady (length lists.now) session }
+            requires workloads { All (IsWorkloadOf (roster_of session.collector)) workloads.items }
             ensures run { IfOk result
                 (λ ran. HasRun (length session.outlets.items) ran.gathered ran.served.items) }
             ensures threads { IfOk result
@@ -240,6 +243,6 @@ pub fn run_session<R: Threads + Wait + Sync, G: Gate + Sync>(
                 (IsReceiptOf (gathered_from ran.gathered)
                 (lists_of lists.entry.now)) ran.receipts.items) }
             ensures fault { (all : List (List Event)) → IfErr result (IsLiveFault all) }
-        { run_threads(scope, rt, alloc, start, lists, gate, session) },
+        { run_threads(scope, rt, alloc, start, lists, gate, session, workloads) },
     )
 }

@@ -1,4 +1,4 @@
-//! A session that is ready to run: recorders, collector and feeds, and room for all that it leaves.
+//! A session that is ready to run: recorders, collector and feeds, and room for what it leaves.
 ghost use Rattle.std.specs.Prelude.{◌≡◌, ◌<◌, ◌≤◌, ◌+◌, [], map, length, IfOk, OnOk};
 ghost use Rattle.std.specs.List.{All};
 ghost use Rattle.std.specs.Vec.{vec_len, vec_capacity};
@@ -7,6 +7,7 @@ ghost use Rattle.gl_shards.specs.declared.shard.TheConstants.{MAX_SHARDS};
 ghost use Rattle.gl_live.specs.bodies.Workloads.{IsWorkloadOf};
 ghost use Rattle.gl_live.specs.bodies.Rosters.{Roster, roster_of, IsRecorderOf};
 ghost use Rattle.gl_live.specs.bodies.Ready.{IsReady};
+ghost use Rattle.gl_live.specs.bodies.Streams.{AreRecorded};
 
 use crate::recording::Workload;
 use gl_engine::{Collector, Receipt, Recorder, open};
@@ -25,19 +26,18 @@ pub struct SessionOptions {
     pub ring: u32,
 }
 
-/// A session that is ready to run.
+/// A session that is ready to run, apart from its recorders.
 #[derive(Drop)]
 pub struct Session {
     pub collector: Collector,
-    pub workloads: Vec<Workload>,
     pub outlets: Vec<Outlet>,
     pub inlets: Vec<Inlet>,
     pub receipts: Vec<Receipt>,
     pub served: Vec<Served>,
 }
 
-/// The number of each session: there is one at a time.
-pub const SESSION: u64 = 0;
+// The number of each session: there is one at a time.
+const SESSION: u64 = 0;
 
 // So many groups without recorders.
 fn empty_groups(alloc: Global, count: u32) -> Result<Vec<Vec<Recorder>>, Memory>
@@ -81,8 +81,12 @@ fn workload(alloc: Global, recorders: Vec<Recorder>) -> Result<Workload, Memory>
     })
 }
 
-// The recorders' workloads, so many.
-fn workloads(alloc: Global, recorders: Vec<Recorder>, count: u32) -> Result<Vec<Workload>, Memory>
+/// The recorders' workloads, so many: the recorder of thread `t` is in workload `t` modulo their number.
+pub fn workloads(
+    alloc: Global,
+    recorders: Vec<Recorder>,
+    count: u32,
+) -> Result<Vec<Workload>, Memory>
     requires some { 1 ≤ count }
     ensures { (s : Roster) → All (IsRecorderOf s) recorders.items
         → IfOk result (λ workloads. All (IsWorkloadOf s) workloads.items) }
@@ -117,8 +121,8 @@ fn add_feed(
     Ok(())
 }
 
-/// So many feeds, with this capacity.
-pub fn feeds(alloc: Global, count: u32, capacity: u32) -> Result<(Vec<Outlet>, Vec<Inlet>), Memory>
+// So many feeds, with this capacity.
+fn feeds(alloc: Global, count: u32, capacity: u32) -> Result<(Vec<Outlet>, Vec<Inlet>), Memory>
     requires some { 1 ≤ capacity }
     requires fit { capacity ≤ MAX_RING }
     ensures count { IfOk result (λ ends. length ends.0.items ≡ count) }
@@ -134,51 +138,42 @@ pub fn feeds(alloc: Global, count: u32, capacity: u32) -> Result<(Vec<Outlet>, V
     Ok((outlets, inlets))
 }
 
-// A collector for so many threads, and the workloads of its recorders.
-fn open_workloads(
+/// A session for so many threads, with so many workers, and with this capacity of lanes and feeds: a
+/// recorder for each thread, in the order of thread numbers, and the rest.
+///
+/// It makes every growth of the run but those of the workloads, of the text, of the collector, of the
+/// workers and of the report.
+pub fn prepare(
     alloc: Global,
     threads: u32,
-    options: &SessionOptions,
-) -> Result<(Collector, Vec<Workload>), Memory>
+    shards: u32,
+    ring: u32,
+) -> Result<(Vec<Recorder>, Session), Memory>
     requires some_thread { 1 ≤ threads }
     requires threads_fit { threads ≤ MAX_THREADS }
-    requires some_recorder { 1 ≤ options.now.recorders }
-    requires some_ring { 1 ≤ options.now.ring }
-    requires ring_fits { options.now.ring ≤ MAX_RING }
-    ensures threads { IfOk result (λ opened. opened.0.limits.threads ≡ threads) }
-    ensures workloads { IfOk result
-        (λ opened. All (IsWorkloadOf (roster_of opened.0)) opened.1.items) }
-{
-    let limits = Limits::of_session(threads, options.ring);
-    let (recorders, collector) = open(alloc, SESSION, &limits)?;
-    let workloads = workloads(alloc, recorders, options.recorders)?;
-    Ok((collector, workloads))
-}
-
-/// A session for so many threads.
-///
-/// It makes every growth of the run but those of the collector, of the workers and of the report.
-pub fn prepare(alloc: Global, threads: u32, options: &SessionOptions) -> Result<Session, Memory>
-    requires some_thread { 1 ≤ threads }
-    requires threads_fit { threads ≤ MAX_THREADS }
-    requires some_recorder { 1 ≤ options.now.recorders }
-    requires some_shard { 1 ≤ options.now.shards }
-    requires shards_fit { options.now.shards ≤ MAX_SHARDS }
-    requires some_ring { 1 ≤ options.now.ring }
-    requires ring_fits { options.now.ring ≤ MAX_RING }
-    ensures ready { IfOk result (IsReady threads) }
-    ensures shards { IfOk result (λ session. length session.outlets.items ≡ options.now.shards) }
+    requires some_shard { 1 ≤ shards }
+    requires shards_fit { shards ≤ MAX_SHARDS }
+    requires some_ring { 1 ≤ ring }
+    requires ring_fits { ring ≤ MAX_RING }
+    ensures ready { IfOk result (λ opened. IsReady threads opened.1) }
+    ensures unused { IfOk result
+        (λ opened. AreRecorded (roster_of opened.1.collector) [] opened.0.items) }
+    ensures threads { IfOk result (λ opened. length opened.0.items ≡ threads) }
+    ensures shards { IfOk result (λ opened. length opened.1.outlets.items ≡ shards) }
 {
     let receipts = Vec::with_capacity(alloc, threads as usize)?;
-    let served = Vec::with_capacity(alloc, options.shards as usize)?;
-    let (outlets, inlets) = feeds(alloc, options.shards, options.ring)?;
-    let (collector, workloads) = open_workloads(alloc, threads, options)?;
-    Ok(Session {
-        collector,
-        workloads,
-        outlets,
-        inlets,
-        receipts,
-        served,
-    })
+    let served = Vec::with_capacity(alloc, shards as usize)?;
+    let (outlets, inlets) = feeds(alloc, shards, ring)?;
+    let limits = Limits::of_session(threads, ring);
+    let (recorders, collector) = open(alloc, SESSION, &limits)?;
+    Ok((
+        recorders,
+        Session {
+            collector,
+            outlets,
+            inlets,
+            receipts,
+            served,
+        },
+    ))
 }

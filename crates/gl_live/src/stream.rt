@@ -17,7 +17,8 @@ ghost use Rattle.gl_live.specs.bodies.Streams.{HasStreamed};
 use crate::faults::{LiveFault, StreamFault};
 use crate::live::conclude;
 use crate::run::Ran;
-use crate::streaming::{StreamOptions, prepare_to_read, read_session};
+use crate::session::prepare;
+use crate::streaming::{StreamOptions, read_session};
 use gl_cycles::Report;
 use gl_filters::Query;
 use gl_findings::Listing;
@@ -100,13 +101,14 @@ pub fn stream_listing<R: Threads + Wait + Sync, S: Source, G: Gate + Sync>(
     ensures in_time { FailsInTime (S.position input.old)
         (S.position input.new) result.1 result.0 }
 {
-    let Ok(session) = prepare_to_read(alloc, options) else {
+    let opened = prepare(alloc, options.threads, options.shards, options.ring);
+    let Ok((recorders, session)) = opened else {
         return (Err(StreamFault::Session(LiveFault::Memory)), items);
     };
     let Ok(tables) = Vec::with_capacity(alloc, options.shards as usize) else {
         return (Err(StreamFault::Session(LiveFault::Memory)), items);
     };
-    let (ran, items) = read_session(rt, alloc, gate, session, items, input);
+    let (ran, items) = read_session(rt, alloc, gate, session, recorders, items, input);
     (
         report_streamed(rt, alloc, ran, tables, listing, query),
         items,

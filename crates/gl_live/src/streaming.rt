@@ -3,7 +3,6 @@ ghost use Rattle.std.specs.Prelude.{◌≡◌, ◌<◌, ◌≤◌, ◌+◌, ℕ,
 ghost use Rattle.std.specs.List.{All};
 ghost use Rattle.std.specs.Vec.{vec_len, vec_capacity};
 ghost use Rattle.gl_event.specs.declared.events.Event.{Event as EventOf};
-ghost use Rattle.gl_event.specs.declared.limits.TheConstants.{MAX_THREADS, MAX_RING};
 ghost use Rattle.gl_shards.specs.declared.shard.TheConstants.{MAX_SHARDS};
 ghost use Rattle.gl_std.specs.Listed.{listed};
 ghost use Rattle.gl_std.specs.Names.{NameLists};
@@ -11,18 +10,19 @@ ghost use Rattle.gl_std.specs.Streaming.{with_item, CanBeAsked, IsDone};
 ghost use Rattle.gl_std.specs.declared.trace.Trace.{Trace};
 ghost use Rattle.gl_live.specs.Streamed.{FailsInTime, IsUnread};
 ghost use Rattle.gl_live.specs.bodies.Runs.{HasRun};
-ghost use Rattle.gl_live.specs.bodies.Rosters.{Roster, gathered_from, AreReceipts, IsReceiptOf};
-ghost use Rattle.gl_live.specs.bodies.Streams.{AreRecorded, CanBeTaken, FollowOn, HasGathered, HasTaken, IsOfThreads, IsReadyToRead, IsRecording, MayTake, StopsAfter, StreamsOn};
+ghost use Rattle.gl_live.specs.bodies.Ready.{IsReady};
+ghost use Rattle.gl_live.specs.bodies.Rosters.{Roster, gathered_from, roster_of, AreReceipts, IsReceiptOf};
+ghost use Rattle.gl_live.specs.bodies.Streams.{AreRecorded, CanBeTaken, FollowOn, HasGathered, HasTaken, IsOfThreads, IsRecording, MayTake, StopsAfter, StreamsOn};
 
 use crate::faults::{LiveFault, StreamFault};
 use crate::recording::close_wait;
 use crate::run::Ran;
-use crate::session::{SESSION, feeds};
+use crate::session::Session;
 use crate::working::{Working, join_workers, start_workers};
 use gl_engine::preallocated::keep;
-use gl_engine::{Collector, Gathered, Receipt, Recorder, open};
-use gl_event::{Event, Limits, Memory};
-use gl_shards::{Gate, Inlet, Outlet, Served};
+use gl_engine::{Collector, Gathered, Receipt, Recorder};
+use gl_event::Event;
+use gl_shards::{Gate, Inlet, Outlet};
 use gl_std::{Item, Items, LinesFault, Source};
 use std::alloc::Global;
 use std::snapshot::Snapshot;
@@ -39,48 +39,6 @@ pub struct StreamOptions {
     pub shards: u32,
     /// The capacity of each lane and of each feed, 1 to 65,536.
     pub ring: u32,
-}
-
-/// A session that is ready to record a text.
-#[derive(Drop)]
-pub struct ReadSession {
-    pub collector: Collector,
-    pub recorders: Vec<Recorder>,
-    pub outlets: Vec<Outlet>,
-    pub inlets: Vec<Inlet>,
-    pub receipts: Vec<Receipt>,
-    pub served: Vec<Served>,
-}
-
-/// A session with so many lanes.
-///
-/// It makes every growth of the run but those of the text, of the collector, of the workers and of the
-/// report.
-pub fn prepare_to_read(alloc: Global, options: &StreamOptions) -> Result<ReadSession, Memory>
-    requires some_thread { 1 ≤ options.now.threads }
-    requires threads_fit { options.now.threads ≤ MAX_THREADS }
-    requires some_shard { 1 ≤ options.now.shards }
-    requires shards_fit { options.now.shards ≤ MAX_SHARDS }
-    requires some_ring { 1 ≤ options.now.ring }
-    requires ring_fits { options.now.ring ≤ MAX_RING }
-    ensures ready { IfOk result IsReadyToRead }
-    ensures threads { IfOk result
-        (λ session. length session.recorders.items ≡ options.now.threads) }
-    ensures shards { IfOk result (λ session. length session.outlets.items ≡ options.now.shards) }
-{
-    let receipts = Vec::with_capacity(alloc, options.threads as usize)?;
-    let served = Vec::with_capacity(alloc, options.shards as usize)?;
-    let (outlets, inlets) = feeds(alloc, options.shards, options.ring)?;
-    let limits = Limits::of_session(options.threads, options.ring);
-    let (recorders, collector) = open(alloc, SESSION, &limits)?;
-    Ok(ReadSession {
-        collector,
-        recorders,
-        outlets,
-        inlets,
-        receipts,
-        served,
-    })
 }
 
 // Records the event by its thread's recorder, as soon as there is room for it.
@@ -275,38 +233,36 @@ fn record_in_room<'s, E, R: Threads + Wait + Sync, S: Source, G: Gate + Sync>(
     rt: &'s R,
     alloc: Global,
     gate: &'s G,
-    session: ReadSession,
-    workers: Vec<Working>,
+    session: Session,
+    mut recorders: Vec<Recorder>,
+    mut workers: Vec<Working>,
     items: &mut Items,
     input: &mut S,
 ) -> Result<Ran, StreamFault>
-    requires ready { IsReadyToRead session }
+    requires ready { IsReady (length recorders.items) session }
+    requires unused { AreRecorded (roster_of session.collector) [] recorders.items }
     requires none_works { workers.items ≡ [] }
     requires work_room { vec_len workers + length session.inlets.items ≤ vec_capacity workers }
     requires usable { CanBeAsked items.old (S.failed input.old) }
-    requires unread { IsUnread (length session.recorders.items) (S.position input.old)
+    requires unread { IsUnread (length recorders.items) (S.position input.old)
         (S.failed input.old) items.old }
     ensures ours { IfOk result
         (λ ran. AreReceipts (gathered_from ran.gathered) ran.receipts.items) }
     ensures run { IfOk result
         (λ ran. HasRun (length session.outlets.items) ran.gathered ran.served.items) }
-    ensures threads { IfOk result
-        (λ ran. ran.gathered.limits.threads ≡ length session.recorders.items) }
+    ensures threads { IfOk result (λ ran. ran.gathered.limits.threads ≡ length recorders.items) }
     ensures streamed { StreamsOn (S.position input.old) (S.failed input.old) items.old
-        (S.position input.new) (S.failed input.new)
-        (length session.recorders.items) items.new result }
+        (S.position input.new) (S.failed input.new) (length recorders.items) items.new result }
     ensures done { OnOk result (IsDone items.new) }
     ensures in_time { FailsInTime (S.position input.old) (S.position input.new) items.new result }
 {
-    let ReadSession {
+    let Session {
         collector,
-        mut recorders,
         outlets,
         inlets,
         mut receipts,
         mut served,
     } = session;
-    let mut workers = workers;
     let Some(gathering) = start_collecting(
         scope,
         rt,
@@ -339,30 +295,32 @@ fn record_text<'s, E, R: Threads + Wait + Sync, S: Source, G: Gate + Sync>(
     rt: &'s R,
     alloc: Global,
     gate: &'s G,
-    session: ReadSession,
+    session: Session,
+    recorders: Vec<Recorder>,
     items: &mut Items,
     input: &mut S,
 ) -> Result<Ran, StreamFault>
-    requires ready { IsReadyToRead session }
+    requires ready { IsReady (length recorders.items) session }
+    requires unused { AreRecorded (roster_of session.collector) [] recorders.items }
     requires usable { CanBeAsked items.old (S.failed input.old) }
-    requires unread { IsUnread (length session.recorders.items) (S.position input.old)
+    requires unread { IsUnread (length recorders.items) (S.position input.old)
         (S.failed input.old) items.old }
     ensures ours { IfOk result
         (λ ran. AreReceipts (gathered_from ran.gathered) ran.receipts.items) }
     ensures run { IfOk result
         (λ ran. HasRun (length session.outlets.items) ran.gathered ran.served.items) }
-    ensures threads { IfOk result
-        (λ ran. ran.gathered.limits.threads ≡ length session.recorders.items) }
+    ensures threads { IfOk result (λ ran. ran.gathered.limits.threads ≡ length recorders.items) }
     ensures streamed { StreamsOn (S.position input.old) (S.failed input.old) items.old
-        (S.position input.new) (S.failed input.new)
-        (length session.recorders.items) items.new result }
+        (S.position input.new) (S.failed input.new) (length recorders.items) items.new result }
     ensures done { OnOk result (IsDone items.new) }
     ensures in_time { FailsInTime (S.position input.old) (S.position input.new) items.new result }
 {
     let Ok(workers) = Vec::with_capacity(alloc, session.inlets.len()) else {
         return Err(StreamFault::Session(LiveFault::Memory));
     };
-    record_in_room(scope, rt, alloc, gate, session, workers, items, input)
+    record_in_room(
+        scope, rt, alloc, gate, session, recorders, workers, items, input,
+    )
 }
 
 // As `record_text`, with the items and the source handed back.
@@ -371,13 +329,15 @@ fn lend_text<'s, 'x, E, R: Threads + Wait + Sync, S: Source, G: Gate + Sync>(
     rt: &'s R,
     alloc: Global,
     gate: &'s G,
-    session: ReadSession,
+    session: Session,
+    recorders: Vec<Recorder>,
     items: Items,
     input: &'x mut S,
 ) -> (Result<Ran, StreamFault>, Items, &'x mut S)
-    requires ready { IsReadyToRead session }
+    requires ready { IsReady (length recorders.items) session }
+    requires unused { AreRecorded (roster_of session.collector) [] recorders.items }
     requires usable { CanBeAsked items (S.failed input.old) }
-    requires unread { IsUnread (length session.recorders.items) (S.position input.old)
+    requires unread { IsUnread (length recorders.items) (S.position input.old)
         (S.failed input.old) items }
     ensures ours { IfOk result.0
         (λ ran. AreReceipts (gathered_from ran.gathered) ran.receipts.items) }
@@ -385,16 +345,18 @@ fn lend_text<'s, 'x, E, R: Threads + Wait + Sync, S: Source, G: Gate + Sync>(
     ensures run { IfOk result.0
         (λ ran. HasRun (length session.outlets.items) ran.gathered ran.served.items) }
     ensures threads { IfOk result.0
-        (λ ran. ran.gathered.limits.threads ≡ length session.recorders.items) }
+        (λ ran. ran.gathered.limits.threads ≡ length recorders.items) }
     ensures streamed { StreamsOn (S.position input.old) (S.failed input.old) items
         (S.position result.2.now) (S.failed result.2.now)
-        (length session.recorders.items) result.1 result.0 }
+        (length recorders.items) result.1 result.0 }
     ensures done { OnOk result.0 (IsDone result.1) }
     ensures in_time { FailsInTime (S.position input.old)
         (S.position result.2.now) result.1 result.0 }
 {
     let mut items = items;
-    let ran = record_text(scope, rt, alloc, gate, session, &mut items, input);
+    let ran = record_text(
+        scope, rt, alloc, gate, session, recorders, &mut items, input,
+    );
     (ran, items, input)
 }
 
@@ -406,23 +368,24 @@ pub fn read_session<R: Threads + Wait + Sync, S: Source, G: Gate + Sync>(
     rt: &R,
     alloc: Global,
     gate: &G,
-    session: ReadSession,
+    session: Session,
+    recorders: Vec<Recorder>,
     items: Items,
     input: &mut S,
 ) -> (Result<Ran, StreamFault>, Items)
-    requires ready { IsReadyToRead session }
+    requires ready { IsReady (length recorders.items) session }
+    requires unused { AreRecorded (roster_of session.collector) [] recorders.items }
     requires usable { CanBeAsked items (S.failed input.old) }
-    requires unread { IsUnread (length session.recorders.items) (S.position input.old)
+    requires unread { IsUnread (length recorders.items) (S.position input.old)
         (S.failed input.old) items }
     ensures ours { IfOk result.0
         (λ ran. AreReceipts (gathered_from ran.gathered) ran.receipts.items) }
     ensures run { IfOk result.0
         (λ ran. HasRun (length session.outlets.items) ran.gathered ran.served.items) }
     ensures threads { IfOk result.0
-        (λ ran. ran.gathered.limits.threads ≡ length session.recorders.items) }
+        (λ ran. ran.gathered.limits.threads ≡ length recorders.items) }
     ensures streamed { StreamsOn (S.position input.old) (S.failed input.old) items
-        (S.position input.new) (S.failed input.new)
-        (length session.recorders.items) result.1 result.0 }
+        (S.position input.new) (S.failed input.new) (length recorders.items) result.1 result.0 }
     ensures done { OnOk result.0 (IsDone result.1) }
     ensures in_time { FailsInTime (S.position input.old)
         (S.position input.new) result.1 result.0 }
@@ -431,9 +394,10 @@ pub fn read_session<R: Threads + Wait + Sync, S: Source, G: Gate + Sync>(
         thread::scope_env(),
         rt,
         move |scope| -> (Result<Ran, StreamFault>, Items, &mut S)
-            requires ready { IsReadyToRead session }
+            requires ready { IsReady (length recorders.items) session }
+            requires unused { AreRecorded (roster_of session.collector) [] recorders.items }
             requires usable { CanBeAsked items (S.failed input.now) }
-            requires unread { IsUnread (length session.recorders.items) (S.position input.now)
+            requires unread { IsUnread (length recorders.items) (S.position input.now)
                 (S.failed input.now) items }
             ensures ours { IfOk result.0
                 (λ ran. AreReceipts (gathered_from ran.gathered) ran.receipts.items) }
@@ -441,14 +405,14 @@ pub fn read_session<R: Threads + Wait + Sync, S: Source, G: Gate + Sync>(
             ensures run { IfOk result.0
                 (λ ran. HasRun (length session.outlets.items) ran.gathered ran.served.items) }
             ensures threads { IfOk result.0
-                (λ ran. ran.gathered.limits.threads ≡ length session.recorders.items) }
+                (λ ran. ran.gathered.limits.threads ≡ length recorders.items) }
             ensures streamed { StreamsOn (S.position input.entry.now) (S.failed input.entry.now)
                 items (S.position result.2.now) (S.failed result.2.now)
-                (length session.recorders.items) result.1 result.0 }
+                (length recorders.items) result.1 result.0 }
             ensures done { OnOk result.0 (IsDone result.1) }
             ensures in_time { FailsInTime (S.position input.entry.now)
                 (S.position result.2.now) result.1 result.0 }
-        { lend_text(scope, rt, alloc, gate, session, items, input) },
+        { lend_text(scope, rt, alloc, gate, session, recorders, items, input) },
     );
     (ran, items)
 }

@@ -2,20 +2,20 @@
 use Rattle.std.specs.Prelude.{◌≡◌, ℕ, ◌+◌, ◌≤◌, [], length, map}
 use Rattle.std.specs.List.{All}
 use Rattle.std.specs.Vec.{vec_len, vec_capacity}
+use Rattle.gl_event.specs.declared.limits.TheConstants.{MAX_EVENTS}
 use Rattle.gl_shards.specs.declared.shard.TheConstants.{MAX_SHARDS}
-use Rattle.gl_live.specs.bodies.Workloads.{IsWorkloadOf}
-use Rattle.gl_live.specs.bodies.Rosters.{roster_of}
 use Rattle.gl_live.specs.declared.session.Session.{Session}
 
--- there are so many threads, whose recorders are those of the collector's session; a feed for each shard, 1 to 16, through which nothing
--- was sent; and room for what the workers leave
+-- there are so many threads, each with as many events as there may be; a feed for each shard, 1 to 16, through which nothing was sent; and
+-- room for what recorders and workers leave
 pub record IsReady (threads : ℕ) (s : Session) : Type 0 where
   pub threads_are : s.collector.limits.threads ≡ threads
-  pub workloads : All (IsWorkloadOf (roster_of s.collector)) s.workloads.items
+  pub events_are : s.collector.limits.events ≡ MAX_EVENTS
   pub some : 1 ≤ length s.outlets.items
   pub fit : length s.outlets.items ≤ MAX_SHARDS
   pub unsent : All (λ o. o.sent ≡ []) s.outlets.items
   pub feeds : map (λ i. i.feed) s.inlets.items ≡ map (λ o. o.feed) s.outlets.items
   pub no_receipt : s.receipts.items ≡ []
+  pub room : vec_len s.receipts + threads ≤ vec_capacity s.receipts
   pub none_served : s.served.items ≡ []
-  pub room : vec_len s.served + length s.inlets.items ≤ vec_capacity s.served
+  pub served_room : vec_len s.served + length s.inlets.items ≤ vec_capacity s.served

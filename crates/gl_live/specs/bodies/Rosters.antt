@@ -6,7 +6,7 @@ use Rattle.gl_event.specs.declared.events.Event.{Event}
 use Rattle.gl_lane.specs.Lanes.{LaneId}
 use Rattle.gl_engine.specs.Collecting.{Collecting, lanes_of}
 use Rattle.gl_engine.specs.Gathering.{Gathering}
-use Rattle.gl_engine.specs.Recording.{Recording, Closed, recorded_whole}
+use Rattle.gl_engine.specs.Recording.{Recording, Closed, recorded, recorded_whole}
 
 -- who records: the session, the thread, the limits, and the lane
 pub record Identity : Type 0 where
@@ -46,7 +46,7 @@ pub record IsOnRoster (s : Roster) (identity : Identity) : Type 0 where
 -- the recorder is one of the session, and has recorded nothing
 pub record IsRecorderOf (s : Roster) (r : Recording) : Type 0 where
   pub identity : IsOnRoster s (identity_of r)
-  pub unused : r.pushed ≡ []
+  pub unused : recorded r ≡ []
 
 -- the receipt is one of the session, and its thread recorded the whole of its list
 pub record IsReceiptOf (s : Roster) (lists : List (List Event)) (r : Closed) : Type 0 where

@@ -1,7 +1,6 @@
 -- A session that records a text as it is read.
-use Rattle.std.specs.Prelude.{◌≡◌, ℕ, ◌+◌, ◌<◌, ◌≤◌, Bool, List, [], Some, None, Result, Ok, Err, length, map, slice_get, slice_index_or}
+use Rattle.std.specs.Prelude.{◌≡◌, ℕ, ◌+◌, ◌<◌, Bool, List, [], Some, None, Result, Ok, Err, length, map, slice_get, slice_index_or}
 use Rattle.std.specs.List.{All}
-use Rattle.std.specs.Vec.{vec_len, vec_capacity}
 use Rattle.gl_event.specs.Bounds.{Bounds}
 use Rattle.gl_event.specs.Lawful.{refusal}
 use Rattle.gl_event.specs.declared.events.Event.{Event}
@@ -9,7 +8,6 @@ use Rattle.gl_event.specs.declared.limits.TheConstants.{MAX_EVENTS}
 use Rattle.gl_io.specs.Positions.{Position}
 use Rattle.gl_io.specs.Uses.{SourceUse, used}
 use Rattle.gl_shards.specs.Feeds.{Sending}
-use Rattle.gl_shards.specs.declared.shard.TheConstants.{MAX_SHARDS}
 use Rattle.gl_std.specs.Streaming.{event_in, HasFault, HasTold, IsDone, Stream}
 use Rattle.gl_std.specs.Trace.{nothing}
 use Rattle.gl_std.specs.declared.faults.LinesFault.{LinesFault}
@@ -20,10 +18,9 @@ use Rattle.gl_engine.specs.Gathering.{Gathering}
 use Rattle.gl_engine.specs.Recording.{Recording, recorded}
 use Rattle.gl_live.specs.Streamed.{IsStreamFault}
 use Rattle.gl_live.specs.bodies.Padded.{padded}
-use Rattle.gl_live.specs.bodies.Rosters.{Roster, roster_of, gathered_from, identity_of, IsOnRoster, IsReceiptOf}
+use Rattle.gl_live.specs.bodies.Rosters.{Roster, gathered_from, identity_of, IsOnRoster, IsReceiptOf}
 use Rattle.gl_live.specs.declared.faults.StreamFault.{StreamFault}
 use Rattle.gl_live.specs.declared.run.Ran.{Ran}
-use Rattle.gl_live.specs.declared.streaming.ReadSession.{ReadSession}
 
 -- the recorders are those of the session, in the order of thread numbers, and each has recorded its thread's events of these lists
 pub record AreRecorded (s : Roster) (lists : List (List Event)) (recorders : List Recording) : Type 0 where
@@ -39,22 +36,6 @@ IsOfThreads threads item = (thread : ℕ) (event : Event) → event_in item ≡ 
 pub record HasTaken (s : Roster) (lists : List (List Event)) (r : Recording) : Type 0 where
   pub identity : IsOnRoster s (identity_of r)
   pub whole : slice_get lists r.thread ≡ Some (recorded r)
-
--- there is a recorder for each thread, those of the collector's session, which have recorded nothing and take as many events as there may be;
--- a feed for each shard, 1 to 16, through
--- which nothing was sent; and room for what recorders and workers leave
-pub record IsReadyToRead (s : ReadSession) : Type 0 where
-  pub threads_are : s.collector.limits.threads ≡ length s.recorders.items
-  pub events_are : s.collector.limits.events ≡ MAX_EVENTS
-  pub unused : AreRecorded (roster_of s.collector) [] s.recorders.items
-  pub some : 1 ≤ length s.outlets.items
-  pub fit : length s.outlets.items ≤ MAX_SHARDS
-  pub unsent : All (λ o. o.sent ≡ []) s.outlets.items
-  pub feeds : map (λ i. i.feed) s.inlets.items ≡ map (λ o. o.feed) s.outlets.items
-  pub no_receipt : s.receipts.items ≡ []
-  pub room : vec_len s.receipts + length s.recorders.items ≤ vec_capacity s.receipts
-  pub none_served : s.served.items ≡ []
-  pub served_room : vec_len s.served + length s.inlets.items ≤ vec_capacity s.served
 
 -- what a collector's thread leaves that was lent these outlets
 pub record HasGathered (c : Collecting) (outlets : List Sending) (g : Gathering) : Type 0 where

@@ -1,8 +1,9 @@
 use Rattle.std.proofs.Common.{sym, ◌∙◌}
 use Rattle.std.proofs.lemmas.List.{length-map}
 use Rattle.gl_segments.specs.Orders.{lists_of}
-use Rattle.gl_live.specs.bodies.Rosters.{gathered_from}
+use Rattle.gl_live.specs.bodies.Rosters.{gathered_from, roster_of}
 use Rattle.gl_live.proofs.Leaving.{are_receipts}
+use Rattle.gl_live.proofs.Opened.{all_unused}
 use Rattle.gl_live.proofs.live.live_listing.Goals as goal
 
 pub returns-in-Ok-run_session-clause-report : goal.returns-in-Ok-run_session-clause-report
@@ -18,3 +19,8 @@ returns-in-Err-clause-fault g c = c.in-Err.ensures.fault (lists_of c.args.lists.
 
 pub conclude-requires-clause-ours : goal.conclude-requires-clause-ours
 conclude-requires-clause-ours g c κs within = are_receipts (gathered_from c.in-Ok-run_session.ran.gathered) (lists_of c.args.lists.now) c.in-Ok-run_session.ran.receipts.items c.in-Ok-run_session.ensures.receipts
+
+pub run_session-requires-clause-workloads : goal.run_session-requires-clause-workloads
+run_session-requires-clause-workloads g c κs within =
+    let roster = roster_of c.in-Ok.session.collector in
+    c.in-Ok-workloads.ensures roster (all_unused roster c.in-Ok.recorders.items c.in-Ok.ensures.unused)

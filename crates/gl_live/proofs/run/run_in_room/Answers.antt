@@ -13,7 +13,7 @@ start_threads-requires-clause-fit g c κs within = subst (λ n. n ≤ MAX_SHARDS
 
 pub join_threads-requires-clause-room : goal.join_threads-requires-clause-room
 join_threads-requires-clause-room g c =
-    omega (arith, c.requires.ready.room, as_long _ _ c.start_threads.new.workers.items c.args.session.inlets.items (c.if-not-start_threads.ensures.feeds refl))
+    omega (arith, c.requires.ready.served_room, as_long _ _ c.start_threads.new.workers.items c.args.session.inlets.items (c.if-not-start_threads.ensures.feeds refl))
 
 pub returns-clause-run : goal.returns-clause-run
 returns-clause-run g c =

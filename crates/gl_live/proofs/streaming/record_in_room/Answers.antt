@@ -22,7 +22,7 @@ record_items-read-requires-clause-recording g c =
       as_many = unread.as_many;
       threads_are = c.requires.ready.threads_are ∙ sym unread.as_many;
       events_are = c.requires.ready.events_are;
-      follows = begins session.collector unread.limits unread.turns _ _ session.recorders.items c.requires.ready.unused unread.tells;
+      follows = begins session.collector unread.limits unread.turns _ _ c.args.recorders.items c.requires.unused unread.tells;
     }
 
 pub returns-in-Ok-clause-run : goal.returns-in-Ok-clause-run
@@ -44,13 +44,13 @@ returns-in-Ok-clause-streamed g c = λ limits turns start told.
     let gathered = has_gathered _ _ _ _ c.join-gathered.result c.in-Some.ensures.collector c.in-Some.ensures.outlets c.join-gathered.ensures in
     streamed limits turns _ _ _ session.collector session.outlets.items c.record_items-read.new.recorders.items session.receipts.items _ gathered c.requires.ready.no_receipt c.record_items-read.ensures.count c.in-Ok.ensures.done
     c.close_all.ensures
-    (c.in-Ok.ensures.follows (roster_of session.collector) limits turns start (begins session.collector limits turns _ _ session.recorders.items c.requires.ready.unused told))
+    (c.in-Ok.ensures.follows (roster_of session.collector) limits turns start (begins session.collector limits turns _ _ c.args.recorders.items c.requires.unused told))
 
 pub returns-in-Err-clause-streamed : goal.returns-in-Err-clause-streamed
 returns-in-Err-clause-streamed g c = λ limits turns start told.
     let session = c.args.session in
     unstreamed limits turns _ _ _ c.in-Err.fault
-    (c.in-Err.ensures.stops (roster_of session.collector) limits turns start (begins session.collector limits turns _ _ session.recorders.items c.requires.ready.unused told))
+    (c.in-Err.ensures.stops (roster_of session.collector) limits turns start (begins session.collector limits turns _ _ c.args.recorders.items c.requires.unused told))
 
 pub returns-in-Ok-clause-ours : goal.returns-in-Ok-clause-ours
 returns-in-Ok-clause-ours g c =
@@ -60,9 +60,9 @@ returns-in-Ok-clause-ours g c =
     let ran : Ran = record { gathered = c.join-gathered.result; receipts = c.close_all.new.receipts; served = c.join_workers.new.served } in
     let now = g.S.Source.position c.record_items-read.new.input in
     let failed = g.S.Source.failed c.record_items-read.new.input in
-    let threads = length session.recorders.items in
+    let threads = length c.args.recorders.items in
     let items = c.record_items-read.new.items in
     ours_streamed unread.limits unread.turns (used unread.start now failed) threads items ran unread.as_many
     (streamed unread.limits unread.turns (used unread.start now failed) threads items session.collector session.outlets.items c.record_items-read.new.recorders.items session.receipts.items ran gathered c.requires.ready.no_receipt c.record_items-read.ensures.count c.in-Ok.ensures.done
     c.close_all.ensures
-    (c.in-Ok.ensures.follows (roster_of session.collector) unread.limits unread.turns unread.start (begins session.collector unread.limits unread.turns _ _ session.recorders.items c.requires.ready.unused unread.tells)))
+    (c.in-Ok.ensures.follows (roster_of session.collector) unread.limits unread.turns unread.start (begins session.collector unread.limits unread.turns _ _ c.args.recorders.items c.requires.unused unread.tells)))
