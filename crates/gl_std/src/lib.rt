@@ -56,7 +56,7 @@ mod trace;
 mod whole_text;
 
 pub use faults::{LinesFault, ReadFault, StdKind};
-pub use from_source::{Heard, read_source};
+pub use from_source::{Heard, read_source, read_source_parallel};
 pub use gl_io::{Failed, FromStd, Sink, Source};
 pub use laws::{
     faults_come_first, lines_are_unique, lines_follow_lines, lines_say_one_thing, reading_goes_on,
