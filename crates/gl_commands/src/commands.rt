@@ -14,6 +14,7 @@ ghost use Rattle.gl_io.specs.Uses.{used};
 ghost use Rattle.gl_commands.specs.Ending.{EndsEarlyAs, HasEnded, HasEndedEarly};
 ghost use Rattle.gl_commands.specs.bodies.Halves.{EndsWith, HasHeardAll, HasWrittenText};
 ghost use Rattle.gl_commands.specs.Performed.{HasPerformed};
+ghost use Rattle.gl_commands.specs.Ready.{AreReady};
 ghost use Rattle.gl_commands.specs.Sessions.{HasEndedSession};
 
 use crate::answer::{Printed, counted, predicted, replayed, trace_or_line};
@@ -127,9 +128,7 @@ fn predict_listing<R: AllocGlobal + Threads + Sync, I: Source, O: Sink>(
     query: &Query,
     form: Form,
 ) -> Ended
-    requires readable { I.failed input.old ≡ false }
-    requires writable { O.failed output.old ≡ false }
-    requires few_turns { reading.now.turns ≤ 2 ^ 40 }
+    requires ready { AreReady reading.now.turns (I.failed input.old) (O.failed output.old) }
     ensures { HasEnded (IsAnswer (prediction listing query.now form)) reading.now.turns
         (used (I.position input.old) (I.position input.new) (I.failed input.new))
         (used (O.contents output.old) (O.contents output.new) (O.failed output.new)) result }
@@ -156,9 +155,7 @@ pub fn predict<R: AllocGlobal + Threads + Sync, I: Source, O: Sink>(
     query: &Query,
     form: Form,
 ) -> Ended
-    requires readable { I.failed input.old ≡ false }
-    requires writable { O.failed output.old ≡ false }
-    requires few_turns { reading.now.turns ≤ 2 ^ 40 }
+    requires ready { AreReady reading.now.turns (I.failed input.old) (O.failed output.old) }
     ensures { HasEnded (IsAnswer (prediction Cycles query.now form)) reading.now.turns
         (used (I.position input.old) (I.position input.new) (I.failed input.new))
         (used (O.contents output.old) (O.contents output.new) (O.failed output.new)) result }
@@ -178,9 +175,7 @@ pub fn predict_findings<R: AllocGlobal + Threads + Sync, I: Source, O: Sink>(
     query: &Query,
     form: Form,
 ) -> Ended
-    requires readable { I.failed input.old ≡ false }
-    requires writable { O.failed output.old ≡ false }
-    requires few_turns { reading.now.turns ≤ 2 ^ 40 }
+    requires ready { AreReady reading.now.turns (I.failed input.old) (O.failed output.old) }
     ensures { HasEnded (IsAnswer (prediction Findings query.now form)) reading.now.turns
         (used (I.position input.old) (I.position input.new) (I.failed input.new))
         (used (O.contents output.old) (O.contents output.new) (O.failed output.new)) result }
@@ -209,9 +204,7 @@ pub fn live<R: AllocGlobal + Threads + Wait + Sync, I: Source, O: Sink>(
     reading: &Reading,
     options: &LiveOptions,
 ) -> Ended
-    requires readable { I.failed input.old ≡ false }
-    requires writable { O.failed output.old ≡ false }
-    requires few_turns { reading.now.turns ≤ 2 ^ 40 }
+    requires ready { AreReady reading.now.turns (I.failed input.old) (O.failed output.old) }
     requires session { AreOfSession options.now }
     ensures { HasEndedSession options.now reading.now.turns
         (used (I.position input.old) (I.position input.new) (I.failed input.new))
@@ -229,9 +222,7 @@ pub fn live_gated<R: AllocGlobal + Threads + Wait + Sync, I: Source, O: Sink, G:
     options: &LiveOptions,
     gate: &G,
 ) -> Ended
-    requires readable { I.failed input.old ≡ false }
-    requires writable { O.failed output.old ≡ false }
-    requires few_turns { reading.now.turns ≤ 2 ^ 40 }
+    requires ready { AreReady reading.now.turns (I.failed input.old) (O.failed output.old) }
     requires session { AreOfSession options.now }
     ensures { HasEndedSession options.now reading.now.turns
         (used (I.position input.old) (I.position input.new) (I.failed input.new))
@@ -257,9 +248,7 @@ pub fn stats<R: AllocGlobal + Threads + Sync, I: Source, O: Sink>(
     reading: &Reading,
     query: &Query,
 ) -> Ended
-    requires readable { I.failed input.old ≡ false }
-    requires writable { O.failed output.old ≡ false }
-    requires few_turns { reading.now.turns ≤ 2 ^ 40 }
+    requires ready { AreReady reading.now.turns (I.failed input.old) (O.failed output.old) }
     ensures { HasEnded (IsAnswer (counts query.now)) reading.now.turns
         (used (I.position input.old) (I.position input.new) (I.failed input.new))
         (used (O.contents output.old) (O.contents output.new) (O.failed output.new)) result }
@@ -281,9 +270,7 @@ pub fn replay<R: AllocGlobal + Threads + Sync, I: Source, O: Sink>(
     output: &mut O,
     reading: &Reading,
 ) -> Ended
-    requires readable { I.failed input.old ≡ false }
-    requires writable { O.failed output.old ≡ false }
-    requires few_turns { reading.now.turns ≤ 2 ^ 40 }
+    requires ready { AreReady reading.now.turns (I.failed input.old) (O.failed output.old) }
     ensures { HasEnded (IsPlainAnswer replay) reading.now.turns
         (used (I.position input.old) (I.position input.new) (I.failed input.new))
         (used (O.contents output.old) (O.contents output.new) (O.failed output.new)) result }
@@ -307,9 +294,7 @@ pub fn check_input<R: AllocGlobal, I: Source, O: Sink>(
     output: &mut O,
     reading: &Reading,
 ) -> Ended
-    requires readable { I.failed input.old ≡ false }
-    requires writable { O.failed output.old ≡ false }
-    requires few_turns { reading.now.turns ≤ 2 ^ 40 }
+    requires ready { AreReady reading.now.turns (I.failed input.old) (O.failed output.old) }
     ensures { HasChecked reading.now.turns
         (used (I.position input.old) (I.position input.new) (I.failed input.new))
         (used (O.contents output.old) (O.contents output.new) (O.failed output.new)) result }
