@@ -1,26 +1,24 @@
 -- What is heard of a text that is read ahead.
-use Rattle.std.proofs.Common.{◌≡◌, ℕ, ◌+◌, ◌*◌, ◌≤◌, Bool, true, List, [], ◌∷◌, ◌++◌, length, Result, Ok, Err, refl, sym, ap, subst, ◌∙◌, arith}
+use Rattle.std.proofs.Common.{◌≡◌, ℕ, Bool, true, List, [], ◌∷◌, ◌++◌, length, Result, Ok, Err, refl, sym, ap, subst, ◌∙◌, arith}
 use Rattle.std.specs.Prelude.{vec_len, IfOk}
 use Rattle.std.specs.declared.alloc.AllocError.{AllocError}
 use Rattle.gl_event.specs.Bounds.{Bounds}
 use Rattle.gl_event.specs.declared.events.Event.{Event}
 use Rattle.gl_io.specs.Positions.{Position}
 use Rattle.gl_io.specs.Reads.{HasRead}
-use Rattle.gl_io.specs.declared.source.TheConstants.{CHUNK}
 use Rattle.gl_std.specs.Heard.{HasHeard}
 use Rattle.gl_std.specs.LineReading.{HasGiven}
 use Rattle.gl_std.specs.Pieces.{IsFaulty}
 use Rattle.gl_std.specs.Trace.{nothing}
-use Rattle.gl_std.specs.bodies.Ahead.{text_of, turns_left, AreCut, AreShort, CanJudge, CanReadAhead, FailsPiece, GivesOn, HasReadOn, HasReadTo, HearsPieces, OnlyJudges, OnlyReadsAhead, ReadsAhead, ReadsNothing, TakesPiece}
+use Rattle.gl_std.specs.bodies.Ahead.{text_of, AreCut, AreShort, CanJudge, CanReadAhead, FailsPiece, GivesOn, HasReadOn, HasReadPieces, HasReadTo, HearsPieces, OnlyJudges, ReadsAhead, TakesPiece}
 use Rattle.gl_std.specs.bodies.Hearing.{Hears}
-use Rattle.gl_std.specs.bodies.States.{IsSound, Reaches, ReadsOn}
+use Rattle.gl_std.specs.bodies.States.{Reaches, ReadsOn}
 use Rattle.gl_std.specs.declared.faults.ReadFault.{ReadFault}
 use Rattle.gl_std.specs.declared.faults.ReadFault.TheVariants.{Line}
 use Rattle.gl_std.specs.declared.faults.StdKind.{StdKind}
 use Rattle.gl_std.specs.declared.from_source.Heard.{Heard}
 use Rattle.gl_std.specs.declared.line_reader.LineReader.{LineReader}
 use Rattle.gl_std.specs.declared.line_reader.Step.TheVariants.{End as AtEnd}
-use Rattle.gl_std.specs.declared.line_reader.TheConstants.{KEPT}
 use Rattle.gl_std.specs.declared.line_reader.pieces.Ending.{Ending}
 use Rattle.gl_std.specs.declared.line_reader.pieces.Ending.TheVariants.{More, End, Broke}
 use Rattle.gl_std.specs.declared.line_reader.pieces.Piece.{Piece}
@@ -51,15 +49,15 @@ nothing_before (b ∷ front) rest is = absurd (nil_cons is)
     nil_cons e = cc
 
 -- before the first read
-pub ahead_nothing : (limits : Bounds) (turns : ℕ) (start : Position) (f : LineReader) (lists : List (List Event)) (pieces : List ℕ) → ReadsOn limits turns start start f [] nothing → lists ≡ [] → pieces ≡ [] → ReadsAhead limits turns start start f lists pieces
-ahead_nothing limits turns start f lists pieces on none empty =
-    let front = nothing_before on.at.seen _ on.at.parts in
+pub ahead_nothing : (limits : Bounds) (turns : ℕ) (start : Position) (f j : LineReader) (lists : List (List Event)) (pieces : List ℕ) → ReadsOn limits turns start start f [] nothing → ReadsOn limits turns start start j [] nothing → lists ≡ [] → pieces ≡ [] → ReadsAhead limits turns start start f j lists pieces
+ahead_nothing limits turns start f j lists pieces on same none empty =
+    let front = nothing_before same.at.seen _ same.at.parts in
     record {
-      seen = on.at.seen;
+      seen = same.at.seen;
       told = nothing;
       given = subst (HasGiven turns start start f.turns) (sym ((λ i. front i ++ empty i))) on.given;
-      same = on.same;
-      reaches = on.at.reaches;
+      same = same.same;
+      reaches = same.at.reaches;
       listed = none;
     }
 
@@ -69,67 +67,70 @@ read_to More turns start now later failed old new text gave gives given = gives.
 read_to End turns start now later failed old new text gave gives given = gives turns start text given
 read_to Broke turns start now later failed old new text gave gives given = gives turns start text given
 
--- pieces that were added to none are what the reads gave
-pub gave_pieces : (now later : Position) (failed : Bool) (old new : LineReader) (none pieces cut : List Piece) (ending : Ending) → none ≡ [] → text_of cut ≡ text_of pieces → (on : HasReadOn now old none later failed new pieces ending) → on.gave ≡ text_of cut
-gave_pieces now later failed old new none pieces cut ending empty same on = sym (same ∙ on.text ∙ ap (λ ps. text_of ps ++ on.gave) empty)
-
--- the text so far, and the trace of what was judged of it: what was read ahead was judged, and as much again was read
-pub reached_ahead : (limits : Bounds) (turns : ℕ) (start now : Position) (f f1 f2 : LineReader) (lists lists2 : List (List Event)) (front : List ℕ) (ahead : ReadsAhead limits turns start now f lists front) → OnlyReadsAhead f f1 → TakesPiece f1 lists front f2 lists2 → (told : Trace) × Reaches f2.judge f2.unfinished.items (ahead.seen ++ front) told × (lists2 ≡ told.lists)
-reached_ahead limits turns start now f f1 f2 lists lists2 front ahead only takes =
-    let reaches = subst (λ j. Reaches j f1.unfinished.items ahead.seen ahead.told) (sym only.same_judge) (subst (λ u. Reaches f.judge u.items ahead.seen ahead.told) (sym only.same_beginning) ahead.reaches) in
-    let more = takes ahead.seen ahead.told reaches ahead.listed in
+-- the trace of all that was judged
+reached_ahead : (limits : Bounds) (turns : ℕ) (start now : Position) (f j j2 : LineReader) (lists lists2 : List (List Event)) (front : List ℕ) (ahead : ReadsAhead limits turns start now f j lists front) → TakesPiece j lists front j2 lists2 → (told : Trace) × Reaches j2.judge j2.unfinished.items (ahead.seen ++ front) told × (lists2 ≡ told.lists)
+reached_ahead limits turns start now f j j2 lists lists2 front ahead takes =
+    let more = takes ahead.seen ahead.told ahead.reaches ahead.listed in
     (more.later, more.reaches, more.listed)
 
-pub ahead_more : (limits : Bounds) (turns : ℕ) (start now later : Position) (failed : Bool) (f f1 f2 : LineReader) (lists lists2 : List (List Event)) (front gave pieces : List ℕ) → ReadsAhead limits turns start now f lists front → GivesOn now f later failed f1 gave More → gave ≡ pieces → OnlyReadsAhead f f1 → TakesPiece f1 lists front f2 lists2 → f2.judge.limits ≡ f1.judge.limits → f2.turns ≡ f1.turns → ReadsAhead limits turns start later f2 lists2 pieces
-ahead_more limits turns start now later failed f f1 f2 lists lists2 front gave pieces ahead gives is only takes same turns_same =
-    let at = reached_ahead limits turns start now f f1 f2 lists lists2 front ahead only takes in
+-- what was read ahead was judged, and more was read
+pub ahead_more : (limits : Bounds) (turns : ℕ) (start now later : Position) (failed : Bool) (f f2 j j2 : LineReader) (lists lists2 : List (List Event)) (front pieces : List ℕ) → ReadsAhead limits turns start now f j lists front → HasReadOn now f [] later failed f2 pieces More → TakesPiece j lists front j2 lists2 → j2.judge.limits ≡ j.judge.limits → ReadsAhead limits turns start later f2 j2 lists2 pieces
+ahead_more limits turns start now later failed f f2 j j2 lists lists2 front pieces ahead on takes same =
+    let at = reached_ahead limits turns start now f j j2 lists lists2 front ahead takes in
     record {
       seen = ahead.seen ++ front;
       told = at.0;
-      given = subst (λ t. HasGiven turns start later f2.turns ((ahead.seen ++ front) ++ t)) is (subst (λ n. HasGiven turns start later n ((ahead.seen ++ front) ++ gave)) (sym turns_same) (gives.1 turns start (ahead.seen ++ front) ahead.given));
-      same = same ∙ ap (λ j. j.limits) only.same_judge ∙ ahead.same;
+      given = subst (λ t. HasGiven turns start later f2.turns ((ahead.seen ++ front) ++ t)) (sym on.text) (on.gives.1 turns start (ahead.seen ++ front) ahead.given);
+      same = same ∙ ahead.same;
       reaches = at.1;
       listed = at.2;
     }
 
 -- a line of what was read ahead is at fault
-pub failed_ahead : (limits : Bounds) (turns : ℕ) (start now : Position) (f f1 : LineReader) (lists : List (List Event)) (front gave : List ℕ) (r : Result (Unit {0}) ReadFault) (number : ℕ) (kind : StdKind) (ahead : ReadsAhead limits turns start now f lists front) → OnlyReadsAhead f f1 → FailsPiece f1 lists front r → r ≡ Err (Line number kind) → IsFaulty limits ((ahead.seen ++ front) ++ gave) number kind
-failed_ahead limits turns start now f f1 lists front gave r number kind ahead only fails is =
-    let reaches = subst (λ j. Reaches j f1.unfinished.items ahead.seen ahead.told) (sym only.same_judge) (subst (λ u. Reaches f.judge u.items ahead.seen ahead.told) (sym only.same_beginning) ahead.reaches) in
-    let faulty = fails number kind is ahead.seen ahead.told reaches ahead.listed in
-    faulty_more limits (ahead.seen ++ front) gave number kind (subst (λ l. IsFaulty l (ahead.seen ++ front) number kind) (ap (λ j. j.limits) only.same_judge ∙ ahead.same) faulty)
+pub failed_ahead : (limits : Bounds) (turns : ℕ) (start now : Position) (f j : LineReader) (lists : List (List Event)) (front gave : List ℕ) (r : Result (Unit {0}) ReadFault) (number : ℕ) (kind : StdKind) (ahead : ReadsAhead limits turns start now f j lists front) → FailsPiece j lists front r → r ≡ Err (Line number kind) → IsFaulty limits ((ahead.seen ++ front) ++ gave) number kind
+failed_ahead limits turns start now f j lists front gave r number kind ahead fails is =
+    let faulty = fails number kind is ahead.seen ahead.told ahead.reaches ahead.listed in
+    faulty_more limits (ahead.seen ++ front) gave number kind (subst (λ l. IsFaulty l (ahead.seen ++ front) number kind) ahead.same faulty)
 
 -- the last pieces, after those that were read ahead
-pub heard_last : (limits : Bounds) (turns : ℕ) (start now later : Position) (failed whole : Bool) (f f1 f2 : LineReader) (lists lists2 : List (List Event)) (front gave pieces : List ℕ) (r : Result Heard AllocError) → ReadsAhead limits turns start now f lists front → ((text : List ℕ) → HasGiven turns start now f.turns text → HasRead turns start later failed (text ++ gave) whole) → gave ≡ pieces → OnlyReadsAhead f f1
-    → TakesPiece f1 lists front f2 lists2 → f2.judge.limits ≡ f1.judge.limits → IfOk r (HearsPieces f2 lists2 pieces whole) → IfOk r (HasHeard limits turns start later failed)
-heard_last limits turns start now later failed whole f f1 f2 lists lists2 front gave pieces r ahead reads is only takes same hears =
-    let at = reached_ahead limits turns start now f f1 f2 lists lists2 front ahead only takes in
-    heard_pieces limits turns start later failed whole f2 lists2 pieces (ahead.seen ++ front) at.0 r hears
+pub heard_last : (limits : Bounds) (turns : ℕ) (start now later : Position) (failed whole : Bool) (f j j2 : LineReader) (lists lists2 : List (List Event)) (front gave pieces : List ℕ) (r : Result Heard AllocError) → ReadsAhead limits turns start now f j lists front → ((text : List ℕ) → HasGiven turns start now f.turns text → HasRead turns start later failed (text ++ gave) whole) → gave ≡ pieces
+    → TakesPiece j lists front j2 lists2 → j2.judge.limits ≡ j.judge.limits → IfOk r (HearsPieces j2 lists2 pieces whole) → IfOk r (HasHeard limits turns start later failed)
+heard_last limits turns start now later failed whole f j j2 lists lists2 front gave pieces r ahead reads is takes same hears =
+    let at = reached_ahead limits turns start now f j j2 lists lists2 front ahead takes in
+    heard_pieces limits turns start later failed whole j2 lists2 pieces (ahead.seen ++ front) at.0 r hears
     (subst (λ t. HasRead turns start later failed ((ahead.seen ++ front) ++ t) whole) is (reads (ahead.seen ++ front) ahead.given))
-    (same ∙ ap (λ j. j.limits) only.same_judge ∙ ahead.same) at.1 at.2
+    (same ∙ ahead.same) at.1 at.2
 
 -- ---- nothing is counted beyond what numbers hold
 
-pub can_take : (f f1 : LineReader) (front : List ℕ) → CanReadAhead f front → OnlyReadsAhead f f1 → CanJudge f1 front
-can_take f f1 front can only = record {
-  sound = subst IsSound (sym only.same_judge) can.sound;
-  few = subst (λ u. length u.items ≤ KEPT) (sym only.same_beginning) can.few;
-  countable = omega (arith, can.countable, ap (λ j. j.line) only.same_judge);
-}
+pub can_take : (f j : LineReader) (pieces : List Piece) → CanReadAhead f j (text_of pieces) → AreShort pieces → AreCut pieces → CanJudge j pieces
+can_take f j pieces can short cut = record { sound = can.sound; few = can.few; countable = omega (arith, can.countable); short = short; cut = cut }
 
-pub can_finish : (f f1 f2 : LineReader) (front gave pieces : List ℕ) (ending : Ending) → CanReadAhead f front → OnlyReadsAhead f f1 → OnlyJudges f1 f2 (length front) → length gave + turns_left f1 ending * CHUNK ≤ f.turns * CHUNK → gave ≡ pieces → CanJudge f2 pieces
-can_finish f f1 f2 front gave pieces ending can only judges within is = record {
+pub can_finish : (now later : Position) (failed : Bool) (f f2 j j2 : LineReader) (front : List ℕ) (pieces : List Piece) (ending : Ending) → CanReadAhead f j front → OnlyJudges j j2 (length front) → HasReadPieces now f later failed f2 pieces ending → CanJudge j2 pieces
+can_finish now later failed f f2 j j2 front pieces ending can judges read = record {
   sound = judges.sound;
   few = judges.few;
-  countable = omega (arith, can.countable, judges.lines, ap (λ j. j.line) only.same_judge, ap length is, within);
+  countable = omega (arith, can.countable, judges.lines, ap length read.reads.text, read.reads.within);
+  short = read.short;
+  cut = read.cut;
 }
 
-pub can_more : (f f1 f2 : LineReader) (front gave pieces : List ℕ) → CanReadAhead f front → OnlyReadsAhead f f1 → OnlyJudges f1 f2 (length front) → ReadsNothing f1 f2 → length gave + f1.turns * CHUNK ≤ f.turns * CHUNK → gave ≡ pieces → CanReadAhead f2 pieces
-can_more f f1 f2 front gave pieces can only judges nothing within is = record {
+pub can_more : (now later : Position) (failed : Bool) (f f2 j j2 : LineReader) (front pieces : List ℕ) → CanReadAhead f j front → OnlyJudges j j2 (length front) → vec_len f2.buffer ≡ vec_len f.buffer → HasReadOn now f [] later failed f2 pieces More → CanReadAhead f2 j2 pieces
+can_more now later failed f f2 j j2 front pieces can judges same on = record {
   sound = judges.sound;
   few = judges.few;
-  room = ap (λ b. vec_len b) nothing.same_buffer ∙ only.same_size ∙ can.room;
-  countable = let turns = ap (λ n. n * CHUNK) nothing.same_turns in omega (arith, can.countable, judges.lines, ap (λ j. j.line) only.same_judge, ap length is, within, turns);
+  room = same ∙ can.room;
+  countable = omega (arith, can.countable, judges.lines, ap length on.text, on.within);
+}
+
+-- ---- pieces that were read into none
+
+pub read_cut : (now later : Position) (failed : Bool) (old new : LineReader) (none pieces cut : List Piece) (ending : Ending) → none ≡ [] → text_of cut ≡ text_of pieces → HasReadOn now old (text_of none) later failed new (text_of pieces) ending → HasReadOn now old [] later failed new (text_of cut) ending
+read_cut now later failed old new none pieces cut ending empty same on = record {
+  gave = on.gave;
+  text = same ∙ on.text ∙ ap (λ ps. text_of ps ++ on.gave) empty;
+  gives = on.gives;
+  within = on.within;
 }
 
 -- ---- no pieces

@@ -21,6 +21,7 @@ use Rattle.gl_std.specs.declared.faults.ReadFault.{ReadFault}
 use Rattle.gl_std.specs.declared.judge.Judge.{Judge}
 use Rattle.gl_std.specs.declared.judge.Judged.{Judged}
 use Rattle.gl_std.specs.declared.names.known.Known.{Known}
+use Rattle.gl_std.specs.declared.names.Found.{Found}
 use Rattle.gl_std.specs.declared.said.Said.{Said}
 use Rattle.gl_std.specs.declared.said.Said.TheVariants.{Blank, Bad, Other, Call as CallSaid}
 use Rattle.gl_std.specs.declared.trace.Trace.{Trace}
@@ -277,3 +278,7 @@ pub map_take_rest : {X Y : Type 0} (f : X → Y) (xs : List X) (i : ℕ) (x : X)
 map_take_rest f [] i x within is = absurd (omega (arith, within))
 map_take_rest f (y ∷ xs) zero x within is = (map f xs, ap (λ z. f z ∷ map f xs) (sym is))
 map_take_rest f (y ∷ xs) (suc i) x within is = let later = map_take_rest f xs i x (omega (arith, within)) is in (later.0, ap (λ l. f y ∷ l) later.1)
+
+-- the numbers that were found, where each name has one
+pub found_at : (found : Found) (own number loc : ℕ) → found.thread ≡ Some own → found.operand ≡ Some number → found.loc ≡ Some loc → ◌≡◌ {A = Found} (record { thread = Some own; operand = Some number; loc = Some loc }) found
+found_at found own number loc a b d = (λ i. record { thread = sym a i; operand = sym b i; loc = sym d i })

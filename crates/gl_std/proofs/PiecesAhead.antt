@@ -18,7 +18,7 @@ use Rattle.gl_std.specs.LineReading.{TELLING, HasGiven}
 use Rattle.gl_std.specs.Lines.{LF, CR, begins_with, ended_lines, lines}
 use Rattle.gl_std.specs.Pieces.{IsFaulty, IsTold}
 use Rattle.gl_std.specs.Trace.{and_then, read_from, trace_of}
-use Rattle.gl_std.specs.bodies.Ahead.{bytes_of, text_of, FailsPiece, GivesOn, HasReadOn, IsShort, OnlyJudges, ReadsNothing, TakesPiece}
+use Rattle.gl_std.specs.bodies.Ahead.{bytes_of, text_of, FailsPiece, GivesOn, HasReadOn, IsShort, OnlyJudges, TakesPiece}
 use Rattle.gl_std.specs.bodies.Blocks.{after_shapes, between, FailsShapes, TakesShapes}
 use Rattle.gl_std.specs.bodies.Taking.{HasEndedLine}
 use Rattle.gl_std.specs.bodies.Telling.{with_judged}
@@ -38,7 +38,7 @@ use Rattle.gl_std.specs.declared.trace.Trace.{Trace}
 use Rattle.gl_std.proofs.LinesOfTexts.{holds_lf, lf_free, lines-after_line}
 use Rattle.gl_std.proofs.NumberedLines.{after_shapes-lines}
 use Rattle.gl_std.proofs.PieceByPiece.{ended-lf, faulty_more, first_end, with_end}
-use Rattle.gl_std.proofs.LineByLine.{append_nil, few_kept, reached_more}
+use Rattle.gl_std.proofs.LineByLine.{append_nil, drop_none, few_kept, reached_more}
 use Rattle.gl_std.proofs.WithinLimits.{read_from-append}
 
 -- ---- the lines that LF has ended, and what follows them
@@ -251,10 +251,10 @@ failed_lines old mid lists lists2 piece end after judged shapes seen told number
 -- ---- reads, one after another
 
 -- some reads and then more
-pub read_on_then : (now mid later : Position) (a b c : LineReader) (ps qs rs : List Piece) (failed failed2 : Bool) (ending : Ending) → HasReadOn now a ps mid failed b qs More → HasReadOn mid b qs later failed2 c rs ending → HasReadOn now a ps later failed2 c rs ending
-read_on_then now mid later a b c ps qs rs failed failed2 ending one two = record {
+pub read_on_then : (now mid later : Position) (a b c : LineReader) (before text after : List ℕ) (failed failed2 : Bool) (ending : Ending) → HasReadOn now a before mid failed b text More → HasReadOn mid b text later failed2 c after ending → HasReadOn now a before later failed2 c after ending
+read_on_then now mid later a b c before text after failed failed2 ending one two = record {
   gave = one.gave ++ two.gave;
-  text = two.text ∙ ap (λ t. t ++ two.gave) one.text ∙ append_assoc (text_of ps) one.gave two.gave;
+  text = two.text ∙ ap (λ t. t ++ two.gave) one.text ∙ append_assoc before one.gave two.gave;
   gives = by ending two.gives;
   within = omega (arith, one.within, two.within, length-append one.gave two.gave);
 }
@@ -264,43 +264,52 @@ read_on_then now mid later a b c ps qs rs failed failed2 ending one two = record
     by End gives = λ turns start text given. subst (λ t. HasRead turns start later failed2 t true) (append_assoc text one.gave two.gave) (gives turns start (text ++ one.gave) (one.gives.1 turns start text given))
     by Broke gives = λ turns start text given. subst (λ t. HasRead turns start later failed2 t false) (append_assoc text one.gave two.gave) (gives turns start (text ++ one.gave) (one.gives.1 turns start text given))
 
-pub read_on_then_ok : (now mid later : Position) (a b c : LineReader) (ps qs rs : List Piece) (failed failed2 : Bool) (r : Result Ending AllocError) → HasReadOn now a ps mid failed b qs More → IfOk r (HasReadOn mid b qs later failed2 c rs) → IfOk r (HasReadOn now a ps later failed2 c rs)
-read_on_then_ok now mid later a b c ps qs rs failed failed2 (Ok ending) one two = read_on_then now mid later a b c ps qs rs failed failed2 ending one two
-read_on_then_ok now mid later a b c ps qs rs failed failed2 (Err fault) one two = tt
+pub read_on_then_ok : (now mid later : Position) (a b c : LineReader) (before text after : List ℕ) (failed failed2 : Bool) (r : Result Ending AllocError) → HasReadOn now a before mid failed b text More → IfOk r (HasReadOn mid b text later failed2 c after) → IfOk r (HasReadOn now a before later failed2 c after)
+read_on_then_ok now mid later a b c before text after failed failed2 (Ok ending) one two = read_on_then now mid later a b c before text after failed failed2 ending one two
+read_on_then_ok now mid later a b c before text after failed failed2 (Err fault) one two = tt
 
 -- before the first one
-pub read_on_none : (now : Position) (a : LineReader) (ps : List Piece) (failed : Bool) → failed ≡ false → HasReadOn now a ps now failed a ps More
-read_on_none now a ps failed sound = record {
+pub read_on_none : (now : Position) (a : LineReader) (text : List ℕ) (failed : Bool) → failed ≡ false → HasReadOn now a text now failed a text More
+read_on_none now a text failed sound = record {
   gave = [];
-  text = sym (append_nil (text_of ps));
+  text = sym (append_nil text);
   gives = (sound, λ turns start text given. subst (HasGiven turns start now a.turns) (sym (append_nil text)) given);
   within = omega arith;
 }
 
 -- the text that was read ends, or can't be read on
-pub read_on_end : (now later : Position) (old new : LineReader) (ps : List Piece) (failed : Bool) → ((turns : ℕ) (start : Position) (text : List ℕ) → HasGiven turns start now old.turns text → HasRead turns start later failed text true) → new.turns ≤ old.turns → HasReadOn now old ps later failed new ps End
-read_on_end now later old new ps failed read few = record {
+pub read_on_end : (now later : Position) (old new : LineReader) (before : List ℕ) (failed : Bool) → ((turns : ℕ) (start : Position) (text : List ℕ) → HasGiven turns start now old.turns text → HasRead turns start later failed text true) → new.turns ≤ old.turns → HasReadOn now old before later failed new before End
+read_on_end now later old new before failed read few = record {
   gave = [];
-  text = sym (append_nil (text_of ps));
+  text = sym (append_nil before);
   gives = λ turns start text given. subst (λ t. HasRead turns start later failed t true) (sym (append_nil text)) (read turns start text given);
   within = omega (arith, mul-le-mul_right CHUNK few);
 }
 
-pub read_on_broke : (now later : Position) (old new : LineReader) (ps : List Piece) (failed : Bool) → ((turns : ℕ) (start : Position) (text : List ℕ) → HasGiven turns start now old.turns text → HasRead turns start later failed text false) → HasReadOn now old ps later failed new ps Broke
-read_on_broke now later old new ps failed read = record {
+pub read_on_broke : (now later : Position) (old new : LineReader) (before : List ℕ) (failed : Bool) → ((turns : ℕ) (start : Position) (text : List ℕ) → HasGiven turns start now old.turns text → HasRead turns start later failed text false) → HasReadOn now old before later failed new before Broke
+read_on_broke now later old new before failed read = record {
   gave = [];
-  text = sym (append_nil (text_of ps));
+  text = sym (append_nil before);
   gives = λ turns start text given. subst (λ t. HasRead turns start later failed t false) (sym (append_nil text)) (read turns start text given);
   within = omega arith;
 }
 
--- a piece more
-pub read_on_more : (now later : Position) (old filled new : LineReader) (ps rs : List Piece) (piece : Piece) (failed : Bool) → HasFilledBuffer now old later failed filled true → rs ≡ ps ++ piece ∷ [] → bytes_of piece ≡ left_of filled → new.turns ≡ filled.turns → filled.start ≡ 0 → filled.end ≤ CHUNK → HasReadOn now old ps later failed new rs More
-read_on_more now later old filled new ps rs piece failed read is bytes turns begin within = record {
+-- a read more
+pub read_on_more : (now later : Position) (old filled : LineReader) (before after : List ℕ) (failed : Bool) → HasFilledBuffer now old later failed filled true → after ≡ before ++ take filled.end filled.buffer.items → HasReadOn now old before later failed filled after More
+read_on_more now later old filled before after failed read is = record {
   gave = left_of filled;
-  text = ap text_of is ∙ text_push ps piece ∙ ap (λ b. text_of ps ++ b) bytes;
-  gives = (read.sound, λ turns2 start text given. subst (λ n. HasGiven turns2 start later n (text ++ left_of filled)) (sym turns) (read.filled turns2 start text given));
-  within = omega (arith, length-drop filled.start (take filled.end filled.buffer.items), few_kept filled.end (take filled.end filled.buffer.items) filled.buffer.items refl, within, turns, read.turn);
+  text = is ∙ ap (λ t. before ++ t) (sym (ap (λ n. drop n (take filled.end filled.buffer.items)) read.begin ∙ drop_none (take filled.end filled.buffer.items)));
+  gives = (read.sound, λ turns start text given. read.filled turns start text given);
+  within = omega (arith, length-drop filled.start (take filled.end filled.buffer.items), few_kept filled.end (take filled.end filled.buffer.items) filled.buffer.items refl, read.within, read.turn);
+}
+
+-- a piece that was read is added to others
+pub read_on_piece : (now later : Position) (old new : LineReader) (ps rs : List Piece) (empty piece : Piece) (failed : Bool) (ending : Ending) → bytes_of empty ≡ [] → HasReadOn now old (bytes_of empty) later failed new (bytes_of piece) ending → rs ≡ ps ++ piece ∷ [] → HasReadOn now old (text_of ps) later failed new (text_of rs) ending
+read_on_piece now later old new ps rs empty piece failed ending none on is = record {
+  gave = on.gave;
+  text = ap text_of is ∙ text_push ps piece ∙ ap (λ b. text_of ps ++ b) (on.text ∙ ap (λ t. t ++ on.gave) none);
+  gives = on.gives;
+  within = on.within;
 }
 
 -- ---- pieces that are judged, one after another
@@ -332,14 +341,6 @@ only_next old mid new n m k is one two = record {
   few = two.few;
   same_limits = two.same_limits ∙ one.same_limits;
   lines = omega (arith, one.lines, two.lines, is);
-}
-
-pub reads_nothing_next : (old mid new : LineReader) → ReadsNothing old mid → ReadsNothing mid new → ReadsNothing old new
-reads_nothing_next old mid new one two = record {
-  same_start = two.same_start ∙ one.same_start;
-  same_end = two.same_end ∙ one.same_end;
-  same_buffer = two.same_buffer ∙ one.same_buffer;
-  same_turns = two.same_turns ∙ one.same_turns;
 }
 
 -- pieces that were cut give the same text

@@ -1,6 +1,6 @@
 //! The lines of a piece of a text, each taken alone, with numbers of the piece's own for names.
 ghost use Rattle.std.specs.Prelude.{◌≡◌, ◌+◌, ◌≤◌, [], ◌∷◌, ◌++◌, length, map, vec_len, IfOk, OnOk};
-ghost use Rattle.gl_io.specs.declared.source.TheConstants.{CHUNK};
+ghost use Rattle.gl_std.specs.declared.block.TheConstants.{LONGEST};
 ghost use Rattle.gl_std.specs.Line.{shape_of};
 ghost use Rattle.gl_std.specs.Lines.{lines};
 ghost use Rattle.gl_std.specs.bodies.Blocks.{shapes_of, AreFew, AreNumbered, IsBlockOf};
@@ -10,7 +10,12 @@ use crate::line_ends::{LF, ended_lines, next_line};
 use crate::names::Names;
 use crate::said::Said;
 use crate::seed::Seed;
+use gl_io::CHUNK;
 use std::alloc::{AllocError, Global};
+
+/// So many bytes a piece may have: so many that most of its lines name what lines before them did, and so few
+/// that it stays near the processor.
+pub(crate) const LONGEST: usize = 8 * CHUNK;
 
 /// What the lines of a piece of a text say, in order. Names have numbers from 0 in order of first mention
 /// in the piece.
@@ -43,7 +48,7 @@ impl Block {
     /// What the lines of a piece say that lie between its first LF and its last one. Each line is cut once,
     /// and each of its names looked up at most once by hash.
     pub(crate) fn of(alloc: Global, seed: Seed, piece: &[u8]) -> Result<Block, AllocError>
-        requires short { length piece.now ≤ CHUNK }
+        requires short { length piece.now ≤ LONGEST }
         ensures { IfOk result (IsBlockOf piece.now) }
     {
         match cut(piece, LF) {
@@ -60,7 +65,7 @@ impl Block {
     fn add_lines(&mut self, alloc: Global, text: &[u8]) -> Result<(), AllocError>
         requires numbered { AreNumbered self.old }
         requires few { AreFew self.old }
-        requires room { vec_len self.old.said + length text.now ≤ CHUNK }
+        requires room { vec_len self.old.said + length text.now ≤ LONGEST }
         ensures numbered { OnOk result (AreNumbered self.new) }
         ensures lines { OnOk result
             (shapes_of self.new ≡ shapes_of self.old ++ map shape_of (lines text.now)) }
@@ -79,7 +84,7 @@ impl Block {
     fn add(&mut self, alloc: Global, line: &[u8]) -> Result<(), AllocError>
         requires numbered { AreNumbered self.old }
         requires few { AreFew self.old }
-        requires room { vec_len self.old.said + 1 ≤ CHUNK }
+        requires room { vec_len self.old.said + 1 ≤ LONGEST }
         ensures numbered { OnOk result (AreNumbered self.new) }
         ensures few { OnOk result (AreFew self.new) }
         ensures count { OnOk result (vec_len self.new.said ≡ vec_len self.old.said + 1) }

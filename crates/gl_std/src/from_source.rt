@@ -17,7 +17,6 @@ use crate::trace::Trace;
 use gl_event::Limits;
 use gl_io::Source;
 use std::alloc::{AllocError, Global};
-use std::thread::Threads;
 
 mod parallel;
 
@@ -121,24 +120,4 @@ pub fn read_source<R: Source>(
             Err(fault) => return stop(reader, lists, input, fault),
         }
     }
-}
-
-/// As [`read_source`], by so many threads. A stub: one thread reads.
-pub fn read_source_parallel<R: Source>(
-    _rt: &(impl Threads + Sync),
-    alloc: Global,
-    input: &mut R,
-    turns: u64,
-    limits: &Limits,
-    seed: Seed,
-    _jobs: usize,
-) -> Result<Heard, AllocError>
-    requires not_failed { R.failed input.old ≡ false }
-    requires few_turns { turns ≤ 2 ^ 40 }
-    ensures heard { IfOk result
-        (HasHeard limits.now turns (R.position input.old) (R.position input.new)
-        (R.failed input.new)) }
-    ensures over { IfOk result (λ h. IfOk h.trace (IsTraceOver limits.now)) }
-{
-    read_source(alloc, input, turns, limits, seed)
 }

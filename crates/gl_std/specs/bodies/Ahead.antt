@@ -1,5 +1,5 @@
 -- Reading ahead: pieces that were read and cut before they are judged.
-use Rattle.std.specs.Prelude.{◌≡◌, ◌+◌, ◌*◌, ◌^◌, ◌<◌, ◌≤◌, ℕ, List, ◌++◌, All, Bool, true, false, Result, Err, IfSome, length, take, vec_len}
+use Rattle.std.specs.Prelude.{◌≡◌, ◌+◌, ◌*◌, ◌^◌, ◌<◌, ◌≤◌, ℕ, List, [], ◌++◌, All, Bool, true, false, Result, Err, IfSome, OnOk, length, vec_len}
 use Rattle.std.specs.List.{flat_map}
 use Rattle.gl_event.specs.Bounds.{Bounds}
 use Rattle.gl_event.specs.declared.events.Event.{Event}
@@ -11,6 +11,7 @@ use Rattle.gl_std.specs.LineReading.{HasGiven}
 use Rattle.gl_std.specs.Pieces.{IsFaulty}
 use Rattle.gl_std.specs.bodies.Blocks.{IsBlockOf}
 use Rattle.gl_std.specs.bodies.States.{IsSound, Reaches}
+use Rattle.gl_std.specs.declared.block.TheConstants.{LONGEST}
 use Rattle.gl_std.specs.declared.faults.ReadFault.{ReadFault}
 use Rattle.gl_std.specs.declared.faults.ReadFault.TheVariants.{Line}
 use Rattle.gl_std.specs.declared.faults.StdKind.{StdKind}
@@ -24,18 +25,17 @@ use Rattle.gl_std.specs.declared.trace.Trace.{Trace}
 
 -- ---- pieces
 
--- what the read gave
+-- what some reads gave together
 abbrev pub bytes_of : Piece → List ℕ
-bytes_of piece = take piece.end piece.buffer.items
+bytes_of piece = piece.text.items
 
 -- and what they gave together
 abbrev pub text_of : List Piece → List ℕ
 text_of pieces = flat_map bytes_of pieces
 
--- it lies in its buffer, which is as long as one read
-pub record IsShort (piece : Piece) : Type 0 where
-  pub within : piece.end ≤ CHUNK
-  pub room : vec_len piece.buffer ≡ CHUNK
+-- it is no longer than a block may be
+abbrev pub IsShort : Piece → Type 0
+IsShort piece = length (bytes_of piece) ≤ LONGEST
 
 abbrev pub AreShort : List Piece → Type 0
 AreShort pieces = All IsShort pieces
@@ -61,12 +61,20 @@ turns_left f More = f.turns
 turns_left f End = f.turns
 turns_left f Broke = 0
 
--- the pieces that were added are what the reads gave, a chunk at most each
-pub record HasReadOn (now : Position) (old : LineReader) (pieces : List Piece) (later : Position) (failed : Bool) (new : LineReader) (pieces_later : List Piece) (ending : Ending) : Type 0 where
+-- what the reads gave was added to this text
+pub record HasReadOn (now : Position) (old : LineReader) (before : List ℕ) (later : Position) (failed : Bool) (new : LineReader) (after : List ℕ) (ending : Ending) : Type 0 where
   pub gave : List ℕ
-  pub text : text_of pieces_later ≡ text_of pieces ++ gave
+  pub text : after ≡ before ++ gave
   pub gives : GivesOn now old later failed new gave ending
   pub within : length gave + turns_left new ending * CHUNK ≤ old.turns * CHUNK
+
+-- the next pieces were read and cut
+pub record HasReadPieces (now : Position) (old : LineReader) (later : Position) (failed : Bool) (new : LineReader) (pieces : List Piece) (ending : Ending) : Type 0 where
+  pub reads : HasReadOn now old [] later failed new (text_of pieces) ending
+  pub same_size : vec_len new.buffer ≡ vec_len old.buffer
+  pub cut : AreCut pieces
+  pub short : AreShort pieces
+  pub fewer : ending ≡ More → new.turns < old.turns
 
 -- nothing was judged
 pub record OnlyReadsAhead (old new : LineReader) : Type 0 where
@@ -99,12 +107,11 @@ pub record OnlyJudges (old new : LineReader) (bytes : ℕ) : Type 0 where
   pub same_limits : new.judge.limits ≡ old.judge.limits
   pub lines : new.judge.line ≤ old.judge.line + bytes
 
--- nothing was read, also where a line is at fault
-pub record ReadsNothing (old new : LineReader) : Type 0 where
-  pub same_start : new.start ≡ old.start
-  pub same_end : new.end ≡ old.end
-  pub same_buffer : new.buffer ≡ old.buffer
-  pub same_turns : new.turns ≡ old.turns
+-- pieces were judged, or a line of them is at fault
+pub record HasTakenPieces (old : LineReader) (lists : List (List Event)) (pieces : List Piece) (new : LineReader) (lists_later : List (List Event)) (result : Result (Unit {0}) ReadFault) : Type 0 where
+  pub tells : OnOk result (TakesPiece old lists (text_of pieces) new lists_later)
+  pub fault : FailsPiece old lists (text_of pieces) result
+  pub only : OnOk result (OnlyJudges old new (length (text_of pieces)))
 
 -- ---- what is heard
 
@@ -130,24 +137,26 @@ HearsPieces f lists pieces whole heard =
     (limits : Bounds) (turns : ℕ) (start now : Position) (failed : Bool) (seen : List ℕ) (told : Trace) → HasRead turns start now failed (seen ++ pieces) whole → f.judge.limits ≡ limits
     → Reaches f.judge f.unfinished.items seen told → lists ≡ told.lists → HasHeard limits turns start now failed heard
 
--- reading goes on, where pieces of the text aren't judged that were read
-pub record ReadsAhead (limits : Bounds) (turns : ℕ) (start now : Position) (f : LineReader) (lists : List (List Event)) (pieces : List ℕ) : Type 0 where
+-- reading goes on: the one reader has read this text but for pieces that are ahead, and the other one has judged it
+pub record ReadsAhead (limits : Bounds) (turns : ℕ) (start now : Position) (f j : LineReader) (lists : List (List Event)) (pieces : List ℕ) : Type 0 where
   pub seen : List ℕ
   pub told : Trace
   pub given : HasGiven turns start now f.turns (seen ++ pieces)
-  pub same : f.judge.limits ≡ limits
-  pub reaches : Reaches f.judge f.unfinished.items seen told
+  pub same : j.judge.limits ≡ limits
+  pub reaches : Reaches j.judge j.unfinished.items seen told
   pub listed : lists ≡ told.lists
 
--- pieces can be judged: nothing is counted beyond what numbers hold
-pub record CanJudge (f : LineReader) (pieces : List ℕ) : Type 0 where
+-- pieces can be judged: they are cut, and nothing is counted beyond what numbers hold
+pub record CanJudge (f : LineReader) (pieces : List Piece) : Type 0 where
   pub sound : IsSound f.judge
   pub few : length f.unfinished.items ≤ KEPT
-  pub countable : f.judge.line + length pieces + 1 < 2 ^ 64
+  pub countable : f.judge.line + length (text_of pieces) + 1 < 2 ^ 64
+  pub short : AreShort pieces
+  pub cut : AreCut pieces
 
--- and can go on: nothing is counted beyond what numbers hold
-pub record CanReadAhead (f : LineReader) (pieces : List ℕ) : Type 0 where
-  pub sound : IsSound f.judge
-  pub few : length f.unfinished.items ≤ KEPT
+-- and reading can go on: nothing will be
+pub record CanReadAhead (f j : LineReader) (pieces : List ℕ) : Type 0 where
+  pub sound : IsSound j.judge
+  pub few : length j.unfinished.items ≤ KEPT
   pub room : vec_len f.buffer ≡ CHUNK
-  pub countable : f.judge.line + length pieces + f.turns * CHUNK + 1 < 2 ^ 64
+  pub countable : j.judge.line + length pieces + f.turns * CHUNK + 1 < 2 ^ 64

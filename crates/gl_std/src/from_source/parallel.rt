@@ -1,13 +1,13 @@
 //! Reading the text that a source gives in several threads.
 //!
-//! While the pieces that were read before are judged, one after another, other threads cut those that were read after
-//! them into lines, and number the names in each. So a name is compared once for each piece that has it, and the
-//! thread that judges sees numbers.
+//! One thread judges the pieces that were read before, one after another, while the next ones are read, and cut into
+//! lines by the others. These number the names in each piece, so that the thread that judges looks a name up once for
+//! each piece that has it, and sees numbers else.
 ghost use Rattle.std.specs.Prelude.{◌≡◌, ◌^◌, ◌<◌, ◌≤◌, [], ◌++◌, Bool, true, false, length, vec_len, IfOk, OnOk};
 ghost use Rattle.gl_io.specs.declared.source.TheConstants.{CHUNK};
 ghost use Rattle.gl_std.specs.Heard.{HasHeard};
 ghost use Rattle.gl_std.specs.Trace.{IsTraceOver};
-ghost use Rattle.gl_std.specs.bodies.Ahead.{bytes_of, text_of, AreCut, AreShort, CanJudge, FailsPiece, HearsFault, HearsFaulty, HearsPieces, IsCut, IsShort, OnlyJudges, ReadsNothing, TakesPiece};
+ghost use Rattle.gl_std.specs.bodies.Ahead.{bytes_of, text_of, AreCut, AreShort, CanJudge, HasReadPieces, HasTakenPieces, HearsFault, HearsFaulty, HearsPieces, IsCut, IsShort};
 ghost use Rattle.gl_std.specs.declared.line_reader.pieces.Ending.TheVariants.{More};
 
 use super::{Heard, finish, read_source};
@@ -23,22 +23,22 @@ use std::alloc::{AllocError, Global};
 use std::thread;
 use std::thread::{Threads, join_mut};
 
-// So many reads are cut in one go for each thread: few enough that their text takes little memory, and so many that it
-// doesn't matter what starting a thread costs.
-const EACH: usize = 8;
-
 // More threads than this have nothing to do.
 const MOST: usize = 64;
 
-// Cuts pieces into lines, in so many threads.
-fn cut_all<R: Threads + Sync>(
-    rt: &R,
+// What cuts pieces into lines.
+#[derive(Clone, Copy)]
+struct Cutters {
     alloc: Global,
+    // What the hash of a piece's names begins with.
     seed: Seed,
+    // So many threads cut.
     threads: usize,
-    pieces: &mut [Piece],
-)
-    requires threads { 0 < threads }
+}
+
+// Cuts pieces into lines.
+fn cut_all<R: Threads + Sync>(rt: &R, cutters: Cutters, pieces: &mut [Piece])
+    requires threads { 0 < cutters.threads }
     requires short { AreShort pieces.old }
     ensures cut { AreCut pieces.new }
     ensures short { AreShort pieces.new }
@@ -47,78 +47,87 @@ fn cut_all<R: Threads + Sync>(
     thread::for_each_mut(
         rt,
         pieces,
-        threads,
+        cutters.threads,
         &|_place: usize, piece: &mut Piece|
             requires { IsShort piece.now }
             ensures cut { IsCut piece.new }
             ensures short { IsShort piece.new }
             ensures same { bytes_of piece.new ≡ bytes_of piece.old }
         {
-            piece.cut(alloc, seed);
+            piece.cut(cutters.alloc, cutters.seed);
         },
     );
 }
 
 // As `cut_all`, of all pieces of a list.
-fn cut_pieces<R: Threads + Sync>(
-    rt: &R,
-    alloc: Global,
-    seed: Seed,
-    threads: usize,
-    pieces: &mut Vec<Piece>,
-)
-    requires threads { 0 < threads }
+fn cut_pieces<R: Threads + Sync>(rt: &R, cutters: Cutters, pieces: &mut Vec<Piece>)
+    requires threads { 0 < cutters.threads }
     requires short { AreShort pieces.old.items }
     ensures cut { AreCut pieces.new.items }
     ensures short { AreShort pieces.new.items }
     ensures same { text_of pieces.new.items ≡ text_of pieces.old.items }
 {
-    cut_all(rt, alloc, seed, threads, pieces.as_mut_slice());
+    cut_all(rt, cutters, pieces.as_mut_slice());
 }
 
-// Judges the pieces that were read ahead, while the next ones are cut into lines.
-fn take_and_cut<R: Threads + Sync>(
-    rt: &R,
-    alloc: Global,
-    seed: Seed,
-    jobs: usize,
+// Reads a piece for each thread that cuts, and cuts them into lines.
+fn read_and_cut<T: Threads + Sync, R: Source>(
+    rt: &T,
+    cutters: Cutters,
     reader: &mut LineReader,
+    input: &mut R,
+    spare: &mut Vec<Piece>,
+    pieces: &mut Vec<Piece>,
+) -> Result<Ending, AllocError>
+    requires threads { 0 < cutters.threads }
+    requires room { vec_len reader.old.buffer ≡ CHUNK }
+    requires not_failed { R.failed input.old ≡ false }
+    requires none { pieces.old.items ≡ [] }
+    ensures { IfOk result
+        (HasReadPieces (R.position input.old) reader.old (R.position input.new)
+        (R.failed input.new) reader.new pieces.new.items) }
+{
+    let ending = reader.read_ahead(cutters.alloc, input, spare, pieces, cutters.threads)?;
+    cut_pieces(rt, cutters, pieces);
+    Ok(ending)
+}
+
+// Judges the pieces that were read ahead in a thread of its own, while the next ones are read and cut.
+fn take_and_read<T: Threads + Sync, R: Source>(
+    rt: &T,
+    cutters: Cutters,
+    judge: &mut LineReader,
     lists: &mut Lists,
     ahead: &[Piece],
+    reader: &mut LineReader,
+    input: &mut R,
+    spare: &mut Vec<Piece>,
     pieces: &mut Vec<Piece>,
-) -> Result<(), ReadFault>
-    requires jobs { 1 < jobs }
-    requires can { CanJudge reader.old (text_of ahead.now) }
-    requires ahead_short { AreShort ahead.now }
-    requires ahead_cut { AreCut ahead.now }
-    requires short { AreShort pieces.old.items }
-    ensures tells { OnOk result
-        (TakesPiece reader.old lists.old (text_of ahead.now) reader.new lists.new) }
-    ensures fault { FailsPiece reader.old lists.old (text_of ahead.now) result }
-    ensures only { OnOk result (OnlyJudges reader.old reader.new (length (text_of ahead.now))) }
-    ensures reads { ReadsNothing reader.old reader.new }
-    ensures cut { AreCut pieces.new.items }
-    ensures cut_short { AreShort pieces.new.items }
-    ensures same { text_of pieces.new.items ≡ text_of pieces.old.items }
+) -> (Result<(), ReadFault>, Result<Ending, AllocError>)
+    requires threads { 0 < cutters.threads }
+    requires can { CanJudge judge.old ahead.now }
+    requires room { vec_len reader.old.buffer ≡ CHUNK }
+    requires not_failed { R.failed input.old ≡ false }
+    requires none { pieces.old.items ≡ [] }
+    ensures taken { HasTakenPieces judge.old lists.old ahead.now judge.new lists.new result.0 }
+    ensures read { IfOk result.1
+        (HasReadPieces (R.position input.old) reader.old (R.position input.new)
+        (R.failed input.new) reader.new pieces.new.items) }
 {
-    let mut cutting = ||
-        requires { (1 < jobs) × AreShort pieces.now.items }
-        ensures cut { AreCut pieces.exit.now.items }
-        ensures short { AreShort pieces.exit.now.items }
-        ensures same { text_of pieces.exit.now.items ≡ text_of pieces.entry.now.items }
-    { cut_pieces(rt, alloc, seed, jobs - 1, pieces) };
     let mut taking = || -> Result<(), ReadFault>
-        requires { CanJudge reader.now (text_of ahead.now) × AreShort ahead.now × AreCut ahead.now }
-        ensures tells { OnOk result
-            (TakesPiece reader.entry.now lists.entry.now (text_of ahead.entry.now)
-            reader.exit.now lists.exit.now) }
-        ensures fault { FailsPiece reader.entry.now lists.entry.now (text_of ahead.entry.now) result }
-        ensures only { OnOk result
-            (OnlyJudges reader.entry.now reader.exit.now (length (text_of ahead.entry.now))) }
-        ensures reads { ReadsNothing reader.entry.now reader.exit.now }
-    { reader.take_pieces(alloc, lists, ahead) };
-    let (_, taken) = join_mut(rt, &mut cutting, &mut taking);
-    taken
+        requires { CanJudge judge.now ahead.now }
+        ensures { HasTakenPieces judge.entry.now lists.entry.now ahead.entry.now judge.exit.now
+            lists.exit.now result }
+    { judge.take_pieces(cutters.alloc, lists, ahead) };
+    let mut reading = || -> Result<Ending, AllocError>
+        requires { (0 < cutters.threads) × (vec_len reader.now.buffer ≡ CHUNK)
+            × (R.failed input.now ≡ false) × (pieces.now.items ≡ []) }
+        ensures { IfOk result
+            (HasReadPieces (R.position input.entry.now) reader.entry.now
+            (R.position input.exit.now) (R.failed input.exit.now) reader.exit.now
+            pieces.exit.now.items) }
+    { read_and_cut(rt, cutters, reader, input, spare, pieces) };
+    join_mut(rt, &mut taking, &mut reading)
 }
 
 // What was heard, where a line is at fault.
@@ -161,9 +170,7 @@ fn finish_ahead(
     pieces: &[Piece],
     is_whole: bool,
 ) -> Result<Heard, AllocError>
-    requires can { CanJudge reader (text_of pieces.now) }
-    requires short { AreShort pieces.now }
-    requires cut { AreCut pieces.now }
+    requires can { CanJudge reader pieces.now }
     ensures { IfOk result (HearsPieces reader lists (text_of pieces.now) is_whole) }
 {
     match reader.take_pieces(alloc, &mut lists, pieces) {
@@ -181,11 +188,11 @@ fn finish_ahead(
     }
 }
 
-/// As [`read_source`], in so many threads: what is heard doesn't depend on their number. With none or one the calling
-/// thread reads, cuts and judges line by line.
+/// As [`read_source`], in so many threads: what is heard doesn't depend on their number. With fewer than three the
+/// calling thread reads, cuts and judges line by line, since two would wait for each other.
 ///
-/// Err where memory was refused. Beside what [`read_source`] keeps in memory, there are some reads for each thread, cut
-/// into lines.
+/// Err where memory was refused. Beside what [`read_source`] keeps in memory, there is a megabyte of the text for
+/// each thread, cut into lines.
 pub fn read_source_parallel<T: Threads + Sync, R: Source>(
     rt: &T,
     alloc: Global,
@@ -202,26 +209,35 @@ pub fn read_source_parallel<T: Threads + Sync, R: Source>(
         (R.failed input.new)) }
     ensures over { IfOk result (λ h. IfOk h.trace (IsTraceOver limits.now)) }
 {
-    if jobs < 2 {
+    if jobs < 3 {
         return read_source(alloc, input, turns, limits, seed);
     }
-    let jobs = jobs.min(MOST);
+    let cutters = Cutters {
+        alloc,
+        seed,
+        threads: jobs.min(MOST) - 1,
+    };
+    // the one judges what the other has read
     let mut reader = LineReader::new(alloc, limits, turns, seed)?;
+    let mut judge = LineReader::new(alloc, limits, turns, seed)?;
     let mut lists = Lists::new(Vec::new(alloc));
     let mut ahead = Vec::new(alloc);
+    let mut spare = Vec::new(alloc);
     loop {
         let mut pieces = Vec::new(alloc);
-        let ending = reader.read_ahead(alloc, input, &mut pieces, jobs * EACH)?;
-        match take_and_cut(
+        let (taken, read) = take_and_read(
             rt,
-            alloc,
-            seed,
-            jobs,
-            &mut reader,
+            cutters,
+            &mut judge,
             &mut lists,
             ahead.as_slice(),
+            &mut reader,
+            input,
+            &mut spare,
             &mut pieces,
-        ) {
+        );
+        let ending = read?;
+        match taken {
             Ok(()) => {}
             Err(ReadFault::Line { line, kind }) => {
                 return Ok(stop_ahead(reader, input, ending, line, kind));
@@ -229,9 +245,12 @@ pub fn read_source_parallel<T: Threads + Sync, R: Source>(
             Err(ReadFault::Memory) => return Err(AllocError),
         }
         match ending {
-            Ending::More => ahead = pieces,
-            Ending::End => return finish_ahead(alloc, reader, lists, pieces.as_slice(), true),
-            Ending::Broke => return finish_ahead(alloc, reader, lists, pieces.as_slice(), false),
+            Ending::More => {
+                spare = ahead;
+                ahead = pieces;
+            }
+            Ending::End => return finish_ahead(alloc, judge, lists, pieces.as_slice(), true),
+            Ending::Broke => return finish_ahead(alloc, judge, lists, pieces.as_slice(), false),
         }
     }
 }

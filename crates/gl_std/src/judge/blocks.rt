@@ -157,6 +157,9 @@ impl Judge {
         ensures few_stray { self.new.stray ≤ self.old.stray + 1 }
     {
         let found = self.find_said(names, known, operation, thread, operand, location);
+        if let (Some(own), Some(number), Some(loc)) = (found.thread, found.operand, found.loc) {
+            return self.take_known(operation, own, number, loc);
+        }
         self.take_found(
             operation,
             names.thread(thread),

@@ -1,16 +1,17 @@
 //! Reading ahead: what the reads give is cut into lines before it is judged.
-ghost use Rattle.std.specs.Prelude.{◌≡◌, ◌+◌, ◌^◌, ◌<◌, ◌≤◌, false, length, Ok, Some, vec_len, IfOk, OnOk};
+ghost use Rattle.std.specs.Prelude.{◌≡◌, ◌+◌, ◌^◌, ◌<◌, ◌≤◌, [], false, length, Ok, Some, vec_len, IfOk, OnOk};
 ghost use Rattle.gl_io.specs.declared.source.TheConstants.{CHUNK};
 ghost use Rattle.gl_std.specs.Line.{cut_at};
 ghost use Rattle.gl_std.specs.Lines.{LF};
-ghost use Rattle.gl_std.specs.bodies.Ahead.{bytes_of, text_of, AreCut, AreShort, FailsPiece, HasReadOn, IsCut, IsShort, OnlyJudges, OnlyReadsAhead, ReadsNothing, TakesPiece};
+ghost use Rattle.gl_std.specs.bodies.Ahead.{bytes_of, text_of, AreShort, CanJudge, FailsPiece, HasReadOn, HasTakenPieces, IsCut, IsShort, OnlyJudges, OnlyReadsAhead, TakesPiece};
 ghost use Rattle.gl_std.specs.bodies.Blocks.{IsBlockOf};
-ghost use Rattle.gl_std.specs.bodies.States.{left_of, IsSound};
+ghost use Rattle.gl_std.specs.bodies.States.{IsSound};
+ghost use Rattle.gl_std.specs.declared.block.TheConstants.{LONGEST};
 ghost use Rattle.gl_std.specs.declared.line_reader.TheConstants.{KEPT};
 ghost use Rattle.gl_std.specs.declared.line_reader.pieces.Ending.TheVariants.{More};
 
 use super::{LineReader, end_line, keep};
-use crate::block::Block;
+use crate::block::{Block, LONGEST};
 use crate::faults::ReadFault;
 use crate::line::cut;
 use crate::line_ends::{LF, unended};
@@ -18,7 +19,6 @@ use crate::lists::Lists;
 use crate::seed::Seed;
 use gl_io::{CHUNK, Failed, Source};
 use std::alloc::{AllocError, Global};
-use std::mem::replace;
 
 /// What comes after some reads.
 #[derive(Clone, Copy)]
@@ -31,10 +31,9 @@ pub(crate) enum Ending {
     Broke,
 }
 
-/// What one read gave, and what its lines say, once it was cut.
+/// What some reads gave together, and what its lines say, once it was cut.
 pub(crate) struct Piece {
-    buffer: Vec<u8>,
-    end: usize,
+    text: Vec<u8>,
     // None before it is cut, and where memory was refused.
     block: Option<Block>,
 }
@@ -42,21 +41,26 @@ pub(crate) struct Piece {
 // Written out, so that it is proved once: a derived drop is proved again wherever a piece is let go.
 impl Drop for Piece {
     fn drop(self) {
-        let Piece {
-            buffer,
-            end: _,
-            block,
-        } = self;
+        let Piece { text, block } = self;
     }
 }
 
 impl Piece {
-    // What the read gave.
-    fn bytes(&self) -> &[u8]
-        requires { IsShort self.now }
-        ensures { result.now ≡ bytes_of self.now }
+    // A piece without text, in the memory of another one if there is one.
+    fn empty(alloc: Global, spare: &mut Vec<Piece>) -> Piece
+        ensures none { bytes_of result ≡ [] }
     {
-        &self.buffer[..self.end]
+        match spare.pop() {
+            Some(mut piece) => {
+                piece.text.clear();
+                piece.block = None;
+                piece
+            }
+            None => Piece {
+                text: Vec::new(alloc),
+                block: None,
+            },
+        }
     }
 
     /// Cuts it into lines. Each name is looked up at most once by hash.
@@ -66,7 +70,7 @@ impl Piece {
         ensures short { IsShort self.new }
         ensures same { bytes_of self.new ≡ bytes_of self.old }
     {
-        self.block = match Block::of(alloc, seed, self.bytes()) {
+        self.block = match Block::of(alloc, seed, self.text.as_slice()) {
             Ok(block) => Some(block),
             Err(AllocError) => None,
         };
@@ -74,11 +78,12 @@ impl Piece {
 }
 
 impl LineReader {
-    /// Reads on until there are so many pieces, and adds what each read gave.
+    /// Reads on until there are so many pieces more, in the memory of those that are spare.
     pub(crate) fn read_ahead<R: Source>(
         &mut self,
         alloc: Global,
         input: &mut R,
+        spare: &mut Vec<Piece>,
         pieces: &mut Vec<Piece>,
         most: usize,
     ) -> Result<Ending, AllocError>
@@ -87,72 +92,104 @@ impl LineReader {
         requires short { AreShort pieces.old.items }
         requires few { vec_len pieces.old < most }
         ensures reads { IfOk result
-            (HasReadOn (R.position input.old) self.old pieces.old.items
-            (R.position input.new) (R.failed input.new) self.new pieces.new.items) }
+            (HasReadOn (R.position input.old) self.old (text_of pieces.old.items)
+            (R.position input.new) (R.failed input.new) self.new (text_of pieces.new.items)) }
         ensures only { OnOk result (OnlyReadsAhead self.old self.new) }
         ensures short { OnOk result (AreShort pieces.new.items) }
         ensures fewer { result ≡ Ok More → self.new.turns < self.old.turns }
     {
         while pieces.len() + 1 < most {
-            match self.read_piece(alloc, input, pieces)? {
+            match self.read_piece(alloc, input, spare, pieces)? {
                 Ending::More => {}
                 Ending::End => return Ok(Ending::End),
                 Ending::Broke => return Ok(Ending::Broke),
             }
         }
-        self.read_piece(alloc, input, pieces)
+        self.read_piece(alloc, input, spare, pieces)
     }
 
-    // Adds what one read gives, where that is something.
+    // Adds a piece.
     fn read_piece<R: Source>(
         &mut self,
         alloc: Global,
         input: &mut R,
+        spare: &mut Vec<Piece>,
         pieces: &mut Vec<Piece>,
     ) -> Result<Ending, AllocError>
         requires room { vec_len self.old.buffer ≡ CHUNK }
         requires not_failed { R.failed input.old ≡ false }
         requires short { AreShort pieces.old.items }
         ensures reads { IfOk result
-            (HasReadOn (R.position input.old) self.old pieces.old.items
-            (R.position input.new) (R.failed input.new) self.new pieces.new.items) }
+            (HasReadOn (R.position input.old) self.old (text_of pieces.old.items)
+            (R.position input.new) (R.failed input.new) self.new (text_of pieces.new.items)) }
         ensures only { OnOk result (OnlyReadsAhead self.old self.new) }
         ensures short { OnOk result (AreShort pieces.new.items) }
         ensures fewer { result ≡ Ok More → self.new.turns < self.old.turns }
         ensures one { result ≡ Ok More → vec_len pieces.new ≡ vec_len pieces.old + 1 }
+    {
+        let mut piece = Piece::empty(alloc, spare);
+        let ending = self.read_into(input, &mut piece)?;
+        pieces.push(piece)?;
+        Ok(ending)
+    }
+
+    // Fills a piece with what some reads give.
+    fn read_into<R: Source>(
+        &mut self,
+        input: &mut R,
+        piece: &mut Piece,
+    ) -> Result<Ending, AllocError>
+        requires room { vec_len self.old.buffer ≡ CHUNK }
+        requires not_failed { R.failed input.old ≡ false }
+        requires none { bytes_of piece.old ≡ [] }
+        ensures reads { IfOk result
+            (HasReadOn (R.position input.old) self.old (bytes_of piece.old)
+            (R.position input.new) (R.failed input.new) self.new (bytes_of piece.new)) }
+        ensures only { OnOk result (OnlyReadsAhead self.old self.new) }
+        ensures short { OnOk result (IsShort piece.new) }
+        ensures fewer { result ≡ Ok More → self.new.turns < self.old.turns }
+    {
+        match self.read_more(input, piece)? {
+            Ending::More => {}
+            Ending::End => return Ok(Ending::End),
+            Ending::Broke => return Ok(Ending::Broke),
+        }
+        while piece.text.len() <= LONGEST - CHUNK {
+            match self.read_more(input, piece)? {
+                Ending::More => {}
+                Ending::End => return Ok(Ending::End),
+                Ending::Broke => return Ok(Ending::Broke),
+            }
+        }
+        Ok(Ending::More)
+    }
+
+    // Adds what one read gives to a piece, where that is something.
+    fn read_more<R: Source>(
+        &mut self,
+        input: &mut R,
+        piece: &mut Piece,
+    ) -> Result<Ending, AllocError>
+        requires room { vec_len self.old.buffer ≡ CHUNK }
+        requires not_failed { R.failed input.old ≡ false }
+        requires short { length (bytes_of piece.old) + CHUNK ≤ LONGEST }
+        ensures reads { IfOk result
+            (HasReadOn (R.position input.old) self.old (bytes_of piece.old)
+            (R.position input.new) (R.failed input.new) self.new (bytes_of piece.new)) }
+        ensures only { OnOk result (OnlyReadsAhead self.old self.new) }
+        ensures short { OnOk result (IsShort piece.new) }
+        ensures fewer { result ≡ Ok More → self.new.turns < self.old.turns }
     {
         if self.turns == 0 {
             return Ok(Ending::Broke);
         }
         match self.fill(input) {
             Ok(true) => {
-                let fresh = vec![in alloc; 0u8; CHUNK]?;
-                pieces.push(self.take_buffer(fresh))?;
+                piece.text.extend_from_slice(&self.buffer[..self.end])?;
                 Ok(Ending::More)
             }
             Ok(false) => Ok(Ending::End),
             Err(Failed) => Ok(Ending::Broke),
-        }
-    }
-
-    // What the latest read gave, as a piece, with another buffer in its place.
-    fn take_buffer(&mut self, fresh: Vec<u8>) -> Piece
-        requires room { vec_len self.old.buffer ≡ CHUNK }
-        requires fresh { vec_len fresh ≡ CHUNK }
-        requires begin { self.old.start ≡ 0 }
-        requires within { self.old.end ≤ CHUNK }
-        ensures bytes { bytes_of result ≡ left_of self.old }
-        ensures short { IsShort result }
-        ensures only { OnlyReadsAhead self.old self.new }
-        ensures turns { self.new.turns ≡ self.old.turns }
-    {
-        let end = self.end;
-        let buffer = replace(&mut self.buffer, fresh);
-        self.end = 0;
-        Piece {
-            buffer,
-            end,
-            block: None,
         }
     }
 
@@ -164,16 +201,8 @@ impl LineReader {
         lists: &mut Lists,
         pieces: &[Piece],
     ) -> Result<(), ReadFault>
-        requires sound { IsSound self.old.judge }
-        requires few { length self.old.unfinished.items ≤ KEPT }
-        requires short { AreShort pieces.now }
-        requires cut { AreCut pieces.now }
-        requires countable { self.old.judge.line + length (text_of pieces.now) + 1 < 2 ^ 64 }
-        ensures tells { OnOk result
-            (TakesPiece self.old lists.old (text_of pieces.now) self.new lists.new) }
-        ensures fault { FailsPiece self.old lists.old (text_of pieces.now) result }
-        ensures only { OnOk result (OnlyJudges self.old self.new (length (text_of pieces.now))) }
-        ensures reads { ReadsNothing self.old self.new }
+        requires can { CanJudge self.old pieces.now }
+        ensures { HasTakenPieces self.old lists.old pieces.now self.new lists.new result }
     {
         for i in 0..pieces.len() {
             self.take_piece(alloc, lists, &pieces[i])?;
@@ -197,16 +226,15 @@ impl LineReader {
             (TakesPiece self.old lists.old (bytes_of piece.now) self.new lists.new) }
         ensures fault { FailsPiece self.old lists.old (bytes_of piece.now) result }
         ensures only { OnOk result (OnlyJudges self.old self.new (length (bytes_of piece.now))) }
-        ensures reads { ReadsNothing self.old self.new }
     {
         let Some(block) = &piece.block else {
             return Err(ReadFault::Memory);
         };
-        let bytes = piece.bytes();
-        match cut(bytes, LF) {
-            Some((end, after)) => self.take_lines(alloc, lists, bytes, end, after, block),
+        let text = piece.text.as_slice();
+        match cut(text, LF) {
+            Some((end, after)) => self.take_lines(alloc, lists, text, end, after, block),
             None => {
-                keep(&mut self.unfinished, bytes)?;
+                keep(&mut self.unfinished, text)?;
                 Ok(())
             }
         }
@@ -232,7 +260,6 @@ impl LineReader {
             (TakesPiece self.old lists.old piece.now self.new lists.new) }
         ensures fault { FailsPiece self.old lists.old piece.now result }
         ensures only { OnOk result (OnlyJudges self.old self.new (length piece.now)) }
-        ensures reads { ReadsNothing self.old self.new }
     {
         let judged = end_line(&mut self.judge, &mut self.unfinished, end)?;
         lists.add(alloc, self.judge.names(), judged)?;

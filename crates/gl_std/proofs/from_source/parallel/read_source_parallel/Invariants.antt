@@ -4,8 +4,8 @@ use Rattle.gl_std.proofs.from_source.parallel.read_source_parallel.Given as goal
 
 abbrev pub invariant-loop-pieces : goal.invariant-loop-pieces
 invariant-loop-pieces g l = record {
-  reads : ReadsAhead l.limits l.turns (g.R.Source.position l.initial.input) (g.R.Source.position l.input) l.reader l.lists (text_of l.ahead.items);
-  can : CanReadAhead l.reader (text_of l.ahead.items);
+  reads : ReadsAhead l.limits l.turns (g.R.Source.position l.initial.input) (g.R.Source.position l.input) l.reader l.judge l.lists (text_of l.ahead.items);
+  can : CanReadAhead l.reader l.judge (text_of l.ahead.items);
   short : AreShort l.ahead.items;
   cut : AreCut l.ahead.items;
   not_failed : g.R.Source.failed l.input ≡ false;

@@ -1,29 +1,5 @@
-use Rattle.std.proofs.Common.{Ok, sym, subst, arith}
-use Rattle.gl_std.specs.bodies.Ahead.{AreShort}
-use Rattle.gl_std.specs.bodies.Stepping.{IsRead}
-use Rattle.gl_std.proofs.PiecesAhead.{all_short_push, read_on_broke, read_on_end, read_on_more}
+use Rattle.gl_std.proofs.PiecesAhead.{read_on_piece}
 use Rattle.gl_std.proofs.line_reader.LineReader.read_piece.Goals as goal
 
--- the read gave some bytes
-pub returns-in_ok-push-in-Ok-true-clause-reads : goal.returns-in_ok-push-in-Ok-true-clause-reads
-returns-in_ok-push-in-Ok-true-clause-reads g c =
-    let old = c.args.self.now in
-    let filled = c.fill.new.self in
-    let read = subst (λ more. IsRead (g.R.Source.position c.args.input.now) old (g.R.Source.position c.fill.new.input) (g.R.Source.failed c.fill.new.input) filled (Ok more)) c.in-Ok-true.field-0-test c.in-Ok-true.ensures.read in
-    read_on_more _ _ old filled c.take_buffer.new.self c.args.pieces.now.items c.push.new.self.items c.take_buffer.result _ read c.in_ok-push-in-Ok-true.ensures.items c.take_buffer.ensures.bytes c.take_buffer.ensures.turns read.begin read.within
-
-pub returns-in_ok-push-in-Ok-true-clause-short : goal.returns-in_ok-push-in-Ok-true-clause-short
-returns-in_ok-push-in-Ok-true-clause-short g c =
-    subst AreShort (sym c.in_ok-push-in-Ok-true.ensures.items) (all_short_push c.args.pieces.now.items c.take_buffer.result c.requires.short c.take_buffer.ensures.short)
-
--- it met the end
-pub returns-in-Ok-false-clause-reads : goal.returns-in-Ok-false-clause-reads
-returns-in-Ok-false-clause-reads g c =
-    let old = c.args.self.now in
-    let new = c.fill.new.self in
-    let read = subst (λ more. IsRead (g.R.Source.position c.args.input.now) old (g.R.Source.position c.fill.new.input) (g.R.Source.failed c.fill.new.input) new (Ok more)) c.in-Ok-false.field-0-test c.in-Ok-false.ensures.read in
-    read_on_end _ _ old _ c.args.pieces.now.items _ read.filled (omega (arith, read.turn))
-
--- it failed
-pub returns-in-Err-clause-reads : goal.returns-in-Err-clause-reads
-returns-in-Err-clause-reads g c = read_on_broke _ _ c.args.self.now _ c.args.pieces.now.items _ c.in-Err.ensures.read
+pub returns-clause-reads : goal.returns-clause-reads
+returns-clause-reads g c = read_on_piece _ _ c.args.self.now c.read_into.new.self c.args.pieces.now.items c.push.new.self.items c.empty-piece.result c.read_into.new.piece _ c.in_ok-ending.ending c.empty-piece.ensures.none c.in_ok-ending.ensures.reads c.in_ok-push.ensures.items
