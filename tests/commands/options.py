@@ -74,6 +74,22 @@ def threads_of_sessions(program):
     program.expect("live: 4 recorders and 4 shards", program.counts("live --jobs 1", trace)[0] == 8)
 
 
+def threads_that_read(program):
+    """One thread reads alone where fewer than three are asked for; else some are started. Unless said, as many read as
+    there are processors."""
+    trace = b"T0|acq(a)|1\nT0|rel(a)|2\n" * 100000
+    for words in ("predict", "stats", "replay"):
+        for jobs in (1, 2):
+            got = program.counts(f"{words} --jobs {jobs}", trace)[0]
+            program.expect(f"{words} --jobs {jobs} starts no thread, not {got}", got == 0)
+        for jobs in (3, 16):
+            got = program.counts(f"{words} --jobs {jobs}", trace)[0]
+            program.expect(f"{words} --jobs {jobs} starts threads", got > 1)
+        usual = program.counts(words, trace)[0]
+        said = program.counts(f"{words} --jobs {len(os.sched_getaffinity(0))}", trace)[0]
+        program.expect(f"{words}: {said} threads as with one for each processor, not {usual}", usual == said)
+
+
 def room_of(program, words, few, many, trace=trace_of(2)):
     """The bytes that are asked for more where a number in the words is the greater one."""
     return program.counts(words.format(many), trace)[1] - program.counts(words.format(few), trace)[1]
@@ -107,6 +123,7 @@ def main():
     with tempfile.TemporaryDirectory() as folder:
         program = Program(sys.argv[1], folder)
         threads_of_sessions(program)
+        threads_that_read(program)
         rings_of_sessions(program)
     print(f"{program.passed} passed, {program.failed} failed")
     return 1 if program.failed else 0
