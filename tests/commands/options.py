@@ -75,8 +75,8 @@ def threads_of_sessions(program):
 
 
 def threads_that_read(program):
-    """One thread reads alone where fewer than three are asked for; else some are started. Unless said, as many read as
-    there are processors."""
+    """One thread reads alone where fewer than three are asked for; else some are started, as many as the text has
+    pieces for. Unless said, as many read as there are processors."""
     trace = b"T0|acq(a)|1\nT0|rel(a)|2\n" * 100000
     for words in ("predict", "stats", "replay"):
         for jobs in (1, 2):
@@ -86,8 +86,8 @@ def threads_that_read(program):
             got = program.counts(f"{words} --jobs {jobs}", trace)[0]
             program.expect(f"{words} --jobs {jobs} starts threads", got > 1)
         usual = program.counts(words, trace)[0]
-        said = program.counts(f"{words} --jobs {len(os.sched_getaffinity(0))}", trace)[0]
-        program.expect(f"{words}: {said} threads as with one for each processor, not {usual}", usual == said)
+        several = len(os.sched_getaffinity(0)) >= 3
+        program.expect(f"{words}: several threads where there are as many processors", (usual > 1) == several)
 
 
 def room_of(program, words, few, many, trace=trace_of(2)):
