@@ -1,8 +1,9 @@
 -- The room for notes: of a thread as much as the stream and the thread's log both have.
-use Rattle.std.proofs.Common.{◌≡◌, ℕ, ◌<◌, ◌≤◌, min, List, length, get_or, set, Vec, Global, Result, Ok, Err, sym, ap, ◌∙◌, arith}
+use Rattle.std.proofs.Common.{◌≡◌, ℕ, ◌<◌, ◌≤◌, min, List, length, get_or, set, Vec, Global, Result, Ok, Err, sym, ap, ◌∙◌, arith, inl, inr}
 use Rattle.std.specs.Prelude.{OnOk}
 use Rattle.std.specs.Vec.{vec_len, vec_capacity}
-use Rattle.std.proofs.lemmas.List.{get_or-map, get_or-set_same, length-set}
+use Rattle.std.proofs.lemmas.Bool.{cases_lt}
+use Rattle.std.proofs.lemmas.List.{get_or-map, get_or-set_same, get_or_past, length-map, length-set}
 use Rattle.gl_event.specs.declared.events.Event.{Event}
 use Rattle.gl_event.specs.declared.notes.Note.{Note}
 use Rattle.gl_intake.specs.Keeping.{unused, spares}
@@ -24,6 +25,17 @@ module _ (stream : Vec Note Global) (logs : List (Vec Event Global)) (at : ℕ) 
   has_room here some =
       let (first, second) = both_some (unused stream) (unused log) (rw (spare_at here) at some) in
       (omega arith, omega arith)
+
+-- a thread that has room is a known one
+pub known_by_room : (stream : Vec Note Global) (logs : List (Vec Event Global)) (at : ℕ) → 1 ≤ get_or (spares stream logs) at 0 → at < length logs
+known_by_room stream logs at some =
+    elim (cases_lt at (length logs)) [
+      | inl within ↦ within
+      | inr past ↦
+          let long : length (spares stream logs) ≡ length logs = length-map logs (λ (v : Vec Event Global). min (unused stream) (unused v)) in
+          let none = get_or_past (spares stream logs) at 0 (omega (arith, long)) in
+          absurd (omega (arith, some, none))
+    ]
 
 -- and so in the stream, whatever the log
 pub stream_room : (stream : Vec Note Global) (logs : List (Vec Event Global)) (at : ℕ) → at < length logs → 1 ≤ get_or (spares stream logs) at 0 → vec_len stream < vec_capacity stream

@@ -1,5 +1,5 @@
 //! The stream of accepted notes, with a log for each thread.
-ghost use Rattle.std.specs.Prelude.{◌≡◌, ◌≢◌, ◌↔◌, ℕ, ◌<◌, ◌≤◌, Some, None, Err, List, [], ◌∷◌, ◌++◌, length, map, slice_get, IsTrue, IsOk, IfOk, IfErr, OnOk, OnErr, ◌==◌, if◌then◌else◌};
+ghost use Rattle.std.specs.Prelude.{◌≡◌, ◌≢◌, ◌↔◌, ℕ, ◌<◌, ◌≤◌, Some, None, Err, List, [], ◌∷◌, ◌++◌, length, map, slice_get, IsTrue, IsOk, IfOk, IfErr, IfSome, IfNone, OnOk, OnErr, ◌==◌, if◌then◌else◌};
 ghost use Rattle.gl_intake.specs.Keeping.{AreLogs, AreCursors};
 ghost use Rattle.gl_intake.specs.declared.notes.Refused.TheVariants.{WrongCount, Memory};
 ghost use Rattle.gl_event.specs.declared.notes.Body.TheVariants.{Happened, Ended};
@@ -8,7 +8,7 @@ ghost use Rattle.gl_event.specs.declared.events.Event.{Event};
 ghost use Rattle.gl_event.specs.Lawful.{IsLawful};
 ghost use Rattle.gl_event.specs.States.{StandsAfter};
 ghost use Rattle.gl_recorder.specs.Taking.{Tracks};
-ghost use Rattle.gl_intake.specs.Stream.{events_of, has_ended, logs_of, AreInOrder, IsRefusedFor, refusal_after, note_refusal, accepted_as, spare_of};
+ghost use Rattle.gl_intake.specs.Stream.{events_of, has_ended, logs_of, AreInOrder, IsRefusal, IsRefusedFor, body_refusal, refusal_after, note_refusal, accepted_as, spare_of};
 
 use crate::notes::{Accepted, Refused};
 use gl_event::{
@@ -52,11 +52,16 @@ impl Model for Intake {
     ghost invariant = { λ i. IsKept i.limits i.stream.items i.logs.items i.cursors.items };
 }
 
-// Why the note may not come after the events so far of the cursor's thread.
-fn cursor_refusal(past: &ThreadCursor, note: &Note) -> Option<Refused>
-    ensures { (limits : Bounds) (es : List Event)
+// Why the note may not come after the events so far of the cursor's thread, whatever it tells.
+fn order_refusal(past: &ThreadCursor, note: &Note) -> Option<Refused>
+    ensures refused { IfSome result
+        (λ why. (limits : Bounds) (es : List Event)
         → Tracks limits note.now.thread es past.now.taker
-        → result ≡ refusal_after limits es past.now.has_ended note.now }
+        → refusal_after limits es past.now.has_ended note.now ≡ Some why) }
+    ensures left { IfNone result
+        ((limits : Bounds) (es : List Event) → Tracks limits note.now.thread es past.now.taker
+        → refusal_after limits es past.now.has_ended note.now
+        ≡ body_refusal limits note.now.thread es note.now.body) }
 {
     if past.has_ended {
         return Some(Refused::Late);
@@ -68,12 +73,50 @@ fn cursor_refusal(past: &ThreadCursor, note: &Note) -> Option<Refused>
             got: note.place,
         });
     }
+    None
+}
+
+// Why the note may not come after the events so far of the cursor's thread.
+fn cursor_refusal(past: &ThreadCursor, note: &Note) -> Option<Refused>
+    ensures { (limits : Bounds) (es : List Event)
+        → Tracks limits note.now.thread es past.now.taker
+        → result ≡ refusal_after limits es past.now.has_ended note.now }
+{
+    if let Some(refused) = order_refusal(past, note) {
+        return Some(refused);
+    }
     match note.body {
         Body::Happened(event) => match past.taker.check(event) {
             Ok(_) => None,
             Err(refusal) => Some(Refused::Unlawful(refusal)),
         },
-        Body::Ended { count } => count_refusal(expected, count),
+        Body::Ended { count } => count_refusal(past.taker.taken(), count),
+    }
+}
+
+// Takes the note's event, where it may come after the events so far of the cursor's thread. The held locks
+// are looked through once.
+fn take_next(past: &mut ThreadCursor, note: &Note, event: &Event) -> Result<(), Refused>
+    requires told { note.now.body ≡ Happened event.now }
+    ensures next { (limits : Bounds) (es : List Event)
+        → Tracks limits note.now.thread es past.old.taker
+        → OnOk result (refusal_after limits es past.old.has_ended note.now ≡ None) }
+    ensures refused { (limits : Bounds) (es : List Event)
+        → Tracks limits note.now.thread es past.old.taker
+        → IfErr result
+        (λ why. refusal_after limits es past.old.has_ended note.now ≡ Some why) }
+    ensures tracks { (limits : Bounds) (thread : ℕ) (es : List Event)
+        → Tracks limits thread es past.old.taker
+        → OnOk result (Tracks limits thread (es ++ event.now ∷ []) past.new.taker) }
+    ensures ended { past.new.has_ended ≡ past.old.has_ended }
+    ensures unchanged { OnErr result (past.new ≡ past.old) }
+{
+    if let Some(refused) = order_refusal(past, note) {
+        return Err(refused);
+    }
+    match past.taker.take(*event) {
+        Ok(_) => Ok(()),
+        Err(refusal) => Err(Refused::Unlawful(refusal)),
     }
 }
 
@@ -223,7 +266,8 @@ impl Intake {
     /// the stream or the thread's log had to grow for a note that is next, and could not. Where there
     /// is room for the note, as after `ready`, it takes no memory.
     ///
-    /// It looks through the at most 64 locks that the thread holds, and appends to two lists.
+    /// It looks through the at most 64 locks that the thread holds, once where there is room for the note,
+    /// and appends to two lists.
     pub fn offer(&mut self, note: Note) -> Result<Accepted, Refused>
         ensures accepted { OnOk result
             (note_refusal self.old.limits self.old.stream note ≡ None) }
@@ -235,6 +279,12 @@ impl Intake {
         ensures unchanged { OnErr result (self.new.stream ≡ self.old.stream) }
         ensures limits { self.new.limits ≡ self.old.limits }
     {
+        let body = note.body;
+        if let Body::Happened(event) = body {
+            if self.has_room(note.thread) {
+                return self.take_event(&note, &event);
+            }
+        }
         if let Some(refused) = self.refusal(&note) {
             return Err(refused);
         }
@@ -254,6 +304,41 @@ impl Intake {
     {
         match self.try_accept(note) {
             Ok(accepted) => accepted,
+            // there is room for it
+            Err(Memory) => unreachable!(),
+        }
+    }
+
+    // Whether the thread is known and there is memory for one more note of it.
+    fn has_room(&self, thread: ThreadId) -> bool
+        ensures { IsTrue result → 1 ≤ spare_of self.now thread }
+    {
+        match self.logs.get(thread.number() as usize) {
+            Some(log) => {
+                log.len() < log.capacity() && self.stream.len() < self.stream.capacity()
+            }
+            None => false,
+        }
+    }
+
+    // What `offer` does with an event's note that there is room for.
+    fn take_event(&mut self, note: &Note, event: &Event) -> Result<Accepted, Refused>
+        requires told { note.now.body ≡ Happened event.now }
+        requires reserved { 1 ≤ spare_of self.old note.now.thread }
+        ensures accepted { OnOk result
+            (note_refusal self.old.limits self.old.stream note.now ≡ None) }
+        ensures answer { IfOk result
+            (λ answer. answer ≡ accepted_as note.now.place note.now.body) }
+        ensures grown { OnOk result (self.new.stream ≡ self.old.stream ++ note.now ∷ []) }
+        ensures refused { IfErr result
+            (λ why. IsRefusal self.old.limits self.old.stream note.now why) }
+        ensures unchanged { OnErr result (self.new.stream ≡ self.old.stream) }
+        ensures limits { self.new.limits ≡ self.old.limits }
+    {
+        let index = note.thread.number() as usize;
+        take_next(&mut self.cursors[index], note, event)?;
+        match append_both(&mut self.logs[index], &mut self.stream, *event, *note) {
+            Ok(()) => Ok(Accepted::Event { place: note.place }),
             // there is room for it
             Err(Memory) => unreachable!(),
         }

@@ -27,8 +27,8 @@ impl Numbers {
     pub(crate) fn of(alloc: Global, table: &[(Edge, Sample)]) -> Result<Numbers, Memory> {
         let mut by_lock = HashMap::new(alloc);
         for (edge, _) in table {
-            add(&mut by_lock, edge.held)?;
-            add(&mut by_lock, edge.wanted)?;
+            number_of(&mut by_lock, edge.held)?;
+            number_of(&mut by_lock, edge.wanted)?;
         }
         Ok(Numbers { by_lock })
     }
@@ -72,11 +72,15 @@ impl Numbers {
     }
 }
 
-// Gives a lock the next number, where it has none.
-fn add(numbers: &mut HashMap<LockId, usize>, lock: LockId) -> Result<(), Memory> {
-    if numbers.get(&lock).is_none() {
-        let number = numbers.len();
-        numbers.insert(lock, number)?;
+/// The number of a lock, which is the next one where it had none.
+pub(crate) fn number_of(
+    numbers: &mut HashMap<LockId, usize>,
+    lock: LockId,
+) -> Result<usize, Memory> {
+    if let Some(number) = numbers.get(&lock) {
+        return Ok(*number);
     }
-    Ok(())
+    let number = numbers.len();
+    numbers.insert(lock, number)?;
+    Ok(number)
 }

@@ -7,6 +7,7 @@ ghost use Rattle.std.specs.Prelude.{◌≡◌};
 ghost use Rattle.gl_pruning.specs.bodies.Ranks.{rank_in};
 
 use crate::components::{Step, components};
+use crate::numbers::number_of;
 use gl_edges::{Edge, Sample};
 use gl_event::{LockId, Memory};
 use std::alloc::Global;
@@ -57,14 +58,4 @@ fn number_locks(
         }
     }
     Ok(steps)
-}
-
-// The number of a lock, which is a new one where it has none.
-fn number_of(numbers: &mut HashMap<LockId, usize>, lock: LockId) -> Result<usize, Memory> {
-    if let Some(number) = numbers.get(&lock) {
-        return Ok(*number);
-    }
-    let number = numbers.len();
-    numbers.insert(lock, number)?;
-    Ok(number)
 }
