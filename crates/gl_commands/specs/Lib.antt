@@ -2,6 +2,7 @@ pub mod Answer
 pub mod Checking
 pub mod Ending
 pub mod Performed
+pub mod Ready
 pub mod RefusalLines
 pub mod Said
 pub mod Sessions

@@ -14,6 +14,7 @@ ghost use Rattle.gl_io.specs.Uses.{used};
 ghost use Rattle.gl_commands.specs.Ending.{EndsEarlyAs, HasEnded, HasEndedEarly};
 ghost use Rattle.gl_commands.specs.bodies.Halves.{EndsWith, HasHeardAll, HasWrittenText};
 ghost use Rattle.gl_commands.specs.Performed.{HasPerformed};
+ghost use Rattle.gl_commands.specs.Ready.{AreReady};
 ghost use Rattle.gl_commands.specs.Sessions.{HasEndedSession};
 
 use crate::answer::{Printed, counted, predicted, replayed, trace_or_line};
@@ -124,9 +125,7 @@ fn predict_listing<R: AllocGlobal + Threads + Sync, I: Source, O: Sink>(
     query: &Query,
     form: Form,
 ) -> Ended
-    requires readable { I.failed input.old ≡ false }
-    requires writable { O.failed output.old ≡ false }
-    requires few_turns { turns ≤ 2 ^ 40 }
+    requires ready { AreReady turns (I.failed input.old) (O.failed output.old) }
     ensures { HasEnded (IsAnswer (prediction listing query.now form)) turns
         (used (I.position input.old) (I.position input.new) (I.failed input.new))
         (used (O.contents output.old) (O.contents output.new) (O.failed output.new)) result }
@@ -154,9 +153,7 @@ pub fn predict<R: AllocGlobal + Threads + Sync, I: Source, O: Sink>(
     query: &Query,
     form: Form,
 ) -> Ended
-    requires readable { I.failed input.old ≡ false }
-    requires writable { O.failed output.old ≡ false }
-    requires few_turns { turns ≤ 2 ^ 40 }
+    requires ready { AreReady turns (I.failed input.old) (O.failed output.old) }
     ensures { HasEnded (IsAnswer (prediction Cycles query.now form)) turns
         (used (I.position input.old) (I.position input.new) (I.failed input.new))
         (used (O.contents output.old) (O.contents output.new) (O.failed output.new)) result }
@@ -177,9 +174,7 @@ pub fn predict_findings<R: AllocGlobal + Threads + Sync, I: Source, O: Sink>(
     query: &Query,
     form: Form,
 ) -> Ended
-    requires readable { I.failed input.old ≡ false }
-    requires writable { O.failed output.old ≡ false }
-    requires few_turns { turns ≤ 2 ^ 40 }
+    requires ready { AreReady turns (I.failed input.old) (O.failed output.old) }
     ensures { HasEnded (IsAnswer (prediction Findings query.now form)) turns
         (used (I.position input.old) (I.position input.new) (I.failed input.new))
         (used (O.contents output.old) (O.contents output.new) (O.failed output.new)) result }
@@ -218,9 +213,7 @@ pub fn live<R: AllocGlobal + Threads + Wait + Sync, I: Source, O: Sink>(
     seed: Seed,
     options: &LiveOptions,
 ) -> Ended
-    requires readable { I.failed input.old ≡ false }
-    requires writable { O.failed output.old ≡ false }
-    requires few_turns { turns ≤ 2 ^ 40 }
+    requires ready { AreReady turns (I.failed input.old) (O.failed output.old) }
     requires session { AreOfSession options.now }
     ensures { HasEndedSession options.now turns
         (used (I.position input.old) (I.position input.new) (I.failed input.new))
@@ -239,9 +232,7 @@ pub fn live_gated<R: AllocGlobal + Threads + Wait + Sync, I: Source, O: Sink, G:
     options: &LiveOptions,
     gate: &G,
 ) -> Ended
-    requires readable { I.failed input.old ≡ false }
-    requires writable { O.failed output.old ≡ false }
-    requires few_turns { turns ≤ 2 ^ 40 }
+    requires ready { AreReady turns (I.failed input.old) (O.failed output.old) }
     requires session { AreOfSession options.now }
     ensures { HasEndedSession options.now turns
         (used (I.position input.old) (I.position input.new) (I.failed input.new))
@@ -268,9 +259,7 @@ pub fn stats<R: AllocGlobal + Threads + Sync, I: Source, O: Sink>(
     seed: Seed,
     query: &Query,
 ) -> Ended
-    requires readable { I.failed input.old ≡ false }
-    requires writable { O.failed output.old ≡ false }
-    requires few_turns { turns ≤ 2 ^ 40 }
+    requires ready { AreReady turns (I.failed input.old) (O.failed output.old) }
     ensures { HasEnded (IsAnswer (counts query.now)) turns
         (used (I.position input.old) (I.position input.new) (I.failed input.new))
         (used (O.contents output.old) (O.contents output.new) (O.failed output.new)) result }
@@ -293,9 +282,7 @@ pub fn replay<R: AllocGlobal, I: Source, O: Sink>(
     turns: u64,
     seed: Seed,
 ) -> Ended
-    requires readable { I.failed input.old ≡ false }
-    requires writable { O.failed output.old ≡ false }
-    requires few_turns { turns ≤ 2 ^ 40 }
+    requires ready { AreReady turns (I.failed input.old) (O.failed output.old) }
     ensures { HasEnded (IsPlainAnswer replay) turns
         (used (I.position input.old) (I.position input.new) (I.failed input.new))
         (used (O.contents output.old) (O.contents output.new) (O.failed output.new)) result }
@@ -320,9 +307,7 @@ pub fn check_input<R: AllocGlobal, I: Source, O: Sink>(
     turns: u64,
     seed: Seed,
 ) -> Ended
-    requires readable { I.failed input.old ≡ false }
-    requires writable { O.failed output.old ≡ false }
-    requires few_turns { turns ≤ 2 ^ 40 }
+    requires ready { AreReady turns (I.failed input.old) (O.failed output.old) }
     ensures { HasChecked turns
         (used (I.position input.old) (I.position input.new) (I.failed input.new))
         (used (O.contents output.old) (O.contents output.new) (O.failed output.new)) result }

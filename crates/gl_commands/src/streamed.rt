@@ -2,7 +2,7 @@
 ghost use Rattle.std.specs.Prelude.{◌≡◌, ◌≤◌, ◌^◌, ℕ, true, false, Ok, Err, IfOk, IfErr};
 ghost use Rattle.gl_event.specs.Bounds.{Bounds};
 ghost use Rattle.gl_live.specs.Streamed.{Becomes, FailsInTime};
-ghost use Rattle.gl_live.specs.declared.faults.LiveFault.TheVariants.{Inconsistent};
+ghost use Rattle.gl_live.specs.declared.faults.LiveFault.TheVariants.{Inconsistent, Memory as OutOfMemory, Unconfirmed as NotConfirmed};
 ghost use Rattle.gl_live.specs.declared.faults.StreamFault.TheVariants.{Session};
 ghost use Rattle.gl_options.specs.Sessions.{AreOfSession, with_threads};
 ghost use Rattle.gl_commands.specs.Answer.{IsAnswerUnder};
@@ -101,11 +101,13 @@ fn end_without_report(
     fault: StreamFault,
     items: Items,
 ) -> Ended
-    ensures { (limits : Bounds) (turns : ℕ) (input : SourceUse)
+    ensures ends { (limits : Bounds) (turns : ℕ) (input : SourceUse)
         → Becomes (listing_of options.now) options.now.query limits turns input items (Err fault)
         → FailsInTime {Y = Report} input.before input.after items (Err fault)
         → EndsUnwritten limits
         (IsAnswerUnder limits (session_prediction options.now)) turns input result }
+    ensures memory { fault ≡ Session OutOfMemory → result ≡ Ended.Memory }
+    ensures unconfirmed { fault ≡ Session NotConfirmed → result ≡ Ended.Unconfirmed }
 {
     match fault {
         StreamFault::Text(fault) => {

@@ -1,16 +1,17 @@
 //! What a collector keeps of one thread, and what a pull does with it.
 ghost use Rattle.std.specs.Prelude.{◌≡◌, ◌<◌, ◌≤◌, None, ℕ, List, [], ◌∷◌, ◌++◌, length, IfOk, IfErr, IfSome, OnOk, OnErr};
 ghost use mathlib.Core.List.{IsPrefix};
+ghost use Rattle.gl_event.specs.Bounds.{Bounds};
 ghost use Rattle.gl_event.specs.States.{StandsAfter};
 ghost use Rattle.gl_event.specs.declared.events.Event.{Event};
 ghost use Rattle.gl_event.specs.declared.notes.Note.{Note};
-ghost use Rattle.gl_intake.specs.Stream.{note_refusal, accepted_as, spare_of, IsRefusedFor};
+ghost use Rattle.gl_intake.specs.Stream.{note_refusal, spare_of, IsRefusedFor};
 ghost use Rattle.gl_world.specs.Keeping.{with_body};
 ghost use Rattle.gl_world.specs.Machine.{edges_due};
 ghost use Rattle.gl_engine.specs.Collecting.{as_of, pulled_of, IsSidePull};
 ghost use Rattle.gl_engine.specs.Dealing.{edges_of_next, made_by};
 ghost use Rattle.gl_engine.specs.Keeping.{pulling_of, BreaksForCause};
-ghost use Rattle.gl_engine.specs.bodies.Fronts.{IsFront};
+ghost use Rattle.gl_engine.specs.bodies.Fronts.{HasOffered, IsFront};
 
 use crate::pulled::{PullFault, Pulled};
 use gl_edges::{Edge, Sample, next_edges};
@@ -54,9 +55,9 @@ fn due(
     }
 }
 
-/// Makes every growth that the note wants, where it may come next: room for it in the intake, and its
-/// edges among those made.
-pub fn prepare(
+// Makes every growth that the note wants, where it may come next: room for it in the intake, and its
+// edges among those made.
+fn prepare(
     alloc: Global,
     intake: &mut Intake,
     made: &mut Vec<(Edge, Sample)>,
@@ -79,20 +80,33 @@ pub fn prepare(
     Ok(())
 }
 
-// Pops the front note, and accepts it as the thread's: every growth was made.
-fn accept(lane: &mut LaneOut, intake: &mut Intake, note: &Note) -> Pulled
+/// Accepts the note, where it may come next, once every growth that it wants was made: room for it in the
+/// intake, and its edges among those made.
+pub fn accept_with_edges(
+    alloc: Global,
+    intake: &mut Intake,
+    made: &mut Vec<(Edge, Sample)>,
+    note: &Note,
+) -> Result<Accepted, Refused>
+    ensures offered { HasOffered intake.old.limits intake.old.stream intake.new.stream note.now
+        result }
+    ensures grown { OnOk result
+        (made.new.items ≡ made.old.items ++ edges_of_next intake.old.stream note.now) }
+    ensures unchanged { OnErr result (made.new.items ≡ made.old.items) }
+    ensures limits { intake.new.limits ≡ intake.old.limits }
+{
+    prepare(alloc, intake, made, note)?;
+    Ok(intake.accept(note))
+}
+
+// Pops the front note, which was seen.
+fn pop_seen(lane: &mut LaneOut)
     requires seen { 0 < length lane.old.left }
-    requires next { note_refusal intake.old.limits intake.old.stream note.now ≡ None }
-    requires reserved { 1 ≤ spare_of intake.old note.now.thread }
     ensures lane { lane.new.lane ≡ lane.old.lane }
     ensures popped { (front : Note) → IsPrefix (front ∷ []) lane.old.left
         → lane.new.popped ≡ lane.old.popped ++ front ∷ [] }
-    ensures stream { intake.new.stream ≡ intake.old.stream ++ note.now ∷ [] }
-    ensures limits { intake.new.limits ≡ intake.old.limits }
-    ensures answer { result ≡ pulled_of (accepted_as note.now.place note.now.body) }
 {
     lane.pop_known();
-    pulled(&intake.accept(note))
 }
 
 impl LaneInput {
@@ -121,8 +135,8 @@ impl LaneInput {
             return Ok(Pulled::Empty);
         };
         let note = Note { thread, ..front };
-        let grown = intake.ready(&note);
-        self.take_front(intake, &note, grown)
+        let offered = intake.offer(note);
+        self.take_front(&note, offered)
     }
 
     /// The same, and adds the note's edges to those made.
@@ -155,48 +169,37 @@ impl LaneInput {
             return Ok(Pulled::Empty);
         };
         let note = Note { thread, ..front };
-        let grown = prepare(alloc, intake, made, &note);
-        self.take_front(intake, &note, grown)
+        let offered = accept_with_edges(alloc, intake, made, &note);
+        self.take_front(&note, offered)
     }
 
-    // The end of a pull, whose front note is this one, read as one of the thread. Where every growth for it
-    // was made it is popped and accepted, where it was refused the lane is broken, and where there was no
-    // memory it stays.
+    // The end of a pull, whose front note is this one, read as one of the thread, and was offered to the intake.
+    // Where it was accepted it is popped, where it was refused the lane is broken, and where there was no memory
+    // it stays.
     fn take_front(
         &mut self,
-        intake: &mut Intake,
         note: &Note,
-        grown: Result<(), Refused>,
+        offered: Result<Accepted, Refused>,
     ) -> Result<Pulled, PullFault>
         requires running { self.old.broken ≡ None }
         requires front { IsFront self.old.lane note.now }
-        requires next { OnOk grown
-            (note_refusal intake.old.limits intake.old.stream note.now ≡ None) }
-        requires reserved { OnOk grown (1 ≤ spare_of intake.old note.now.thread) }
-        requires refused { IfErr grown
-            (λ why. IsRefusedFor intake.old.limits intake.old.stream note.now why) }
-        ensures pull { (made later : List (Edge × Sample))
-            → OnOk grown (later ≡ made ++ edges_of_next intake.old.stream note.now)
-            → OnErr grown (later ≡ made)
-            → IsSidePull intake.old.limits note.now.thread
-            (record {
-              input = pulling_of self.old;
-              stream = intake.old.stream;
-              made = made;
-            }) result
-            (record {
-              input = pulling_of self.new;
-              stream = intake.new.stream;
-              made = later;
-            }) }
-        ensures accepted { OnOk grown (intake.new.stream ≡ intake.old.stream ++ note.now ∷ []) }
-        ensures left { OnErr grown (intake.new.stream ≡ intake.old.stream) }
-        ensures limits { intake.new.limits ≡ intake.old.limits }
-        ensures cause { BreaksForCause intake.old.limits note.now.thread intake.new.stream
-            self.new }
+        ensures pull { (limits : Bounds) (before after : List Note)
+            → HasOffered limits before after note.now offered
+            → (made later : List (Edge × Sample))
+            → OnOk offered (later ≡ made ++ edges_of_next before note.now)
+            → OnErr offered (later ≡ made)
+            → IsSidePull limits note.now.thread
+            (record { input = pulling_of self.old; stream = before; made = made }) result
+            (record { input = pulling_of self.new; stream = after; made = later }) }
+        ensures cause { (limits : Bounds) (before after : List Note)
+            → HasOffered limits before after note.now offered
+            → BreaksForCause limits note.now.thread after self.new }
     {
-        match grown {
-            Ok(()) => Ok(accept(&mut self.lane, intake, note)),
+        match offered {
+            Ok(accepted) => {
+                pop_seen(&mut self.lane);
+                Ok(pulled(&accepted))
+            }
             Err(Refused::Memory) => Err(PullFault::Memory),
             Err(refused) => {
                 self.broken = Some(refused);

@@ -3,7 +3,7 @@ ghost use Rattle.std.specs.Prelude.{◌≡◌, [], ◌∷◌, ◌++◌, IfOk, On
 ghost use Rattle.gl_intake.specs.Stream.{AreInOrder, IsNext};
 ghost use Rattle.gl_engine.specs.Dealing.{made_by};
 
-use crate::lane_input::prepare;
+use crate::lane_input::accept_with_edges;
 use gl_edges::{Edge, Sample};
 use gl_event::{Limits, Memory, Note};
 use gl_intake::Intake;
@@ -23,11 +23,10 @@ fn take_again(
     ensures stream { OnOk result (intake.new.stream ≡ intake.old.stream ++ note.now ∷ []) }
     ensures limits { intake.new.limits ≡ intake.old.limits }
 {
-    let Ok(()) = prepare(alloc, intake, made, note) else {
-        return Err(AllocError);
-    };
-    intake.accept(note);
-    Ok(())
+    match accept_with_edges(alloc, intake, made, note) {
+        Ok(_) => Ok(()),
+        Err(_) => Err(AllocError),
+    }
 }
 
 /// The edges that these notes make, in their order. Each is its thread's next one after those before it.

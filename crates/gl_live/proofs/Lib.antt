@@ -1,4 +1,5 @@
 pub mod Rostered
+pub mod Dealt
 pub mod Opened
 pub mod Leaving
 pub mod Listings

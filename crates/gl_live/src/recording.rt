@@ -178,9 +178,10 @@ pub fn start_recorders<'s, E, R: Threads + Wait + Sync>(
     requires workloads { All (IsWorkloadOf (roster_of collector.now)) workloads.items }
     requires empty { recorders.old.items ≡ [] }
     requires room { vec_len recorders.old + length workloads.items ≤ vec_capacity recorders.old }
-    ensures { result ≡ true
+    ensures promised { result ≡ true
         → All (λ h. (h.promise.collector.value ≡ collector.now)
         × (lists_of h.promise.lists.now ≡ lists_of lists.now)) recorders.new.items }
+    ensures all { result ≡ true → length recorders.new.items ≡ length workloads.items }
 {
     for workload in workloads {
         let Some(recorder) = start_recorder(scope, rt, start, lists, collector, workload) else {

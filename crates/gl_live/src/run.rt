@@ -15,7 +15,7 @@ ghost use Rattle.gl_live.specs.bodies.Rosters.{gathered_from, roster_of, IsRecei
 use crate::faults::LiveFault;
 use crate::recording::{Recording, Workload, join_recorders, start_recorders};
 use crate::session::Session;
-use crate::start_gate::StartGate;
+use crate::start_gate::{StartGate, ThreadCounts};
 use crate::working::{Working, join_workers, start_workers};
 use gl_engine::{Collector, Gathered, Receipt};
 use gl_event::Event;
@@ -68,6 +68,7 @@ fn start_threads<'s, E, R: Threads + Wait + Sync, G: Gate + Sync>(
     ensures lists { result ≡ true
         → All (λ h. (h.promise.collector.value ≡ collector.now)
         × (lists_of h.promise.lists.now ≡ lists_of lists.now)) recorders.new.items }
+    ensures all { result ≡ true → length recorders.new.items ≡ length workloads.items }
 {
     if !start_workers(scope, rt, alloc, inlets, gate, workers) {
         return false;
@@ -150,6 +151,10 @@ fn run_in_room<'s, E, R: Threads + Wait + Sync, G: Gate + Sync>(
         receipts,
         served,
     } = session;
+    let wanted = ThreadCounts {
+        workers: inlets.len(),
+        recorders: workloads.len(),
+    };
     if !start_threads(
         scope,
         rt,
@@ -166,7 +171,11 @@ fn run_in_room<'s, E, R: Threads + Wait + Sync, G: Gate + Sync>(
         call_off(rt, start, outlets);
         return Err(LiveFault::Unconfirmed);
     }
-    start.begin();
+    let started = ThreadCounts {
+        workers: workers.len(),
+        recorders: recorders.len(),
+    };
+    start.begin(started, wanted);
     let gathered = collector.run(rt, outlets);
     join_threads(rt, gathered, workers, recorders, receipts, served)
 }

@@ -4,7 +4,7 @@ ghost use Rattle.std.specs.List.{All};
 ghost use Rattle.std.specs.Vec.{vec_len, vec_capacity};
 ghost use Rattle.gl_event.specs.declared.limits.TheConstants.{MAX_THREADS, MAX_RING};
 ghost use Rattle.gl_shards.specs.declared.shard.TheConstants.{MAX_SHARDS};
-ghost use Rattle.gl_live.specs.bodies.Workloads.{IsWorkloadOf};
+ghost use Rattle.gl_live.specs.bodies.Workloads.{AreDealt, IsWorkloadOf};
 ghost use Rattle.gl_live.specs.bodies.Rosters.{Roster, roster_of, IsRecorderOf};
 ghost use Rattle.gl_live.specs.bodies.Ready.{IsReady};
 ghost use Rattle.gl_live.specs.bodies.Streams.{AreRecorded};
@@ -18,7 +18,7 @@ use std::alloc::Global;
 /// How a session is run.
 #[derive(Clone, Copy, Debug, PartialEq, Eq)]
 pub struct SessionOptions {
-    /// How many threads record, 1 to 16. Lane `t` is recorded by thread `t` modulo this number.
+    /// How many threads record, at least 1 (the command line takes up to 16). Lane `t` is recorded by thread `t` modulo this number.
     pub recorders: u32,
     /// How many workers there are, 1 to 16.
     pub shards: u32,
@@ -58,8 +58,10 @@ fn grouped(
     count: u32,
 ) -> Result<Vec<Vec<Recorder>>, Memory>
     requires some { 1 ≤ count }
-    ensures { (s : Roster) → All (IsRecorderOf s) recorders.items
+    ensures ours { (s : Roster) → All (IsRecorderOf s) recorders.items
         → IfOk result (λ groups. All (λ group. All (IsRecorderOf s) group.items) groups.items) }
+    ensures dealt { IfOk result
+        (λ groups. AreDealt count recorders.items (map (λ g. g.items) groups.items)) }
 {
     let mut groups = empty_groups(alloc, count)?;
     for recorder in recorders {
@@ -71,8 +73,9 @@ fn grouped(
 
 // A workload for these recorders.
 fn workload(alloc: Global, recorders: Vec<Recorder>) -> Result<Workload, Memory>
-    ensures { (s : Roster) → All (IsRecorderOf s) recorders.items
+    ensures ours { (s : Roster) → All (IsRecorderOf s) recorders.items
         → IfOk result (IsWorkloadOf s) }
+    ensures all { IfOk result (λ workload. workload.recorders.items ≡ recorders.items) }
 {
     let receipts = Vec::with_capacity(alloc, recorders.len())?;
     Ok(Workload {
@@ -88,8 +91,11 @@ pub fn workloads(
     count: u32,
 ) -> Result<Vec<Workload>, Memory>
     requires some { 1 ≤ count }
-    ensures { (s : Roster) → All (IsRecorderOf s) recorders.items
+    ensures ours { (s : Roster) → All (IsRecorderOf s) recorders.items
         → IfOk result (λ workloads. All (IsWorkloadOf s) workloads.items) }
+    ensures dealt { IfOk result
+        (λ workloads. AreDealt count recorders.items
+        (map (λ w. w.recorders.items) workloads.items)) }
 {
     let groups = grouped(alloc, recorders, count)?;
     let mut workloads = Vec::with_capacity(alloc, groups.len())?;

@@ -1,4 +1,6 @@
 //! The gate at which recorder threads wait until all threads of a run are started.
+ghost use Rattle.std.specs.Prelude.{◌≡◌};
+
 use std::sync::Wait;
 use std::sync::atomic::{AtomicU64, Ordering};
 use std::thread;
@@ -8,6 +10,13 @@ const WAITING: u64 = 0;
 const STARTED: u64 = 1;
 
 const CALLED_OFF: u64 = 2;
+
+/// How many threads of each kind a run wants, or has started.
+#[derive(Clone, Copy, Debug, PartialEq, Eq)]
+pub struct ThreadCounts {
+    pub workers: usize,
+    pub recorders: usize,
+}
 
 /// Whether a run has begun, or was called off. Threads that share it wait for either.
 #[derive(Drop)]
@@ -23,8 +32,10 @@ impl StartGate {
         }
     }
 
-    /// The run begins.
-    pub fn begin(&self) {
+    /// The run begins: as many threads were started as it wants.
+    pub fn begin(&self, started: ThreadCounts, wanted: ThreadCounts)
+        requires all { started ≡ wanted }
+    {
         self.state.store(STARTED, Ordering::SeqCst);
     }
 

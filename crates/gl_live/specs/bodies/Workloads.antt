@@ -1,7 +1,8 @@
 -- The recorders of one thread, with room for their receipts.
-use Rattle.std.specs.Prelude.{◌≡◌, ◌+◌, ◌≤◌, [], length}
+use Rattle.std.specs.Prelude.{◌≡◌, ◌==◌, ◌+◌, ◌%◌, ◌<◌, ◌≤◌, ℕ, List, [], length, filter, slice_index_or}
 use Rattle.std.specs.List.{All}
 use Rattle.std.specs.Vec.{vec_len, vec_capacity}
+use Rattle.gl_engine.specs.Recording.{Recording}
 use Rattle.gl_live.specs.bodies.Rosters.{Roster, IsRecorderOf}
 use Rattle.gl_live.specs.declared.recording.Workload.{Workload}
 
@@ -14,3 +15,8 @@ pub record IsWorkloadOf (s : Roster) (workload : Workload) : Type 0 where
   pub ours : All (IsRecorderOf s) workload.recorders.items
   pub unused : workload.receipts.items ≡ []
   pub room : HasRoom workload
+
+-- the recorders in so many groups: in each, in order, those of the threads whose numbers are its own modulo that of the groups
+pub record AreDealt (count : ℕ) (recorders : List Recording) (groups : List (List Recording)) : Type 0 where
+  pub as_many : length groups ≡ count
+  pub each : (group : ℕ) → group < count → slice_index_or groups group [] ≡ filter (λ r. (r.thread % count) == group) recorders

@@ -4,7 +4,7 @@ use Rattle.gl_commands.proofs.Accepting.{ends_short, ends_whole}
 use Rattle.gl_commands.proofs.commands.check_input.Goals as goal
 
 pub returns-in_default : goal.returns-in_default
-returns-in_default g c = out_of_memory (Keeps-refl _) c.requires.writable
+returns-in_default g c = out_of_memory (Keeps-refl _) c.requires.ready.writable
 
 pub returns-then-gathered : goal.returns-then-gathered
 returns-then-gathered g c =
@@ -13,4 +13,4 @@ returns-then-gathered g c =
 
 pub returns : goal.returns
 returns g c =
-    ends_short _ _ _ c.as_slice-text.result.now c.in-Ok.gathered.text.items c.in-Ok.gathered.is_whole c.end_cut.result c.in-Ok.ensures.read c.if-gathered.false c.as_slice-text.ensures.value c.end_cut.ensures (Keeps-refl _) c.requires.writable
+    ends_short _ _ _ c.as_slice-text.result.now c.in-Ok.gathered.text.items c.in-Ok.gathered.is_whole c.end_cut.result c.in-Ok.ensures.read c.if-gathered.false c.as_slice-text.ensures.value c.end_cut.ensures (Keeps-refl _) c.requires.ready.writable

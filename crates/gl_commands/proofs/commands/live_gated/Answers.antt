@@ -28,6 +28,6 @@ returns-in-Ok g c =
 pub returns-in-Err : goal.returns-in-Err
 returns-in-Err g c =
     record {
-      read_first = λ _. confirmed c.in-Err.ended (early c.in-Err.ended c.in-Err.ensures.early (Keeps-refl _) c.requires.writable);
+      read_first = λ _. confirmed c.in-Err.ended (early c.in-Err.ended c.in-Err.ensures.early (Keeps-refl _) c.requires.ready.writable);
       as_it_comes = λ on. absurd (false≢true (sym c.if-options.false ∙ on));
     }

@@ -10,4 +10,4 @@ returns-in-Ok g c =
 
 -- nothing was written
 pub returns-in-Err : goal.returns-in-Err
-returns-in-Err g c = early c.in-Err.ended c.in-Err.ensures.early (Keeps-refl _) c.requires.writable
+returns-in-Err g c = early c.in-Err.ended c.in-Err.ensures.early (Keeps-refl _) c.requires.ready.writable

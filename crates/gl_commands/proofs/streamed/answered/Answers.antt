@@ -19,5 +19,5 @@ returns-in-Ok-clause-stopped c = λ limits turns input became in_time.
 
 pub returns-in-Err-clause-stopped : goal.returns-in-Err-clause-stopped
 returns-in-Err-clause-stopped c = λ limits turns input became in_time.
-    c.end_without_report.ensures limits turns input (subst (Becomes (listing_of c.args.options.now) c.args.options.now.query limits turns input c.args.items) c.in-Err.is became)
+    c.end_without_report.ensures.ends limits turns input (subst (Becomes (listing_of c.args.options.now) c.args.options.now.query limits turns input c.args.items) c.in-Err.is became)
     (subst (FailsInTime {Y = Report} input.before input.after c.args.items) c.in-Err.is in_time)

@@ -8,10 +8,10 @@ use Rattle.gl_engine.specs.Dealing.{made_by}
 use Rattle.gl_engine.proofs.Dealt.{made_by_more}
 use Rattle.gl_engine.proofs.replay.take_again.Goals as goal
 
-pub returns-clause-made : goal.returns-clause-made
-returns-clause-made c =
+pub returns-in-Ok-clause-made : goal.returns-in-Ok-clause-made
+returns-in-Ok-clause-made c =
     let note = c.args.note.now in
     let before = c.args.intake.now.stream in
-    let grown : c.accept.new.self.stream ≡ before ++ note ∷ [] = c.accept.ensures.grown ∙ ap (λ (notes : List Note). notes ++ note ∷ []) c.prepare.ensures.stream in
+    let grown : c.accept_with_edges.new.intake.stream ≡ before ++ note ∷ [] = c.in-Ok.ensures.offered.grown in
     let due = edges_due note.thread (events_of note.thread (before ++ note ∷ [])) note.place note.body in
     c.in-Ok.ensures.grown ∙ ap (λ (pairs : List (Edge × Sample)). pairs ++ due) c.requires.made ∙ sym (made_by_more before note) ∙ ap made_by (sym grown)

@@ -23,4 +23,4 @@ conclude-requires-clause-ours g c κs within = are_receipts (gathered_from c.in-
 pub run_session-requires-clause-workloads : goal.run_session-requires-clause-workloads
 run_session-requires-clause-workloads g c κs within =
     let roster = roster_of c.in-Ok.session.collector in
-    c.in-Ok-workloads.ensures roster (all_unused roster c.in-Ok.recorders.items c.in-Ok.ensures.unused)
+    c.in-Ok-workloads.ensures.ours roster (all_unused roster c.in-Ok.recorders.items c.in-Ok.ensures.unused)

@@ -1,4 +1,5 @@
 use Rattle.std.proofs.Common.{◌≡◌, length, ap, arith}
+use Rattle.std.proofs.lemmas.List.{length_push}
 use Rattle.gl_segments.specs.Orders.{lists_of}
 use Rattle.gl_live.specs.bodies.Workloads.{IsWorkloadOf}
 use Rattle.gl_live.specs.bodies.Rosters.{roster_of}
@@ -12,6 +13,7 @@ loop-workload-preserved g c =
       next = tt;
       finite = tt;
       counted = omega (arith, was.counted, steps.1, ap length steps.0);
+      whole = omega (arith, was.whole, ap length steps.0, ap length c.keep.ensures.items, length_push c.loop-workload.recorders.items c.in-Some-start_recorder.recorder);
       room = omega (arith, was.room, ap length steps.0, c.keep.ensures.len, c.keep.ensures.capacity);
       left = rest_of_all (IsWorkloadOf (roster_of c.args.collector.now)) _ _ _ steps.0 was.left;
       started =

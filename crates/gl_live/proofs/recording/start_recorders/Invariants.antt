@@ -13,6 +13,7 @@ invariant-loop-workload g l = record {
   next : (goal.iterator-loop-workload g).can_next l.workload-iterator;
   finite : (goal.iterator-loop-workload g).is_finite l.workload-iterator;
   counted : into_iter_len l.workload-iterator ≡ length (into_iter_items l.workload-iterator);
+  whole : length l.recorders.items + length (into_iter_items l.workload-iterator) ≡ length l.fn.workloads.items;
   room : vec_len l.recorders + length (into_iter_items l.workload-iterator) ≤ vec_capacity l.recorders;
   left : All (IsWorkloadOf (roster_of l.collector)) (into_iter_items l.workload-iterator);
   started : All (λ h. (h.promise.collector.value ≡ l.collector) × (lists_of h.promise.lists.now ≡ lists_of l.lists)) l.recorders.items;
