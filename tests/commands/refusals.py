@@ -185,7 +185,7 @@ def given(words):
 
 class Run(typing.NamedTuple):
     answer: tuple  # standard output, standard error, status
-    refused: str  # a sign for each refused call: a descriptor; of memory a letter, see `started_before`; `t` for a thread
+    refused: str  # a sign for each refused call: a descriptor, `t` for a thread, or of memory as `started_before` reads
 
 
 def started_before(run):
