@@ -138,7 +138,8 @@ USAGE = {
 
 # Options by which the threads of a session wait for one another all the time. A trace here has three threads at most.
 CLOSE = {"live": "--recorders 2 --shards 2 --ring 1", "live --stream": "--shards 2 --ring 1 --threads 3"}
-SHARDS = 4  # unless --shards is given
+SHARDS = RECORDERS = 4  # unless they are given
+STARTING = 4  # how many times starting a thread may ask for memory: far less than opening a session does
 
 
 def swept(words, name):
@@ -148,6 +149,22 @@ def swept(words, name):
     if close is None:
         return [words]
     return [f"{words} {close}", *[words] * (name == "opposite_order" and words in CLOSE)]
+
+
+def session_threads(words, ample):
+    """How many threads a session begins with: its workers, and those that record, or the collector of a stream. None
+    where there is no session: a text that is read whole is refused before one is opened."""
+    options = words.split()
+    if options[0] != "live":
+        return 0
+
+    def asked(option, unsaid):
+        return int(options[options.index(option) + 1]) if option in options else unsaid
+
+    shards = asked("--shards", SHARDS)
+    if "--stream" in options:
+        return shards + 1
+    return 0 if ample == BAD_LINE else shards + asked("--recorders", RECORDERS)
 
 
 def text_of(words, name):
@@ -168,7 +185,12 @@ def given(words):
 
 class Run(typing.NamedTuple):
     answer: tuple  # standard output, standard error, status
-    refused: str  # a sign for each refused call: a descriptor, `m` for memory, `t` for a thread
+    refused: str  # a sign for each refused call: a descriptor, `t` for a thread, or of memory as `started_before` reads
+
+
+def started_before(run):
+    """How many threads the program had started when memory was first refused to it."""
+    return ord(min(run.refused)) - ord("a")
 
 
 class Runner:
@@ -236,26 +258,35 @@ class Tests:
             print(f"{name}: {problem}")
 
     def memory(self, words, name, text, ample):
-        """Each answer is that of ample memory, or tells that memory was refused."""
-        right = [ample, OUT_OF_MEMORY] + [UNCONFIRMED] * words.startswith("live")
+        """Each answer is that of ample memory, or tells that memory was refused; or, where not all threads of a session
+        had been started, that one couldn't be. So it is told as memory while a session is opened, but for the few calls
+        that start its first thread, and once all its threads run."""
+        threads = session_threads(words, ample)
         for how in ("once", "onwards"):
-            answers = []
+            answers, running, unstarted = [], [], 0
             for number, run in self.runner.sweep(words, text, "memory", how):
+                started = started_before(run)
+                right = [ample, OUT_OF_MEMORY] + [UNCONFIRMED] * (started < threads)
                 self.check(f"{words}, {name}, memory {how} call {number}", right, run)
                 answers.append(run.answer)
+                running += [run.answer] * (started >= threads)
+                unstarted += started == 0 and run.answer == UNCONFIRMED
             self.check_that(f"{words}, {name}, memory {how}", OUT_OF_MEMORY in answers, "no refusal was told")
+            is_told = OUT_OF_MEMORY in running
+            self.check_that(f"{words}, {name}, memory {how}", is_told, "no refusal was told once all threads ran")
+            problem = f"{unstarted} calls before the first thread, as if it couldn't be started"
+            self.check_that(f"{words}, {name}, memory {how}", unstarted <= STARTING, problem)
 
     def threads(self, words, name, text, ample):
-        """Where a worker or the collector of a stream can't be started, nothing is read, so nothing else is told."""
-        options = words.split()
-        shards = int(options[options.index("--shards") + 1]) if "--shards" in options else SHARDS
-        of_stream = shards + 1 if "--stream" in options else 0
+        """Where a thread of a session can't be started nothing is recorded, and of a stream nothing is read: that the
+        session isn't confirmed is all that is told. Other threads are those of a search."""
+        threads = session_threads(words, ample)
         count = 0
         for number, run in self.runner.sweep(words, text, "thread", "once"):
-            right = [UNCONFIRMED] if number <= of_stream else [ample, UNCONFIRMED, OUT_OF_MEMORY]
+            right = [UNCONFIRMED] if number <= threads else [ample, OUT_OF_MEMORY]
             self.check(f"{words}, {name}, thread call {number}", right, run)
             count += 1
-        self.check_that(f"{words}, {name}, threads", count >= of_stream, f"{count} threads, not {of_stream} or more")
+        self.check_that(f"{words}, {name}, threads", count >= threads, f"{count} threads, not {threads} or more")
 
     def reads(self, words, name, text, ample):
         """A failed read is told, unless a line that was ended before has a fault. An interrupted read has failed. A

@@ -5,8 +5,9 @@
    REFUSE_HOW     once; onwards (this one and all after it); or, of reads and writes, interrupted (once, by EINTR) and
                   nothing (once, by the answer that no byte was moved)
    REFUSE_SHORT   if set, each read and write moves one byte at most
-   REFUSE_TELL    a file descriptor to which a byte goes for each refused call: the descriptor that the call was on, as
-                  a digit, or `m` or `t`
+   REFUSE_TELL    a file descriptor to which a byte goes for each refused call: the descriptor that a read or write was
+                  on, as a digit; of memory how many threads had been started by then, as a letter (`a` none, `b` one,
+                  and so on, `z` all beyond); of a thread `t`
 
    A refused call does nothing else. Memory that the C library takes for itself isn't counted. */
 
@@ -26,7 +27,7 @@
 #define OPEN __attribute__((visibility("default")))
 
 static const char *calls = "", *how = "once";
-static long at, made;
+static long at, made, started;
 static int tells = -1, is_short;
 
 __attribute__((constructor)) static void read_settings(void)
@@ -63,7 +64,8 @@ static int refuses(const char *sort, char sign)
 
 static int refuses_memory(void)
 {
-    if (!refuses("memory", 'm'))
+    long threads = __atomic_load_n(&started, __ATOMIC_RELAXED);
+    if (!refuses("memory", (char)('a' + (threads < 25 ? threads : 25))))
         return 0;
     errno = ENOMEM;
     return 1;
@@ -214,5 +216,8 @@ OPEN int pthread_create(pthread_t *thread, const pthread_attr_t *settings, void 
     REAL(pthread_create);
     if (real_pthread_create == NULL || refuses("thread", 't'))
         return EAGAIN;
-    return real_pthread_create(thread, settings, run, argument);
+    int answer = real_pthread_create(thread, settings, run, argument);
+    if (answer == 0)
+        __atomic_add_fetch(&started, 1, __ATOMIC_RELAXED);
+    return answer;
 }

@@ -5,7 +5,11 @@ count.
 
     clauses.py
 
-The last line is `N passed, N failed`: a clause or ghost item of a file in crates/ is one that passed, or failed.
+The definitions that clauses cite are read aloud too: of their lines, in the specs folders of crates, no more may be over 100
+columns wide than WIDE says, imports and comments aside. Who makes them fewer states the lesser number, so that it only falls.
+
+The last line is `N passed, N failed`: a clause or ghost item of a file in crates/ is one that passed, or failed, and so is the
+number of wide lines.
 """
 
 import pathlib
@@ -13,7 +17,8 @@ import re
 import sys
 
 TOP = pathlib.Path(__file__).resolve().parent.parent.parent
-BYTES = 100
+BYTES = COLUMNS = 100
+WIDE = 699  # lines of specs folders
 CLAUSE = re.compile(r"\s*(requires\b|ensures\b|(pub\S* )?ghost (?!use\b))")
 
 
@@ -29,6 +34,12 @@ def clauses(text):
         yield clause
 
 
+def wide_lines(text):
+    """How many lines of this file of definitions are too wide."""
+    lines = text.splitlines()
+    return sum(len(line) > COLUMNS and not line.lstrip().startswith(("use ", "--")) for line in lines)
+
+
 def main():
     passed = failed = 0
     for path in sorted(TOP.glob("crates/*/src/**/*.rt")):
@@ -37,6 +48,10 @@ def main():
             passed, failed = passed + is_narrow, failed + (not is_narrow)
             if not is_narrow:
                 print(f"{path.relative_to(TOP)}: over {BYTES} bytes: {clause[0].strip()}")
+    wide = sum(wide_lines(path.read_text()) for path in TOP.glob("crates/*/specs/**/*.antt"))
+    passed, failed = passed + (wide <= WIDE), failed + (wide > WIDE)
+    if wide != WIDE:
+        print(f"{wide} lines of specs are over {COLUMNS} columns, not {WIDE}" + ": state that in WIDE" * (wide < WIDE))
     print(f"{passed} passed, {failed} failed")
     return 1 if failed else 0
 
