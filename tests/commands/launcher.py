@@ -277,14 +277,29 @@ def another_carried_program(clone):
     equal(clone.run(*WORDS, text="text")[3][-1], "run")
 
 
+NO_RT = ", and rt isn't on PATH to prove and build the program.\n"
+
+
+def refused(clone, why, toolchain=" (kit 7)", **settings):
+    """Without the toolchain there is no program, for this reason."""
+    out, err, status, calls = clone.run("predict", with_rt=False, **settings)
+    equal((out, status, calls), ("", 125, []))
+    has(err, f"goodlock: {why}{NO_RT}", f"Get the Rattle toolchain{toolchain}, or the sources")
+
+
 def without_toolchain(clone):
+    refused(clone, "GOODLOCK_BUILD=1 asks for a program that is built here", GOODLOCK_BUILD="1")
+    (clone.top / "prebuilt/goodlock").chmod(0o644)
+    refused(clone, "there is no program prebuilt/goodlock")
     shutil.rmtree(clone.top / "prebuilt")
-    equal(clone.run("predict", with_rt=False)[2:], (125, []))
+    refused(clone, "there is no program prebuilt/goodlock", toolchain="")
+    clone.carry()
+    with open(clone.top / "prebuilt/goodlock", "a") as file:
+        file.write("\n")
+    refused(clone, "prebuilt/goodlock isn't as it was carried")
     clone.carry()
     clone.write("crates/low/src/lib.rt", "fn g() {}\n")
-    out, err, status, calls = clone.run("predict", with_rt=False)
-    equal((out, status, calls), ("", 125, []))
-    has(err, "rt isn't on PATH", "Get the Rattle toolchain (kit 7)")
+    refused(clone, "prebuilt/goodlock isn't built from the sources at hand")
 
 
 def without_its_library(clone):

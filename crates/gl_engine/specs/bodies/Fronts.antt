@@ -15,9 +15,10 @@ pub record IsFront (lane : Popping) (note : Note) : Type 0 where
   pub seen : IsPrefix (front ∷ []) lane.left
   pub is : as_of note.thread front ≡ note
 
--- the note was offered to an intake with these limits and this stream, which has the one after it now: it was accepted as the next one, or
--- refused and the stream left as it was
-pub record HasOffered (limits : Bounds) (before after : List Note) (note : Note) (offered : Result Accepted Refused) : Type 0 where
+-- the note was offered to an intake with these limits, whose stream was the one before and is the one after: it was
+-- accepted as the next one, or refused and the stream left as it was
+pub record HasOffered (limits : Bounds) (before after : List Note) (note : Note)
+    (offered : Result Accepted Refused) : Type 0 where
   pub next : OnOk offered (note_refusal limits before note ≡ None)
   pub answer : IfOk offered (λ accepted. accepted ≡ accepted_as note.place note.body)
   pub grown : OnOk offered (after ≡ before ++ note ∷ [])

@@ -16,7 +16,9 @@ pub record IsWorkloadOf (s : Roster) (workload : Workload) : Type 0 where
   pub unused : workload.receipts.items ≡ []
   pub room : HasRoom workload
 
--- the recorders in so many groups: in each, in order, those of the threads whose numbers are its own modulo that of the groups
-pub record AreDealt (count : ℕ) (recorders : List Recording) (groups : List (List Recording)) : Type 0 where
+-- the recorders in so many groups: in each, in order, those whose thread's number modulo that of the groups is its own
+pub record AreDealt (count : ℕ) (recorders : List Recording)
+    (groups : List (List Recording)) : Type 0 where
   pub as_many : length groups ≡ count
-  pub each : (group : ℕ) → group < count → slice_index_or groups group [] ≡ filter (λ r. (r.thread % count) == group) recorders
+  pub each : (group : ℕ) → group < count
+      → slice_index_or groups group [] ≡ filter (λ r. (r.thread % count) == group) recorders
