@@ -314,7 +314,7 @@ static inline uint32_t goodlock_join(goodlock_lane *lane, uint32_t thread, uint3
     return goodlock_record(lane, GOODLOCK_JOIN, thread, place, &at);
 }
 
-/* What an answer means, in words. */
+/* What an answer means, in words: where a line of a trace is refused for the same, in those of docs/USAGE.md. */
 static inline const char *goodlock_says(uint32_t code)
 {
     switch (code) {
@@ -341,23 +341,23 @@ static inline const char *goodlock_says(uint32_t code)
     case GOODLOCK_INCONSISTENT:
         return "forks and joins order a part of a thread before itself";
     case GOODLOCK_NAMES:
-        return "there are too many names";
+        return "too many names";
     case GOODLOCK_UNNAMED:
         return "a lock or a place has no name";
     case GOODLOCK_EVENTS_FULL:
-        return "the thread has too many events";
+        return "too many events";
     case GOODLOCK_NO_SUCH_THREAD:
         return "there is no such thread";
     case GOODLOCK_ON_ITSELF:
-        return "the thread forks or joins itself";
+        return "thread forks or joins itself";
     case GOODLOCK_NOT_HELD:
         return "the thread doesn't hold the lock";
     case GOODLOCK_HELD_FULL:
-        return "the thread holds too many locks";
+        return "too many locks held";
     case GOODLOCK_DEPTH_FULL:
-        return "the lock is taken too often";
+        return "lock taken too often";
     case GOODLOCK_UPGRADE:
-        return "the shared lock is taken exclusively";
+        return "shared lock taken exclusively";
     default:
         return "no answer of goodlock";
     }

@@ -232,27 +232,32 @@ static void test_reports(void)
 
 /* ---- Words */
 
-static const char *const words[] = {
-    "done",
-    "out of memory",
-    "the lane is full until the session pulls",
-    "the handle isn't one that this call works on",
-    "a number is out of its range",
-    "all lanes were given out",
-    "the session is gone",
-    "the lane isn't one that this session waits for",
-    "a thread's lane isn't handed in or not pulled to its end",
-    "a note may not come next: a handle was used twice at once",
-    "forks and joins order a part of a thread before itself",
-    "there are too many names",
-    "a lock or a place has no name",
+static const struct {
+    uint32_t code;
+    const char *text;
+} words[] = {
+    {0, "done"},
+    {1, "out of memory"},
+    {2, "the lane is full until the session pulls"},
+    {3, "the handle isn't one that this call works on"},
+    {4, "a number is out of its range"},
+    {5, "all lanes were given out"},
+    {6, "the session is gone"},
+    {7, "the lane isn't one that this session waits for"},
+    {8, "a thread's lane isn't handed in or not pulled to its end"},
+    {9, "a note may not come next: a handle was used twice at once"},
+    {10, "forks and joins order a part of a thread before itself"},
+    {11, "too many names"},
+    {12, "a lock or a place has no name"},
+    {20, "too many events"},
+    {21, "there is no such thread"},
+    {22, "thread forks or joins itself"},
+    {23, "the thread doesn't hold the lock"},
+    {24, "too many locks held"},
+    {25, "lock taken too often"},
+    {26, "shared lock taken exclusively"},
 };
-static const char *const refusals[] = {
-    "the thread has too many events",       "there is no such thread",         "the thread forks or joins itself",
-    "the thread doesn't hold the lock",     "the thread holds too many locks", "the lock is taken too often",
-    "the shared lock is taken exclusively",
-};
-enum { WORDS = 13, FIRST_REFUSAL = 20, REFUSALS = 7, CODES = 40 };
+enum { WORDS = sizeof words / sizeof *words, CODES = 40 };
 
 static void says(uint32_t code, const char *right)
 {
@@ -264,10 +269,12 @@ static void says(uint32_t code, const char *right)
 
 static void test_words(void)
 {
-    check(sizeof words / sizeof *words == WORDS && sizeof refusals / sizeof *refusals == REFUSALS, "none is left out");
     for (uint32_t code = 0; code < CODES; code++) {
-        const bool is_refusal = code >= FIRST_REFUSAL && code < FIRST_REFUSAL + REFUSALS;
-        says(code, code < WORDS ? words[code] : is_refusal ? refusals[code - FIRST_REFUSAL] : "no answer of goodlock");
+        const char *right = "no answer of goodlock";
+        for (uint32_t i = 0; i < WORDS; i++)
+            if (words[i].code == code)
+                right = words[i].text;
+        says(code, right);
     }
     says(UINT32_MAX, "no answer of goodlock");
 }

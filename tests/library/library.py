@@ -33,6 +33,7 @@ TOP = HERE.parent.parent
 HEADERS = TOP / "library"
 EXAMPLES = HEADERS / "examples"
 EXPORTS = TOP / "crates" / "gl_c" / "src"
+FAULTS = TOP / "crates" / "gl_std" / "specs" / "Faults.antt"
 ARCHIVE = pathlib.Path(os.environ.get("LIBRARY") or TOP / "prebuilt" / "libgoodlock.a").resolve()
 STRICT = ["-Wall", "-Wextra", "-pedantic", "-Werror"]
 MODES = ("basic", "guarded", "full")
@@ -55,6 +56,16 @@ TYPES = {
     "&mut Lane": "goodlock_lane *",
     "&mut Made": "goodlock_report *",
     "&mut PulledCount": "goodlock_pulled *",
+}
+
+# Answers, and the faults of a line that are the same.
+SAME_WORDS = {
+    "NAMES": "TooManyNames",
+    "EVENTS_FULL": "TooManyEvents",
+    "ON_ITSELF": "OnItself",
+    "HELD_FULL": "HeldFull",
+    "DEPTH_FULL": "DepthFull",
+    "UPGRADE": "Upgrade",
 }
 
 BY_NAME = """\
@@ -122,6 +133,7 @@ class Tests:
         self.alone()
         self.numbers()
         self.types()
+        self.words()
         c = ["-O1", "-g", *STRICT, f"-I{HEADERS}"]
         rest = ["-x", "none", ARCHIVE, "-Wl,--wrap=goodlock_record", "-lpthread"]
         for language, first in (("c", ["gcc", "-std=gnu11"]), ("c++", ["g++", "-std=gnu++17"])):
@@ -177,6 +189,15 @@ class Tests:
             problem = f"{declared.get(name)} in goodlock.h, {exports.get(name)} in crates/gl_c"
             self.check(name, name in exports and declared.get(name) == exports[name], problem)
         self.check("the exports", len(exports) > 0, "none is found in crates/gl_c")
+
+    def words(self):
+        """Whether goodlock_says has the words of the formats, where a line is refused for the same."""
+        formats = dict(re.findall(r'^text_of (\w+) = codes "(.*)"$', FAULTS.read_text(), re.M))
+        header = self.without_comments("goodlock.h")
+        says = dict(re.findall(r'case GOODLOCK_(\w+):\s+return "(.*)";', header))
+        for name, fault in SAME_WORDS.items():
+            problem = f"`{says.get(name)}` in goodlock.h, `{formats.get(fault)}` of a line"
+            self.check(f"the words of {name}", name in says and says[name] == formats.get(fault), problem)
 
     def alone(self):
         languages = [("c", "c11", "gcc"), ("c", "c11", "clang"), ("c", "c99", "gcc"), ("c", "c17", "gcc")]
