@@ -1,6 +1,7 @@
 #!/bin/bash
 # Times the C library: a record alone and with a collector beside it, a pull, a report, what a lane takes, and the number of a
-# name that is known; beside a mutex that no other thread wants, in the same run. Prints a table.
+# name that is known; beside a mutex that no other thread wants, in the same run. Each row is measured in a process of its own that has
+# a second thread, as programs that record have. Prints a table.
 #
 #     bench/library.sh
 #

@@ -61,8 +61,8 @@
  * goodlock_pull     the same look, and two lists that grow: some 100 nanoseconds for an event at most. It takes memory
  *                   for what it keeps: 46 bytes for each event, and up to twice that where a list has just grown.
  *
- * So a session grows as long as it runs. A lane takes 4 KB, and 28 bytes for each note of its ring.
- * bench/library.sh measures it. */
+ * So a session grows as long as it runs. A lane takes 4 KB, and 28 bytes for each note of its ring. bench/library.sh
+ * measures these. What the other calls cost is said of each. */
 #ifndef GOODLOCK_H
 #define GOODLOCK_H
 
@@ -152,13 +152,13 @@ typedef struct goodlock_pulled {
 
 /* Opens a session with lanes for `threads` threads (1 to 1,024), each with a ring of `ring` notes (1 to
    65,536): what a thread may be ahead of the collecting one. `number` tells sessions of one process apart:
-   never the same one twice. All the memory of the lanes is taken here.
+   never the same one twice. All the memory that threads record into is taken here. A step for each slot of the rings.
    OK: free it in the end. RANGE, MEMORY, MISUSE (*session isn't all zero): *session is as it was. */
 uint32_t goodlock_open(uint64_t number, uint32_t threads, uint32_t ring, goodlock_session *session);
 
 /* Gives out the lane of the next thread, and the thread's number: 0, 1, .. in the order of these calls. Reports
    name the threads T0, T1, .. by it. The lane is yours to hand to the thread, and to free where it isn't handed
-   in.
+   in. A few steps, and 1.7 KB of memory more for the lane, until it is handed in or freed.
    OK, NO_LANE, MEMORY, MISUSE (the session isn't open, or *lane isn't all zero). */
 uint32_t goodlock_lane_open(goodlock_session *session, goodlock_lane *lane, uint32_t *thread);
 
@@ -177,11 +177,14 @@ uint32_t goodlock_place(goodlock_session *session, const uint8_t *name, size_t l
 
 /* Pulls at most `most` notes (events and end marks) off the lanes, each lane in turn from thread 0, and off
    none more than its ring holds: with `most` the rings of all lanes, or more, a busy one doesn't keep the others
-   waiting. *pulled says how many of either, in every case; none at all: the lanes are empty now, or ended.
+   waiting. *pulled says how many of either, in every case; none at all: the lanes are empty now, or ended. What it
+   costs is said above; a lane that is empty is a look.
    OK. MEMORY: what was pulled before stands, nothing is lost; call again. BROKEN, MISUSE. */
 uint32_t goodlock_pull(goodlock_session *session, uint32_t most, goodlock_pulled *pulled);
 
-/* The same off one thread's lane. RANGE: there is no such thread. */
+/* The same off one thread's lane: at most `most` notes, also more than its ring holds where the thread goes on. A note
+   costs what it costs goodlock_pull, in steps and in memory; it doesn't look at other lanes.
+   RANGE: there is no such thread. */
 uint32_t goodlock_pull_lane(goodlock_session *session, uint32_t thread, uint32_t most, goodlock_pulled *pulled);
 
 /* Makes the report of all that was pulled so far: its mode, the greatest length of a cycle (2 to 16), and the
@@ -193,12 +196,14 @@ uint32_t goodlock_pull_lane(goodlock_session *session, uint32_t thread, uint32_t
 uint32_t goodlock_report_so_far(goodlock_session *session, uint32_t mode, uint32_t length, uint32_t number,
                                 goodlock_report *report);
 
-/* Takes back a lane that was closed.
+/* Takes back a lane that was closed. A look at each lane that was handed in before, and 48 bytes of memory, or up to
+   twice that where the list of them has just grown; the 1.7 KB of the lane are given back.
    OK: the lane is all zero. MISUSE (a lane that isn't closed, too), MEMORY, STRANGE: it is as it was. */
 uint32_t goodlock_hand_in(goodlock_session *session, goodlock_lane *lane);
 
 /* Settles the session: each of its lanes was given out, closed, pulled to its end mark, and handed in. (A lane
-   whose thread never starts is closed by who has it.)
+   whose thread never starts is closed by who has it.) For each lane a look at those that were handed in, so about a
+   million for 1,024 threads, whatever they recorded. It takes no memory, and gives back the rings where it answers OK.
    OK: nothing that the threads recorded is missing; the session records no more, and answers
    goodlock_settled_report. MISSING: *thread is the first one whose lane wasn't handed in, or else the first one
    that wasn't pulled to its end. STRANGE, MISUSE. Unless OK the session is as it was. */
@@ -210,8 +215,10 @@ uint32_t goodlock_settled_report(goodlock_session *session, uint32_t mode, uint3
 
 /* The same, with locks and places numbered by first mention: thread 0's list first, event by event, then thread
    1's, and so on; each new name gets the next number, of an event its lock's before its place's. So where the threads
-   of two runs did the same, by names, the two reports are the same, in whichever order the names were told. The report
-   keeps its names: it is printed by them. A step for each event and for each byte of a name more.
+   of two runs did the same, by names, the two reports are the same, in whichever order the names were told. (Names that
+   tell equal ones apart by a run's own order, as goodlock_names.h makes "shelf" and "shelf #2", may be swapped in
+   another run, and in its report.) The report keeps its names: it is printed by them. A step for each event and for
+   each byte of a name more.
    OK, RANGE, INCONSISTENT, MEMORY, MISUSE as above. UNNAMED: a number of a lock or of a place was recorded that was
    given no name (that alone: it is told before memory is asked for); *report is as it was. */
 uint32_t goodlock_report_by_mention(goodlock_session *session, uint32_t mode, uint32_t length, uint32_t number,
@@ -219,22 +226,30 @@ uint32_t goodlock_report_by_mention(goodlock_session *session, uint32_t mode, ui
 
 /* The text of a report of this session, as `goodlock predict` prints it, in `buffer` of `size` bytes: all of it
    where *needed <= size, else nothing. *needed is its length in bytes; there is no zero at the end. (With size
-   0 it asks for the length.) Names that are told after the report are known, too.
+   0 it asks for the length.) Names that are told after the report are known, too. A step for each byte of the text,
+   also where it doesn't fit: it is made in memory of its own, of up to three times its length, which is given back
+   before the call returns.
    OK (also where it didn't fit), MEMORY, MISUSE. */
 uint32_t goodlock_text(goodlock_session *session, goodlock_report *report, uint8_t *buffer, size_t size,
                        size_t *needed);
 
-/* The same as one line of JSON, as `goodlock predict --json` prints it: docs/report.schema.json. */
+/* The same as one line of JSON, as `goodlock predict --json` prints it: docs/report.schema.json. It has each edge of
+   the report, in a cycle or not, so it may be long where there are no cycles. A step for each byte, and some 24
+   requests for memory for each edge, about ten times as much as the line is long, which is given back before the call
+   returns. */
 uint32_t goodlock_json(goodlock_session *session, goodlock_report *report, uint8_t *buffer, size_t size,
                        size_t *needed);
 
-/* How many cycles the report lists, and whether there are more.
+/* How many cycles the report lists, and whether there are more. One step, and no memory.
    OK, MISUSE. */
 uint32_t goodlock_cycles(goodlock_report *report, size_t *cycles, bool *more);
 
 /* Give back what a handle has; it is all zero then, and may be opened again. One that is all zero already stays
    so. A session may be freed while threads record: their calls go on answering (FULL in the end), their close
-   UNCONFIRMED. A lane may be freed at any time; the session can't be settled then. */
+   UNCONFIRMED. A lane may be freed at any time; the session can't be settled then.
+   They take no memory. A session: a step for each thread and for each name; a lane: a few steps. Where both are freed,
+   the later call takes a step for each note that is left in the ring, too, and gives that back. A report: a step for
+   each of its edges and of its cycles. What the allocator and the system do with long lists comes on top. */
 void goodlock_session_free(goodlock_session *session);
 void goodlock_lane_free(goodlock_lane *lane);
 void goodlock_report_free(goodlock_report *report);
@@ -314,7 +329,7 @@ static inline uint32_t goodlock_join(goodlock_lane *lane, uint32_t thread, uint3
     return goodlock_record(lane, GOODLOCK_JOIN, thread, place, &at);
 }
 
-/* What an answer means, in words. */
+/* What an answer means, in words: where a line of a trace is refused for the same, in those of docs/USAGE.md. */
 static inline const char *goodlock_says(uint32_t code)
 {
     switch (code) {
@@ -341,23 +356,23 @@ static inline const char *goodlock_says(uint32_t code)
     case GOODLOCK_INCONSISTENT:
         return "forks and joins order a part of a thread before itself";
     case GOODLOCK_NAMES:
-        return "there are too many names";
+        return "too many names";
     case GOODLOCK_UNNAMED:
         return "a lock or a place has no name";
     case GOODLOCK_EVENTS_FULL:
-        return "the thread has too many events";
+        return "too many events";
     case GOODLOCK_NO_SUCH_THREAD:
         return "there is no such thread";
     case GOODLOCK_ON_ITSELF:
-        return "the thread forks or joins itself";
+        return "thread forks or joins itself";
     case GOODLOCK_NOT_HELD:
         return "the thread doesn't hold the lock";
     case GOODLOCK_HELD_FULL:
-        return "the thread holds too many locks";
+        return "too many locks held";
     case GOODLOCK_DEPTH_FULL:
-        return "the lock is taken too often";
+        return "lock taken too often";
     case GOODLOCK_UPGRADE:
-        return "the shared lock is taken exclusively";
+        return "shared lock taken exclusively";
     default:
         return "no answer of goodlock";
     }

@@ -32,13 +32,15 @@
  * Numbers are 0, 1, 2, .. without a gap, in the order in which the names were first mentioned: two threads that mention
  * one new name at once get the same number, and no number is given twice. That order may be another one in each run,
  * and numbers order the edges of a report: a report that is the same for each run of the same events is made by
- * goodlock_report_by_mention.
+ * goodlock_report_by_mention, where the names are all different.
  *
  * A table serves the locks of a session, or its places; one session after the other, too, which then have the same
  * numbers. Nobody else numbers names of that kind in the session.
  *
  * Locks often have one name: then the later numbers are told with " #2", " #3", .. behind it, in the order of their
- * numbers. Where that is a name of the table already, the next one is taken.
+ * numbers. Where that is a name of the table already, the next one is taken. So two runs that mention locks (or
+ * places) of one name in another order may swap "shelf" and "shelf #2", in a report by mention, too: locks that are to
+ * be told apart in the same way by each run have names of their own.
  *
  * ---- What the caller promises
  *

@@ -1,5 +1,8 @@
-/* Times the calls of goodlock.h and goodlock_names.h, beside a mutex that no other thread wants. bench/library.sh says
- * how it is run. */
+/* Times the calls of goodlock.h and goodlock_names.h, beside a mutex that no other thread wants, and prints a table;
+ * with a number that row alone, from 0. bench/library.sh says how it is run.
+ *
+ * Each row is measured in a process of its own. In one process a row would tell of those before it: lists that grow
+ * are copied once malloc has given memory back to the system, and grow in place before. */
 #include "goodlock_names.h"
 
 #include <malloc.h>
@@ -8,7 +11,9 @@
 #include <stdatomic.h>
 #include <stdio.h>
 #include <stdlib.h>
+#include <sys/wait.h>
 #include <time.h>
+#include <unistd.h>
 
 enum { ROUNDS = 2000, ALONE = 1000, TOGETHER = 500000 };
 
@@ -265,22 +270,108 @@ static void names_known(void)
            least[0], least[1], least[2], least[3]);
 }
 
-int main(void)
+/* ---- The table */
+
+enum { ROWS = 14 };
+
+static void measure(int row)
 {
+    switch (row) {
+    case 0:
+        printf("| an uncontended pthread mutex, locked and unlocked | %.0f ns |\n", mutex_pair());
+        break;
+    case 1:
+        record_alone(0, 500);
+        break;
+    case 2:
+        record_alone(1, 500);
+        break;
+    case 3:
+        record_alone(2, 500);
+        break;
+    case 4:
+        record_alone(32, 10); /* the edges of more would take gigabytes */
+        break;
+    case 5:
+        record_alone(63, 5);
+        break;
+    case 6:
+        record_beside("lock and unlock at full speed, a collector beside it", 0, 4096, 20000);
+        break;
+    case 7:
+        record_beside("with 1 microsecond of work, a collector that sleeps 20 microseconds", 1000, 256, 20000);
+        break;
+    case 8:
+        record_beside("with 1 microsecond of work, a collector that sleeps 20 microseconds", 1000, 4096, 20000);
+        break;
+    case 9:
+        record_beside("with 1 microsecond of work, a collector that yields", 1000, 4096, 0);
+        break;
+    case 10:
+        bytes_of_a_lane(256);
+        break;
+    case 11:
+        bytes_of_a_lane(4096);
+        break;
+    case 12:
+        report_over(2000000);
+        break;
+    case 13:
+        names_known();
+        break;
+    default:
+        fprintf(stderr, "library.c: rows are 0 to %d\n", ROWS - 1);
+        exit(2);
+    }
+}
+
+static void *idle(void *argument)
+{
+    for (;;)
+        pause();
+    return argument;
+}
+
+/* Until a process has a second thread, glibc's mutexes and malloc go without atomic operations, and a mutex pair takes
+ * much less. Only programs with threads record deadlocks, so whatever is measured has a thread beside it that does
+ * nothing. */
+static void start_idle_thread(void)
+{
+    pthread_t thread;
+    if (pthread_create(&thread, NULL, idle, NULL) != 0) {
+        perror("library.c: pthread_create");
+        exit(1);
+    }
+}
+
+/* Runs this program for one row; whether that ended well. */
+static bool run_row(const char *program, int row)
+{
+    char number[12];
+    int status = 0;
+    pid_t child;
+    snprintf(number, sizeof number, "%d", row);
+    fflush(stdout);
+    child = fork();
+    if (child == 0) {
+        execl("/proc/self/exe", program, number, (char *)NULL);
+        _exit(127);
+    }
+    return child > 0 && waitpid(child, &status, 0) == child && WIFEXITED(status) && WEXITSTATUS(status) == 0;
+}
+
+int main(int count, char **words)
+{
+    if (count == 2) {
+        start_idle_thread();
+        measure(atoi(words[1]));
+        return 0;
+    }
     puts("| What | Measured |\n|---|---|");
-    printf("| an uncontended pthread mutex, locked and unlocked | %.0f ns |\n", mutex_pair());
-    record_alone(0, 500);
-    record_alone(1, 500);
-    record_alone(2, 500);
-    record_alone(32, 10); /* the edges of more would take gigabytes */
-    record_alone(63, 5);
-    record_beside("lock and unlock at full speed, a collector beside it", 0, 4096, 20000);
-    record_beside("with 1 microsecond of work, a collector that sleeps 20 microseconds", 1000, 256, 20000);
-    record_beside("with 1 microsecond of work, a collector that sleeps 20 microseconds", 1000, 4096, 20000);
-    record_beside("with 1 microsecond of work, a collector that yields", 1000, 4096, 0);
-    bytes_of_a_lane(256);
-    bytes_of_a_lane(4096);
-    report_over(2000000);
-    names_known();
+    for (int row = 0; row < ROWS; row++)
+        if (!run_row(words[0], row)) {
+            fprintf(stderr, "library.c: row %d isn't measured\n", row);
+            return 1;
+        }
     return 0;
 }

@@ -3,14 +3,15 @@
 
     library.py [--cases N] [--seed S] [--only PART ..] PROGRAM
 
-The header is compiled alone as C and as C++. Each example of library/examples prints its known report. sessions.c records
-random sessions in running threads; each report's text and JSON has to be what PROGRAM says of the trace of what was
-recorded, byte for byte. Some hundred of them run under AddressSanitizer, ThreadSanitizer and Valgrind. misuse.c uses each
-call wrongly, refuses memory, forks and leaves in mid-course; order.c tells the same by numbers in two orders, and their
-reports by mention have to be the same; wrapper.cc is of goodlock.hpp, names.c of goodlock_names.h, as C and as C++, by many
-threads and by all short schedules of two or three. Every run has a limit of time. The last line is `N passed, N failed`, with
-`, N skipped` behind it where tools are missing: each is named. PART: headers, examples, wrapper, names, sessions, sanitized,
-misuse, order.
+The headers are compiled alone as C and as C++. The numbers and types of goodlock.h have to be those of crates/gl_c;
+header.c is of its short forms and its words. Each example of library/examples prints its known report. sessions.c
+records random sessions in running threads; each report's text and JSON has to be what PROGRAM says of the trace of
+what was recorded, byte for byte. Some hundred of them run under AddressSanitizer, ThreadSanitizer and Valgrind.
+misuse.c uses each call wrongly, refuses memory, forks and leaves in mid-course; order.c tells the same by numbers in
+two orders, and their reports by mention have to be the same; wrapper.cc is of goodlock.hpp, names.c of
+goodlock_names.h, as C and as C++, by many threads and by all short schedules of two or three. Every run has a limit of
+time. The last line is `N passed, N failed`, with `, N skipped` behind it where tools are missing: each is named. PART:
+headers, examples, wrapper, names, sessions, sanitized, misuse, order.
 
 LIBRARY   the archive that is tested   (prebuilt/libgoodlock.a)
 CASES     how many random sessions     (3000, as --cases)
@@ -21,6 +22,7 @@ import collections
 import concurrent.futures
 import os
 import pathlib
+import re
 import shutil
 import subprocess
 import sys
@@ -30,12 +32,41 @@ HERE = pathlib.Path(__file__).resolve().parent
 TOP = HERE.parent.parent
 HEADERS = TOP / "library"
 EXAMPLES = HEADERS / "examples"
+EXPORTS = TOP / "crates" / "gl_c" / "src"
+FAULTS = TOP / "crates" / "gl_std" / "specs" / "Faults.antt"
 ARCHIVE = pathlib.Path(os.environ.get("LIBRARY") or TOP / "prebuilt" / "libgoodlock.a").resolve()
 STRICT = ["-Wall", "-Wextra", "-pedantic", "-Werror"]
 MODES = ("basic", "guarded", "full")
 INCONSISTENT = 10  # the library's code
 BATCH = 250  # sessions in a process
 JAVA = ["/usr/lib/jvm/java-17-openjdk-amd64", os.environ.get("JAVA_HOME", "")]
+
+# Types of parameters and results of the exports, as they are in C. The allocator is nothing there.
+TYPES = {
+    "Global": None,
+    "": "void",
+    "u32": "uint32_t",
+    "u64": "uint64_t",
+    "&[u8]": "const uint8_t *, size_t",
+    "&mut [u8]": "uint8_t *, size_t",
+    "&mut u32": "uint32_t *",
+    "&mut usize": "size_t *",
+    "&mut bool": "bool *",
+    "&mut Session": "goodlock_session *",
+    "&mut Lane": "goodlock_lane *",
+    "&mut Made": "goodlock_report *",
+    "&mut PulledCount": "goodlock_pulled *",
+}
+
+# Answers, and the faults of a line that are the same.
+SAME_WORDS = {
+    "NAMES": "TooManyNames",
+    "EVENTS_FULL": "TooManyEvents",
+    "ON_ITSELF": "OnItself",
+    "HELD_FULL": "HeldFull",
+    "DEPTH_FULL": "DepthFull",
+    "UPGRADE": "Upgrade",
+}
 
 BY_NAME = """\
 cycle 1: 2 edges
@@ -96,9 +127,79 @@ class Tests:
         done = run(*command, "-o", output, cwd=self.folder, seconds=300)
         return self.check(f"building {output}", done.status == 0, done.errors[-3000:])
 
-    # --- The header
+    # --- The headers
 
     def headers(self):
+        self.alone()
+        self.numbers()
+        self.types()
+        self.words()
+        c = ["-O1", "-g", *STRICT, f"-I{HEADERS}"]
+        rest = ["-x", "none", ARCHIVE, "-Wl,--wrap=goodlock_record", "-lpthread"]
+        for language, first in (("c", ["gcc", "-std=gnu11"]), ("c++", ["g++", "-std=gnu++17"])):
+            program = "header_cc" if language == "c++" else "header_c"
+            if self.build(program, *first, *c, "-x", language, HERE / "header.c", *rest):
+                for word in ("forms", "reports", "words"):
+                    self.counted(f"header, {word}, {language}", program, word)
+
+    @staticmethod
+    def without_comments(header):
+        return re.sub(r"/\*.*?\*/", "", (HEADERS / header).read_text(), flags=re.S)
+
+    def numbers(self):
+        """Whether the constants of goodlock.h are those that the exports go by: answers, kinds of event, modes."""
+        header = self.without_comments("goodlock.h")
+        parts = [
+            {name: int(number) for name, number in re.findall(r"\bGOODLOCK_(\w+)\s*=\s*(\d+)", part)}
+            for part in re.findall(r"\benum\s*{(.*?)}", header, re.S)
+        ]
+        told = {name: number for part in parts for name, number in part.items()}
+        constants = re.findall(r"^pub const (\w+): u32 = (\d+);$", (EXPORTS / "codes.rt").read_text(), re.M)
+        right = {name: int(number) for name, number in constants}
+        if not self.check("the header's constants", len(parts) == 3 and all(parts), f"{parts} in goodlock.h"):
+            return
+        for name in sorted(told.keys() | right.keys()):
+            problem = f"{told.get(name)} in goodlock.h, {right.get(name)} in codes.rt"
+            self.check(f"GOODLOCK_{name}", told.get(name) == right.get(name), problem)
+        arms = (EXPORTS / "numbered.rt").read_text()
+        events = re.findall(r"(\w+) => Some\(Event::(\w+) \{(.*?)\}\)", arms, re.S)
+        kinds = {
+            name: re.sub(r"(?<=[a-z])(?=[A-Z])", "_", event).upper() + "_SHARED" * ("LockMode::Shared" in fields)
+            for name, event, fields in events
+        }
+        self.check("the kinds of event", kinds == {name: name for name in parts[1]}, f"{kinds} in numbered.rt")
+        refusals = set(re.findall(r"Refusal::\w+ => (\w+),", arms))
+        said = {name for name, number in parts[0].items() if number >= 20}
+        self.check("the refusals of an event", refusals == said, f"{said} in goodlock.h, {refusals} in numbered.rt")
+
+    def types(self):
+        """Whether goodlock.h declares the exports, each with the parameters and the result that it has."""
+        exports = {}
+        for file in sorted(EXPORTS.glob("*.rt")):
+            found = re.findall(r'extern "C" fn (goodlock_\w+)\(([^)]*)\)(?: -> (\w+))?', file.read_text())
+            for name, parameters, result in found:
+                types = [TYPES.get(one.partition(":")[2].strip(), one) for one in parameters.split(",") if one.strip()]
+                exports[name] = TYPES.get(result, result), ", ".join(filter(None, types))
+        text = self.without_comments("goodlock.h")
+        declared = {
+            name: (result, ", ".join(re.sub(r"\w+$", "", one.strip()).strip() for one in parameters.split(",")))
+            for result, name, parameters in re.findall(r"^(\w+) (goodlock_\w+)\(([^)]*)\);", text, re.M)
+        }
+        for name in sorted(exports.keys() | declared.keys()):
+            problem = f"{declared.get(name)} in goodlock.h, {exports.get(name)} in crates/gl_c"
+            self.check(name, name in exports and declared.get(name) == exports[name], problem)
+        self.check("the exports", len(exports) > 0, "none is found in crates/gl_c")
+
+    def words(self):
+        """Whether goodlock_says has the words of the formats, where a line is refused for the same."""
+        formats = dict(re.findall(r'^text_of (\w+) = codes "(.*)"$', FAULTS.read_text(), re.M))
+        header = self.without_comments("goodlock.h")
+        says = dict(re.findall(r'case GOODLOCK_(\w+):\s+return "(.*)";', header))
+        for name, fault in SAME_WORDS.items():
+            problem = f"`{says.get(name)}` in goodlock.h, `{formats.get(fault)}` of a line"
+            self.check(f"the words of {name}", name in says and says[name] == formats.get(fault), problem)
+
+    def alone(self):
         languages = [("c", "c11", "gcc"), ("c", "c11", "clang"), ("c", "c99", "gcc"), ("c", "c17", "gcc")]
         languages += [
             ("c++", standard, tool) for standard in ("c++11", "c++17", "c++20") for tool in ("g++", "clang++")

@@ -2,8 +2,9 @@
  *
  *     library_misuse misuse     each call on handles and numbers that it doesn't take
  *     library_misuse limits     64 locks, 1,000,000 acquires, 1,024 threads, names
- *     library_misuse memory     one session, in which the first request for memory is refused, then the second ..
- *     library_misuse fork       a child that is forked in mid-session, and leaves by _exit
+ *     library_misuse memory     one session, in which the first request for memory is refused, then the second ..; it
+ *                               pulls off all lanes, and again off one lane after the other
+ *     library_misuse fork       children that are forked while another thread records, and leave by _exit
  *     library_misuse exit       main returns while a thread records
  *
  * Memory is refused by the linker's --wrap of malloc, calloc, realloc and aligned_alloc. What isn't as it has to be is
@@ -117,8 +118,31 @@ static void end_lane(goodlock_session *session, goodlock_lane *lane)
     check(lane->at == NULL, "a lane that was handed in is all zero");
 }
 
+/* How often a pull was refused memory. */
+static unsigned refused_pulls;
+
+/* Pulls off all lanes, or off one: what was pulled by then is told where memory is refused, too. */
+static void pull_refused(goodlock_session *session, bool by_lane, uint32_t thread, uint32_t *events, uint32_t *ended)
+{
+    goodlock_pulled pulled = {9, 9};
+    uint32_t code;
+    is_counted = true;
+    code = by_lane ? goodlock_pull_lane(session, thread, 100, &pulled) : goodlock_pull(session, 100, &pulled);
+    is_counted = false;
+    *events += pulled.events;
+    *ended += pulled.ended;
+    if (code == GOODLOCK_MEMORY) {
+        check(was_refused, "pull: MEMORY without a refusal");
+        refused_pulls++;
+    } else {
+        expect("pull", code, GOODLOCK_OK);
+    }
+    if (was_refused)
+        refuse_at = 0;
+}
+
 /* The whole session; how often a call told that memory was refused. */
-static unsigned whole_session(void)
+static unsigned whole_session(bool by_lane)
 {
     goodlock_session session = {NULL};
     goodlock_lane lanes[2] = {{NULL}, {NULL}};
@@ -129,7 +153,9 @@ static unsigned whole_session(void)
     size_t size, cycles;
     bool more;
     unsigned told = 0;
+    long before;
     const uint64_t own = next_session();
+    refused_pulls = 0;
     TRY(goodlock_open(own, 2, 3, &session));
     TRY(number(goodlock_lock, &session, "a", &a));
     TRY(number(goodlock_lock, &session, "b", &b));
@@ -140,7 +166,7 @@ static unsigned whole_session(void)
         TRY(goodlock_lane_open(&session, &lanes[i], &at));
     for (int i = 0; i < 2; i++) {
         const uint32_t first = i == 0 ? a : b, second = i == 0 ? b : a;
-        const long before = requests;
+        before = requests;
         TRY(goodlock_record(&lanes[i], GOODLOCK_ACQUIRE, first, here, &at));
         TRY(goodlock_record(&lanes[i], GOODLOCK_ACQUIRE, second, there, &at));
         TRY(goodlock_record(&lanes[i], GOODLOCK_RELEASE, second, there, &at));
@@ -148,22 +174,8 @@ static unsigned whole_session(void)
         expect("a full lane, an unlawful event", goodlock_release(&lanes[i], 9, there), GOODLOCK_NOT_HELD);
         expect("a full lane's close", goodlock_close(&lanes[i]), GOODLOCK_FULL);
         check(requests == before, "records take no memory");
-        for (int k = 0; k < 3; k++) {
-            pulled.events = pulled.ended = 9;
-            is_counted = true;
-            at = goodlock_pull(&session, 100, &pulled);
-            is_counted = false;
-            events += pulled.events;
-            ended += pulled.ended;
-            if (at == GOODLOCK_MEMORY) {
-                check(was_refused, "pull: MEMORY without a refusal");
-                told++;
-            } else {
-                expect("pull", at, GOODLOCK_OK);
-            }
-            if (was_refused)
-                refuse_at = 0;
-        }
+        for (int k = 0; k < 4; k++)
+            pull_refused(&session, by_lane, (uint32_t)(i + k) % 2, &events, &ended);
         TRY(goodlock_record(&lanes[i], GOODLOCK_RELEASE, first, there, &at));
         TRY(goodlock_close(&lanes[i]));
     }
@@ -180,7 +192,9 @@ static unsigned whole_session(void)
     TRY(goodlock_text(&session, &report, buffer, sizeof buffer, &size));
     check(size == strlen(EXPECTED) && memcmp(buffer, EXPECTED, size) == 0, "the text so far");
     goodlock_report_free(&report);
+    before = requests;
     TRY(goodlock_settle(&session, &at));
+    check(requests == before, "settling takes no memory");
     TRY(goodlock_settled_report(&session, GOODLOCK_FULL_MODE, 4, 1000, &report));
     TRY(goodlock_json(&session, &report, buffer, sizeof buffer, &size));
     check(size < sizeof buffer && buffer[0] == '{' && buffer[size - 1] == '\n', "the JSON is a line");
@@ -190,33 +204,45 @@ static unsigned whole_session(void)
     TRY(goodlock_report_by_mention(&session, GOODLOCK_FULL_MODE, 4, 1000, &report));
     TRY(goodlock_text(&session, &report, buffer, sizeof buffer, &size));
     check(size == strlen(EXPECTED) && memcmp(buffer, EXPECTED, size) == 0, "the text by mention");
+    before = requests;
     TRY(goodlock_cycles(&report, &cycles, &more));
     check(cycles == 1 && !more, "there is one cycle");
+    is_counted = true;
     goodlock_report_free(&report);
     goodlock_session_free(&session);
+    is_counted = false;
+    check(requests == before, "to count cycles takes no memory, nor does what frees");
     check(session.at == NULL && report.at == NULL, "what was freed is all zero");
-    return told;
+    return told + refused_pulls;
+}
+
+/* Refuses the first request of the session, then the second .., alone or with all that follow in the call. */
+static void refuse_each(bool onwards, bool by_lane)
+{
+    unsigned told = 0, pulls = 0;
+    long calls = 0;
+    for (long at = 1;; at++) {
+        is_onwards = onwards;
+        requests = 0;
+        was_refused = false;
+        refuse_at = at;
+        told += whole_session(by_lane);
+        pulls += refused_pulls;
+        if (!was_refused)
+            break;
+        calls++;
+    }
+    refuse_at = 0;
+    printf("memory %s, pulls %s: %ld requests refused, %u told, %u of them by pulls\n", onwards ? "onwards" : "once",
+           by_lane ? "off a lane" : "off all lanes", calls, told, pulls);
+    check(calls > 5 && told > pulls, "memory was asked for and refused");
+    check(pulls > 1, "pulls asked for memory that was refused");
 }
 
 static void refuse_memory(void)
 {
-    for (int onwards = 0; onwards < 2; onwards++) {
-        unsigned told = 0;
-        long calls = 0;
-        for (long at = 1;; at++) {
-            is_onwards = onwards;
-            requests = 0;
-            was_refused = false;
-            refuse_at = at;
-            told += whole_session();
-            if (!was_refused)
-                break;
-            calls++;
-        }
-        refuse_at = 0;
-        printf("memory %s: %ld requests refused, %u told\n", onwards ? "onwards" : "once", calls, told);
-        check(calls > 5 && told > 0, "memory was asked for and refused");
-    }
+    for (int way = 0; way < 4; way++)
+        refuse_each(way % 2 == 1, way / 2 == 1);
 }
 
 /* ---- Misuse */
@@ -470,28 +496,96 @@ static void names(void)
 
 /* ---- Leaving in mid-course */
 
+enum { LONG_RING = 16384, FORKS = 5, MOST_FORKS = 200 };
+
+/* A thread that records while the main thread forks. */
+struct beside {
+    goodlock_lane *lane;
+    _Atomic bool is_over;
+    _Atomic unsigned recorded, wrong;
+};
+
+/* Acquires b and then a, again and again, and closes its lane in the end. */
+static void *record_beside(void *argument)
+{
+    static const uint32_t steps[][3] = {
+        {GOODLOCK_ACQUIRE, 1, 0}, {GOODLOCK_ACQUIRE, 0, 1}, {GOODLOCK_RELEASE, 0, 1}, {GOODLOCK_RELEASE, 1, 0}};
+    struct beside *beside = argument;
+    uint32_t code, at;
+    while (!beside->is_over)
+        for (int i = 0; i < 4; i++) {
+            while ((code = goodlock_record(beside->lane, steps[i][0], steps[i][1], steps[i][2], &at)) == GOODLOCK_FULL)
+                sched_yield();
+            beside->wrong += code != GOODLOCK_OK || at != beside->recorded;
+            beside->recorded++;
+        }
+    while ((code = goodlock_close(beside->lane)) == GOODLOCK_FULL)
+        sched_yield();
+    beside->wrong += code != GOODLOCK_OK;
+    return NULL;
+}
+
+/* Pulls what is there now, which is bounded while another thread records. */
+static goodlock_pulled pull_once(goodlock_session *session)
+{
+    goodlock_pulled pulled = {0, 0};
+    expect("pull", goodlock_pull(session, 2 * LONG_RING, &pulled), GOODLOCK_OK);
+    return pulled;
+}
+
+/* Forks once; whether the other thread recorded meanwhile. */
+static bool fork_once(struct beside *beside)
+{
+    const unsigned before = beside->recorded;
+    int status = 0;
+    bool has_recorded;
+    const pid_t child = fork();
+    if (child == 0)
+        _exit(7);
+    has_recorded = beside->recorded > before;
+    check(waitpid(child, &status, 0) == child && WIFEXITED(status) && WEXITSTATUS(status) == 7, "the child leaves");
+    return has_recorded;
+}
+
 static void in_a_child(void)
 {
     goodlock_session session;
     goodlock_lane lanes[2];
     goodlock_report report = {NULL};
-    int status = 0;
-    pid_t child;
-    open_two(&session, lanes, 8);
+    goodlock_pulled pulled;
+    struct beside beside = {.lane = &lanes[1]};
+    pthread_t thread;
+    unsigned events = 0, beside_forks = 0;
+    uint32_t at, ended = 0;
+    open_two(&session, lanes, LONG_RING);
     acquire_two(&lanes[0], 0, 1);
     fflush(NULL);
-    child = fork();
-    if (child == 0)
-        _exit(7);
-    check(waitpid(child, &status, 0) == child && WIFEXITED(status) && WEXITSTATUS(status) == 7, "the child leaves");
+    check(pthread_create(&thread, NULL, record_beside, &beside) == 0, "a thread is started");
+    while (beside.recorded == 0)
+        sched_yield();
+    for (int i = 0; i < MOST_FORKS && beside_forks < FORKS; i++) {
+        events += pull_once(&session).events; /* so that there is room */
+        beside_forks += fork_once(&beside);
+    }
+    check(beside_forks == FORKS, "the other thread records while this one forks");
     release_two(&lanes[0], 1, 0);
-    acquire_two(&lanes[1], 1, 0);
-    pull_all(&session);
-    expect("report", goodlock_report_so_far(&session, 2, 4, 10, &report), GOODLOCK_OK);
+    expect("close", goodlock_close(&lanes[0]), GOODLOCK_OK);
+    beside.is_over = true;
+    while (ended < 2) {
+        pulled = pull_once(&session);
+        events += pulled.events;
+        ended += pulled.ended;
+        sched_yield();
+    }
+    pthread_join(thread, NULL);
+    check(beside.wrong == 0, "the other thread records as ever");
+    check(events == beside.recorded + 4, "all that was recorded is pulled");
+    for (int i = 0; i < 2; i++)
+        expect("hand_in", goodlock_hand_in(&session, &lanes[i]), GOODLOCK_OK);
+    expect("settle", goodlock_settle(&session, &at), GOODLOCK_OK);
+    expect("report", goodlock_settled_report(&session, 2, 4, 10, &report), GOODLOCK_OK);
     check(is_text(&session, &report, EXPECTED), "the parent goes on");
     goodlock_report_free(&report);
-    for (int i = 0; i < 2; i++)
-        end_lane(&session, &lanes[i]);
     goodlock_session_free(&session);
 }
 

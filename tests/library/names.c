@@ -430,6 +430,61 @@ static void reported(void)
     goodlock_names_free(&places);
 }
 
+/* The text by mention of two threads in opposite orders, where each did the same whichever lock was mentioned first. */
+static bool is_by_mention(const char *one, const char *other, bool is_other_first, const char *right)
+{
+    static int mutexes[2];
+    goodlock_names locks = opened(2), places = opened(1);
+    goodlock_session session = open_session(2);
+    goodlock_report report = {NULL};
+    goodlock_pulled pulled;
+    const char *const names[] = {one, other};
+    uint32_t told_locks = 0, told_places = 0, thread;
+    bool is_right;
+    at(&locks, &mutexes[is_other_first], names[is_other_first]);
+    for (int i = 0; i < 2; i++) {
+        const uint32_t first = at(&locks, &mutexes[i], names[i]), second = at(&locks, &mutexes[1 - i], names[1 - i]);
+        goodlock_lane lane = {NULL};
+        expect("lane", goodlock_lane_open(&session, &lane, &thread), GOODLOCK_OK);
+        expect("acquire", goodlock_acquire(&lane, first, literal(&places, "here")), GOODLOCK_OK);
+        expect("acquire", goodlock_acquire(&lane, second, literal(&places, "here")), GOODLOCK_OK);
+        expect("close", goodlock_close(&lane), GOODLOCK_OK);
+        expect("pull", goodlock_pull(&session, 100, &pulled), GOODLOCK_OK);
+        expect("hand_in", goodlock_hand_in(&session, &lane), GOODLOCK_OK);
+    }
+    expect("settle", goodlock_settle(&session, &thread), GOODLOCK_OK);
+    expect("telling locks", goodlock_tell_locks(&session, &locks, &told_locks), GOODLOCK_OK);
+    expect("telling places", goodlock_tell_places(&session, &places, &told_places), GOODLOCK_OK);
+    expect("by mention", goodlock_report_by_mention(&session, GOODLOCK_FULL_MODE, 4, 10, &report), GOODLOCK_OK);
+    is_right = is_text(&session, &report, right);
+    goodlock_report_free(&report);
+    goodlock_session_free(&session);
+    goodlock_names_free(&locks);
+    goodlock_names_free(&places);
+    return is_right;
+}
+
+/* A report by mention is the same in whichever order names were mentioned to the table, but where two are equal. */
+static void other_orders(void)
+{
+    static const char left_first[] = "cycle 1: 2 edges\n"
+                                     "  T0 holds left since here wants right at here\n"
+                                     "  T1 holds right since here wants left at here\n"
+                                     "cycles: 1\n";
+    static const char equal[] = "cycle 1: 2 edges\n"
+                                "  T0 holds shelf since here wants shelf #2 at here\n"
+                                "  T1 holds shelf #2 since here wants shelf at here\n"
+                                "cycles: 1\n";
+    static const char swapped[] = "cycle 1: 2 edges\n"
+                                  "  T0 holds shelf #2 since here wants shelf at here\n"
+                                  "  T1 holds shelf since here wants shelf #2 at here\n"
+                                  "cycles: 1\n";
+    check(is_by_mention("left", "right", false, left_first), "names that differ");
+    check(is_by_mention("left", "right", true, left_first), "names that differ, in the other order");
+    check(is_by_mention("shelf", "shelf", false, equal), "equal names");
+    check(is_by_mention("shelf", "shelf", true, swapped), "equal names, in the other order");
+}
+
 /* Suffixes that are names already; told in two parts, and to a second session and as places at once. */
 static void suffixes(void)
 {
@@ -970,6 +1025,7 @@ int main(int count, char **words)
         in_a_quiet_child();
     } else if (strcmp(word, "report") == 0) {
         reported();
+        other_orders();
         suffixes();
         many_of_one_name();
         foreign_names();
