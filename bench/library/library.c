@@ -290,10 +290,10 @@ static void measure(int row)
         record_alone(2, 500);
         break;
     case 4:
-        record_alone(32, 10); /* the edges of more would take gigabytes */
+        record_alone(32, 500);
         break;
     case 5:
-        record_alone(63, 5);
+        record_alone(63, 500);
         break;
     case 6:
         record_beside("lock and unlock at full speed, a collector beside it", 0, 4096, 20000);
