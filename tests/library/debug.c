@@ -696,6 +696,33 @@ static void print_by_another_session(void)
     goodlock_text(&second, &world.report, world.buffer, sizeof world.buffer, &world.needed);
 }
 
+static void count_cycles(void)
+{
+    goodlock_cycles(&world.report, &world.cycles, &world.more);
+}
+
+static void *count_cycles_there(void *unused)
+{
+    (void)unused;
+    count_cycles();
+    return NULL;
+}
+
+static void meet_a_count(void)
+{
+    pthread_t thread;
+    if (pthread_create(&thread, NULL, count_cycles_there, NULL) == 0)
+        pthread_join(thread, NULL);
+}
+
+/* Another thread has the report as its second handle. */
+static void count_while_it_prints(void)
+{
+    begin();
+    hook = meet_a_count;
+    goodlock_text(&world.session, &world.report, world.buffer, sizeof world.buffer, &world.needed);
+}
+
 static void write_beyond_the_buffer(void)
 {
     union {
@@ -706,10 +733,15 @@ static void write_beyond_the_buffer(void)
     goodlock_text(&world.session, &world.report, both.bytes + 1, 15, &both.needed);
 }
 
+/* A lane that is full isn't closed by the call that says so. */
 static void leave_all(void)
 {
+    static goodlock_lane full;
     begin();
-    expect("lane", goodlock_lane_open(&world.session, (goodlock_lane *)&second, &world.thread), GOODLOCK_OK);
+    expect("lane", goodlock_lane_open(&world.session, &full, &world.thread), GOODLOCK_OK);
+    for (unsigned i = 0; i < 8; i++)
+        expect("record", goodlock_acquire(&full, 0, 0), GOODLOCK_OK);
+    expect("close", goodlock_close(&full), GOODLOCK_FULL);
 }
 
 static void leave_a_lane(void)
@@ -781,6 +813,8 @@ static void try_rest(void)
               "lane 599 of session 11 was given back by goodlock_lane_free");
     try_alone("goodlock_text", print_by_another_session, "the text of a report is made by its own session",
               "a report of session 7 was given to session 8");
+    try_alone("goodlock_cycles", count_while_it_prints, ALONE,
+              "another thread is in goodlock_text with a report of session 7");
     try_alone("goodlock_text", write_beyond_the_buffer, APART, "`buffer` and `needed` overlap");
     try_alone(leave, leave_all, rest,
               "left are sessions: 1, lanes: 2 (not closed: 1), reports: 1; the first is session 7");
@@ -872,7 +906,7 @@ static void misuse(void)
     goodlock_lane copy;
     begin();
     copy = world.lane;
-    expect("open twice", goodlock_open(8, 1, 1, &world.session), GOODLOCK_MISUSE);
+    expect("open twice", goodlock_open(7, 1, 1, &world.session), GOODLOCK_MISUSE);
     expect("a lane in use", goodlock_lane_open(&world.session, &copy, &world.at), GOODLOCK_MISUSE);
     expect("closed twice", goodlock_close(&copy), GOODLOCK_MISUSE);
     expect("a report twice", goodlock_report_so_far(&world.session, 2, 4, 10, &world.report), GOODLOCK_MISUSE);
@@ -973,6 +1007,46 @@ static void work_side_by_side(void)
     end();
 }
 
+static pthread_barrier_t is_over, is_done;
+
+/* A call far down the stack, where nothing is written over it afterwards. */
+static void be_busy_below(void)
+{
+    volatile uint8_t room[20000];
+    room[0] = 1;
+    be_busy("session");
+    room[1] = room[0];
+}
+
+static void *work_and_wait(void *unused)
+{
+    (void)unused;
+    hook = meet_with_a_lane;
+    be_busy_below();
+    pthread_barrier_wait(&is_over);
+    pthread_barrier_wait(&is_done);
+    return NULL;
+}
+
+/* A call that began before another one and ended after it is over, while its thread still stands. */
+static void work_after_both(void)
+{
+    pthread_t thread;
+    begin();
+    expect("lane", goodlock_lane_open(&world.session, &busy_lane, &world.thread), GOODLOCK_OK);
+    pthread_barrier_init(&is_over, NULL, 2);
+    pthread_barrier_init(&is_done, NULL, 2);
+    if (pthread_create(&thread, NULL, work_and_wait, NULL) != 0)
+        abort();
+    pthread_barrier_wait(&is_over);
+    expect("pull", goodlock_pull(&world.session, 10, &world.pulled), GOODLOCK_OK);
+    expect("hand in", goodlock_hand_in(&world.session, &busy_lane), GOODLOCK_OK);
+    pthread_barrier_wait(&is_done);
+    pthread_join(thread, NULL);
+    check(has_met, "a third thread worked meanwhile");
+    end();
+}
+
 /* A report with its own names is printed by any session. */
 static void print_by_mention(void)
 {
@@ -1045,6 +1119,7 @@ static void try_right(void)
     try_alone("many", open_many, NULL, "");
     try_alone("memory", refuse_memory, NULL, "");
     try_alone("side by side", work_side_by_side, NULL, "");
+    try_alone("after both", work_after_both, NULL, "");
     try_alone("by mention", print_by_mention, NULL, "");
     try_alone("nothing", write_nothing, NULL, "");
     try_alone("the other file", open_there, NULL, "");
