@@ -43,9 +43,9 @@
  *
  * ---- What it costs
  *
- * Each call takes a lock of all handles twice and asks for the process id: some hundred nanoseconds, more where many
- * threads record at once. A call that opens something takes memory of malloc (MEMORY, if it is refused), which it keeps
- * for each session that was ever opened. Waiting for the lock, threads yield.
+ * Each call takes a lock of all handles twice and asks for the process id: about 150 nanoseconds where nobody else
+ * calls, more where many threads record at once. A call that opens something takes memory by calloc (MEMORY, if it is
+ * refused), which it keeps for each session that was ever opened. Waiting for the lock, threads yield.
  *
  * ---- How a program is built with it
  *

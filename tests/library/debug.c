@@ -490,6 +490,16 @@ static void call_in_a_child(void)
     _exit(0);
 }
 
+/* The call, and others after it. */
+static void go_on_after_the_call(void)
+{
+    begin();
+    fill();
+    make_it();
+    make_it();
+    end();
+}
+
 static bool is_handle(const char *word)
 {
     return strcmp(word, "session") == 0 || strcmp(word, "lane") == 0 || strcmp(word, "report") == 0;
@@ -561,6 +571,9 @@ static void try_call(const struct call *call)
     begin_trial("within a call", call_within_a_call, INSIDE);
     trial.call = call;
     snprintf(trial.happened, LINE, "this thread is in goodlock_lock");
+    try_it();
+    begin_trial("no promise is broken", go_on_after_the_call, NULL);
+    trial.call = call;
     try_it();
     begin_trial("in a child", call_in_a_child, CHILD);
     trial.call = call;
