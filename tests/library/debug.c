@@ -670,21 +670,26 @@ static void use_what_was_handed_in(void)
 }
 
 static goodlock_session many[2];
+static goodlock_lane many_lanes[2 * LANES];
+
+static void open_many_lanes(void)
+{
+    uint32_t thread;
+    expect("open", goodlock_open(10, LANES, 1, &many[0]), GOODLOCK_OK);
+    expect("open", goodlock_open(11, LANES, 1, &many[1]), GOODLOCK_OK);
+    for (unsigned i = 0; i < 2 * LANES; i++)
+        expect("lane", goodlock_lane_open(&many[i / LANES], &many_lanes[i], &thread), GOODLOCK_OK);
+}
 
 /* Opens lanes, more than are remembered, and frees them; the first one, and the last one, as they were. */
 static void open_and_free_many(goodlock_lane *first, goodlock_lane *last)
 {
-    static goodlock_lane lanes[2 * LANES];
-    uint32_t thread;
-    for (unsigned i = 0; i < 2; i++)
-        expect("open", goodlock_open(10 + i, LANES, 1, &many[i]), GOODLOCK_OK);
-    for (unsigned i = 0; i < 2 * LANES; i++)
-        expect("lane", goodlock_lane_open(&many[i / LANES], &lanes[i], &thread), GOODLOCK_OK);
-    *first = lanes[0];
-    *last = lanes[2 * LANES - 1];
+    open_many_lanes();
+    *first = many_lanes[0];
+    *last = many_lanes[2 * LANES - 1];
     for (unsigned i = 0; i < 2 * LANES; i++) {
-        goodlock_close(&lanes[i]);
-        goodlock_lane_free(&lanes[i]);
+        goodlock_close(&many_lanes[i]);
+        goodlock_lane_free(&many_lanes[i]);
     }
 }
 
