@@ -16,6 +16,7 @@ DOC := $(SHARE)/doc/goodlock
 LIBRARY ?= prebuilt/libgoodlock.a
 LIBDIR ?= $(PREFIX)/lib
 INCLUDE := $(PREFIX)/include
+HEADERS := goodlock.h goodlock_debug.h goodlock_names.h goodlock.hpp
 SHARED := libgoodlock.so.0
 VERSION := $(shell sed -n '1s/.*(\(.*\)).*/\1/p' debian/changelog)
 MAN := $(SHARE)/man/man1
@@ -55,7 +56,7 @@ $(OUT)/goodlock.pc: library/goodlock.pc.in FORCE
 
 install-library: library
 	$(INSTALL) -d "$(DESTDIR)$(INCLUDE)" "$(DESTDIR)$(LIBDIR)/pkgconfig" "$(DESTDIR)$(DOC)/examples"
-	$(INSTALL) -m 644 library/goodlock.h library/goodlock_names.h library/goodlock.hpp "$(DESTDIR)$(INCLUDE)"
+	$(INSTALL) -m 644 $(HEADERS:%=library/%) "$(DESTDIR)$(INCLUDE)"
 	$(INSTALL) -m 644 $(LIBRARY) "$(DESTDIR)$(LIBDIR)/libgoodlock.a"
 	$(INSTALL) -m 644 $(OUT)/$(SHARED) "$(DESTDIR)$(LIBDIR)"
 	ln -sf $(SHARED) "$(DESTDIR)$(LIBDIR)/libgoodlock.so"
@@ -84,7 +85,7 @@ uninstall:
 	rm -f $(foreach name,$(COMMANDS),"$(DESTDIR)$(BIN)/$(name)" "$(DESTDIR)$(BASH_COMPLETIONS)/$(name)" \
 	    "$(DESTDIR)$(FISH_COMPLETIONS)/$(name).fish") "$(DESTDIR)$(ZSH_COMPLETIONS)/_goodlock"
 	rm -f "$(DESTDIR)$(MAN)"/goodlock.1 "$(DESTDIR)$(MAN)"/goodlock-*.1
-	rm -f $(foreach name,goodlock.h goodlock_names.h goodlock.hpp,"$(DESTDIR)$(INCLUDE)/$(name)") \
+	rm -f $(foreach name,$(HEADERS),"$(DESTDIR)$(INCLUDE)/$(name)") \
 	    "$(DESTDIR)$(LIBDIR)/pkgconfig/goodlock.pc" \
 	    $(foreach name,libgoodlock.a libgoodlock.so $(SHARED),"$(DESTDIR)$(LIBDIR)/$(name)")
 	rm -rf "$(DESTDIR)$(LIB)" "$(DESTDIR)$(DOC)"

@@ -39,7 +39,8 @@
  *
  * ---- What the caller promises
  *
- * What a call answers, and that it never touches memory that isn't its own, holds where:
+ * What a call answers, and that it never touches memory that isn't its own, holds where (a build with -DGOODLOCK_DEBUG
+ * checks most of it: goodlock_debug.h):
  * - A handle is all zero before the call that opens it, and then changed by these calls alone. It may be moved to
  *   another place in memory, but is never copied for a second use: the old bytes are dead.
  * - A handle is given to one call at a time. Where it goes from one thread to another, something orders the two
@@ -269,6 +270,10 @@ uint32_t goodlock_close(goodlock_lane *lane);
 
 #ifdef __cplusplus
 }
+#endif
+
+#ifdef GOODLOCK_DEBUG /* the calls above and below check what their caller promised */
+#include "goodlock_debug.h"
 #endif
 
 /* ---- In short: goodlock_record with each kind. */

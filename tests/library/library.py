@@ -9,9 +9,11 @@ records random sessions in running threads; each report's text and JSON has to b
 what was recorded, byte for byte. Some hundred of them run under AddressSanitizer, ThreadSanitizer and Valgrind.
 misuse.c uses each call wrongly, refuses memory, forks and leaves in mid-course; order.c tells the same by numbers in
 two orders, and their reports by mention have to be the same; wrapper.cc is of goodlock.hpp, names.c of
-goodlock_names.h, as C and as C++, by many threads and by all short schedules of two or three. Every run has a limit of
-time. The last line is `N passed, N failed`, with `, N skipped` behind it where tools are missing: each is named. PART:
-headers, examples, wrapper, names, sessions, sanitized, misuse, order.
+goodlock_names.h, as C and as C++, by many threads and by all short schedules of two or three; debug.c breaks each
+promise that goodlock_debug.h checks, and the tests above that keep them are run with GOODLOCK_DEBUG, too, in which they
+say the same. Every run has a limit of time. The last line is `N passed, N failed`, with `, N skipped` behind it where
+tools are missing: each is named. PART:
+headers, examples, wrapper, names, sessions, sanitized, misuse, order, debug.
 
 LIBRARY   the archive that is tested   (prebuilt/libgoodlock.a)
 CASES     how many random sessions     (3000, as --cases)
@@ -24,6 +26,7 @@ import os
 import pathlib
 import re
 import shutil
+import signal
 import subprocess
 import sys
 import tempfile
@@ -89,6 +92,11 @@ locks: 22, places: 7
 """
 SANITIZERS = {"plain": [], "address": ["-fsanitize=address,undefined"], "thread": ["-fsanitize=thread"]}
 WRAPS = [f"-Wl,--wrap={name}" for name in ("malloc", "calloc", "realloc", "aligned_alloc")]
+DEBUG = "-DGOODLOCK_DEBUG"
+LEFT = (
+    "goodlock: the end of the program: what was opened is given back: "
+    "left are sessions: 1, lanes: {0} (not closed: {0}), reports: 0; the first is session 1\n"
+)
 
 Done = collections.namedtuple("Done", "status output errors")
 
@@ -213,8 +221,10 @@ class Tests:
             text = "".join(f'#include "{file}"\n#include "{file}"\n' for file in files)
             source = self.folder / f"alone.{'cc' if language == 'c++' else 'c'}"
             source.write_text(text + "int alone;\n")
-            done = run(compiler, f"-std={standard}", *STRICT, "-fsyntax-only", f"-I{HEADERS}", source)
-            self.check(name, done.status == 0, done.errors[-3000:])
+            for more in ([], ["-DGOODLOCK_DEBUG"], ["-DGOODLOCK_DEBUG=2"]):
+                words = [*STRICT, "-Wconversion", *more, "-fsyntax-only", f"-I{HEADERS}"]
+                done = run(compiler, f"-std={standard}", *words, source)
+                self.check(" ".join([name, *more]), done.status == 0, done.errors[-3000:])
 
     # --- The examples
 
@@ -403,6 +413,99 @@ class Tests:
                 for word in ("same", "refused"):
                     self.counted(f"order, {word}, {name}", f"order_{name}", word)
 
+    # --- With GOODLOCK_DEBUG
+
+    def debug(self):
+        self.unchanged()
+        strict = f"{DEBUG}=2"
+        for name, c, cc, language, words in (
+            ("plain", "gcc", "g++", "c", [DEBUG]),
+            ("strict", "gcc", "g++", "c", [strict]),
+            ("clang", "clang", "clang++", "c", [DEBUG]),
+            ("c++", "g++", "g++", "c++", [strict]),
+            ("clang c++", "clang++", "clang++", "c++", [DEBUG]),
+            ("address", "gcc", "g++", "c", [DEBUG, *SANITIZERS["address"]]),
+            ("thread", "gcc", "g++", "c", [DEBUG, *SANITIZERS["thread"]]),
+        ):
+            if shutil.which(c) is None or shutil.which(cc) is None:
+                self.skip(f"debug, {name}", f"{c} or {cc} isn't installed")
+            else:
+                self.debugged(name, c, cc, language, words)
+        self.debugged("shared", "gcc", "g++", "c", [DEBUG, "-fPIC"], is_shared=True)
+        self.debugged_tests()
+        self.debugged_sessions()
+
+    def unchanged(self):
+        """Without GOODLOCK_DEBUG the header makes the code that it would without its lines on it."""
+        text = (HEADERS / "goodlock.h").read_text()
+        less, count = re.subn(r"#ifdef GOODLOCK_DEBUG\b.*?#endif\n", "", text, flags=re.S)
+        self.check("lines on GOODLOCK_DEBUG in goodlock.h", count == 1, f"they stand there {count} times")
+        (self.folder / "less").mkdir()
+        (self.folder / "less" / "goodlock.h").write_text(less)
+        objects = []
+        for name, words in (("as_is", [HEADERS]), ("less", [self.folder / "less"]), ("debug", [HEADERS, DEBUG])):
+            include, *more = words
+            c = ["gcc", "-std=gnu11", "-O1", "-c", f"-I{include}", *more]
+            if self.build(f"{name}.o", *c, HERE / "sessions.c"):
+                objects.append((self.folder / f"{name}.o").read_bytes())
+        is_so = len(objects) == 3 and objects[0] == objects[1] != objects[2]
+        self.check("code without GOODLOCK_DEBUG", is_so, "it isn't that without the lines, or the same with it")
+
+    def debugged(self, name, c, cc, language, words, is_shared=False):
+        """Builds debug.c and debug_other.cc, and runs what they test."""
+        common = ["-O1", "-g", *STRICT, f"-I{HEADERS}", *words]
+        program, other = (f"{part}_{name.replace(' ', '_')}" for part in ("debug", "libother"))
+        first = [c, "-x", language, "-std=gnu++17" if language == "c++" else "-std=gnu11"]
+        if not self.build(f"{program}.o", *first, *common, "-c", HERE / "debug.c"):
+            return
+        if not self.build(f"{other}.o", cc, "-std=c++11", *common, "-c", HERE / "debug_other.cc"):
+            return
+        files = [f"{program}.o", f"{other}.o"]
+        if is_shared:
+            if not self.build(f"{other}.so", cc, "-shared", f"{other}.o"):
+                return
+            files = [f"{program}.o", f"./{other}.so"]
+        rest = [*files, ARCHIVE, *WRAPS, "-Wl,--wrap=free", "-lpthread"]
+        if self.build(program, cc, *words, *rest):
+            for word in ("broken", "right"):
+                self.counted(f"debug, {word}, {name}", program, word, cwd=self.folder)
+
+    def left(self, name, lanes, program, word):
+        """A program that leaves in mid-course is told so."""
+        done = run(self.folder / program, word)
+        is_so = done.status == -signal.SIGABRT and done.errors == LEFT.format(lanes)
+        self.check(name, is_so, f"status {done.status}: {done.errors}")
+
+    def debugged_tests(self):
+        """What other parts run, with GOODLOCK_DEBUG."""
+        c = ["-O1", "-g", *STRICT, f"-I{HEADERS}", DEBUG]
+        environment = {**os.environ, "TSAN_OPTIONS": "detect_deadlocks=0"}
+        for name, more in SANITIZERS.items():
+            rest = [*c, *more, ARCHIVE, "-lpthread"]
+            if self.build(f"debug_misuse_{name}", "gcc", "-std=gnu11", HERE / "misuse.c", *rest, *WRAPS):
+                for word in ("misuse", "limits", "memory", "fork"):
+                    self.counted(f"debug, {word}, {name}", f"debug_misuse_{name}", word)
+                self.left(f"debug, exit, {name}", 2, f"debug_misuse_{name}", "exit")
+            if self.build(f"debug_names_{name}", "gcc", "-std=gnu11", HERE / "names.c", *rest, *WRAPS):
+                for word in ("numbers", "memory", "report", "threads"):
+                    self.counted(f"debug, names, {word}, {name}", f"debug_names_{name}", word)
+            if name == "address":  # its compiler takes half a minute for this file
+                continue
+            if self.build(f"debug_wrapper_{name}", "g++", "-std=c++17", HERE / "wrapper.cc", *rest):
+                for word in ("locks", "threads"):
+                    self.counted(f"debug, wrapper, {word}, {name}", f"debug_wrapper_{name}", word, env=environment)
+                self.left(f"debug, wrapper, leave, {name}", 1, f"debug_wrapper_{name}", "leave")
+        for source, compiler, right in (("bank.c", "gcc", BY_NAME), ("named.c", "gcc", BY_ADDRESS)):
+            if self.build(f"debug_{source}.run", compiler, EXAMPLES / source, *c, ARCHIVE, "-lpthread"):
+                self.example(f"debug, {source}", right, f"./debug_{source}.run")
+
+    def debugged_sessions(self):
+        few = min(self.cases, max(20, self.cases // 10))
+        for name, more in SANITIZERS.items():
+            driver = self.driver(f"debug_driver_{name}", "-O1", DEBUG, *more)
+            if driver is not None:
+                self.sessions_by(f"with GOODLOCK_DEBUG, {name}", driver, few if name == "plain" else few // 3)
+
     def counted(self, name, program, word, **more):
         """Runs a program that counts its own checks in its last line."""
         done = run(self.folder / program, word, seconds=450, **more)
@@ -422,7 +525,7 @@ def main():
     parser = argparse.ArgumentParser(description=__doc__, formatter_class=argparse.RawDescriptionHelpFormatter)
     parser.add_argument("--cases", type=int, default=int(os.environ.get("CASES", "3000")))
     parser.add_argument("--seed", type=int, default=1)
-    parts = ["headers", "examples", "wrapper", "names", "sessions", "sanitized", "misuse", "order"]
+    parts = ["headers", "examples", "wrapper", "names", "sessions", "sanitized", "misuse", "order", "debug"]
     parser.add_argument("--only", choices=parts, action="append", default=[], help="may be said again")
     parser.add_argument("program")
     options = parser.parse_args()

@@ -149,6 +149,7 @@ needs_library = pytest.mark.skipif(archive() is None, reason="there is no archiv
     [
         ("bank.c", "gcc", "T1 holds current"),
         ("bank.cc", "g++", "T1 holds current"),
+        ("bank.c", "gcc -DGOODLOCK_DEBUG", "T1 holds current"),
         ("named.c", "gcc", "T0 holds shelf"),
     ],
 )
@@ -157,9 +158,9 @@ def test_a_program_is_built_by_pkg_config(prefix, source, compiler, held, monkey
     shutil.copy(prefix / "share/doc/goodlock/examples" / source, source)
     flags = run("pkg-config", "--cflags", "--libs", "goodlock")[1].split()
     assert f"-I{prefix}/include" in flags
-    assert run(compiler, source, *flags, "-lpthread", "-o", "shared")[0] == 0
+    assert run(*compiler.split(), source, *flags, "-lpthread", "-o", "shared")[0] == 0
     static = run("pkg-config", "--static", "--libs", "goodlock")[1].replace("-lgoodlock", "-l:libgoodlock.a").split()
-    assert run(compiler, source, f"-I{prefix}/include", *static, "-o", "static")[0] == 0
+    assert run(*compiler.split(), source, f"-I{prefix}/include", *static, "-o", "static")[0] == 0
     by_shared = run("./shared", env={**os.environ, "LD_LIBRARY_PATH": str(prefix / "lib")})
     assert by_shared == run("./static")
     assert by_shared[0] == 0

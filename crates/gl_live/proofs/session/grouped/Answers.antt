@@ -34,7 +34,7 @@ loop-recorder-preserved c =
           let own : at ≡ recorder.thread % c.args.count = ap (λ n. n % c.args.count) (c.number.ensures ∙ c.thread.ensures) in
           let here : group.items ≡ get_or lists at [] = ap (λ g. g.items) c.index_mut.ensures.value ∙ sym (get_or-map (λ g. g.items) groups at group [] within) in
           let pushed : c.push.new.self.items ≡ get_or lists (recorder.thread % c.args.count) [] ++ recorder ∷ [] =
-              c.in_ok-push.ensures.items ∙ ap (λ l. l ++ recorder ∷ []) here ∙ ap (λ k. get_or lists k [] ++ recorder ∷ []) own in
+          c.in_ok-push.ensures.items ∙ ap (λ l. l ++ recorder ∷ []) here ∙ ap (λ k. get_or lists k [] ++ recorder ∷ []) own in
           let more = one_dealt c.args.count c.loop-recorder.yielded recorder lists c.push.new.self.items c.requires.some was.dealt pushed in
           subst (AreDealt c.args.count (c.loop-recorder.yielded ++ recorder ∷ [])) (ap (λ k. set lists k c.push.new.self.items) (sym own) ∙ sym (map-set (λ g. g.items) groups at c.push.new.self)) more;
       left = λ s given. rest_all steps.0 (IsRecorderOf s) (was.left s given);

@@ -24,7 +24,7 @@ invariant_of-self-2 c =
     let cursor_here = rw c.number-index.ensures at c.index_mut.ensures.value in
     let log_here = rw c.number-index.ensures at c.index_mut-2.ensures.value in
     let none = sym (of_known c.self.inside.limits c.self.inside.stream.items c.args.note.now c.self.inside.cursors.items c.self.invariant.cursors_are known c.index_mut.result.now cursor_here
-        None (λ b es tracks. sym (c.in_ok-take_next.ensures.next b es tracks))) in
+    None (λ b es tracks. sym (c.in_ok-take_next.ensures.next b es tracks))) in
     let next = next_of_none c.self.inside.limits c.self.inside.stream.items c.args.note.now none in
     rw (c.in-Ok.ensures.second, c.number-index.ensures)
     (kept_event c.self.inside.limits c.self.inside.stream.items c.self.inside.logs.items c.self.inside.cursors.items c.self.invariant c.args.note.now next
