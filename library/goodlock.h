@@ -258,9 +258,11 @@ void goodlock_report_free(goodlock_report *report);
 /* ---- The lane. These calls are made on the thread whose lane it is (or one at a time: see the promises). They
    never wait, take no memory and make no system call. */
 
-/* Records the thread's next event. *at is its place in the thread's list: how many were recorded before.
-   OK. RANGE (the kind), a refusal: the event may not come next. FULL. MISUSE. Unless OK nothing was recorded,
-   and what is in *at means nothing. What may not come next is tried before whether there is room. */
+/* Records the thread's next event. *at is its place in the thread's list: how many were recorded before. Where the
+   event may not come next, and where there is no room, it is the place that it would have had; RANGE and MISUSE
+   leave *at as it was.
+   OK. RANGE (the kind), a refusal: the event may not come next. FULL. MISUSE. Unless OK nothing was recorded.
+   What may not come next is tried before whether there is room. */
 uint32_t goodlock_record(goodlock_lane *lane, uint32_t kind, uint32_t operand, uint32_t place, uint32_t *at);
 
 /* Ends the recording.

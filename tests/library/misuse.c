@@ -373,6 +373,39 @@ static void settling(void)
     goodlock_session_free(&other);
 }
 
+/* The place that is told: what an event that isn't recorded would have had, and none where there is no such event. */
+static void places(void)
+{
+    goodlock_session session;
+    goodlock_lane lanes[2];
+    uint32_t at = 77;
+    open_two(&session, lanes, 2);
+    expect("a kind", goodlock_record(&lanes[0], 8, 0, 0, &at), GOODLOCK_RANGE);
+    check(at == 77, "no event has no place");
+    expect("a release first", goodlock_record(&lanes[0], GOODLOCK_RELEASE, 0, 0, &at), GOODLOCK_NOT_HELD);
+    check(at == 0, "the place of a refused event, the first");
+    acquire_two(&lanes[0], 0, 1);
+    expect("a full lane", goodlock_record(&lanes[0], GOODLOCK_RELEASE, 1, 1, &at), GOODLOCK_FULL);
+    check(at == 2, "the place of an event that has no room");
+    at = 77;
+    expect("a full lane, itself", goodlock_record(&lanes[0], GOODLOCK_FORK, 0, 0, &at), GOODLOCK_ON_ITSELF);
+    check(at == 2, "the place of a refused event that has no room");
+    pull_all(&session);
+    expect("a release", goodlock_record(&lanes[0], GOODLOCK_RELEASE, 1, 1, &at), GOODLOCK_OK);
+    check(at == 2, "the place of an event that has room now");
+    expect("a second release", goodlock_record(&lanes[0], GOODLOCK_RELEASE, 1, 1, &at), GOODLOCK_NOT_HELD);
+    check(at == 3, "the place of a refused event");
+    expect("close", goodlock_close(&lanes[0]), GOODLOCK_OK);
+    at = 77;
+    expect("record after close", goodlock_record(&lanes[0], GOODLOCK_RELEASE, 0, 0, &at), GOODLOCK_MISUSE);
+    check(at == 77, "an event of a closed lane has no place");
+    goodlock_lane_free(&lanes[0]);
+    expect("record of a freed lane", goodlock_record(&lanes[0], GOODLOCK_ACQUIRE, 0, 0, &at), GOODLOCK_MISUSE);
+    check(at == 77, "an event of no lane has no place");
+    goodlock_lane_free(&lanes[1]);
+    goodlock_session_free(&session);
+}
+
 /* Lanes that outlive their session. */
 static void orphans(void)
 {
@@ -618,6 +651,7 @@ int main(int count, char **words)
         on_nothing();
         out_of_range();
         settling();
+        places();
         orphans();
     } else if (strcmp(word, "limits") == 0) {
         held_locks();

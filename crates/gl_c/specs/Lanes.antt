@@ -1,5 +1,5 @@
 -- What the calls on a lane do.
-use Rattle.std.specs.Prelude.{◌≡◌, ℕ, ◌<◌, [], ◌∷◌, Option, Some, None, length}
+use Rattle.std.specs.Prelude.{◌≡◌, ℕ, ◌+◌, ◌<◌, ◌≤◌, [], ◌∷◌, Option, Some, None, length}
 use Rattle.gl_event.specs.Lawful.{refusal}
 use Rattle.gl_event.specs.declared.events.Event.{Event}
 use Rattle.gl_event.specs.declared.events.Refusal.{Refusal}
@@ -10,18 +10,24 @@ use Rattle.gl_c.specs.declared.codes.TheConstants.{OK, FULL, MISUSE, RANGE, UNCO
 use Rattle.gl_c.specs.declared.lane_state.LaneState.{LaneState}
 use Rattle.gl_c.specs.declared.lane_state.LaneState.TheVariants.{Recording as Runs, Closed as HasClosed, Lost}
 
--- what recording an event answers: it is recorded, and its place told; or there is no room; or it may not come next
-pub record IsRecordOn (old : Recording) (event : Event) (place : ℕ) (answer : ℕ) (told : ℕ) (new : Recording) : Type 0 where
-  pub done : answer ≡ OK → (refusal old.limits old.thread (recorded old) event ≡ None) × (told ≡ length (recorded old)) × (new ≡ with_pushed old (next_note old event) new.room)
-  pub full : answer ≡ FULL → (refusal old.limits old.thread (recorded old) event ≡ None) × (told ≡ place) × (new ≡ seen_full old)
-  pub refused : (why : Refusal) → refusal old.limits old.thread (recorded old) event ≡ Some why → (answer ≡ refusal_code why) × (told ≡ place) × (new ≡ old)
+-- what recording an event answers: it is recorded, which takes one of the certain room at most; or there is no room; or
+-- it may not come next. In each case the place that it has in the thread's list, or would have had, is told
+pub record IsRecordOn (old : Recording) (event : Event) (answer : ℕ) (told : ℕ) (new : Recording) : Type 0 where
+  pub done : answer ≡ OK → (refusal old.limits old.thread (recorded old) event ≡ None)
+      × (told ≡ length (recorded old))
+      × (new ≡ with_pushed old (next_note old event) new.room)
+      × (old.room ≤ new.room + 1)
+  pub full : answer ≡ FULL → (refusal old.limits old.thread (recorded old) event ≡ None)
+      × (told ≡ length (recorded old)) × (new ≡ seen_full old)
+  pub refused : (why : Refusal) → refusal old.limits old.thread (recorded old) event ≡ Some why
+      → (answer ≡ refusal_code why) × (told ≡ length (recorded old)) × (new ≡ old)
   pub else : refusal old.limits old.thread (recorded old) event ≡ None → IsOneOf answer (OK ∷ FULL ∷ [])
   pub sure : 0 < old.room → refusal old.limits old.thread (recorded old) event ≡ None → answer ≡ OK
 
--- the event is recorded, if there is a kind of event with this number
+-- the event is recorded, if there is a kind of event with this number; and else nothing is told
 abbrev pub IsRecordOfKind : Recording → Option Event → ℕ → ℕ → ℕ → Recording → Type 0
 IsRecordOfKind old None was answer told new = (answer ≡ RANGE) × (told ≡ was) × (new ≡ old)
-IsRecordOfKind old (Some event) was answer told new = IsRecordOn old event was answer told new
+IsRecordOfKind old (Some event) was answer told new = IsRecordOn old event answer told new
 
 -- an event is recorded on a lane that is recorded on, and on no other
 abbrev pub IsRecordOfState : LaneState → ℕ → ℕ → ℕ → ℕ → ℕ → ℕ → LaneState → Type 0

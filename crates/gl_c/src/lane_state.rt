@@ -18,15 +18,13 @@ pub enum LaneState {
     Lost,
 }
 
-// Records the event.
+// Records the event, and tells the place that it has in the thread's list, or would have had.
 fn record_event(recorder: &mut Recorder, event: Event, at: &mut u32) -> u32
-    ensures { IsRecordOn recorder.old event at.old result at.new recorder.new }
+    ensures { IsRecordOn recorder.old event result at.new recorder.new }
 {
+    *at = recorder.taken();
     match recorder.record(event) {
-        Ok(place) => {
-            *at = place;
-            OK
-        }
+        Ok(_) => OK,
         Err(RecordFault::Full(_)) => FULL,
         Err(RecordFault::Refused(why)) => refusal_code(why),
     }

@@ -1,7 +1,8 @@
 //! Opening a session, and freeing it.
-ghost use Rattle.std.specs.Prelude.{◌≡◌, [], None, IfOk};
+ghost use Rattle.std.specs.Prelude.{◌≡◌, [], None, IfOk, OnOk};
 ghost use Rattle.gl_event.specs.Bounds.{of_session};
-ghost use Rattle.gl_c.specs.Opening.{IsNewSession, IsOpening};
+ghost use Rattle.gl_std.specs.Names.{with_new};
+ghost use Rattle.gl_c.specs.Opening.{thread_name, thread_names, IsNewSession, IsOpening};
 
 use crate::codes::{MEMORY, MISUSE, OK, RANGE};
 use crate::session::Session;
@@ -14,6 +15,8 @@ use std::alloc::{AllocError, Global};
 
 // Gives the thread with the next number its name: `T`, and the number.
 fn name_thread(names: &mut Names, alloc: Global, thread: u32) -> Result<(), Memory>
+    ensures named { OnOk result
+        (names.new.threads ≡ with_new names.old.threads (thread_name thread)) }
     ensures locks { names.new.locks ≡ names.old.locks }
     ensures places { names.new.locs ≡ names.old.locs }
 {
@@ -29,7 +32,8 @@ fn name_thread(names: &mut Names, alloc: Global, thread: u32) -> Result<(), Memo
 
 // The names of so many threads, and no others.
 fn thread_names(alloc: Global, threads: u32) -> Result<Names, Memory>
-    ensures { IfOk result (λ names. (names.locks ≡ []) × (names.locs ≡ [])) }
+    ensures { IfOk result (λ names. (names.threads ≡ thread_names threads)
+        × (names.locks ≡ []) × (names.locs ≡ [])) }
 {
     let mut names = Names::new(alloc, Seed::fixed());
     for thread in 0..threads {
