@@ -195,6 +195,15 @@ SETTLE_RECEIPTS = settled([], 0)
 # The second lock is wanted beside one, the third one beside two.
 SETTLE_EDGES = settled([FIRST, SECOND, acquire(2, 3)], 3)
 
+# Two edges come to a worker, whose gate prints the shard and how many edges came before. A gate without memory is
+# passed all the same, so the script goes on after it. A worker without begins once more.
+FIRST_GATE, SECOND_GATE, WORKER = 4, 5, 6
+GATE_BEFORE_TABLE = [
+    WORDS, Call("feed", None, "()"), Call("edge", None, "()"), Call("edge", None, "()"),
+    Call("gate", "[1, 0]", "(1, 0)", SECOND_GATE), Call("gate", "[1, 1]", "(1, 1)", WORKER),
+    Call("worker", "(false, 2)", "false", 1),
+]  # fmt: skip
+
 SCRIPTS = {
     "crossed_releases": CROSSED_RELEASES,
     "least_sample": LEAST_SAMPLE,
@@ -205,6 +214,7 @@ SCRIPTS = {
     "report_so_far_drops": REPORT_SO_FAR_DROPS,
     "settle_receipts": SETTLE_RECEIPTS,
     "settle_edges": SETTLE_EDGES,
+    "gate_before_table": GATE_BEFORE_TABLE,
 }
 # Calls that have to be refused in some run.
 REFUSED = {
@@ -217,6 +227,7 @@ REFUSED = {
     "report_so_far_drops": {"words", "open", "pull", "report"},
     "settle_receipts": {"words", "open", "feed", "outlets", "settle", "report"},
     "settle_edges": {"words", "open", "feed", "outlets", "settle", "worker", "report"},
+    "gate_before_table": {"words", "feed", "edge", "gate", "worker"},
 }
 
 
@@ -254,6 +265,16 @@ def pull_refused_once(outputs):
     return refused_at(RING_OF_ONE, first) in outputs
 
 
+def gate_refused_first(outputs):
+    """Whether a growth of the gate's for the first edge comes first, then one of the table's, then the gate's next one.
+
+    The gate grows within the worker's call, whose answer is printed last: so the output of one run doesn't tell which
+    of the two grew first. The numbers of the growths that were refused to them do."""
+    told = [refused_at(GATE_BEFORE_TABLE, at) for at in (FIRST_GATE, WORKER, SECOND_GATE)]
+    numbers = [outputs.index(answer) for answer in told if answer in outputs]
+    return len(numbers) == len(told) and numbers == sorted(numbers)
+
+
 # --- Refused runs ---------------------------------------------------------------------------------------
 
 
@@ -269,21 +290,22 @@ def sweep(tests, runner, name):
     check(tests, f"{name}", [whole], runner.run(name, b""))
     answers = refused_answers(calls)
     right = [whole, *((answer, b"", 0) for answer in answers)]
-    outputs, count = set(), 0
+    outputs = []
     for number, run in runner.sweep(name, b"", "memory", "once"):
         check(tests, f"{name}, memory once call {number}", right, run)
-        outputs.add(run.answer[0])
-        count += 1
+        outputs.append(run.answer[0])
     missing = REFUSED[name].difference(*(answers.get(output, set()) for output in outputs))
     tests.check_that(f"{name}", not missing, f"never refused: {', '.join(sorted(missing))}")
     if name == "ring_of_one":
         tests.check_that(
             "pull_refused_once", pull_refused_once(outputs), "no run has the first pull refused and made again"
         )
+    if name == "gate_before_table":
+        tests.check_that("gate_refused_first", gate_refused_first(outputs), "the gate's growth isn't the first")
     for number, run in runner.sweep(name, b"", "memory", "onwards"):
         status = run.answer[2]
         tests.check_that(f"{name}, memory onwards call {number}", status in (0, 3), f"status {status}")
-    print(f"{name}: {count} growths refused")
+    print(f"{name}: {len(outputs)} growths refused")
 
 
 def main():

@@ -7,6 +7,7 @@
 #![tactic(auto)]
 
 mod edges;
+mod gates;
 mod known;
 mod reports;
 mod say;
@@ -37,6 +38,7 @@ fn script<T: Threads + Wait + Sync>(rt: &HostRuntime, threads: &T, name: &str) -
         "report_so_far_drops" => sessions::report_so_far_drops(rt),
         "settle_receipts" => settling::settle_receipts(rt, threads),
         "settle_edges" => settling::settle_edges(rt, threads),
+        "gate_before_table" => gates::gate_before_table(rt, threads),
         _ => Err(Stop::Unknown),
     }
 }

@@ -38,8 +38,8 @@ fn recorded_alone(
     Ok((receipt, collector))
 }
 
-// The ends of a feed, for which memory may be refused once. It has room for all that is sent.
-fn ends(rt: &HostRuntime) -> Result<(Outlet, Inlet), Memory>
+/// The ends of a feed, for which memory may be refused once. It has room for all that is sent.
+pub(crate) fn ends(rt: &HostRuntime) -> Result<(Outlet, Inlet), Memory>
     ensures one_feed { IfOk result (λ ends. ends.1.feed ≡ ends.0.feed) }
     ensures empty { IfOk result (λ ends. ends.0.sent ≡ []) }
 {
@@ -122,8 +122,12 @@ fn only_sent(sent: Vec<Sent>) -> Result<Sent, Stop>
     }
 }
 
-// The worker's table. There is none where it had no memory: it has taken all that was sent then.
-fn settle_worker(rt: &HostRuntime, served: Served, sent: Sent) -> Result<Option<Table>, Stop>
+/// The worker's table. There is none where it had no memory: it has taken all that was sent then.
+pub(crate) fn settle_worker(
+    rt: &HostRuntime,
+    served: Served,
+    sent: Sent,
+) -> Result<Option<Table>, Stop>
     requires one_feed { served.feed ≡ sent.feed }
 {
     let is_cut = served.cut();
