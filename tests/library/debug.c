@@ -46,6 +46,29 @@ static void come_by(void)
     own();
 }
 
+static void (*meanwhile)(void); /* what another thread does while a call is made */
+
+static void *do_meanwhile(void *unused)
+{
+    (void)unused;
+    meanwhile();
+    return NULL;
+}
+
+static void meet(void)
+{
+    pthread_t thread;
+    if (pthread_create(&thread, NULL, do_meanwhile, NULL) == 0)
+        pthread_join(thread, NULL);
+}
+
+/* Another thread does this, and is through with it, when the next call takes or gives back memory. */
+static void meet_with(void (*other)(void))
+{
+    meanwhile = other;
+    hook = meet;
+}
+
 #ifdef __cplusplus
 extern "C" {
 #endif
@@ -287,21 +310,6 @@ static void make_it(void)
     trial.call->make(trial.at);
 }
 
-static void *make_it_there(void *unused)
-{
-    (void)unused;
-    make_it();
-    return NULL;
-}
-
-/* Another thread makes it now. */
-static void meet_it(void)
-{
-    pthread_t thread;
-    if (pthread_create(&thread, NULL, make_it_there, NULL) == 0)
-        pthread_join(thread, NULL);
-}
-
 /* The process of a trial. */
 static void child(int errors)
 {
@@ -447,7 +455,7 @@ static void hand_over_a_busy_one(void)
 {
     begin();
     fill();
-    hook = meet_it;
+    meet_with(make_it);
     be_busy(trial.call->words[trial.one]);
 }
 
@@ -459,7 +467,7 @@ static void hand_over_a_busy_ones_copy(void)
     fill();
     copy = held(trial.at[trial.one]);
     trial.at[trial.one] = &copy;
-    hook = meet_it;
+    meet_with(make_it);
     be_busy(trial.call->words[trial.one]);
 }
 
@@ -604,24 +612,10 @@ static void open_second(void)
     goodlock_open(7, 1, 1, &second);
 }
 
-static void *open_second_there(void *unused)
-{
-    (void)unused;
-    open_second();
-    return NULL;
-}
-
-static void meet_second(void)
-{
-    pthread_t thread;
-    if (pthread_create(&thread, NULL, open_second_there, NULL) == 0)
-        pthread_join(thread, NULL);
-}
-
 /* Another session of this number is opened while this one is: after the memory that the check takes. */
 static void open_the_same_number_at_once(void)
 {
-    hook = meet_second;
+    meet_with(open_second);
     hook_after = 3;
     goodlock_open(7, 2, 8, &world.session);
 }
@@ -631,24 +625,10 @@ static void open_the_first(void)
     goodlock_open(9, 1, 1, &world.session);
 }
 
-static void *open_the_first_there(void *unused)
-{
-    (void)unused;
-    open_the_first();
-    return NULL;
-}
-
-static void meet_the_first(void)
-{
-    pthread_t thread;
-    if (pthread_create(&thread, NULL, open_the_first_there, NULL) == 0)
-        pthread_join(thread, NULL);
-}
-
 /* Another thread opens the same handle. */
 static void open_at_once(void)
 {
-    hook = meet_the_first;
+    meet_with(open_the_first);
     hook_after = 3;
     goodlock_open(7, 2, 8, &world.session);
 }
@@ -719,25 +699,11 @@ static void count_cycles(void)
     goodlock_cycles(&world.report, &world.cycles, &world.more);
 }
 
-static void *count_cycles_there(void *unused)
-{
-    (void)unused;
-    count_cycles();
-    return NULL;
-}
-
-static void meet_a_count(void)
-{
-    pthread_t thread;
-    if (pthread_create(&thread, NULL, count_cycles_there, NULL) == 0)
-        pthread_join(thread, NULL);
-}
-
 /* Another thread has the report as its second handle. */
 static void count_while_it_prints(void)
 {
     begin();
-    hook = meet_a_count;
+    meet_with(count_cycles);
     goodlock_text(&world.session, &world.report, world.buffer, sizeof world.buffer, &world.needed);
 }
 
@@ -997,20 +963,11 @@ static void refuse_memory(void)
 static goodlock_lane busy_lane;
 static bool has_met;
 
-static void *record_there(void *unused)
+static void record_there(void)
 {
-    (void)unused;
     has_met = true;
     expect("a record while a name is told", goodlock_acquire(&busy_lane, 0, 0), GOODLOCK_OK);
     expect("a close while a name is told", goodlock_close(&busy_lane), GOODLOCK_OK);
-    return NULL;
-}
-
-static void meet_with_a_lane(void)
-{
-    pthread_t thread;
-    if (pthread_create(&thread, NULL, record_there, NULL) == 0)
-        pthread_join(thread, NULL);
 }
 
 /* Two threads are in calls at once, on a session and on its lane. */
@@ -1018,7 +975,7 @@ static void work_side_by_side(void)
 {
     begin();
     expect("lane", goodlock_lane_open(&world.session, &busy_lane, &world.thread), GOODLOCK_OK);
-    hook = meet_with_a_lane;
+    meet_with(record_there);
     be_busy("session");
     check(has_met, "the other thread worked meanwhile");
     expect("hand in", goodlock_hand_in(&world.session, &busy_lane), GOODLOCK_OK);
@@ -1039,7 +996,7 @@ static void be_busy_below(void)
 static void *work_and_wait(void *unused)
 {
     (void)unused;
-    hook = meet_with_a_lane;
+    meet_with(record_there);
     be_busy_below();
     pthread_barrier_wait(&is_over);
     pthread_barrier_wait(&is_done);

@@ -12,8 +12,7 @@ two orders, and their reports by mention have to be the same; wrapper.cc is of g
 goodlock_names.h, as C and as C++, by many threads and by all short schedules of two or three; debug.c breaks each
 promise that goodlock_debug.h checks, and the tests above that keep them are run with GOODLOCK_DEBUG, too, in which they
 say the same. Every run has a limit of time. The last line is `N passed, N failed`, with `, N skipped` behind it where
-tools are missing: each is named. PART:
-headers, examples, wrapper, names, sessions, sanitized, misuse, order, debug.
+tools are missing: each is named. PART: headers, examples, wrapper, names, sessions, sanitized, misuse, order, debug.
 
 LIBRARY   the archive that is tested   (prebuilt/libgoodlock.a)
 CASES     how many random sessions     (3000, as --cases)
