@@ -175,8 +175,18 @@ static void wakes(void)
 }
 
 /* A pool whose workers take tasks; two tasks have opposite orders. Workers in step would give all of them to one worker: so the
-   one with the first such task keeps it until another one has the first task of the other order. */
-static int next_task;
+   one with the first such task keeps it until another one has the first task of the other order. By themselves workers come
+   into these tasks one after the other: one waits until no other is there, for a tenth of a second at the most, so that who holds
+   one of them up for longer has them meet. */
+static int next_task, is_taken;
+
+static void both_in_turn(pthread_mutex_t *first, pthread_mutex_t *second)
+{
+    for (int looks = 0; looks < 100 && __atomic_exchange_n(&is_taken, 1, __ATOMIC_RELAXED); looks++)
+        usleep(1000);
+    both(first, second);
+    __atomic_store_n(&is_taken, 0, __ATOMIC_RELAXED);
+}
 
 static void *worker(void *unused)
 {
@@ -184,11 +194,11 @@ static void *worker(void *unused)
     while ((task = __atomic_fetch_add(&next_task, 1, __ATOMIC_RELAXED)) < 40) {
         usleep(2000);
         if (task % 8 == 3)
-            both(&a, &b);
+            both_in_turn(&a, &b);
         while (task == 3 && __atomic_load_n(&next_task, __ATOMIC_RELAXED) <= 7)
             usleep(100);
         if (task % 8 == 7)
-            both(&b, &a);
+            both_in_turn(&b, &a);
     }
     return unused;
 }
