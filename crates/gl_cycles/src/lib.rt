@@ -15,6 +15,8 @@
 //! [`trim`], of gl_trims, takes away edges that nothing may follow in a cycle, or that may follow
 //! nothing. No edge of a cycle is among them, as [`cycles_survive_trims`] says. So where all go there is
 //! no cycle, in whichever order they go: [`removal_fault`] checks an order that was given.
+//!
+//! docs/GLOSSARY.md has its words beside those of the field.
 #![tactic(auto)]
 
 mod found;

@@ -20,7 +20,7 @@ use Rattle.gl_edges.proofs.Holding.{guards_are}
 use Rattle.gl_edges.specs.Guards.{guards_of}
 use Rattle.gl_edges.specs.Edges.{once, pair_at, edges_wanting, edges_after, edges_at, edges_below, edges_of_list, edges_made}
 use Rattle.gl_edges.specs.bodies.Tables.{IsTableOf}
-use Rattle.gl_edges.specs.Tracking.{Tracks, MayFollow}
+use Rattle.gl_edges.specs.Tracking.{Follows, IsNextFor}
 use Rattle.gl_edges.specs.bodies.Gatherers.{pair_for}
 use Rattle.gl_edges.specs.declared.edge.Edge.{Edge}
 use Rattle.gl_edges.specs.declared.edge.Sample.{Sample}
@@ -90,7 +90,7 @@ pub wanting_none : (thread : ℕ) (es : List Event) (wanted : ℕ) (mode : LockM
 unfolding edges_wanting
 wanting_none thread es wanted mode loc deep = ap (λ b. cond b (map (pair_at thread es wanted mode loc) (held es)) []) (ne_eqb (depth es wanted) 0 (λ e. absurd (omega arith)))
 
-module _ (thread : ℕ) (es : List Event) (tracker : Tracker) (tracked : Tracks thread es tracker) (wanted : ℕ) (mode : LockMode) (loc : ℕ) where
+module _ (thread : ℕ) (es : List Event) (tracker : Tracker) (tracked : Follows thread es tracker) (wanted : ℕ) (mode : LockMode) (loc : ℕ) where
   -- a tracked thread makes for a held lock the pair that the definition says
   pub pair_for_is : (lock : ℕ) (h : HeldEntry) → h ≡ entry_of es lock → pair_for tracker wanted mode loc h ≡ pair_at thread es wanted mode loc lock
   pair_for_is lock h is =
@@ -172,29 +172,29 @@ edges_below_more thread es i e at =
     from_zero : 0 + i ≡ i
     from_zero = omega arith
 
-module _ (thread : ℕ) (es : List Event) (i : ℕ) (e : Event) (tracker : Tracker) (within : i < length es) (item : e ≡ get_or es i e) (tracked : Tracks thread (take i es) tracker) where
+module _ (thread : ℕ) (es : List Event) (i : ℕ) (e : Event) (tracker : Tracker) (within : i < length es) (item : e ≡ get_or es i e) (tracked : Follows thread (take i es) tracker) where
   -- the event at its place
   at_place : slice_get es i ≡ Some e
   at_place = slice_get_read es (length es) i e refl within item
 
   -- a tracker may take the next event of a lawful list
-  pub follows_next : IsLawful greatest thread es → MayFollow tracker e
+  pub follows_next : IsLawful greatest thread es → IsNextFor tracker e
   follows_next lawful = record {
     es = take i es;
-    tracked = record { of_thread = refl; stands = tracked.stands };
+    stands = tracked.stands;
     allowed = subst (λ t. refusal greatest t (take i es) e ≡ None) (sym tracked.of_thread) (lawful.each i e at_place);
   }
 
   -- and then follows one event more
-  pub followed : (new : Tracker) → Tracks thread (take i es ++ e ∷ []) new → Tracks thread (take (i + 1) es) new
-  followed new is = subst (λ xs. Tracks thread xs new) (ap (λ x. take i es ++ x ∷ []) item ∙ sym (take_more es i e within)) is
+  pub followed : (new : Tracker) → Follows thread (take i es ++ e ∷ []) new → Follows thread (take (i + 1) es) new
+  followed new is = subst (λ xs. Follows thread xs new) (ap (λ x. take i es ++ x ∷ []) item ∙ sym (take_more es i e within)) is
 
   -- the pairs then have the edges of one place more
   pub pairs_event : (pairs : List (Edge × Sample)) → (pairs ++ edges_below thread es i) ++ edges_after thread (take i es) e ≡ pairs ++ edges_below thread es (i + 1)
   pairs_event pairs = append_assoc pairs (edges_below thread es i) (edges_after thread (take i es) e) ∙ ap (λ xs. pairs ++ xs) (sym (edges_below_more thread es i e at_place))
 
 -- before the first event
-pub tracks_start : (thread : ℕ) (es : List Event) (tracker : Tracker) → Tracks thread [] tracker → Tracks thread (take 0 es) tracker
+pub tracks_start : (thread : ℕ) (es : List Event) (tracker : Tracker) → Follows thread [] tracker → Follows thread (take 0 es) tracker
 tracks_start thread es tracker is = is
 
 -- the table has the edges of all places

@@ -18,7 +18,7 @@ use Rattle.gl_edges.specs.Laws.{AreAmong}
 use Rattle.gl_edges.specs.Order.{sample_cmp}
 use Rattle.gl_edges.specs.bodies.Tables.{IsTableOf}
 use Rattle.gl_edges.specs.bodies.Seen.{edges_now}
-use Rattle.gl_edges.specs.Tracking.{Tracks}
+use Rattle.gl_edges.specs.Tracking.{Follows}
 use Rattle.gl_edges.specs.declared.edge.Edge.{Edge}
 use Rattle.gl_edges.specs.declared.edge.Sample.{Sample}
 use Rattle.gl_edges.specs.declared.gather.Gatherer.{Gatherer}
@@ -133,7 +133,7 @@ gathers_nothing pairs none place gatherer nothing is =
     (record { table = is.table; seen = λ edge at. let (sample, there, early) = is.seen edge at in (sample, there, omega (arith, early)) })
 
 -- an acquire of a lock that isn't held
-pub gathers_acquire : (thread : ℕ) (es : List Event) (tracker : Tracker) → Tracks thread es tracker → (wanted : ℕ) (mode : LockMode) (loc : ℕ) (pairs : List (Edge × Sample)) (gatherer : Gatherer) → depth es wanted ≡ 0
+pub gathers_acquire : (thread : ℕ) (es : List Event) (tracker : Tracker) → Follows thread es tracker → (wanted : ℕ) (mode : LockMode) (loc : ℕ) (pairs : List (Edge × Sample)) (gatherer : Gatherer) → depth es wanted ≡ 0
     → Gathers (pairs ++ more tracker wanted mode loc) (tracker.state.events + 1) gatherer → Gathers (pairs ++ edges_wanting thread es wanted mode loc) (length es + 1) gatherer
 gathers_acquire thread es tracker tracked wanted mode loc pairs gatherer free is =
     subst (λ xs. Gathers (pairs ++ xs) (length es + 1) gatherer) (sym (wanting_is thread es wanted mode loc free))

@@ -21,7 +21,7 @@ use Rattle.gl_event.specs.declared.events.Event.{Event}
 use Rattle.gl_event.specs.declared.held.HeldEntry.{HeldEntry}
 use Rattle.gl_edges.specs.Edges.{guards, edge_of, pair_at, edges_wanting, edges_after, edges_at}
 use Rattle.gl_edges.specs.Order.{edge_cmp, AreAscending, IsAboveLast}
-use Rattle.gl_edges.specs.Tracking.{Tracks}
+use Rattle.gl_edges.specs.Tracking.{Follows}
 use Rattle.gl_edges.specs.declared.edge.Edge.{Edge}
 use Rattle.gl_edges.specs.declared.edge.Sample.{Sample}
 use Rattle.gl_edges.specs.declared.tracker.Tracker.{Tracker}
@@ -91,7 +91,7 @@ ascending_push pairs edge sample up above =
 
 -- ---- the pairs of an acquire
 
-module _ (thread : ℕ) (es : List Event) (tracker : Tracker) (tracked : Tracks thread es tracker) (wanted : ℕ) (mode : LockMode) (loc : ℕ) where
+module _ (thread : ℕ) (es : List Event) (tracker : Tracker) (tracked : Follows thread es tracker) (wanted : ℕ) (mode : LockMode) (loc : ℕ) where
   -- the pair of a held lock is that of the definition
   pair_of_entry : (h : HeldEntry) (lock : ℕ) (guards : List Guard) → Contains tracker.state.held h → h.lock ≡ lock → guards ≡ guards_of tracker.state.held
       → ◌≡◌ {A = Edge × Sample} (

@@ -7,7 +7,7 @@ ghost use Rattle.gl_event.specs.declared.events.Event.{Event};
 ghost use Rattle.gl_edges.specs.Edges.{edges_wanting, edges_after, edges_of_list, edges};
 ghost use Rattle.gl_edges.specs.bodies.Gatherers.{Gathers, pair_for};
 ghost use Rattle.gl_edges.specs.bodies.Tables.{IsTableOf};
-ghost use Rattle.gl_edges.specs.Tracking.{Tracks, MayFollow};
+ghost use Rattle.gl_edges.specs.Tracking.{Follows, IsNextFor};
 ghost use Rattle.gl_edges.specs.declared.edge.Edge.{Edge};
 ghost use Rattle.gl_edges.specs.declared.edge.Sample.{Sample};
 
@@ -95,7 +95,7 @@ impl Gatherer {
     fn add_edges(&mut self, alloc: Global, tracker: &Tracker, event: &Event) -> Result<(), Memory>
         ensures { OnOk result
             ((thread : ℕ) (es : List Event) (pairs : List (Edge × Sample))
-            → Tracks thread es tracker.now → Gathers pairs (length es) self.old
+            → Follows thread es tracker.now → Gathers pairs (length es) self.old
             → Gathers (pairs ++ edges_after thread es event.now) (length es + 1) self.new) }
     {
         let Event::Acquire { lock, mode, loc } = *event else {
@@ -109,14 +109,14 @@ impl Gatherer {
 
     // Takes the next event of the thread.
     fn take(&mut self, alloc: Global, tracker: &mut Tracker, event: Event) -> Result<(), Memory>
-        requires { MayFollow tracker.old event }
+        requires { IsNextFor tracker.old event }
         ensures gathers { OnOk result
             ((thread : ℕ) (es : List Event) (pairs : List (Edge × Sample))
-            → Tracks thread es tracker.old → Gathers pairs (length es) self.old
+            → Follows thread es tracker.old → Gathers pairs (length es) self.old
             → Gathers (pairs ++ edges_after thread es event) (length es + 1) self.new) }
         ensures follows { OnOk result
-            ((thread : ℕ) (es : List Event) → Tracks thread es tracker.old
-            → Tracks thread (es ++ event ∷ []) tracker.new) }
+            ((thread : ℕ) (es : List Event) → Follows thread es tracker.old
+            → Follows thread (es ++ event ∷ []) tracker.new) }
     {
         self.add_edges(alloc, tracker, &event)?;
         tracker.advance(event);

@@ -12,6 +12,8 @@
 //! filled edge by edge in whatever order they come, and has each once with its least sample. The
 //! definitions stand in `specs/Edges.antt`, and the functions without a body say what holds of them in
 //! the words of the events.
+//!
+//! docs/GLOSSARY.md has its words beside those of the field.
 #![tactic(auto)]
 
 mod clashes;

@@ -5,7 +5,7 @@ ghost use Rattle.gl_event.specs.Events as events;
 ghost use Rattle.gl_event.specs.States.{StandsAfter};
 ghost use Rattle.gl_edges.specs.Edges.{edges_at, edges_after, pair_at};
 ghost use Rattle.gl_edges.specs.Order.{AreAscending};
-ghost use Rattle.gl_edges.specs.Tracking.{Tracks, MayFollow};
+ghost use Rattle.gl_edges.specs.Tracking.{Follows, IsNextFor};
 
 use crate::edge::{Edge, Sample};
 use crate::guards::Guards;
@@ -25,7 +25,7 @@ pub struct Tracker {
 impl Tracker {
     /// The thread before its first event.
     pub fn new(thread: ThreadId) -> Tracker
-        ensures { Tracks thread [] result }
+        ensures { Follows thread [] result }
     {
         Tracker {
             thread,
@@ -39,15 +39,15 @@ impl Tracker {
     ///
     /// An acquire takes a step for each pair of locks that are held.
     pub fn step(&mut self, alloc: Global, event: Event) -> Result<Vec<(Edge, Sample)>, Memory>
-        requires { MayFollow self.old event }
-        ensures edges { (thread : ℕ) (es : List Event) → Tracks thread es self.old
+        requires { IsNextFor self.old event }
+        ensures edges { (thread : ℕ) (es : List Event) → Follows thread es self.old
             → IfOk result (λ v. v.items ≡ edges_at thread (es ++ event ∷ []) (length es)) }
         ensures ascending { IfOk result (λ v. AreAscending v.items) }
         ensures follows { OnOk result
-            ((thread : ℕ) (es : List Event) → Tracks thread es self.old
-            → Tracks thread (es ++ event ∷ []) self.new) }
+            ((thread : ℕ) (es : List Event) → Follows thread es self.old
+            → Follows thread (es ++ event ∷ []) self.new) }
         ensures unchanged { OnErr result (self.new ≡ self.old) }
-        ensures room { (thread : ℕ) (es : List Event) → Tracks thread es self.old
+        ensures room { (thread : ℕ) (es : List Event) → Follows thread es self.old
             → OnErr result (edges_at thread (es ++ event ∷ []) (length es) ≢ []) }
     {
         let edges = self.next_edges(alloc, &event)?;
@@ -58,9 +58,9 @@ impl Tracker {
     /// The edges that the event would make as the next one, ascending: what `step` answers. It isn't
     /// taken. Where it makes none no memory is taken.
     pub fn next_edges(&self, alloc: Global, event: &Event) -> Result<Vec<(Edge, Sample)>, Memory>
-        ensures edges { (thread : ℕ) (es : List Event) → Tracks thread es self.now
+        ensures edges { (thread : ℕ) (es : List Event) → Follows thread es self.now
             → IfOk result (λ v. v.items ≡ edges_after thread es event.now) }
-        ensures room { (thread : ℕ) (es : List Event) → Tracks thread es self.now
+        ensures room { (thread : ℕ) (es : List Event) → Follows thread es self.now
             → OnErr result (edges_after thread es event.now ≢ []) }
     {
         next_edges(alloc, self.thread, &self.state, event)
@@ -69,9 +69,9 @@ impl Tracker {
     /// Takes the next event, which has to be lawful next under the greatest limits, without its edges.
     /// It takes no memory.
     pub fn advance(&mut self, event: Event)
-        requires { MayFollow self.old event }
-        ensures { (thread : ℕ) (es : List Event) → Tracks thread es self.old
-            → Tracks thread (es ++ event ∷ []) self.new }
+        requires { IsNextFor self.old event }
+        ensures { (thread : ℕ) (es : List Event) → Follows thread es self.old
+            → Follows thread (es ++ event ∷ []) self.new }
     {
         // the locks let what is lawful next come
         let _ = self.state.take(event);

@@ -6,7 +6,8 @@ use Rattle.gl_event.specs.Lawful.{refusal}
 use Rattle.gl_event.specs.declared.events.Event.{Event}
 use Rattle.gl_event.specs.declared.events.Refusal.{Refusal}
 use Rattle.gl_event.specs.declared.notes.Note.{Note}
-use Rattle.gl_recorder.specs.Taking.{Taking, Tracks, MayFollow, event_note, end_note}
+use Rattle.gl_event.specs.States.{MayFollow}
+use Rattle.gl_recorder.specs.Taking.{Taking, Tracks, event_note, end_note}
 use Rattle.gl_intake.specs.Stream.{events_of, has_ended, IsNext}
 use Rattle.gl_intake.proofs.Order.{AreInOrder-nil}
 use Rattle.gl_intake.proofs.Streams.{events_more, events_ended, ended_event, ended_now}
@@ -38,15 +39,10 @@ answered None own note is = (refl, cc)
 
 module _ (limits : Bounds) (thread : ℕ) (pushed : List Note) (taker : Taking) (is : IsRecorder limits thread pushed taker) where
   -- the recorder's half may take what is lawful next
-  pub may_follow : (e : Event) → refusal limits thread (events_of thread pushed) e ≡ None → MayFollow taker e
+  pub may_follow : (e : Event) → refusal limits thread (events_of thread pushed) e ≡ None → MayFollow taker.limits taker.thread taker.state e
   may_follow e allowed = record {
     es = events_of thread pushed;
-    tracked = record {
-      its_thread = refl;
-      its_limits = refl;
-      lawful = rw (is.tracks.its_limits, is.tracks.its_thread) is.tracks.lawful;
-      stands = is.tracks.stands;
-    };
+    stands = is.tracks.stands;
     allowed = rw (is.tracks.its_limits, is.tracks.its_thread) allowed;
   }
 

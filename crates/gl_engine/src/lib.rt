@@ -35,6 +35,8 @@
 //! ([`running_calls_are_steps`]): a recorder takes and ends, the collector pulls. That `Full` comes only
 //! from a full lane and `Empty` only from an empty one, and that a recorder which closes while its
 //! collector is there gets a receipt, is tested and not proved.
+//!
+//! docs/GLOSSARY.md has its words beside those of the field.
 #![tactic(auto)]
 
 mod collector;

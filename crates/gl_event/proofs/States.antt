@@ -6,7 +6,7 @@ use Rattle.std.proofs.lemmas.List.Sums.{count_by-le-length}
 use Rattle.gl_event.specs.Events.{segment, closes}
 use Rattle.gl_event.specs.Bounds.{Bounds}
 use Rattle.gl_event.specs.Lawful.{lock_refusal, refusal}
-use Rattle.gl_event.specs.States.{State, StandsAfter}
+use Rattle.gl_event.specs.States.{State, StandsAfter, MayFollow}
 use Rattle.gl_event.specs.declared.events.Refusal.{Refusal}
 use Rattle.gl_event.specs.Standing.{StandsFor}
 use Rattle.gl_event.specs.declared.events.Event.{Event}
@@ -14,6 +14,7 @@ use Rattle.gl_event.specs.declared.events.Event.TheVariants.{Acquire, Release, T
 use Rattle.gl_event.specs.declared.held.HeldEntry.{HeldEntry}
 use Rattle.gl_event.proofs.Depths.{segment_push}
 use Rattle.gl_event.proofs.HeldAnswers.{stands_after_fork, stands_after_join}
+use Rattle.gl_event.proofs.Lawfulness.{locks_allow}
 
 -- no events close no segment
 pub segment-nil : segment [] ≡ 0
@@ -60,3 +61,11 @@ is_taken (Err x) state es e stands refused allowed h = let some = refused es sta
 pub room_for : (limits : Bounds) (thread : ℕ) (es : List Event) (e : Event) → refusal limits thread es e ≡ None → length es < limits.events
 unfolding refusal
 room_for limits thread es e allowed = grind arith
+
+-- what may follow is lawful after the events so far: no lock refuses it
+pub locks_let : (limits : Bounds) (thread : ℕ) (s : State) (e : Event) → (may : MayFollow limits thread s e) → lock_refusal may.es e ≡ None
+locks_let limits thread s e may = locks_allow limits thread may.es e may.allowed
+
+-- and there is room for it
+pub room_to_follow : (limits : Bounds) (thread : ℕ) (s : State) (e : Event) → MayFollow limits thread s e → s.events < limits.events
+room_to_follow limits thread s e may = let room = room_for limits thread may.es e may.allowed in omega (arith, may.stands.events)

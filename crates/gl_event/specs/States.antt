@@ -1,6 +1,8 @@
 -- What is known of a thread's events without the events themselves, and what each event does to it.
-use Rattle.std.specs.Prelude.{◌≡◌, ℕ, true, List, [], ◌∷◌, ◌++◌, length, Some}
+use Rattle.std.specs.Prelude.{◌≡◌, ℕ, true, List, [], ◌∷◌, ◌++◌, length, None, Some}
+use Rattle.gl_event.specs.Bounds.{Bounds}
 use Rattle.gl_event.specs.Events.{lock_mode, location, closes, partner, segment}
+use Rattle.gl_event.specs.Lawful.{refusal}
 use Rattle.gl_event.specs.Standing.{StandsFor, IsAcquireOf}
 use Rattle.gl_event.specs.declared.events.Effect.{Effect}
 use Rattle.gl_event.specs.declared.events.Effect.TheVariants.{Acquires, Releases, Closes}
@@ -29,6 +31,15 @@ pub record StandsAfter (es : List Event) (s : State) : Type 0 where
   pub held : StandsFor es s.held
   pub events : s.events ≡ length es
   pub segments : s.segments ≡ segment es
+
+-- of the thread this is known, after some events of which this one may be the next
+pub record MayFollow (limits : Bounds) (thread : ℕ) (s : State) (event : Event) : Type 0 where
+  -- the events so far
+  pub es : List Event
+  -- they are known so
+  pub stands : StandsAfter es s
+  -- nothing stands against the next one
+  pub allowed : refusal limits thread es event ≡ None
 
 -- this is known after the event where that was known before it
 abbrev pub HasFollowed : State → Event → State → Type 0

@@ -149,6 +149,7 @@ pub enum Effect {
 }
 
 impl Event {
+    ghost use Rattle.gl_event.specs.Events.{closes};
     ghost use Rattle.gl_event.specs.States.{HasEffect};
 
     /// What the event does to its thread.
@@ -162,6 +163,13 @@ impl Event {
             Event::Fork { thread, .. } => Effect::Closes { partner: thread },
             Event::Join { thread, .. } => Effect::Closes { partner: thread },
         }
+    }
+
+    /// Whether the event closes a segment of its thread: it is a fork or a join.
+    pub fn closes(&self) -> bool
+        ensures { result ≡ closes self.now }
+    {
+        matches!(*self, Event::Fork { .. } | Event::Join { .. })
     }
 }
 

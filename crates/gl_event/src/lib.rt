@@ -6,6 +6,8 @@
 //! next. [`Held`] keeps
 //! the held locks of one thread while its events come one by one, and [`ThreadState`] all that is
 //! known of the thread after them.
+//!
+//! docs/GLOSSARY.md has its words beside those of the field.
 #![tactic(auto)]
 
 mod events;

@@ -1,4 +1,6 @@
 //! Which lists of edges are cycles: the modes of the analysis, what is asked of it, and the tests.
+//!
+//! docs/GLOSSARY.md has its words beside those of the field.
 #![tactic(auto)]
 
 mod gate_locks;

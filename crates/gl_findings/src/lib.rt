@@ -5,6 +5,8 @@
 //! A finding is such a fault: all cycles of one signature, which is the pairs of places in the source where
 //! their edges were made. [`findings`] lists them, each once and shown by one of its cycles, and
 //! [`class_counts`] tells how many threads made the edges of the same places, and on how many locks.
+//!
+//! docs/GLOSSARY.md has its words beside those of the field.
 #![tactic(auto)]
 
 mod classes;

@@ -7,7 +7,8 @@ use Rattle.gl_event.specs.Lawful.{refusal, IsLawful}
 use Rattle.gl_event.specs.declared.events.Event.{Event}
 use Rattle.gl_event.specs.declared.notes.Note.{Note}
 use Rattle.gl_event.specs.declared.notes.Body.TheVariants.{Happened, Ended}
-use Rattle.gl_recorder.specs.Taking.{Tracks, MayFollow}
+use Rattle.gl_event.specs.States.{MayFollow}
+use Rattle.gl_recorder.specs.Taking.{Tracks}
 use Rattle.gl_intake.specs.Stream.{events_of, has_ended, IsNext}
 use Rattle.gl_intake.specs.Keeping.{AreLogs, AreCursors, IsKept}
 use Rattle.gl_intake.specs.declared.intake.ThreadCursor.{ThreadCursor}
@@ -70,14 +71,13 @@ tracks_own limits stream cursors are note next cursor here = rw (← here) at (a
 
 -- the event of the next note may be taken
 pub may_follow : (limits : Bounds) (stream : List Note) (cursors : List ThreadCursor) → AreCursors limits stream cursors → (note : Note) → IsNext limits stream note
-    → (e : Event) → note.body ≡ Happened e → (cursor : ThreadCursor) → cursor ≡ get_or cursors note.thread cursor → MayFollow cursor.taker e
+    → (e : Event) → note.body ≡ Happened e → (cursor : ThreadCursor) → cursor ≡ get_or cursors note.thread cursor → MayFollow cursor.taker.limits cursor.taker.thread cursor.taker.state e
 may_follow limits stream cursors are note next e is cursor here =
     let tracks = tracks_own limits stream cursors are note next cursor here in
     let allowed : refusal limits note.thread (events_of note.thread stream) e ≡ None = rw is at next.fits in
     record {
       es = events_of note.thread stream;
-      tracked = subst (λ (b : Bounds). Tracks b cursor.taker.thread (events_of note.thread stream) cursor.taker) (sym tracks.its_limits)
-          (subst (λ (t : ℕ). Tracks limits t (events_of note.thread stream) cursor.taker) (sym tracks.its_thread) tracks);
+      stands = tracks.stands;
       allowed = rw (tracks.its_limits, tracks.its_thread) allowed;
     }
 

@@ -12,6 +12,8 @@
 //!
 //! A collector that must not lose a note asks [`Intake::ready`] first: it makes room for the note and
 //! accepts nothing, and the offer after it takes no memory.
+//!
+//! docs/GLOSSARY.md has its words beside those of the field.
 #![tactic(auto)]
 
 mod intake;

@@ -19,6 +19,8 @@
 //! [`LaneOut::confirm`] compares: nothing was lost, repeated, put in or moved.
 //!
 //! That an end sees the room or the notes that the other end made is tested and not proved.
+//!
+//! docs/GLOSSARY.md has its words beside those of the field.
 #![tactic(auto)]
 
 mod ends;

@@ -6,6 +6,8 @@
 //! let options = SessionOptions { recorders: 2, shards: 3, ring: 256 };
 //! let report = live_report(&rt, alloc, lists, &options, &query, &Open)?;
 //! ```
+//!
+//! docs/GLOSSARY.md has its words beside those of the field.
 #![tactic(auto)]
 
 mod faults;

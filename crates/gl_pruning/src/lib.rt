@@ -10,6 +10,8 @@
 //! first takes a [`Sought`] and leaves out edges [on its way](Sought::leave_out_in_turn), with as much
 //! effort as it likes. In which order edges are left out, and why, is said here for both, for one thread
 //! and for many.
+//!
+//! docs/GLOSSARY.md has its words beside those of the field.
 #![tactic(auto)]
 
 mod candidates;

@@ -4,14 +4,14 @@ use Rattle.std.specs.Prelude.{IfSome, IfNone}
 use Rattle.gl_event.specs.Bounds.{Bounds}
 use Rattle.gl_event.specs.Events.{closes, partner}
 use Rattle.gl_event.specs.Lawful.{lock_refusal, refusal}
-use Rattle.gl_event.specs.States.{State, StandsAfter}
+use Rattle.gl_event.specs.States.{State, StandsAfter, MayFollow}
 use Rattle.gl_event.specs.declared.events.Event.{Event}
 use Rattle.gl_event.specs.declared.events.Refusal.{Refusal}
 use Rattle.gl_event.specs.declared.events.Refusal.TheVariants.{PlaceFull}
 use Rattle.gl_event.specs.declared.notes.Body.TheVariants.{Happened}
-use Rattle.gl_event.proofs.Lawfulness.{IsLawful-push, locks_allow}
-use Rattle.gl_event.proofs.States.{closing_allowed, room_for}
-use Rattle.gl_recorder.specs.Taking.{Taking, Tracks, MayFollow, partner_refusal, answer_to}
+use Rattle.gl_event.proofs.Lawfulness.{IsLawful-push}
+use Rattle.gl_event.proofs.States.{closing_allowed}
+use Rattle.gl_recorder.specs.Taking.{Taking, Tracks, partner_refusal, answer_to}
 use Rattle.gl_recorder.proofs.Refusals.{by_lock, by_partner, list_full}
 
 -- what holds of an answer, in each of its cases
@@ -64,17 +64,9 @@ by_locks : (limits : Bounds) (thread : ℕ) (es fs : List Event) (e : Event) →
 unfolding refusal
 by_locks limits thread es fs e long locks = rw (long, locks) refl
 
--- what is lawful next after one list that the recorder could have taken is lawful next after each that the locks let it follow
-pub allowed_after : (limits : Bounds) (thread : ℕ) (fs : List Event) (t : Taking) (e : Event) → Tracks limits thread fs t → (may : MayFollow t e)
+-- what is lawful next after some events is lawful next after all that are known so too, and that the locks let it follow
+pub allowed_after : (limits : Bounds) (thread : ℕ) (fs : List Event) (t : Taking) (e : Event) → Tracks limits thread fs t → (may : MayFollow t.limits t.thread t.state e)
     → lock_refusal may.es e ≡ None → lock_refusal fs e ≡ None → refusal limits thread fs e ≡ None
 allowed_after limits thread fs t e tracks may locks now =
     rw (← tracks.its_limits, ← tracks.its_thread)
-    (by_locks t.limits t.thread may.es fs e (sym tracks.stands.events ∙ may.tracked.stands.events) (now ∙ sym locks) ∙ may.allowed)
-
--- no lock refuses what is lawful next
-pub locks_let : (t : Taking) (e : Event) → (may : MayFollow t e) → lock_refusal may.es e ≡ None
-locks_let t e may = locks_allow t.limits t.thread may.es e may.allowed
-
--- there is room for it
-pub room_to_follow : (t : Taking) (e : Event) → MayFollow t e → t.state.events < t.limits.events
-room_to_follow t e may = let room = room_for t.limits t.thread may.es e may.allowed in omega (arith, may.tracked.stands.events)
+    (by_locks t.limits t.thread may.es fs e (sym tracks.stands.events ∙ may.stands.events) (now ∙ sym locks) ∙ may.allowed)

@@ -23,15 +23,6 @@ pub record Tracks (limits : Bounds) (thread : ℕ) (es : List Event) (t : Taking
   pub lawful : IsLawful limits thread es
   pub stands : StandsAfter es t.state
 
--- the recorder took some list of events after which this one is lawful next
-pub record MayFollow (t : Taking) (event : Event) : Type 0 where
-  -- the events so far
-  pub es : List Event
-  -- they are those that it took
-  pub tracked : Tracks t.limits t.thread es t
-  -- nothing stands against the next one
-  pub allowed : refusal t.limits t.thread es event ≡ None
-
 -- the note of an event that comes after these
 abbrev pub event_note : ℕ → List Event → Event → Note
 event_note thread es e = record { thread = thread; place = length es; body = Happened e }

@@ -2,11 +2,11 @@
 ghost use Rattle.std.specs.Prelude.{◌≡◌, ◌≢◌, ◌<◌, ◌≤◌, ℕ, None, Some, List, [], ◌∷◌, ◌++◌, length, OnOk, OnErr, IfSome, IfNone};
 ghost use Rattle.gl_event.specs.Bounds.{Bounds};
 ghost use Rattle.gl_event.specs.Lawful.{lock_refusal, refusal};
-ghost use Rattle.gl_event.specs.States.{no_events};
+ghost use Rattle.gl_event.specs.States.{no_events, MayFollow};
 ghost use Rattle.gl_event.specs.declared.events.Event.{Event};
 ghost use Rattle.gl_event.specs.declared.limits.TheConstants.{MAX_EVENTS};
 ghost use Rattle.gl_event.specs.declared.notes.Body.TheVariants.{Happened};
-ghost use Rattle.gl_recorder.specs.Taking.{Tracks, MayFollow, end_note, answer_to, partner_refusal};
+ghost use Rattle.gl_recorder.specs.Taking.{Tracks, end_note, answer_to, partner_refusal};
 
 use gl_event::{Body, Effect, Event, Limits, Note, Refusal, ThreadId, ThreadState};
 use std::marker::Model;
@@ -80,7 +80,7 @@ impl Taker {
     ///
     /// It looks through the at most 64 held locks, and takes no memory.
     pub fn advance(&mut self, event: Event)
-        requires { MayFollow self.old event }
+        requires { MayFollow self.old.limits self.old.thread self.old.state event }
         ensures { (limits : Bounds) (thread : ℕ) (es : List Event)
             → Tracks limits thread es self.old
             → Tracks limits thread (es ++ event ∷ []) self.new }

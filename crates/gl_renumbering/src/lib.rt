@@ -10,6 +10,8 @@
 //! [`by_mention`] gives the same lists with numbers in the order in which the lists mention the names: thread 0's
 //! list first, event by event, then thread 1's, and so on. `specs/Tales` says what lists tell, whatever their
 //! numbers are: lists that tell the same are the same by mention ([`same_tales_same_lists`]).
+//!
+//! docs/GLOSSARY.md has its words beside those of the field.
 #![tactic(auto)]
 
 mod laws;

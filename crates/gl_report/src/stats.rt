@@ -1,7 +1,7 @@
 //! What is counted of a trace and of its report.
 ghost use Rattle.std.specs.Prelude.{◌≡◌, ◌+◌, ◌^◌, ◌<◌, ◌≤◌, ◌++◌, ℕ, List, Some, length, slice_get, IfOk, OnOk};
 ghost use Rattle.gl_event.specs.Bounds.{greatest};
-ghost use Rattle.gl_event.specs.Events.{closes, segment};
+ghost use Rattle.gl_event.specs.Events.{segment};
 ghost use Rattle.gl_event.specs.Lawful.{IsLawful};
 ghost use Rattle.gl_event.specs.declared.events.Event.{Event};
 ghost use Rattle.gl_segments.specs.Orders.{lists_of};
@@ -70,13 +70,6 @@ fn count_events(lists: &[Vec<Event>]) -> u64
     count
 }
 
-// Whether the event closes a segment.
-fn is_closer(event: &Event) -> bool
-    ensures { result ≡ closes event.now }
-{
-    matches!(*event, Event::Fork { .. } | Event::Join { .. })
-}
-
 // How many segments the list has.
 fn segments_in(list: &[Event]) -> u64
     requires { segment list.now + 1 < 2 ^ 64 }
@@ -84,7 +77,7 @@ fn segments_in(list: &[Event]) -> u64
 {
     let mut count = 1;
     for event in list {
-        count += u64::from(is_closer(event));
+        count += u64::from(event.closes());
     }
     count
 }

@@ -9,6 +9,8 @@
 //! Forks and joins that can't have happened, as where two threads join each other, put a segment
 //! before itself. Such lists have no order: [`OrderFault::Inconsistent`] names the least such
 //! segment, and a ring of steps that leads from it back to it.
+//!
+//! docs/GLOSSARY.md has its words beside those of the field.
 #![tactic(auto)]
 
 mod clock;

@@ -86,15 +86,8 @@ fn closers(alloc: Global, list: &[Event]) -> Result<Vec<Event>, AllocError>
 {
     list.iter()
         .copied()
-        .filter(|e| is_closer(*e))
+        .filter(|e| e.closes())
         .collect(alloc)
-}
-
-// Whether the event closes a segment.
-fn is_closer(event: Event) -> bool
-    ensures { result ≡ closes event }
-{
-    matches!(event, Event::Fork { .. } | Event::Join { .. })
 }
 
 // What is one step before each segment of the thread.

@@ -30,6 +30,8 @@
 //! one, is tested and not proved.
 //!
 //! The definitions stand in `specs/`, and the functions without a body say what holds of them.
+//!
+//! docs/GLOSSARY.md has its words beside those of the field.
 #![tactic(auto)]
 
 mod ends;

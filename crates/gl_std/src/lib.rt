@@ -36,6 +36,8 @@
 //! item. Above them stand the laws (`specs/Laws`): a text has one list of lines, a line says one thing,
 //! a text is read piece by piece, its trace tells the kept lines and obeys the limits, and the first
 //! fault in the order of the reasons decides. gl_writing writes a trace as a text.
+//!
+//! docs/GLOSSARY.md has its words beside those of the field.
 #![tactic(auto)]
 
 mod faults;

@@ -6,6 +6,8 @@
 //! the mode, of whatever length, and the order in which they go shows it.
 //!
 //! They may go in another order too: [`removal_fault`] checks one that was given.
+//!
+//! docs/GLOSSARY.md has its words beside those of the field.
 #![tactic(auto)]
 
 mod removals;

@@ -7,19 +7,20 @@ use Rattle.std.proofs.lemmas.List.{take-append-le, take-append-drop, length_push
 use Rattle.std.proofs.lemmas.Option.{slice_get_within}
 use Rattle.gl_event.specs.Bounds.{Bounds, AreWithinRange, greatest}
 use Rattle.gl_event.specs.Lawful.{refusal}
+use Rattle.gl_event.specs.States.{MayFollow}
 use Rattle.gl_event.specs.declared.events.Event.{Event}
 use Rattle.gl_event.specs.declared.notes.Note.{Note}
 use Rattle.gl_event.specs.declared.notes.Body.{Body}
 use Rattle.gl_event.specs.declared.notes.Body.TheVariants.{Happened, Ended as EndMark}
 use Rattle.gl_event.proofs.Lawfulness.{allowed_by_greatest}
 use Rattle.gl_edges.specs.Edges.{edges_at, edges_after}
-use Rattle.gl_edges.specs.Tracking.{Tracks as Follows}
+use Rattle.gl_edges.specs.Tracking.{Follows}
 use Rattle.gl_edges.specs.declared.edge.Edge.{Edge}
 use Rattle.gl_edges.specs.declared.edge.Sample.{Sample}
 use Rattle.gl_edges.specs.declared.tracker.Tracker.{Tracker}
 use Rattle.gl_edges.proofs.Fronts.{edges_at_front}
 use Rattle.gl_edges.proofs.Steps.{newest}
-use Rattle.gl_recorder.specs.Taking.{Taking, Tracks, MayFollow, event_note, end_note}
+use Rattle.gl_recorder.specs.Taking.{Taking, Tracks, event_note, end_note}
 use Rattle.gl_intake.specs.Stream.{event_in, events_of, has_ended, FitsAfter}
 use Rattle.gl_intake.proofs.Streams.{events_more, events_ended, ended_event, ended_now}
 use Rattle.gl_world.specs.Machine.{Lane, rest, has_closed, has_room, taken_of, push_note, take_wish, take_turn, end_turn, edges_due}
@@ -38,11 +39,10 @@ module _ (limits : Bounds) (thread : ℕ) (pushed : List Note) (popped : ℕ) (t
   follows_still note = subst (λ notes. Follows thread (events_of thread notes) tracker) (sym (take-append-le popped pushed (note ∷ []) kept.within)) kept.follows
 
   -- the recorder may take an event that is lawful next
-  pub may_follow : (e : Event) → refusal limits thread (events_of thread pushed) e ≡ None → MayFollow taker e
+  pub may_follow : (e : Event) → refusal limits thread (events_of thread pushed) e ≡ None → MayFollow taker.limits taker.thread taker.state e
   may_follow e allowed = record {
     es = events_of thread pushed;
-    tracked = subst (λ (b : Bounds). Tracks b taker.thread (events_of thread pushed) taker) (sym kept.tracks.its_limits)
-        (subst (λ (t : ℕ). Tracks limits t (events_of thread pushed) taker) (sym kept.tracks.its_thread) kept.tracks);
+    stands = kept.tracks.stands;
     allowed = rw (kept.tracks.its_limits, kept.tracks.its_thread) allowed;
   }
 
@@ -173,7 +173,7 @@ module _ (limits : Bounds) (thread : ℕ) (lane : Lane) (note : Note) (front : I
           let here : refusal limits thread (events_of thread (take lane.popped lane.pushed)) e ≡ None = subst (λ t. refusal limits t (events_of t (take lane.popped lane.pushed)) e ≡ None) front.own fits in
           record {
             es = events_of thread (take lane.popped lane.pushed);
-            tracked = record { of_thread = refl; stands = follows.stands };
+            stands = follows.stands;
             allowed = subst (λ t. refusal greatest t (events_of thread (take lane.popped lane.pushed)) e ≡ None) (sym follows.of_thread) (allowed_by_greatest limits thread _ e range here);
           }
       by_body (EndMark count) is = tt

@@ -8,7 +8,7 @@ use Rattle.gl_event.specs.declared.notes.Body.{Body}
 use Rattle.gl_event.specs.declared.notes.Body.TheVariants.{Happened, Ended}
 use Rattle.gl_edges.specs.Edges.{once, edges_made}
 use Rattle.gl_edges.specs.Laws.{AreAmong}
-use Rattle.gl_edges.specs.Tracking.{Tracks as Follows, MayFollow}
+use Rattle.gl_edges.specs.Tracking.{Follows, IsNextFor}
 use Rattle.gl_edges.specs.declared.edge.Edge.{Edge}
 use Rattle.gl_edges.specs.declared.edge.Sample.{Sample}
 use Rattle.gl_edges.specs.declared.tracker.Tracker.{Tracker}
@@ -48,7 +48,7 @@ with_body es (Ended count) = es
 
 -- the tracker may take the event of this body, if it has one
 abbrev pub MayTake : Tracker → Body → Type 0
-MayTake tracker (Happened e) = MayFollow tracker e
+MayTake tracker (Happened e) = IsNextFor tracker e
 MayTake tracker (Ended count) = Unit {0}
 
 -- the notes of this thread, in order

@@ -22,6 +22,8 @@
 //! [`every_drained_schedule_reports_what_was_taken`] say it for all lists of steps. For states that
 //! come about in another way, [`every_step_keeps_a_state_sound`] and
 //! [`sound_drained_states_report_what_was_taken`] say what has to be shown of them.
+//!
+//! docs/GLOSSARY.md has its words beside those of the field.
 #![tactic(auto)]
 
 mod dispatcher;

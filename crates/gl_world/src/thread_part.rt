@@ -6,7 +6,7 @@ ghost use Rattle.gl_recorder.specs.Taking.{event_note, end_note};
 ghost use Rattle.gl_world.specs.Machine.{Lane, fresh_lane, taken_of, has_closed, has_room, use_wish, push_note, pop_note, take_turn, take_judged, end_turn, edges_due};
 ghost use Rattle.gl_world.specs.Enabled.{grows};
 ghost use Rattle.gl_event.specs.declared.events.Event.{Event};
-ghost use Rattle.gl_edges.specs.Tracking.{Tracks as Follows};
+ghost use Rattle.gl_edges.specs.Tracking.{Follows};
 ghost use Rattle.gl_world.specs.Keeping.{IsFrontOf, MayTake, with_body};
 
 use crate::steps::Did;

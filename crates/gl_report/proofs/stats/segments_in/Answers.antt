@@ -7,9 +7,9 @@ loop-event-init c = none_closed
 
 pub overflow_add-count : goal.overflow_add-count
 overflow_add-count c =
-    let small = segments_within c.args.list.now c.loop-event.event-index c.event-item.result _ _ _ c.loop-event-test.true c.event-item.is c.loop-event.invariant _ c.from-count.ensures c.is_closer.ensures c.requires in
+    let small = segments_within c.args.list.now c.loop-event.event-index c.event-item.result _ _ _ c.loop-event-test.true c.event-item.is c.loop-event.invariant _ c.from-count.ensures c.closes.ensures c.requires in
     omega arith
 
 pub loop-event-preserved : goal.loop-event-preserved
 loop-event-preserved c =
-    segments_more c.args.list.now c.loop-event.event-index c.event-item.result _ _ c.loop-event-test.true c.event-item.is c.loop-event.invariant _ c.from-count.ensures c.is_closer.ensures
+    segments_more c.args.list.now c.loop-event.event-index c.event-item.result _ _ c.loop-event-test.true c.event-item.is c.loop-event.invariant _ c.from-count.ensures c.closes.ensures

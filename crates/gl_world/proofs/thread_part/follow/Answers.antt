@@ -1,5 +1,5 @@
 use Rattle.std.proofs.Common.{sym, subst}
-use Rattle.gl_edges.specs.Tracking.{Tracks as Follows}
+use Rattle.gl_edges.specs.Tracking.{Follows}
 use Rattle.gl_world.specs.Keeping.{with_body}
 use Rattle.gl_world.proofs.thread_part.follow.Goals as goal
 

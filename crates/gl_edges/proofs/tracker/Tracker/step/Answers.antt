@@ -1,4 +1,4 @@
-use Rattle.std.proofs.Common.{subst, sym, ◌∙◌}
+use Rattle.std.proofs.Common.{refl, subst, sym, ◌∙◌}
 use Rattle.gl_edges.specs.Order.{AreAscending}
 use Rattle.gl_edges.proofs.Steps.{newest, after_ascends, on_err}
 use Rattle.gl_edges.proofs.tracker.Tracker.step.Goals as goal
@@ -8,7 +8,7 @@ returns-clause-edges c = λ thread es tracked. c.in_ok-edges.ensures.edges threa
 
 pub returns-clause-ascending : goal.returns-clause-ascending
 returns-clause-ascending c =
-    subst AreAscending (sym (c.in_ok-edges.ensures.edges c.args.self.now.thread c.requires.es c.requires.tracked)) (after_ascends c.args.self.now.thread c.requires.es c.args.event)
+    subst AreAscending (sym (c.in_ok-edges.ensures.edges c.args.self.now.thread c.requires.es (record { of_thread = refl; stands = c.requires.stands }))) (after_ascends c.args.self.now.thread c.requires.es c.args.event)
 
 pub returns-in_err-edges-clause-room : goal.returns-in_err-edges-clause-room
 returns-in_err-edges-clause-room c = λ thread es tracked.
