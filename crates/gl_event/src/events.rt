@@ -169,7 +169,11 @@ impl Event {
     pub fn closes(&self) -> bool
         ensures { result ≡ closes self.now }
     {
-        matches!(*self, Event::Fork { .. } | Event::Join { .. })
+        match self.effect() {
+            Effect::Closes { .. } => true,
+            Effect::Acquires { .. } => false,
+            Effect::Releases { .. } => false,
+        }
     }
 }
 
