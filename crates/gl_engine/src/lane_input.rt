@@ -5,13 +5,13 @@ ghost use Rattle.gl_event.specs.Bounds.{Bounds};
 ghost use Rattle.gl_event.specs.States.{StandsAfter};
 ghost use Rattle.gl_event.specs.declared.events.Event.{Event};
 ghost use Rattle.gl_event.specs.declared.notes.Note.{Note};
-ghost use Rattle.gl_intake.specs.Stream.{note_refusal, spare_of, IsRefusedFor};
+ghost use Rattle.gl_intake.specs.Stream.{note_refusal, spare_of, HasOffered, IsRefusedFor};
 ghost use Rattle.gl_world.specs.Keeping.{with_body};
 ghost use Rattle.gl_world.specs.Machine.{edges_due};
 ghost use Rattle.gl_engine.specs.Collecting.{as_of, pulled_of, IsSidePull};
 ghost use Rattle.gl_engine.specs.Dealing.{edges_of_next, made_by};
 ghost use Rattle.gl_engine.specs.Keeping.{pulling_of, BreaksForCause};
-ghost use Rattle.gl_engine.specs.bodies.Fronts.{HasOffered, IsFront};
+ghost use Rattle.gl_engine.specs.bodies.Fronts.{IsFront};
 
 use crate::pulled::{PullFault, Pulled};
 use gl_edges::{Edge, Sample, next_edges};

@@ -1,5 +1,5 @@
 -- The stream of notes that a collector accepted, and which note may come next in it.
-use Rattle.std.specs.Prelude.{◌≡◌, ◌≢◌, ◌⊎◌, ◌==◌, ◌&&◌, ℕ, ◌<◌, Bool, true, false, List, length, map, Option, Some, None, take, slice_get, slice_index_or, nat_le, ◌↔◌, if◌then◌else◌}
+use Rattle.std.specs.Prelude.{◌≡◌, ◌≢◌, ◌⊎◌, ◌==◌, ◌&&◌, ℕ, ◌<◌, Bool, true, false, List, [], ◌∷◌, ◌++◌, length, map, Option, Some, None, Result, take, slice_get, slice_index_or, nat_le, ◌↔◌, if◌then◌else◌, IfErr, IfOk, OnErr, OnOk}
 use Rattle.std.specs.List.{filter_map, list_any, range_with_len}
 use Rattle.std.specs.Option.{option_map}
 use Rattle.gl_event.specs.Bounds.{Bounds}
@@ -85,6 +85,16 @@ IsRefusedFor limits stream note why = IsRefusal limits stream note why ⊎ ((not
 abbrev pub accepted_as : ℕ → Body → Accepted
 accepted_as place (Happened e) = accepted.Event place
 accepted_as place (Ended count) = accepted.Ended count
+
+-- the note was offered where the stream was the one before, and is the one after: it was accepted as
+-- the next one, or refused and the stream left as it was
+pub record HasOffered (limits : Bounds) (before after : List Note) (note : Note)
+    (offered : Result Accepted Refused) : Type 0 where
+  pub next : OnOk offered (note_refusal limits before note ≡ None)
+  pub answer : IfOk offered (λ accepted. accepted ≡ accepted_as note.place note.body)
+  pub grown : OnOk offered (after ≡ before ++ note ∷ [])
+  pub refused : IfErr offered (λ why. IsRefusedFor limits before note why)
+  pub unchanged : OnErr offered (after ≡ before)
 
 -- the limits, the notes accepted so far in the order of acceptance, and for each thread how many of its notes there is memory for
 pub record Collected : Type 0 where

@@ -8,7 +8,7 @@ ghost use Rattle.gl_event.specs.declared.events.Event.{Event};
 ghost use Rattle.gl_event.specs.Lawful.{IsLawful};
 ghost use Rattle.gl_event.specs.States.{StandsAfter};
 ghost use Rattle.gl_recorder.specs.Taking.{Tracks};
-ghost use Rattle.gl_intake.specs.Stream.{events_of, has_ended, logs_of, AreInOrder, IsRefusal, IsRefusedFor, body_refusal, refusal_after, note_refusal, accepted_as, spare_of};
+ghost use Rattle.gl_intake.specs.Stream.{events_of, has_ended, logs_of, AreInOrder, IsRefusal, IsRefusedFor, body_refusal, refusal_after, note_refusal, accepted_as, spare_of, HasOffered};
 
 use crate::notes::{Accepted, Refused};
 use gl_event::{
@@ -269,14 +269,8 @@ impl Intake {
     /// It looks through the at most 64 locks that the thread holds, once where there is room for the note,
     /// and appends to two lists.
     pub fn offer(&mut self, note: Note) -> Result<Accepted, Refused>
-        ensures accepted { OnOk result
-            (note_refusal self.old.limits self.old.stream note ≡ None) }
-        ensures answer { IfOk result (λ answer. answer ≡ accepted_as note.place note.body) }
-        ensures grown { OnOk result (self.new.stream ≡ self.old.stream ++ note ∷ []) }
-        ensures refused { IfErr result
-            (λ why. IsRefusedFor self.old.limits self.old.stream note why) }
+        ensures offered { HasOffered self.old.limits self.old.stream self.new.stream note result }
         ensures room { 1 ≤ spare_of self.old note.thread → result ≢ Err Memory }
-        ensures unchanged { OnErr result (self.new.stream ≡ self.old.stream) }
         ensures limits { self.new.limits ≡ self.old.limits }
     {
         let body = note.body;

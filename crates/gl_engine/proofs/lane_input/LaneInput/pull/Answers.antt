@@ -1,6 +1,5 @@
 use Rattle.gl_engine.specs.Collecting.{as_of}
 use Rattle.gl_engine.specs.Dealing.{made_by}
-use Rattle.gl_engine.specs.bodies.Fronts.{HasOffered}
 use Rattle.gl_engine.proofs.Sides.{made_if}
 use Rattle.gl_engine.proofs.lane_input.LaneInput.pull.Goals as goal
 
@@ -9,12 +8,6 @@ returns-clause-pull c =
     let before = c.args.intake.now.stream in
     let after = c.offer-offered.new.self.stream in
     let note = as_of c.args.thread c.in-Some-peek.front in
-    let offered : HasOffered c.args.intake.now.limits before after note c.offer-offered.result = record {
-      next = c.offer-offered.ensures.accepted;
-      answer = c.offer-offered.ensures.answer;
-      grown = c.offer-offered.ensures.grown;
-      refused = c.offer-offered.ensures.refused;
-      unchanged = c.offer-offered.ensures.unchanged;
-    } in
-    let made = made_if c.offer-offered.result before after note c.offer-offered.ensures.grown c.offer-offered.ensures.unchanged in
+    let offered = c.offer-offered.ensures.offered in
+    let made = made_if c.offer-offered.result before after note offered.grown offered.unchanged in
     rw (c.peek.ensures.lane, c.peek.ensures.popped) at (c.take_front.ensures.pull c.args.intake.now.limits before after offered (made_by before) (made_by after) made.0 made.1)

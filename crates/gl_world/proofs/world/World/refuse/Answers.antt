@@ -13,16 +13,16 @@ unreachable-requires c =
     let s = c.args.self.now in
     let sound : IsSound s = subst IsSound c.self.view_is c.self.invariant.sound in
     let none : note_refusal s.limits s.stream c.args.note.now ≡ None =
-    subst (λ (s : State). note_refusal s.limits s.stream c.args.note.now ≡ None) c.self.view_is (rw c.self.invariant.same_limits at c.in-Ok.ensures.accepted) in
+    subst (λ (s : State). note_refusal s.limits s.stream c.args.note.now ≡ None) c.self.view_is (rw c.self.invariant.same_limits at c.in-Ok.ensures.offered.next) in
     never_next s sound c.args.thread c.args.place c.args.note.now c.requires.known c.requires.other c.requires.there none
 
 pub returns-clause-moved : goal.returns-clause-moved
 returns-clause-moved c =
     let s = c.args.self.now in
     let sound : IsSound s = subst IsSound c.self.view_is c.self.invariant.sound in
-    let same = ap (λ (s : List Note). state_of c.self.inside.limits c.self.inside.dispatcher c.self.inside.parts.items s) c.in-Err.ensures.unchanged ∙ c.self.view_is in
+    let same = ap (λ (s : List Note). state_of c.self.inside.limits c.self.inside.dispatcher c.self.inside.parts.items s) c.in-Err.ensures.offered.unchanged ∙ c.self.view_is in
     let some = never_next s sound c.args.thread c.args.place c.args.note.now c.requires.known c.requires.other c.requires.there in
-    let told = rw c.self.invariant.same_limits at c.in-Err.ensures.refused in
+    let told = rw c.self.invariant.same_limits at c.in-Err.ensures.offered.refused in
     let cause : (note_refusal s.limits s.stream c.args.note.now ≡ Some c.in-Err.why) ⊎ ((note_refusal s.limits s.stream c.args.note.now ≡ None) × (c.in-Err.why ≡ Memory)) =
     subst (λ (s : State). (note_refusal s.limits s.stream c.args.note.now ≡ Some c.in-Err.why) ⊎ ((note_refusal s.limits s.stream c.args.note.now ≡ None) × (c.in-Err.why ≡ Memory))) c.self.view_is told in
     refused_as s sound c.args.thread c.args.place c.args.note.now c.requires.known c.requires.other c.requires.there c.in-Err.why
