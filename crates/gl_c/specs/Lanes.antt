@@ -13,14 +13,14 @@ use Rattle.gl_c.specs.declared.lane_state.LaneState.TheVariants.{Recording as Ru
 -- what recording an event answers: it is recorded, which takes one of the certain room at most; or there is no room; or
 -- it may not come next. In each case the place that it has in the thread's list, or would have had, is told
 pub record IsRecordOn (old : Recording) (event : Event) (answer : ℕ) (told : ℕ) (new : Recording) : Type 0 where
+  pub place : told ≡ length (recorded old)
   pub done : answer ≡ OK → (refusal old.limits old.thread (recorded old) event ≡ None)
-      × (told ≡ length (recorded old))
       × (new ≡ with_pushed old (next_note old event) new.room)
       × (old.room ≤ new.room + 1)
   pub full : answer ≡ FULL → (refusal old.limits old.thread (recorded old) event ≡ None)
-      × (told ≡ length (recorded old)) × (new ≡ seen_full old)
+      × (new ≡ seen_full old)
   pub refused : (why : Refusal) → refusal old.limits old.thread (recorded old) event ≡ Some why
-      → (answer ≡ refusal_code why) × (told ≡ length (recorded old)) × (new ≡ old)
+      → (answer ≡ refusal_code why) × (new ≡ old)
   pub else : refusal old.limits old.thread (recorded old) event ≡ None → IsOneOf answer (OK ∷ FULL ∷ [])
   pub sure : 0 < old.room → refusal old.limits old.thread (recorded old) event ≡ None → answer ≡ OK
 

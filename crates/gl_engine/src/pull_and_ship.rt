@@ -132,8 +132,9 @@ fn pull_some(
     ensures moved { IfOk result (HasMoved intake.old.stream intake.new.stream) }
 {
     let mut moved = false;
+    // what a note makes goes from here to those made, and its memory serves the next one
+    let mut next = Vec::new(alloc);
     for _ in 0..BURST {
-        let mut next = Vec::new(alloc);
         let pulled = pull_at(alloc, thread, inputs, intake, &mut next)?;
         let Ok(()) = made.append(&mut next) else {
             return Err(RunFault::Memory);

@@ -1,4 +1,4 @@
-use Rattle.std.proofs.Common.{◌≡◌, ◌++◌, map}
+use Rattle.std.proofs.Common.{◌≡◌, [], ◌++◌, map}
 use mathlib.Core.List.{IsPrefix}
 use Rattle.gl_engine.specs.Dealing.{made_by}
 use Rattle.gl_engine.specs.Keeping.{IsCollector}
@@ -13,5 +13,6 @@ invariant-loop l = record {
   limits : l.intake.limits ≡ l.fn.intake.limits;
   lanes : map lane_of l.inputs.items ≡ map lane_of l.fn.inputs.items;
   grown : IsPrefix l.fn.intake.stream l.intake.stream;
+  none : l.next.items ≡ [];
   moved : HasMoved l.fn.intake.stream l.intake.stream l.moved;
 }
