@@ -110,27 +110,43 @@ module _ (thread : ℕ) (es : List Event) (tracker : Tracker) (tracked : Follows
   abbrev of_guard : Guard → Edge × Sample
   of_guard g = pair_at thread es wanted mode loc g.lock
 
+  -- the pair that is made for a held lock is that of the definition
+  pub pair_is : (h : HeldEntry) (lock : ℕ) (guards : List Guard) (second place : ℕ) → second ≡ tracker.state.segments → place ≡ tracker.state.events
+      → Contains tracker.state.held h → h.lock ≡ lock → guards ≡ guards_of tracker.state.held
+      → ◌≡◌ {A = Edge × Sample} (
+        record { thread = tracker.thread; held = h.lock; held_mode = h.mode; wanted = wanted; wanted_mode = mode; first = h.seg; second = second; guards = guards },
+        record { place = place; held_loc = h.loc; wanted_loc = loc },
+      ) (pair_at thread es wanted mode loc lock)
+  pair_is h lock guards second place here now there of_lock guarded =
+      (λ j. (
+        record { thread = tracker.thread; held = h.lock; held_mode = h.mode; wanted = wanted; wanted_mode = mode; first = h.seg; second = here j; guards = guards },
+        record { place = now j; held_loc = h.loc; wanted_loc = loc },
+      ))
+      ∙ pair_of_entry h lock guards there of_lock guarded
+
   -- one more pair
-  pub pairs_more : (pairs : List (Edge × Sample)) (gs : List Guard) (i : ℕ) (g : Guard) (h : HeldEntry) (guards : List Guard) (second place : ℕ)
-      → second ≡ tracker.state.segments → place ≡ tracker.state.events → i < length gs → g ≡ get_or gs i g
-      → Contains tracker.state.held h → h.lock ≡ g.lock → guards ≡ guards_of tracker.state.held
-      → pairs ≡ map of_guard (take i gs)
-      → pairs ++ (record { thread = tracker.thread; held = h.lock; held_mode = h.mode; wanted = wanted; wanted_mode = mode; first = h.seg; second = second; guards = guards }, record { place = place; held_loc = h.loc; wanted_loc = loc }) ∷ []
-      ≡ map of_guard (take (i + 1) gs)
-  pairs_more pairs gs i g h guards second place here now within item there of_lock guarded before =
-      (λ j. pairs ++ (record { thread = tracker.thread; held = h.lock; held_mode = h.mode; wanted = wanted; wanted_mode = mode; first = h.seg; second = here j; guards = guards }, record { place = now j; held_loc = h.loc; wanted_loc = loc }) ∷ [])
-      ∙
-      (λ j. before j ++ (pair_of_entry h g.lock guards there of_lock guarded ∙ ap of_guard item) j ∷ [])
+  pub pairs_more : (pairs : List (Edge × Sample)) (gs : List Guard) (i : ℕ) (g : Guard) (pair : Edge × Sample) → i < length gs → g ≡ get_or gs i g
+      → pair ≡ of_guard g → pairs ≡ map of_guard (take i gs) → pairs ++ pair ∷ [] ≡ map of_guard (take (i + 1) gs)
+  pairs_more pairs gs i g pair within item is before =
+      (λ j. before j ++ (is ∙ ap of_guard item) j ∷ [])
       ∙ sym (map_more of_guard gs i g within)
 
   -- the pairs of all held locks
-  pub pairs_all : (pairs : List (Edge × Sample)) (gs : List Guard) (i : ℕ) → length gs ≤ i → gs ≡ guards_of tracker.state.held
-      → pairs ≡ map of_guard (take i gs) → pairs ≡ map (pair_at thread es wanted mode loc) (held es)
-  pairs_all pairs gs i all are before =
-      before
-      ∙ ap (map of_guard) (take_all i gs all ∙ are ∙ guards_are es tracker.state.held tracked.stands.held)
+  pub pairs_all : (gs : List Guard) → gs ≡ guards_of tracker.state.held → map of_guard gs ≡ map (pair_at thread es wanted mode loc) (held es)
+  pairs_all gs are =
+      ap (map of_guard) (are ∙ guards_are es tracker.state.held tracked.stands.held)
       ∙ sym (map-map (pair_at thread es wanted mode loc) (λ (g : Guard). g.lock) (guards es))
       ∙ ap (map (pair_at thread es wanted mode loc)) (guards-locks es)
+
+  -- with that of the last one
+  pub pairs_last : (pairs : List (Edge × Sample)) (gs others : List Guard) (i : ℕ) (g : Guard) (pair : Edge × Sample) → gs ≡ guards_of tracker.state.held
+      → gs ≡ others ++ g ∷ [] → length others ≤ i → pairs ≡ map of_guard (take i others) → pair ≡ of_guard g
+      → pairs ++ pair ∷ [] ≡ map (pair_at thread es wanted mode loc) (held es)
+  pairs_last pairs gs others i g pair are parts all before is =
+      (λ j. (before ∙ ap (map of_guard) (take_all i others all)) j ++ is j ∷ [])
+      ∙ sym (map_push of_guard others g)
+      ∙ ap (map of_guard) (sym parts)
+      ∙ pairs_all gs are
 
 -- ---- the edges of one event ascend
 

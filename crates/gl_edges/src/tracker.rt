@@ -4,6 +4,7 @@ ghost use Rattle.gl_event.specs.declared.events.Event.{Event};
 ghost use Rattle.gl_event.specs.Events as events;
 ghost use Rattle.gl_event.specs.States.{StandsAfter};
 ghost use Rattle.gl_edges.specs.Edges.{edges_at, edges_after, pair_at};
+ghost use Rattle.gl_edges.specs.Guards.{guards_of};
 ghost use Rattle.gl_edges.specs.Order.{AreAscending};
 ghost use Rattle.gl_edges.specs.Tracking.{Follows, IsNextFor};
 
@@ -122,28 +123,50 @@ fn edges_to(
     }
     let mut guards = Guards::empty(alloc);
     guards.refill(entries)?;
-    let mut pairs = Vec::new(alloc);
-    let locks = guards.as_slice();
-    for guard in locks {
-        let entry = entry_for(entries, guard.lock);
-        let edge = Edge {
-            thread,
-            held: entry.lock,
-            held_mode: entry.mode,
-            wanted,
-            wanted_mode: mode,
-            first: entry.seg,
-            second: state.segment(),
-            guards: guards.copy(alloc)?,
-        };
-        let sample = Sample {
-            place: state.events(),
-            held_loc: entry.loc,
-            wanted_loc: loc,
-        };
-        pairs.push((edge, sample))?;
+    let mut pairs = Vec::with_capacity(alloc, entries.len())?;
+    let Some((last, others)) = guards.as_slice().split_last() else {
+        return Ok(pairs);
+    };
+    let last_lock = last.lock;
+    for guard in others {
+        let copy = guards.copy(alloc)?;
+        pairs.push(pair_to(thread, state, guard.lock, copy, wanted, mode, loc))?;
     }
+    pairs.push(pair_to(thread, state, last_lock, guards, wanted, mode, loc))?;
     Ok(pairs)
+}
+
+// The edge from a held lock to the wanted one, with all held locks as its guards, and where it is made.
+fn pair_to(
+    thread: ThreadId,
+    state: &ThreadState,
+    held: LockId,
+    guards: Guards,
+    wanted: LockId,
+    mode: LockMode,
+    loc: LocId,
+) -> (Edge, Sample)
+    requires { Any (λ h. h.lock ≡ held) state.now.held }
+    ensures { (es : List Event) → StandsAfter es state.now → guards ≡ guards_of state.now.held
+        → result ≡ pair_at thread es wanted mode loc held }
+{
+    let entry = entry_for(state.entries(), held);
+    let edge = Edge {
+        thread,
+        held: entry.lock,
+        held_mode: entry.mode,
+        wanted,
+        wanted_mode: mode,
+        first: entry.seg,
+        second: state.segment(),
+        guards,
+    };
+    let sample = Sample {
+        place: state.events(),
+        held_loc: entry.loc,
+        wanted_loc: loc,
+    };
+    (edge, sample)
 }
 
 // The entry of the lock, which is among these.

@@ -5,4 +5,4 @@ use Rattle.gl_edges.specs.Edges.{pair_at}
 use Rattle.gl_edges.proofs.tracker.edges_to.Given as goal
 
 abbrev pub invariant-loop-guard : goal.invariant-loop-guard
-invariant-loop-guard l = (es : List Event) → StandsAfter es l.state → l.pairs.items ≡ map (λ g. pair_at l.thread es l.wanted l.mode l.loc g.lock) (take l.guard-index l.locks)
+invariant-loop-guard l = (es : List Event) → StandsAfter es l.state → l.pairs.items ≡ map (λ g. pair_at l.thread es l.wanted l.mode l.loc g.lock) (take l.guard-index l.others)
