@@ -4,10 +4,10 @@
 //! found at once: there a plain search is the quickest. In others edges lead to each other in a knot
 //! and make no cycle, and a plain search takes as long as there are paths, which may be for ever. Then
 //! it helps to leave out edges that are in no cycle. Which of both it is shows only on the way. So a
-//! search begins among the edges that lie on loops, which are soon found, and takes no more than some
-//! steps for each edge. Where it isn't through by then, edges are left out with about as much effort,
-//! and the search goes on at the root where it stood, among those that stay, with several times the
-//! steps: a round. What was found stays, since what is left out is in no cycle.
+//! search begins among the edges that lie on loops and aren't alone among edges of their own thread,
+//! which are soon found, and takes no more than some steps for each edge. Where it isn't through by
+//! then, edges are left out with about as much effort, and the search goes on at the root where it
+//! stood, among those that stay, with several times the steps: a round. What was found stays, since what is left out is in no cycle.
 //!
 //! In each round edges are left out for one reason after the other. Before the last round the efforts
 //! are bound, so what comes too dear is tried again. In the last one edges are left out with all the
@@ -95,7 +95,7 @@ pub(crate) fn first_cycles(
         (all_cycles (is_before sought.now.order.now) sought.now.mode sought.now.len
         (edges_of_table sought.now.table.now))) }
 {
-    let mut kept = sought.on_loops(alloc)?;
+    let mut kept = sought.kept_at_first(alloc)?;
     let mut found = Vec::new(alloc);
     let mut root = 0;
     for round in 0..LAST + 1 {
@@ -125,7 +125,7 @@ pub(crate) fn first_cycles_parallel(
         (all_cycles (is_before sought.now.order.now) sought.now.mode sought.now.len
         (edges_of_table sought.now.table.now))) }
 {
-    let mut kept = sought.on_loops(alloc)?;
+    let mut kept = sought.kept_at_first(alloc)?;
     let mut found = Vec::new(alloc);
     let mut root = 0;
     for round in 0..LAST + 1 {
