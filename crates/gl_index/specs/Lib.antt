@@ -1,4 +1,3 @@
 pub mod Indexes
 pub mod Listed
 pub mod Sides
-pub mod bodies
