@@ -74,9 +74,9 @@ pub fn search(
     Ok(listed(cycles, max))
 }
 
-/// The same as [`search`], on several threads. The steps that a search takes before
-/// more edges are left out are taken in one thread. What leaves out edges deals them out to parts, each
-/// of which leaves out some of its own. At last each edge from the one on where the search stands is
+/// The same as [`search`], on several threads. The steps that a search takes before more edges are left
+/// out are taken in one thread, and so is what leaves them out with as much effort. The last time they
+/// are dealt out to parts, each of which leaves out some of its own. Then each edge from the one on where the search stands is
 /// the first of paths, and the edges are dealt out in runs: the first few to one thread, and then each
 /// time as many as were dealt out before, in pieces of one length. The search ends after the run in
 /// which one cycle more than are listed was found. Each run goes to its end, so that what is found and
