@@ -96,7 +96,7 @@ impl Chain {
 }
 
 // Whether the edge at a position is kept.
-fn is_kept(kept: &[bool], i: usize) -> bool
+pub(crate) fn is_kept(kept: &[bool], i: usize) -> bool
     ensures { result ≡ false → slice_get kept.now i ≡ Some false }
 {
     kept.get(i).copied().unwrap_or(true)

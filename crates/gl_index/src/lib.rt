@@ -14,8 +14,10 @@ mod chains;
 mod closers;
 mod followers;
 mod sides;
+mod users;
 
 pub use chains::Chain;
 pub use closers::Closers;
 pub use followers::Followers;
 pub use sides::Side;
+pub use users::Users;

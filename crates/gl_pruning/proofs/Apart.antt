@@ -1,12 +1,11 @@
 -- Beside each edge of a cycle stand edges of other threads.
-use Rattle.std.proofs.Common.{◌≡◌, ◌≢◌, ℕ, ◌+◌, ◌-◌, ◌<◌, ◌≤◌, ◌⊎◌, Bool, true, false, not, ◌&&◌, eqb, cond, List, length, Option, Some, None, refl, sym, ap, subst, ◌∙◌, arith, inl, inr}
-use Rattle.std.specs.Prelude.{slice_get, All, Contains}
-use Rattle.std.proofs.lemmas.Bool.{and_parts, eq-eqb, eqb-true, cases_Bool, cases_eq, false≢true}
+use Rattle.std.proofs.Common.{◌≡◌, ◌≢◌, ℕ, ◌+◌, ◌-◌, ◌≤◌, Bool, true, false, not, ◌&&◌, eqb, List, length, Some, sym, ap, subst, ◌∙◌, arith}
+use Rattle.std.specs.Prelude.{slice_get}
+use Rattle.std.proofs.lemmas.Bool.{and_parts, eq-eqb, false≢true}
 use Rattle.std.proofs.lemmas.List.{length-map}
 use Rattle.std.proofs.lemmas.Option.{slice_get-get_or, slice_get_within, same_Some}
 use Rattle.gl_event.specs.declared.events.Segment.{Segment}
 use Rattle.gl_edges.specs.declared.edge.Edge.{Edge}
-use Rattle.gl_edges.specs.declared.edge.Sample.{Sample}
 use Rattle.gl_filters.specs.declared.query.Mode.{Mode}
 use Rattle.gl_filters.specs.Cycle.{IsCycle}
 use Rattle.gl_filters.specs.Verdicts.{following}
@@ -16,14 +15,14 @@ use Rattle.gl_filters.proofs.Cycling.{leads_same}
 use Rattle.gl_filters.proofs.Round.{compatible_round}
 use Rattle.gl_segments.specs.Clocks.{is_before}
 use Rattle.gl_index.proofs.Lists.{element_at}
-use Rattle.gl_index.specs.Sides.{lock_towards}
 use Rattle.gl_index.specs.declared.sides.Side.{Side}
 use Rattle.gl_index.specs.declared.sides.Side.TheVariants.{Follower, Leader}
-use Rattle.gl_pruning.specs.OffCycles.{IsOffCycles, KeepsCycles}
+use Rattle.gl_pruning.specs.OffCycles.{IsOffCycles}
 use Rattle.gl_pruning.specs.Sought.{KeepsSought}
 use Rattle.gl_pruning.specs.bodies.Kinds.{place_after}
-use Rattle.gl_pruning.specs.bodies.Users.{known_of, MayUse, AreUsers, KnowsCycles}
-use Rattle.gl_pruning.specs.declared.alone.Users.{Users}
+use Rattle.gl_index.specs.Users.{MayUse, AreUsers}
+use Rattle.gl_index.specs.declared.users.Users.{Users}
+use Rattle.gl_pruning.specs.bodies.Users.{KnowsCycles}
 use Rattle.gl_pruning.specs.declared.sought.Sought.{Sought}
 use Rattle.gl_pruning.proofs.Back.{kept_at}
 use Rattle.gl_pruning.proofs.ByKinds.{from_not_true, place_within, place_first, place_round, place_follows}
@@ -64,7 +63,7 @@ pub knows_cycles : (s : Sought) (side : Side) (kept : List Bool) (n : ℕ) (user
 knows_cycles s side kept n users keeps whole are = λ cycle j e among is at.
     let edges = edges_of_table s.table.now in
     let (i, there, flag) = kept_at (is_before s.order.now) s.mode s.len edges kept keeps cycle among is j e at in
-    are i e (omega (arith, slice_get_within edges i e there, length-map s.table.now (λ pair. pair.0), whole)) there flag
+    are i e (omega (arith, slice_get_within edges i e there, length-map s.table.now (λ pair. pair.0), whole)) there (λ out. false≢true (same_Some false true (sym out ∙ flag)))
 
 module _ (s : Sought) (users : Users) (e : Edge) where
   -- an edge is in no cycle, if none of another thread holds the lock that it wants
@@ -80,48 +79,3 @@ module _ (s : Sought) (users : Users) (e : Edge) where
       let (k, below, same) = in_it in
       let (j, f, there, shared, apart) = leader (is_before s.order.now) s.mode s.len cycle is k e (slice_get-get_or cycle k e below ∙ ap Some same) in
       apart (only f.thread (subst (λ l. MayUse users l f.thread) shared (knows cycle j f among is there)))
-
--- one edge more
-pub users_more : (side : Side) (edges : List Edge) (kept : List Bool) (n : ℕ) (old new : Users) (d : Edge) → AreUsers side edges kept n old → slice_get edges n ≡ Some d
-    → (slice_get kept n ≡ Some true → MayUse new (lock_towards side d) d.thread) → ((l t : ℕ) → MayUse old l t → MayUse new l t) → AreUsers side edges kept (n + 1) new
-users_more side edges kept n old new d had there added stay = λ i e below at keep.
-    elim (cases_eq i n) [
-      | inl same ↦
-          let is_e : d ≡ e = same_Some d e (sym there ∙ ap (slice_get edges) (sym same) ∙ at) in
-          subst (λ x. MayUse new (lock_towards side x) x.thread) is_e (added (sym (ap (slice_get kept) same) ∙ keep))
-      | inr other ↦ stay (lock_towards side e) e.thread (had i e (omega arith) at keep)
-    ]
-
--- what is known of a lock after one was set
-known_set : (old new : Users) (lock : ℕ) (known : Option ℕ) → ((l : ℕ) → known_of new l ≡ cond (eqb lock l) (Some known) (known_of old l)) → (l : ℕ) → ((lock ≡ l) × (known_of new l ≡ Some known)) ⊎ (known_of new l ≡ known_of old l)
-known_set old new lock known updated l =
-    elim (cases_Bool (eqb lock l)) [
-      | inl same ↦ inl (eqb-true lock l same, updated l ∙ ap (λ b. cond b (Some known) (known_of old l)) same)
-      | inr other ↦ inr (updated l ∙ ap (λ b. cond b (Some known) (known_of old l)) other)
-    ]
-
-module _ (old new : Users) (lock : ℕ) where
-  -- of a lock of which nothing was known one thread is known
-  pub first_stays : (thread : ℕ) → known_of old lock ≡ None → ((l : ℕ) → known_of new l ≡ cond (eqb lock l) (Some (Some thread)) (known_of old l)) → (l t : ℕ) → MayUse old l t → MayUse new l t
-  first_stays thread unknown updated l t may =
-      elim (known_set old new lock (Some thread) updated l) [
-        | inl here ↦ elim may [
-          | inl several ↦ absurd (let e = sym unknown ∙ ap (known_of old) here.0 ∙ several in cc)
-          | inr one ↦ absurd (let e = sym unknown ∙ ap (known_of old) here.0 ∙ one in cc)
-        ]
-        | inr same ↦ elim may [
-          | inl several ↦ inl (same ∙ several)
-          | inr one ↦ inr (same ∙ one)
-        ]
-      ]
-
-  -- of a lock of which one thread was known several are
-  pub several_stay : ((l : ℕ) → known_of new l ≡ cond (eqb lock l) (Some None) (known_of old l)) → (l t : ℕ) → MayUse old l t → MayUse new l t
-  several_stay updated l t may =
-      elim (known_set old new lock None updated l) [
-        | inl here ↦ inl here.1
-        | inr same ↦ elim may [
-          | inl several ↦ inl (same ∙ several)
-          | inr one ↦ inr (same ∙ one)
-        ]
-      ]

@@ -7,86 +7,22 @@
 //!
 //! Of the edges that have a lock no more is known than their one thread, or that there are several. So it
 //! takes as long for an edge that shares its locks with thousands as for one that shares them with few.
-ghost use Rattle.std.specs.Prelude.{◌≡◌, ◌<◌, ℕ, true, length, IsTrue, IfOk, OnOk};
+ghost use Rattle.std.specs.Prelude.{◌<◌, length, IsTrue, IfOk, OnOk};
 ghost use Rattle.gl_segments.specs.Clocks.{is_before};
 ghost use Rattle.gl_filters.specs.Picked.{edges_of_table};
 ghost use Rattle.gl_pruning.specs.OffCycles.{IsOffCycles};
 ghost use Rattle.gl_pruning.specs.Sought.{KeepsSought};
-ghost use Rattle.gl_pruning.specs.bodies.Users.{MayUse, KnowsCycles, NoneUse};
-ghost use Rattle.gl_index.specs.Sides.{lock_towards};
+ghost use Rattle.gl_pruning.specs.bodies.Users.{KnowsCycles};
 ghost use Rattle.gl_index.specs.declared.sides.Side.TheVariants.{Follower, Leader};
 
 use crate::sought::Sought;
 use gl_edges::Edge;
-use gl_event::{LockId, Memory, ThreadId};
-use gl_index::Side;
+use gl_event::Memory;
+use gl_index::{Side, Users};
 use std::alloc::Global;
-use std::collections::HashMap;
 
 // How many times all edges are looked at, as long as some are left out.
 const PASSES: usize = 4;
-
-// Which threads use each lock: those of the edges that are kept and have it on one side.
-#[derive(Drop)]
-struct Users {
-    // the one thread of a lock, and none where there are several; no edge has a lock that isn't there
-    by_lock: HashMap<LockId, Option<ThreadId>>,
-}
-
-impl Users {
-    // No lock is used.
-    fn none(alloc: Global) -> Users
-        ensures { NoneUse result }
-    {
-        Users {
-            by_lock: HashMap::new(alloc),
-        }
-    }
-
-    // This thread uses a lock, too.
-    fn add(&mut self, lock: LockId, thread: ThreadId) -> Result<(), Memory>
-        ensures added { OnOk result (MayUse self.new lock thread) }
-        ensures stay { OnOk result ((l t : ℕ) → MayUse self.old l t → MayUse self.new l t) }
-    {
-        let Some(known) = self.by_lock.get(&lock).copied() else {
-            self.by_lock.insert(lock, Some(thread))?;
-            return Ok(());
-        };
-        let Some(one) = known else {
-            return Ok(());
-        };
-        if one == thread {
-            return Ok(());
-        }
-        self.by_lock.insert(lock, None)?;
-        Ok(())
-    }
-
-    // The thread of an edge uses its lock on this side, if the edge is kept.
-    fn add_kept(&mut self, is_kept: bool, side: Side, edge: &Edge) -> Result<(), Memory>
-        ensures added { OnOk result
-            (is_kept ≡ true → MayUse self.new (lock_towards side edge.now) edge.now.thread) }
-        ensures stay { OnOk result ((l t : ℕ) → MayUse self.old l t → MayUse self.new l t) }
-    {
-        if !is_kept {
-            return Ok(());
-        }
-        self.add(side.lock_of(edge), edge.thread)
-    }
-
-    // Whether no thread but this one uses a lock.
-    fn has_only(&self, lock: LockId, thread: ThreadId) -> bool
-        ensures { IsTrue result → (t : ℕ) → MayUse self.now lock t → t ≡ thread }
-    {
-        let Some(known) = self.by_lock.get(&lock).copied() else {
-            return true;
-        };
-        let Some(one) = known else {
-            return false;
-        };
-        one == thread
-    }
-}
 
 impl Sought<'_> {
     // The users of locks on this side of the edges that are kept.
@@ -94,10 +30,7 @@ impl Sought<'_> {
         requires { KeepsSought self.now kept.now }
         ensures { IfOk result (λ users. KnowsCycles self.now side users) }
     {
-        let mut users = Users::none(alloc);
-        for i in 0..self.table.len() {
-            users.add_kept(kept[i], side, &self.table[i].0)?;
-        }
+        let users = Users::of_kept(alloc, self.table, side, kept)?;
         Ok(users)
     }
 

@@ -1,6 +1,6 @@
 use Rattle.std.proofs.Common.{sym, ◌∙◌}
-use Rattle.gl_pruning.proofs.Apart.{first_stays, several_stay}
-use Rattle.gl_pruning.proofs.alone.Users.add.Goals as goal
+use Rattle.gl_index.proofs.Using.{first_stays, several_stay}
+use Rattle.gl_index.proofs.users.Users.add.Goals as goal
 
 pub returns-in_default-clause-stay : goal.returns-in_default-clause-stay
 returns-in_default-clause-stay c =
