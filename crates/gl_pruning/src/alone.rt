@@ -86,8 +86,8 @@ impl Sought<'_> {
         Ok(has_changed)
     }
 
-    /// Leaves out edges that are alone, a few times while there are any. Eight look-ups for each edge that is
-    /// kept, each time.
+    /// Leaves out edges that are alone, a few times while there are any. Six look-ups at most for each edge
+    /// that is kept, each time.
     pub(crate) fn leave_out_alone(&self, alloc: Global, kept: &mut Vec<bool>) -> Result<(), Memory>
         requires { KeepsSought self.now kept.old.items }
         ensures { OnOk result (KeepsSought self.now kept.new.items) }
