@@ -52,6 +52,19 @@ SHAPES = {
             "--threads 7 --sections 14 --segments 20 ask --len 16",
         ],
     },
+    # All edges of a thread lie on loops, and each leads on to hundreds of its own thread.
+    "all-pairs": {
+        "small": ["--locks 100", "--threads 2 --locks 100", "--threads 4 --locks 50 --common 2", "--locks 1 --common 60 --threads 2 --gated"],
+        "large": [
+            "--locks 400",
+            "--threads 8 --locks 120",
+            "--threads 4 --locks 150 --common 2",
+            "--threads 4 --locks 100 --gated",
+            "--threads 2 --locks 1 --common 120 --gated",
+            "--threads 8 --locks 1 --common 60 --gated",
+            "--threads 8 --locks 1 --common 80 --in-turn",
+        ],
+    },
     # Two locks in any order each time: an edge leads to ten others, and there are thousands of cycles. Asked for one cycle
     # of two edges, nearly all the time is reading and making edges: what the others take longer is their search.
     "many-locks": {

@@ -21,6 +21,7 @@ ordinary-names they are as long and have different hashes.
 """
 
 import argparse
+import itertools
 import random
 import sys
 
@@ -69,13 +70,16 @@ SERVERS = {
     # Threads that take locks of one table, in any order and up to four at a time, most of the later ones by tries.
     "lock-table": dict(threads=16, locks=1_480, sections=12, tried=0.8),
 }
+# Each thread takes each two of its locks in both orders, one inside the other. There is no cycle where no two threads have two
+# locks in common, nor under one gate, nor where each thread is joined before the next one is forked.
+PAIRS = {"all-pairs": dict(threads=1, locks=200)}
 # Many threads run one of two pieces of code, on all locks: millions of cycles of one mistake.
 FINDINGS = {"shared-code": dict(threads=1_000, locks=50)}
 NAMES = {"colliding-names": dict(locks=100_000), "ordinary-names": dict(locks=100_000)}
 GENERAL = dict(
     threads=8, locks=16, depth=2, sections=20, disorder=0.1, is_ring=False, locations=500, name_length=0,
     waves=0, rejoins=0, others=0.3, strays=0.0005, shared=0,
-    segments=1, gates=1, events_a_section=0, tried=0.0,
+    segments=1, gates=1, events_a_section=0, tried=0.0, common=0, is_gated=False, is_in_turn=False,
 )  # fmt: skip
 
 PACKAGE = "org.example.server.storage.internal.cache.partition.segment.writer."
@@ -242,6 +246,19 @@ def few_threads(options):
                 yield new_segment(f"T{t}")
             for k in range(options.sections):
                 yield from piece(f"T{t}", k, options.sections)
+
+
+def all_pairs(options):
+    common = [f"common{i}" for i in range(options.common)]
+    gates = ["gate"] if options.is_gated else []
+    for t in range(options.threads):
+        locks = [f"own{t}_{i}" for i in range(options.locks)] + common
+        if options.is_in_turn:
+            yield f"main|fork(T{t})|Main.java:5"
+        for held, wanted in itertools.permutations(locks, 2):
+            yield from nested(f"T{t}", "Pairs.java", [*gates, held, wanted])
+        if options.is_in_turn:
+            yield f"main|join(T{t})|Main.java:6"
 
 
 class Server:
@@ -434,6 +451,7 @@ MADE_BY = {
     "alternating-gates": alternating_gates,
     "early-and-late": early_and_late,
     "few-threads": few_threads,
+    "all-pairs": all_pairs,
     "item-locks": lambda options: Server(options).cache(),
     "long-sections": lambda options: Server(options).cache(),
     "connections": lambda options: Server(options).connections(),
@@ -465,9 +483,12 @@ def main():
     parser.add_argument("--gates", type=int, help="of a knot: gate locks, fewer than its pieces of code")
     parser.add_argument("--events-a-section", type=int, help="of a cache: how long its maintainer's own lock is held")
     parser.add_argument("--tried", type=float, help="of a server: share of the locks inside another that are tried")
+    parser.add_argument("--common", type=int, help="of all pairs: locks that each thread has, beside those of its own")
+    parser.add_argument("--gated", dest="is_gated", action="store_true", default=None, help="of all pairs: under one gate lock")
+    parser.add_argument("--in-turn", dest="is_in_turn", action="store_true", default=None, help="of all pairs: thread by thread")
     parser.add_argument("--crlf", action="store_true", help="lines end with CR LF")
     options = parser.parse_args()
-    for name, value in {**GENERAL, **{**SHAPES, **KNOTS, **SERVERS, **FINDINGS, **NAMES}[options.shape]}.items():
+    for name, value in {**GENERAL, **{**SHAPES, **KNOTS, **SERVERS, **PAIRS, **FINDINGS, **NAMES}[options.shape]}.items():
         if getattr(options, name, None) is None:
             grows = name == "locks" and options.shape in SERVERS
             setattr(options, name, max(4, round(value * options.events / RECORDED)) if grows else value)
@@ -476,7 +497,7 @@ def main():
         ("sections", 1, 10**8), ("disorder", 0, 1), ("name_length", 0, 30_000), ("locations", 1, 10**8),
         ("others", 0, 0.95), ("strays", 0, 1), ("waves", 0, 1_023), ("rejoins", 0, 10**8),
         ("shared", 0, 1), ("segments", 1, 10**6), ("gates", 1, 60), ("events_a_section", 0, 10**6),
-        ("tried", 0, 1),
+        ("tried", 0, 1), ("common", 0, 10**8),
     ]:  # fmt: skip
         if not least <= getattr(options, name) <= most:
             parser.error(f"--{name.replace('_', '-')} is from {least} to {most}")

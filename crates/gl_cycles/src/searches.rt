@@ -37,15 +37,17 @@ fn listed(cycles: Vec<Vec<usize>>, max: usize) -> Found
 /// ends where one cycle more than are listed was found.
 ///
 /// Edges that are in no cycle are left out: before the search those that lie on no loop of the
-/// lock-order graph, and others only where the search takes long. Where it has taken some steps for
-/// each edge and isn't through, those are left out that are seen to be in no cycle by their kind, by
-/// having no way back (no walk of edges which go with them from the lock that they want to the one
-/// that they hold), by their kind and thread, and by their segments. Then the search goes on at the
-/// edge where it stood, with more steps to take, and so on in turn.
+/// lock-order graph, and those that are alone among edges of their own thread (no other thread's edge
+/// holds the lock that they want, or none wants the one that they hold); others only where the search
+/// takes long. Where it has taken some steps for each edge and isn't through, those are left out that
+/// are seen to be in no cycle by their kind, by having no way back (no walk of edges which go with them
+/// from the lock that they want to the one that they hold), by their kind and thread, and by their
+/// segments. Then the search goes on at the edge where it stood, with more steps to take, and so on in
+/// turn.
 ///
-/// To find the edges on loops takes some look-ups for each edge. To leave out others takes no more
-/// steps than some for each that the search took before, but in the last round as many as each reason
-/// takes at most. There may be as many paths as the edges that stay to the power of the greatest length
+/// To find the edges on loops and those that are alone takes some look-ups for each edge. To leave out
+/// others takes no more steps than some for each that the search took before, but in the last round as
+/// many as each reason takes at most. There may be as many paths as the edges that stay to the power of the greatest length
 /// of a cycle less one.
 ///
 /// Err where memory was refused.
@@ -72,9 +74,9 @@ pub fn search(
     Ok(listed(cycles, max))
 }
 
-/// The same as [`search`], on several threads. The steps that a search takes before
-/// more edges are left out are taken in one thread. What leaves out edges deals them out to parts, each
-/// of which leaves out some of its own. At last each edge from the one on where the search stands is
+/// The same as [`search`], on several threads. The steps that a search takes before more edges are left
+/// out are taken in one thread, and so is what leaves them out with as much effort. The last time they
+/// are dealt out to parts, each of which leaves out some of its own. Then each edge from the one on where the search stands is
 /// the first of paths, and the edges are dealt out in runs: the first few to one thread, and then each
 /// time as many as were dealt out before, in pieces of one length. The search ends after the run in
 /// which one cycle more than are listed was found. Each run goes to its end, so that what is found and

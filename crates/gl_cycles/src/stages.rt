@@ -4,15 +4,15 @@
 //! found at once: there a plain search is the quickest. In others edges lead to each other in a knot
 //! and make no cycle, and a plain search takes as long as there are paths, which may be for ever. Then
 //! it helps to leave out edges that are in no cycle. Which of both it is shows only on the way. So a
-//! search begins among the edges that lie on loops, which are soon found, and takes no more than some
-//! steps for each edge. Where it isn't through by then, edges are left out with about as much effort,
-//! and the search goes on at the root where it stood, among those that stay, with several times the
-//! steps: a round. What was found stays, since what is left out is in no cycle.
+//! search begins among the edges that lie on loops and aren't alone among edges of their own thread,
+//! which are soon found, and takes no more than some steps for each edge. Where it isn't through by
+//! then, edges are left out with about as much effort, and the search goes on at the root where it
+//! stood, among those that stay, with several times the steps: a round. What was found stays, since what is left out is in no cycle.
 //!
 //! In each round edges are left out for one reason after the other. Before the last round the efforts
 //! are bound, so what comes too dear is tried again. In the last one edges are left out with all the
 //! effort that each reason makes at most, and the search then goes on to its end.
-ghost use Rattle.std.specs.Prelude.{◌≡◌, ◌<◌, ◌≤◌, map, take, IfOk};
+ghost use Rattle.std.specs.Prelude.{◌≡◌, ◌<◌, ◌≤◌, map, take, IfOk, OnOk};
 ghost use Rattle.gl_segments.specs.Clocks.{is_before};
 ghost use Rattle.gl_filters.specs.Picked.{edges_of_table};
 ghost use Rattle.gl_cycles.specs.AllCycles.{all_cycles};
@@ -38,8 +38,9 @@ const STEPS: usize = 10_000;
 // How many times the steps of the round before each round has.
 const GROWTH: usize = 4;
 
-// How much effort is worth a step.
-const WORTH: usize = 1;
+// How many steps are worth the effort for each reason of one: there are several reasons, and each takes
+// as much effort twice.
+const SHARE: usize = 4;
 
 // How many steps the search of a round has, among so many edges.
 fn steps_of(round: usize, edges: usize) -> usize {
@@ -51,11 +52,8 @@ fn steps_of(round: usize, edges: usize) -> usize {
 }
 
 // How much effort a round makes for each reason, behind so many steps.
-fn effort_of(round: usize, steps: usize) -> usize {
-    if round >= LAST {
-        return ALL_EFFORT;
-    }
-    steps.saturating_mul(WORTH)
+fn effort_of(steps: usize) -> usize {
+    steps / SHARE
 }
 
 // Goes on with a search at a root within so many steps, among the edges that are kept. The root at
@@ -81,6 +79,36 @@ fn search_on(
     search.go_on(alloc, effort, from, found)
 }
 
+// Searches in rounds, and leaves edges out between them. The root at which the search stands then, with
+// no more steps to take.
+fn search_in_rounds(
+    alloc: Global,
+    sought: &Sought<'_>,
+    cap: usize,
+    kept: &mut Vec<bool>,
+    found: &mut Vec<Vec<usize>>,
+) -> Result<usize, Memory>
+    requires some { 0 < sought.now.len }
+    requires fits { sought.now.len ≤ PATH }
+    requires kept { KeepsSought sought.now kept.old.items }
+    requires found { HasFound sought.now cap 0 (map (λ cycle. cycle.items) found.old.items) }
+    ensures kept { OnOk result (KeepsSought sought.now kept.new.items) }
+    ensures found { IfOk result
+        (λ to. HasFound sought.now cap to (map (λ cycle. cycle.items) found.new.items)) }
+{
+    let mut root = 0;
+    for round in 0..LAST {
+        let steps = steps_of(round, sought.table.len());
+        root = search_on(alloc, sought, cap, steps, kept, root, found)?;
+        if root >= sought.table.len() {
+            return Ok(root);
+        }
+        sought.leave_out_in_turn(alloc, effort_of(steps), kept)?;
+    }
+    let steps = steps_of(LAST, sought.table.len());
+    search_on(alloc, sought, cap, steps, kept, root, found)
+}
+
 /// The first cycles that are sought, up to a cap.
 pub(crate) fn first_cycles(
     alloc: Global,
@@ -95,22 +123,19 @@ pub(crate) fn first_cycles(
         (all_cycles (is_before sought.now.order.now) sought.now.mode sought.now.len
         (edges_of_table sought.now.table.now))) }
 {
-    let mut kept = sought.on_loops(alloc)?;
+    let mut kept = sought.kept_at_first(alloc)?;
     let mut found = Vec::new(alloc);
-    let mut root = 0;
-    for round in 0..LAST + 1 {
-        let steps = steps_of(round, sought.table.len());
-        root = search_on(alloc, sought, cap, steps, &kept, root, &mut found)?;
-        if root >= sought.table.len() {
-            return Ok(found);
-        }
-        sought.leave_out_in_turn(alloc, effort_of(round, steps), &mut kept)?;
+    let root = search_in_rounds(alloc, sought, cap, &mut kept, &mut found)?;
+    if root >= sought.table.len() {
+        return Ok(found);
     }
+    sought.leave_out_in_turn(alloc, ALL_EFFORT, &mut kept)?;
     let search = Searcher::of(alloc, sought, cap, false, kept)?;
     search.first_cycles(alloc, root, found)
 }
 
-/// The same as [`first_cycles`], on several threads.
+/// The same as [`first_cycles`], on several threads. The rounds are gone through in one thread: each part of
+/// the edges would take as long to begin as all of them, and what a round does is bound.
 pub(crate) fn first_cycles_parallel(
     rt: &(impl Threads + Sync),
     alloc: Global,
@@ -125,17 +150,13 @@ pub(crate) fn first_cycles_parallel(
         (all_cycles (is_before sought.now.order.now) sought.now.mode sought.now.len
         (edges_of_table sought.now.table.now))) }
 {
-    let mut kept = sought.on_loops(alloc)?;
+    let mut kept = sought.kept_at_first(alloc)?;
     let mut found = Vec::new(alloc);
-    let mut root = 0;
-    for round in 0..LAST + 1 {
-        let steps = steps_of(round, sought.table.len());
-        root = search_on(alloc, sought, cap, steps, &kept, root, &mut found)?;
-        if root >= sought.table.len() {
-            return Ok(found);
-        }
-        leave_out_in_turn_parallel(rt, alloc, sought, effort_of(round, steps), &mut kept)?;
+    let root = search_in_rounds(alloc, sought, cap, &mut kept, &mut found)?;
+    if root >= sought.table.len() {
+        return Ok(found);
     }
+    leave_out_in_turn_parallel(rt, alloc, sought, ALL_EFFORT, &mut kept)?;
     let search = Searcher::of(alloc, sought, cap, false, kept)?;
     parallel::first_cycles(rt, alloc, &search, root, found)
 }

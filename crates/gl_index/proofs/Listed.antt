@@ -9,10 +9,10 @@ use Rattle.gl_edges.specs.declared.edge.Edge.{Edge}
 use Rattle.gl_edges.specs.declared.edge.Sample.{Sample}
 use Rattle.gl_filters.specs.Picked.{edges_of_table}
 use Rattle.gl_index.specs.Listed.{IsNextWith, AreListed}
-use Rattle.gl_index.specs.bodies.Holders.{AreHolders, first_of_lock}
-use Rattle.gl_index.specs.Indexes.{AreClosers, IsIndexOf, held_lock, same_locks}
+use Rattle.gl_index.specs.Indexes.{AreChainedKept, AreClosers, IsIndexOf, first_in_chain, held_lock, same_locks}
 use Rattle.gl_index.specs.declared.followers.Followers.{Followers}
-use Rattle.gl_index.specs.declared.followers.Holders.{Holders}
+use Rattle.gl_index.specs.declared.chains.Chain.{Chain}
+use Rattle.gl_index.specs.declared.sides.Side.TheVariants.{Leader}
 use Rattle.gl_index.proofs.Lists.{element_at}
 
 -- the test says whether two keys are the same
@@ -127,18 +127,18 @@ module _ {K : Type 0} (key : Edge → K) (edges : List Edge) (kept : List Bool) 
     }
 
 -- the index, where the first followers are those that the holders give
-pub index_of : (table : List (Edge × Sample)) (kept : List Bool) (holders : Holders) (index : Followers) → AreHolders (edges_of_table table) kept 0 holders
-    → index.first.items ≡ map (λ pair. first_of_lock holders pair.0.wanted) table → index.next.items ≡ holders.next.items → AreClosers (edges_of_table table) kept 0 index.closers → IsIndexOf (edges_of_table table) kept index
+pub index_of : (table : List (Edge × Sample)) (kept : List Bool) (holders : Chain) (index : Followers) → AreChainedKept Leader (edges_of_table table) kept 0 holders
+    → index.first.items ≡ map (λ pair. first_in_chain holders pair.0.wanted) table → index.next.items ≡ holders.next.items → AreClosers (edges_of_table table) kept 0 index.closers → IsIndexOf (edges_of_table table) kept index
 index_of table kept holders index are is_first is_next closers = record {
-  long = ap length is_first ∙ length-map table (λ pair. first_of_lock holders pair.0.wanted) ∙ sym (length-map table (λ pair. pair.0));
+  long = ap length is_first ∙ length-map table (λ pair. first_in_chain holders pair.0.wanted) ∙ sym (length-map table (λ pair. pair.0));
   as_long = ap length is_next ∙ are.long;
   begins = λ i e first at there.
       let within : i < length table = omega (arith, slice_get_within (edges_of_table table) i e at, length-map table (λ pair. pair.0)) in
       let pair = element_at table i within in
       let is_e : pair.0.0 ≡ e = same_Some pair.0.0 e (sym (slice_get-map (λ p. p.0) table i ∙ ap (option_map (λ p. p.0)) pair.1) ∙ at) in
-      let is : first_of_lock holders pair.0.0.wanted ≡ first =
+      let is : first_in_chain holders pair.0.0.wanted ≡ first =
       same_Some _ _
-      (sym (slice_get-map (λ p. first_of_lock holders p.0.wanted) table i ∙ ap (option_map (λ p. first_of_lock holders p.0.wanted)) pair.1) ∙ sym (ap (λ l. slice_get l i) is_first) ∙ there) in
+      (sym (slice_get-map (λ p. first_in_chain holders p.0.wanted) table i ∙ ap (option_map (λ p. first_in_chain holders p.0.wanted)) pair.1) ∙ sym (ap (λ l. slice_get l i) is_first) ∙ there) in
       subst (λ f. IsNextWith held_lock (edges_of_table table) kept f.wanted 0 first) is_e (subst (IsNextWith held_lock (edges_of_table table) kept pair.0.0.wanted 0) is (are.begins pair.0.0.wanted));
   goes_on = λ i e next at there. are.goes_on i e next (omega arith) at (sym (ap (λ l. slice_get l i) is_next) ∙ there);
   closers = closers;

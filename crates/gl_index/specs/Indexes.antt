@@ -13,9 +13,13 @@ use Rattle.gl_index.specs.declared.sides.Side.{Side}
 abbrev pub first_in_chain : Chain → ℕ → Option ℕ
 first_in_chain chain lock = get nat_eq chain.first lock
 
--- the edges from position n on are in the index by their locks on this side
+-- the edges from position n on that are kept are in the index by their locks on this side
+abbrev pub AreChainedKept : Side → List Edge → List Bool → ℕ → Chain → Type 0
+AreChainedKept side edges kept n chain = AreListed (lock_towards side) edges kept n (first_in_chain chain) chain.next.items
+
+-- all edges from position n on are, where no flag leaves any out
 abbrev pub AreChained : Side → List Edge → ℕ → Chain → Type 0
-AreChained side edges n chain = AreListed (lock_towards side) edges [] n (first_in_chain chain) chain.next.items
+AreChained side edges n chain = AreChainedKept side edges [] n chain
 
 -- the lock that an edge holds
 abbrev pub held_lock : Edge → ℕ

@@ -1,4 +1,4 @@
 pub mod Indexes
 pub mod Listed
 pub mod Sides
-pub mod bodies
+pub mod Users

@@ -4,7 +4,8 @@
 //! holds it. An index leads from a lock through the positions of such edges, ascending, and looks at no
 //! other edge. [`Chain`] leads through the edges that have a lock on one [`Side`]. [`Followers`] leads
 //! from an edge through those that may follow it, and [`Closers`] through those that lead from one lock
-//! to another; both pass over edges that are left out.
+//! to another. All of them pass over edges that are left out. [`Users`] tells which threads have the edges
+//! with a lock: one, or several.
 //!
 //! What an index says is said of every list of edges that it is the index of: the next position with a
 //! key, with no edge between that has this key and is kept.
@@ -14,8 +15,10 @@ mod chains;
 mod closers;
 mod followers;
 mod sides;
+mod users;
 
 pub use chains::Chain;
 pub use closers::Closers;
 pub use followers::Followers;
 pub use sides::Side;
+pub use users::Users;

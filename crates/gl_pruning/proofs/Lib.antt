@@ -1,3 +1,4 @@
+pub mod Apart
 pub mod Level
 pub mod Off
 pub mod Answered

@@ -3,4 +3,5 @@ pub mod Gaps
 pub mod Kinds
 pub mod Loops
 pub mod Ranks
+pub mod Users
 pub mod Walks

@@ -1,8 +1,9 @@
 //! Why edges are left out, and in which order.
 //!
-//! The edges that lie on no loop are the first, since they are soon found. The others are left out for
-//! one reason after the other, the cheaper ones first: by kind, since there may be many edges of each
-//! kind; those that have no way back; by kind and thread; and single ones by their segments.
+//! The edges that lie on no loop are the first, since they are soon found, and then those that are alone
+//! among edges of their own thread. The others are left out for one reason after the other, the cheaper ones
+//! first: by kind, since there may be many edges of each kind; those that have no way back; by kind and
+//! thread; and single ones by their segments.
 ghost use Rattle.std.specs.Prelude.{IfOk, OnOk};
 ghost use Rattle.gl_pruning.specs.Sought.{KeepsSought};
 
@@ -29,10 +30,20 @@ fn reasons() -> [Reason; 4] {
 }
 
 impl Sought<'_> {
-    /// Which edges lie on a loop, as far as ranks of locks tell: for each a flag.
+    /// Which edges stay by what is soon seen: they lie on a loop, as far as ranks of locks tell, and edges of
+    /// other threads hold the lock that they want and want the one that they hold. For each a flag.
     ///
     /// Err where memory was refused.
-    pub fn on_loops(&self, alloc: Global) -> Result<Vec<bool>, Memory>
+    pub fn kept_at_first(&self, alloc: Global) -> Result<Vec<bool>, Memory>
+        ensures { IfOk result (λ kept. KeepsSought self.now kept.items) }
+    {
+        let mut kept = self.on_loops(alloc)?;
+        self.leave_out_alone(alloc, &mut kept)?;
+        Ok(kept)
+    }
+
+    // Which edges lie on a loop, as far as ranks of locks tell: for each a flag.
+    fn on_loops(&self, alloc: Global) -> Result<Vec<bool>, Memory>
         ensures { IfOk result (λ kept. KeepsSought self.now kept.items) }
     {
         let kept = edges_on_loops(alloc, self.table)?;
@@ -61,7 +72,7 @@ impl Sought<'_> {
     pub(crate) fn kept_edges(&self, alloc: Global) -> Result<Vec<bool>, Memory>
         ensures { IfOk result (λ kept. KeepsSought self.now kept.items) }
     {
-        let mut kept = self.on_loops(alloc)?;
+        let mut kept = self.kept_at_first(alloc)?;
         self.leave_out_in_turn(alloc, ALL_EFFORT, &mut kept)?;
         Ok(kept)
     }
@@ -94,7 +105,7 @@ pub(crate) fn kept_edges_parallel(
 ) -> Result<Vec<bool>, Memory>
     ensures { IfOk result (λ kept. KeepsSought sought.now kept.items) }
 {
-    let mut kept = sought.on_loops(alloc)?;
+    let mut kept = sought.kept_at_first(alloc)?;
     leave_out_in_turn_parallel(rt, alloc, sought, ALL_EFFORT, &mut kept)?;
     Ok(kept)
 }

@@ -1,7 +1,7 @@
 -- Steps of trimming.
 use Rattle.std.proofs.Common.{◌≡◌, ◌≢◌, ℕ, ◌+◌, ◌-◌, ◌<◌, ◌≤◌, Bool, true, false, not, List, [], length, set, get_or, replicate, Option, Some, None, Result, Ok, Err, OnOk, is_some, refl, sym, ap, subst, ◌∙◌, arith, inl, inr}
 use Rattle.std.specs.Prelude.{slice_get, unwrap_or, IfSome, Contains}
-use Rattle.std.proofs.lemmas.Bool.{cases_eq, false≢true, cases_lt, and_parts, false_from_ne_true}
+use Rattle.std.proofs.lemmas.Bool.{cases_eq, eq-eqb, false≢true, cases_lt, and_parts, false_from_ne_true, not-true}
 use Rattle.std.proofs.lemmas.List.{length-set, length-replicate}
 use Rattle.std.proofs.lemmas.Option.{slice_get_within, same_Some}
 use Rattle.gl_event.specs.declared.events.Segment.{Segment}
@@ -16,6 +16,8 @@ use Rattle.gl_trims.specs.declared.waiting.Waiting.{Waiting}
 use Rattle.gl_index.specs.Indexes.{AreChained}
 use Rattle.gl_index.specs.Sides.{opposite, lock_towards}
 use Rattle.gl_index.specs.Listed.{IsNextWith}
+use Rattle.gl_index.specs.Users.{MayUse, AreUsers}
+use Rattle.gl_index.specs.declared.users.Users.{Users}
 use Rattle.gl_trims.specs.declared.trims.Hints.{Hints}
 use Rattle.gl_trims.specs.declared.trims.Sides.{Sides}
 use Rattle.gl_filters.specs.Test.{is_compatible, leads_to, is_clear}
@@ -28,6 +30,16 @@ shares_lock : (before : Segment → Segment → Bool) (mode : Mode) (side : Side
 unfolding is_compatible
 shares_lock before mode Follower e f fits = sym (leads_same e f ((and_parts (leads_to e f) _ ((and_parts _ (is_clear before mode e f) fits).0)).0))
 shares_lock before mode Leader e f fits = leads_same f e ((and_parts (leads_to f e) _ ((and_parts _ (is_clear before mode f e) fits).0)).0)
+
+-- and only where they have different threads
+other_thread : (before : Segment → Segment → Bool) (mode : Mode) (side : Side) (e f : Edge) → is_beside before mode side e f ≡ true → f.thread ≢ e.thread
+unfolding is_compatible
+other_thread before mode Follower e f fits same =
+    let parts = and_parts (leads_to e f) _ (and_parts _ (is_clear before mode e f) fits).0 in
+    false≢true (sym (not-true _ parts.1) ∙ eq-eqb e.thread f.thread (sym same))
+other_thread before mode Leader e f fits same =
+    let parts = and_parts (leads_to f e) _ (and_parts _ (is_clear before mode f e) fits).0 in
+    false≢true (sym (not-true _ parts.1) ∙ eq-eqb f.thread e.thread same)
 
 module _ (before : Segment → Segment → Bool) (mode : Mode) (edges : List Edge) (gone : List Bool) where
   module _ (side : Side) where
@@ -121,6 +133,18 @@ module _ (before : Segment → Segment → Bool) (mode : Mode) (edges : List Edg
                     watched_keeps place i old.watchers p j in_watchers (had.watched j p (below j early other) (sym (set_elsewhere old.places.items i j place other (omega (arith, length-set old.places.items i place))) ∙ there) left)
               ]);
         }
+
+    -- an edge has none beside it where all that share its lock have its thread
+    pub none_of_other : (users : Users) (i : ℕ) (e : Edge) → AreUsers (opposite side) edges [] (length edges) users → slice_get edges i ≡ Some e
+        → ((t : ℕ) → MayUse users (lock_towards side e) t → t ≡ e.thread) → IsHint before mode edges gone side i None
+    none_of_other users i e are at only = record {
+      passed = λ q e2 f below at_e at_f left. false_from_ne_true _ (λ fits.
+          let same : e ≡ e2 = same_Some e e2 (sym at ∙ at_e) in
+          let shared : lock_towards (opposite side) f ≡ lock_towards side e = shares_lock before mode side e2 f fits ∙ ap (lock_towards side) (sym same) in
+          let is_own : f.thread ≡ e.thread = only f.thread (subst (λ l. MayUse users l f.thread) shared (are q f below at_f (λ out. absurd (let o = out in cc)))) in
+          other_thread before mode side e2 f fits (is_own ∙ ap (λ x. x.thread) same));
+      fits = tt;
+    }
 
     -- where no place is left nothing is
     pub none_without : (i : ℕ) (e : Edge) → IsHint before mode edges gone side i None → length gone ≡ length edges → slice_get edges i ≡ Some e → ¬ HasBeside before mode edges (IsFlagged gone) side e

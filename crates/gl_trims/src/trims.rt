@@ -10,13 +10,14 @@ ghost use Rattle.gl_trims.specs.bodies.Trimming.{IsFlagged, IsStart, IsHint, Are
 ghost use Rattle.gl_trims.specs.bodies.Waiting.{waits, AreEarlier};
 ghost use Rattle.gl_index.specs.Indexes.{AreChained};
 ghost use Rattle.gl_index.specs.Sides.{opposite};
+ghost use Rattle.gl_index.specs.Users.{AreUsers};
 
 use crate::waiting::Waiting;
 use crate::watchers::Watchers;
 use gl_edges::{Edge, EdgeList, Sample};
 use gl_event::Memory;
 use gl_filters::{Mode, compatible};
-use gl_index::{Chain, Side};
+use gl_index::{Chain, Side, Users};
 use gl_segments::Order;
 use std::alloc::Global;
 
@@ -120,9 +121,47 @@ impl Trimming<'_> {
         None
     }
 
-    // Notes where an edge is that may come beside the one at a position, which has no place yet.
-    fn find(&self, gone: &[bool], hints: &mut Hints, side: Side, i: usize) -> Result<(), Memory>
+    // The first place of an edge that isn't gone and may come beside the one at a position. There is none
+    // where only edges of its own thread have their lock.
+    fn first_beside(
+        &self,
+        gone: &[bool],
+        users: &Users,
+        chain: &Chain,
+        side: Side,
+        i: usize,
+    ) -> Option<usize>
         requires here { i < length self.now.table.now }
+        requires flags { length gone.now ≡ length self.now.table.now }
+        requires users { AreUsers (opposite side) (edges_of_table self.now.table.now) []
+            (length self.now.table.now) users.now }
+        requires chain { AreChained (opposite side)
+            (edges_of_table self.now.table.now) 0 chain.now }
+        ensures hint { IsHint (is_before self.now.order.now) self.now.mode
+            (edges_of_table self.now.table.now) gone.now side i result }
+        ensures left { IfSome result (λ place. slice_get gone.now place ≡ Some false) }
+    {
+        let edge = &self.table[i].0;
+        let lock = side.lock_of(edge);
+        if users.has_only(lock, edge.thread) {
+            return None;
+        }
+        let first = chain.begin(lock);
+        self.next_beside(gone, chain, side, i, first)
+    }
+
+    // Notes where an edge is that may come beside the one at a position, which has no place yet.
+    fn find(
+        &self,
+        gone: &[bool],
+        users: &Users,
+        hints: &mut Hints,
+        side: Side,
+        i: usize,
+    ) -> Result<(), Memory>
+        requires here { i < length self.now.table.now }
+        requires users { AreUsers (opposite side) (edges_of_table self.now.table.now) []
+            (length self.now.table.now) users.now }
         requires flags { length gone.now ≡ length self.now.table.now }
         requires hints { AreHints (is_before self.now.order.now) self.now.mode
             (edges_of_table self.now.table.now) gone.now side i hints.old }
@@ -130,8 +169,7 @@ impl Trimming<'_> {
             (AreHints (is_before self.now.order.now) self.now.mode
             (edges_of_table self.now.table.now) gone.now side (i + 1) hints.new) }
     {
-        let first = hints.chain.begin(side.lock_of(&self.table[i].0));
-        let place = self.next_beside(gone, &hints.chain, side, i, first);
+        let place = self.first_beside(gone, users, &hints.chain, side, i);
         hints.put(i, place)
     }
 
@@ -147,8 +185,9 @@ impl Trimming<'_> {
             places: vec![in alloc; None; self.table.len()]?,
             watchers: Watchers::none(alloc, self.table.len())?,
         };
+        let users = Users::of_kept(alloc, self.table, side.opposite(), &[])?;
         for i in 0..self.table.len() {
-            self.find(gone, &mut hints, side, i)?;
+            self.find(gone, &users, &mut hints, side, i)?;
         }
         Ok(hints)
     }

@@ -58,7 +58,7 @@ next_beside-next-requires-clause-start c =
     let here = element_at edges c.args.i (omega (arith, c.requires.here, long)) in
     let there = element_at edges c.in-Some.place had.fits.0 in
     start_after_hint (is_before s.order.now) s.mode edges c.args.gone.now c.args.side c.args.i c.in-Some.place here.0 there.0 c.after-from.result here.1 there.1 had flag
-    (c.after-from.ensures edges (opposite c.args.side) there.0 c.requires.hints.chain there.1)
+    (c.after-from.ensures edges _ (opposite c.args.side) there.0 c.requires.hints.chain there.1)
 
 pub returns-clause-hints : goal.returns-clause-hints
 returns-clause-hints c =

@@ -19,7 +19,7 @@ next_beside-requires-clause-start c =
     let pair = get_or s.table.now c.args.i c.index-self-i.result in
     let at = edge_at s.table.now c.args.i c.index-self-i.result c.requires.here in
     start_first (is_before s.order.now) s.mode edges c.args.gone.now c.args.side c.args.i pair.0 c.begin-first.result at
-    (subst (λ k. IsNextWith (lock_towards (opposite c.args.side)) edges _ k 0 c.begin-first.result) c.lock_of.ensures (c.begin-first.ensures edges (opposite c.args.side) c.requires.chain))
+    (subst (λ k. IsNextWith (lock_towards (opposite c.args.side)) edges _ k 0 c.begin-first.result) c.lock_of.ensures (c.begin-first.ensures edges _ (opposite c.args.side) c.requires.chain))
 
 pub returns : goal.returns
 returns c = λ e at.

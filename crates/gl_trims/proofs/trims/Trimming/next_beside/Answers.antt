@@ -18,7 +18,7 @@ loop-next-smaller c =
     let start : IsStart (is_before s.order.now) s.mode edges c.args.gone.now c.args.side c.args.i (Some c.in-Some.place) = rw c.in-Some.is at c.loop-next.invariant in
     let there = element_at edges c.in-Some.place start.shares.0 in
     fewer_places (length edges) (length s.table.now) c.loop-next.next c.in-Some.place c.after-next.result (length-map s.table.now (λ pair. pair.0)) c.in-Some.is start.shares.0
-    (c.after-next.ensures edges (opposite c.args.side) there.0 c.requires.chain there.1).from
+    (c.after-next.ensures edges _ (opposite c.args.side) there.0 c.requires.chain there.1).from
 
 pub loop-next-preserved : goal.loop-next-preserved
 loop-next-preserved c =
@@ -35,4 +35,4 @@ loop-next-preserved c =
           let flag = slice_get-get_or c.args.gone.now c.in-Some.place false (omega (arith, start.shares.0, c.requires.flags, length-map s.table.now (λ pair. pair.0))) ∙ ap Some w.if-not-gone-place.false in
           absurd (false≢true (same_Some false true (sym left ∙ flag)))
     ])
-    (c.after-next.ensures edges (opposite c.args.side) there.0 c.requires.chain there.1)
+    (c.after-next.ensures edges _ (opposite c.args.side) there.0 c.requires.chain there.1)

@@ -1,7 +1,0 @@
-use Rattle.gl_filters.specs.Picked.{edges_of_table}
-use Rattle.gl_index.specs.bodies.Holders.{AreHolders}
-use Rattle.gl_index.proofs.followers.Holders.of.Given as goal
-
--- the edges from position i on are in the index
-abbrev pub invariant-loop-i : goal.invariant-loop-i
-invariant-loop-i l = AreHolders (edges_of_table l.table) l.kept l.i l.holders

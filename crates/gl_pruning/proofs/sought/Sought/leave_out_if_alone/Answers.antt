@@ -1,0 +1,15 @@
+use Rattle.std.proofs.Common.{◌<◌, length, refl, sym, subst, arith}
+use Rattle.std.proofs.lemmas.List.{length-map}
+use Rattle.gl_segments.specs.Clocks.{is_before}
+use Rattle.gl_filters.specs.Picked.{edges_of_table}
+use Rattle.gl_pruning.specs.OffCycles.{IsOffCycles}
+use Rattle.gl_pruning.proofs.Back.{keeps_more}
+use Rattle.gl_pruning.proofs.ByKinds.{edge_is}
+use Rattle.gl_pruning.proofs.sought.Sought.leave_out_if_alone.Goals as goal
+
+pub returns : goal.returns
+returns c =
+    let s = c.args.self.now in
+    let within : c.args.x < length c.args.kept.now.items = omega (arith, c.requires.there, c.requires.kept.long, length-map s.table.now (λ pair. pair.0)) in
+    keeps_more (is_before s.order.now) s.mode s.len (edges_of_table s.table.now) c.args.kept.now.items c.requires.kept c.args.x within
+    (λ e at. subst (IsOffCycles (is_before s.order.now) s.mode s.len (edges_of_table s.table.now)) (sym (edge_is s.table.now c.index-self-x.result c.args.x e c.requires.there at)) (c.if-not-is_alone.ensures refl))

@@ -1,0 +1,102 @@
+//! Edges that stand alone among edges of their own thread.
+//!
+//! The edges of a cycle have different threads. So each of them is followed by an edge of another thread,
+//! which holds the lock that it wants, and led by one of another thread, which wants the lock that it holds.
+//! Where on one of these sides all edges that are kept have an edge's own thread, it is in no cycle, and is
+//! left out; and then others may be alone in turn.
+//!
+//! Of the edges that have a lock no more is known than their one thread, or that there are several. So it
+//! takes as long for an edge that shares its locks with thousands as for one that shares them with few.
+ghost use Rattle.std.specs.Prelude.{◌<◌, length, IsTrue, IfOk, OnOk};
+ghost use Rattle.gl_segments.specs.Clocks.{is_before};
+ghost use Rattle.gl_filters.specs.Picked.{edges_of_table};
+ghost use Rattle.gl_pruning.specs.OffCycles.{IsOffCycles};
+ghost use Rattle.gl_pruning.specs.Sought.{KeepsSought};
+ghost use Rattle.gl_pruning.specs.bodies.Users.{KnowsCycles};
+ghost use Rattle.gl_index.specs.declared.sides.Side.TheVariants.{Follower, Leader};
+
+use crate::sought::Sought;
+use gl_edges::Edge;
+use gl_event::Memory;
+use gl_index::{Side, Users};
+use std::alloc::Global;
+
+// How many times all edges are looked at, as long as some are left out.
+const PASSES: usize = 4;
+
+impl Sought<'_> {
+    // The users of locks on this side of the edges that are kept.
+    fn users(&self, alloc: Global, side: Side, kept: &[bool]) -> Result<Users, Memory>
+        requires { KeepsSought self.now kept.now }
+        ensures { IfOk result (λ users. KnowsCycles self.now side users) }
+    {
+        let users = Users::of_kept(alloc, self.table, side, kept)?;
+        Ok(users)
+    }
+
+    // Whether an edge is alone: of those that hold the lock which it wants, or of those that want the
+    // lock which it holds, none has another thread.
+    fn is_alone(&self, holders: &Users, wanters: &Users, edge: &Edge) -> bool
+        requires holders { KnowsCycles self.now Leader holders.now }
+        requires wanters { KnowsCycles self.now Follower wanters.now }
+        ensures { IsTrue result
+            → IsOffCycles (is_before self.now.order.now) self.now.mode self.now.len
+            (edges_of_table self.now.table.now) edge.now }
+    {
+        if holders.has_only(edge.wanted, edge.thread) {
+            return true;
+        }
+        wanters.has_only(edge.held, edge.thread)
+    }
+
+    // Leaves out the edge at a position, if it is alone. Whether it was left out.
+    fn leave_out_if_alone(
+        &self,
+        holders: &Users,
+        wanters: &Users,
+        kept: &mut Vec<bool>,
+        x: usize,
+    ) -> bool
+        requires there { x < length self.now.table.now }
+        requires holders { KnowsCycles self.now Leader holders.now }
+        requires wanters { KnowsCycles self.now Follower wanters.now }
+        requires kept { KeepsSought self.now kept.old.items }
+        ensures { KeepsSought self.now kept.new.items }
+    {
+        if !kept[x] || !self.is_alone(holders, wanters, &self.table[x].0) {
+            return false;
+        }
+        kept[x] = false;
+        true
+    }
+
+    // Leaves out each edge that is alone among those that were kept before. Whether any was left out.
+    fn leave_out_each_alone(&self, alloc: Global, kept: &mut Vec<bool>) -> Result<bool, Memory>
+        requires { KeepsSought self.now kept.old.items }
+        ensures { OnOk result (KeepsSought self.now kept.new.items) }
+    {
+        let holders = self.users(alloc, Side::Leader, kept)?;
+        let wanters = self.users(alloc, Side::Follower, kept)?;
+        let mut has_changed = false;
+        for x in 0..self.table.len() {
+            if self.leave_out_if_alone(&holders, &wanters, kept, x) {
+                has_changed = true;
+            }
+        }
+        Ok(has_changed)
+    }
+
+    /// Leaves out edges that are alone, a few times while there are any. Six look-ups at most for each edge
+    /// that is kept, each time.
+    pub(crate) fn leave_out_alone(&self, alloc: Global, kept: &mut Vec<bool>) -> Result<(), Memory>
+        requires { KeepsSought self.now kept.old.items }
+        ensures { OnOk result (KeepsSought self.now kept.new.items) }
+    {
+        for _ in 0..PASSES {
+            if !self.leave_out_each_alone(alloc, kept)? {
+                return Ok(());
+            }
+        }
+        Ok(())
+    }
+}
