@@ -264,7 +264,7 @@ slice_rest xs i = take_all (length xs - i) (drop i xs) (omega (arith, length-dro
 
 -- ---- reads
 
-drop_none : (xs : List ℕ) → drop 0 xs ≡ xs
+pub drop_none : (xs : List ℕ) → drop 0 xs ≡ xs
 drop_none [] = refl
 drop_none (x ∷ xs) = refl
 

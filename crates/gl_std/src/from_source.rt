@@ -1,8 +1,8 @@
 //! Reading the text that a source gives.
-ghost use Rattle.std.specs.Prelude.{◌≡◌, ◌^◌, ◌≤◌, Bool, false, Ok, Err, IfOk, vec_len};
+ghost use Rattle.std.specs.Prelude.{◌≡◌, ◌+◌, ◌^◌, ◌<◌, ◌≤◌, Bool, false, Ok, Err, IfOk, vec_len};
 ghost use Rattle.gl_io.specs.Positions.{Position};
 ghost use Rattle.gl_io.specs.declared.source.TheConstants.{CHUNK};
-ghost use Rattle.gl_std.specs.bodies.States.{IsFit};
+ghost use Rattle.gl_std.specs.bodies.States.{IsSound};
 ghost use Rattle.gl_std.specs.bodies.Stepping.{StepLeaves};
 ghost use Rattle.gl_std.specs.Heard.{HasHeard};
 ghost use Rattle.gl_std.specs.bodies.Hearing.{Hears};
@@ -18,6 +18,10 @@ use gl_event::Limits;
 use gl_io::Source;
 use std::alloc::{AllocError, Global};
 
+mod parallel;
+
+pub use parallel::read_source_parallel;
+
 /// What was heard of a source.
 #[derive(Drop)]
 pub struct Heard {
@@ -31,7 +35,8 @@ pub struct Heard {
 // What was heard, where the source has ended. It is done once, so it stays out of the loop over lines.
 #[inline(never)]
 fn finish(alloc: Global, mut reader: LineReader, mut lists: Lists) -> Result<Heard, AllocError>
-    requires fit { IsFit reader }
+    requires sound { IsSound reader.judge }
+    requires countable { reader.judge.line + 1 < 2 ^ 64 }
     ensures heard { (now : Position) (failed : Bool)
         → IfOk result (Hears now failed reader lists (Ok End) now failed) }
 {

@@ -18,6 +18,9 @@ use crate::standing::{Ruling, rule};
 use gl_event::{Event, Limits, LocId, LockId, ThreadId, ThreadState};
 use std::alloc::{AllocError, Global};
 
+mod blocks;
+mod known;
+
 /// What a line is that isn't at fault.
 #[derive(Clone, Copy)]
 pub(crate) enum Judged {
@@ -163,6 +166,9 @@ impl Judge {
         ensures few_stray { self.new.stray ≤ self.old.stray + 1 }
     {
         let found = self.find(operation, thread, operand, location);
+        if let (Some(own), Some(number), Some(loc)) = (found.thread, found.operand, found.loc) {
+            return self.take_known(operation, own, number, loc);
+        }
         self.take_found(operation, thread, operand, location, &found)
     }
 

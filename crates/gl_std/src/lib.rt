@@ -38,6 +38,7 @@
 //! fault in the order of the reasons decides. gl_writing writes a trace as a text.
 #![tactic(auto)]
 
+mod block;
 mod faults;
 mod from_source;
 mod guess;
@@ -49,6 +50,7 @@ mod line_reader;
 mod lists;
 mod name;
 mod names;
+mod said;
 mod seed;
 mod standing;
 mod stream;
@@ -56,7 +58,7 @@ mod trace;
 mod whole_text;
 
 pub use faults::{LinesFault, ReadFault, StdKind};
-pub use from_source::{Heard, read_source};
+pub use from_source::{Heard, read_source, read_source_parallel};
 pub use gl_io::{Failed, FromStd, Sink, Source};
 pub use laws::{
     faults_come_first, lines_are_unique, lines_follow_lines, lines_say_one_thing, reading_goes_on,

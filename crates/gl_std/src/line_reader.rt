@@ -15,6 +15,8 @@ use gl_event::Limits;
 use gl_io::{CHUNK, Failed, Source};
 use std::alloc::{AllocError, Global};
 
+pub(crate) mod pieces;
+
 /// So many bytes of a line that isn't ended are kept: enough to tell that it is too long.
 pub(crate) const KEPT: usize = MAX_LINE + 2;
 

@@ -12,8 +12,11 @@ use indexmap::IndexSet;
 use std::alloc::{AllocError, Global};
 use std::marker::Model;
 
+mod known;
+mod mentions;
 mod numbering;
 
+pub(crate) use known::Known;
 pub use numbering::NamesFault;
 
 /// Different names in order of first mention, so that the place of a name is its number.
