@@ -173,10 +173,15 @@ pub record IsFormIn (rows : List Row) (form : Form) : Type 0 where
 
 -- a command of this name, whose options have these values, is this
 abbrev pub IsCommand : Text → List Row → Command → Type 0
-IsCommand name rows (Predict query form jobs) = (name ≡ codes "predict") × IsFlagIn rows (codes "findings") false × AsksIn rows query × IsFormIn rows form × IsJobsIn rows jobs
-IsCommand name rows (Findings query form jobs) = (name ≡ codes "predict") × IsFlagIn rows (codes "findings") true × AsksIn rows query × IsFormIn rows form × IsJobsIn rows jobs
+IsCommand name rows (Predict query form jobs) = (name ≡ codes "predict")
+    × IsFlagIn rows (codes "findings") false × AsksIn rows query × IsFormIn rows form
+    × IsJobsIn rows jobs
+IsCommand name rows (Findings query form jobs) = (name ≡ codes "predict")
+    × IsFlagIn rows (codes "findings") true × AsksIn rows query × IsFormIn rows form
+    × IsJobsIn rows jobs
 IsCommand name rows (Live options) = (name ≡ codes "live") × AsksIn rows options.query × IsFormIn rows options.form × AsksForSession rows options
-IsCommand name rows (Stats query jobs) = (name ≡ codes "stats") × AsksIn rows query × IsJobsIn rows jobs
+IsCommand name rows (Stats query jobs) = (name ≡ codes "stats")
+    × AsksIn rows query × IsJobsIn rows jobs
 IsCommand name rows (Replay jobs) = (name ≡ codes "replay") × IsJobsIn rows jobs
 IsCommand name rows Check = name ≡ codes "check"
 

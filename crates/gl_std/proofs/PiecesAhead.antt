@@ -1,6 +1,6 @@
 -- Pieces that are read and cut before they are judged.
 use Rattle.std.proofs.Common.{◌≡◌, ℕ, zero, suc, ◌+◌, ◌<◌, ◌≤◌, ◌⊎◌, inl, inr, ◌||◌, ◌&&◌, Bool, true, false, cond, eqb, List, [], ◌∷◌, ◌++◌, length, map, take, drop, Contains, Some, All, Result, Ok, Err, get_or, refl, sym, ap, subst, ◌∙◌, append_assoc, length-append, add-zero, add-one, arith}
-use Rattle.std.specs.Prelude.{IfOk}
+use Rattle.std.specs.Prelude.{IfOk, OnOk}
 use Rattle.std.specs.List.{onto_first}
 use Rattle.std.specs.declared.alloc.AllocError.{AllocError}
 use Rattle.std.specs.Option.{option_map_or}
@@ -248,6 +248,30 @@ failed_lines old mid lists lists2 piece end after judged shapes seen told number
     fault_front old.judge.limits (with_end seen end ++ ended_lines after) (seen ++ piece) (drop (length (ended_lines after)) after) number kind (piece_parts seen piece end after (drop (length (ended_lines after)) after) cut (ended_rest after))
     (subst (λ l. IsFaulty l (with_end seen end ++ ended_lines after) number kind) limits faulty)
 
+-- ---- a piece that is judged line by line
+
+-- a line that LF ends
+pub taken_line : (old mid : LineReader) (lists lists2 : List (List Event)) (end : List ℕ) (judged : Judged)
+    → HasEndedLine old.judge old.unfinished.items end mid.judge mid.unfinished.items judged → ((told : Trace) → told.lists ≡ lists → lists2 ≡ (with_judged judged mid.judge.names told).lists) → TakesPiece old lists (end ++ LF ∷ []) mid lists2
+taken_line old mid lists lists2 end judged ended listed seen told reaches same = record {
+  later = with_judged judged mid.judge.names told;
+  reaches = subst (λ t. Reaches mid.judge mid.unfinished.items t (with_judged judged mid.judge.names told)) (append_assoc seen end (LF ∷ [])) (ended.reaches seen told reaches);
+  listed = listed told (sym same);
+}
+
+-- bytes after its lines
+pub taken_rest : (old new : LineReader) (lists : List (List Event)) (more : List ℕ) → ¬ Contains more LF → new.judge ≡ old.judge → new.unfinished.items ≡ take KEPT (old.unfinished.items ++ more) → TakesPiece old lists more new lists
+taken_rest old new lists more free judge kept seen told reaches same = record {
+  later = told;
+  reaches = subst (λ j. Reaches j new.unfinished.items (seen ++ more) told) (sym judge) (reached_more old.judge old.unfinished.items new.unfinished.items more seen told reaches free kept);
+  listed = same;
+}
+
+-- lines, the next of which was cut off what is left
+pub parts_next : (front rest end after text : List ℕ) → front ++ rest ≡ text → rest ≡ end ++ LF ∷ after → (front ++ (end ++ LF ∷ [])) ++ after ≡ text
+parts_next front rest end after text is cut =
+    append_assoc front (end ++ LF ∷ []) after ∙ ap (λ t. front ++ t) (append_assoc end (LF ∷ []) after) ∙ ap (λ t. front ++ t) (sym cut) ∙ is
+
 -- ---- reads, one after another
 
 -- some reads and then more
@@ -320,6 +344,11 @@ taken_next old mid new lists lists2 lists3 front piece text is one two seen told
     let first = one seen told reaches listed in
     let next = two (seen ++ front) first.later first.reaches first.listed in
     record { later = next.later; reaches = subst (λ t. Reaches new.judge new.unfinished.items t next.later) (append_assoc seen front piece ∙ ap (λ t. seen ++ t) is) next.reaches; listed = next.listed }
+
+-- and what comes last, if nothing is wrong there
+pub taken_last : (old mid new : LineReader) (lists lists2 : List (List Event)) (front piece text : List ℕ) (r : Result (Unit {0}) ReadFault) → front ++ piece ≡ text → TakesPiece old lists front mid lists2 → OnOk r ((same : List (List Event)) → TakesPiece mid same piece new same) → OnOk r (TakesPiece old lists text new lists2)
+taken_last old mid new lists lists2 front piece text (Ok done) is one two = taken_next old mid new lists lists2 lists2 front piece text is one (two lists2)
+taken_last old mid new lists lists2 front piece text (Err fault) is one two = tt
 
 -- or one is at fault
 pub failed_next : (old mid : LineReader) (lists lists2 : List (List Event)) (front piece rest text : List ℕ) (r r2 : Result (Unit {0}) ReadFault) → (front ++ piece) ++ rest ≡ text → TakesPiece old lists front mid lists2 → mid.judge.limits ≡ old.judge.limits → FailsPiece mid lists2 piece r → ((number : ℕ) (kind : StdKind) → r2 ≡ Err (Line number kind) → r ≡ Err (Line number kind)) → FailsPiece old lists text r2

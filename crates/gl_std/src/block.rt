@@ -45,20 +45,51 @@ impl Block {
         }
     }
 
-    /// What the lines of a piece say that lie between its first LF and its last one. Each line is cut once,
-    /// and each of its names looked up at most once by hash.
-    pub(crate) fn of(alloc: Global, seed: Seed, piece: &[u8]) -> Result<Block, AllocError>
+    // No lines, in the memory of another block if there is one.
+    fn empty(alloc: Global, seed: Seed, spare: Option<Block>) -> Block
+        ensures numbered { AreNumbered result }
+        ensures few { AreFew result }
+        ensures none { shapes_of result ≡ [] }
+        ensures count { vec_len result.said ≡ 0 }
+    {
+        match spare {
+            Some(mut block) => {
+                block.names.clear();
+                block.said.clear();
+                block
+            }
+            None => Block::new(alloc, seed),
+        }
+    }
+
+    /// What the lines of a piece say that lie between its first LF and its last one, in the memory of another
+    /// block if there is one. Each line is cut once, and each of its names looked up at most once by hash.
+    pub(crate) fn of(
+        alloc: Global,
+        seed: Seed,
+        piece: &[u8],
+        spare: Option<Block>,
+    ) -> Result<Block, AllocError>
         requires short { length piece.now ≤ LONGEST }
         ensures { IfOk result (IsBlockOf piece.now) }
     {
+        let mut block = Block::empty(alloc, seed, spare);
         match cut(piece, LF) {
             Some((_, after)) => {
-                let mut block = Block::new(alloc, seed);
                 block.add_lines(alloc, ended_lines(after))?;
                 Ok(block)
             }
-            None => Ok(Block::new(alloc, seed)),
+            None => Ok(block),
         }
+    }
+
+    /// Whether its lines are judged quicker by numbers than from their text: most of them name what lines
+    /// before them did. Else the time goes into looking up each name of the piece.
+    pub(crate) fn pays(&self) -> bool {
+        let names = u64::from(self.names.threads())
+            + u64::from(self.names.locks())
+            + u64::from(self.names.locs());
+        names <= self.said.len() as u64 / 4
     }
 
     // Adds the lines of a text.

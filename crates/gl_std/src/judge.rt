@@ -364,6 +364,7 @@ fn event_of(operation: Operation, operand: u32, loc: LocId) -> Event
 
 // Lets the thread of the event stand after it, and a new thread that it forks or joins after nothing,
 // unless the held locks or `limit` refuse the event.
+#[inline(always)]
 fn stand(
     standings: &mut Vec<ThreadState>,
     operation: Operation,
@@ -393,6 +394,7 @@ fn stand(
 }
 
 // `stand`, for the acting thread, known or new.
+#[inline(always)]
 fn stand_own(
     standings: &mut Vec<ThreadState>,
     found: &Found,

@@ -246,6 +246,7 @@ impl LineReader {
 }
 
 // Judges the line that ends here, where LF follows.
+#[inline(always)]
 fn end_line(judge: &mut Judge, unfinished: &mut Vec<u8>, end: &[u8]) -> Result<Judged, ReadFault>
     requires one_line { ¬ Contains end.now LF }
     requires sound { IsSound judge.old }

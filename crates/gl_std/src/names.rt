@@ -55,6 +55,13 @@ impl NameList {
         }
     }
 
+    /// Drops the names, and keeps their memory. What was guessed stays: a guess is compared before it is used.
+    fn clear(&mut self)
+        ensures { self.new ≡ [] }
+    {
+        self.names.clear();
+    }
+
     /// How many names there are.
     fn len(&self) -> u32
         ensures len { result ≡ length self.now }
@@ -260,6 +267,15 @@ impl Names {
             locks: NameList::new(alloc, seed),
             locs: NameList::new(alloc, seed),
         }
+    }
+
+    /// Drops the names, and keeps their memory.
+    pub(crate) fn clear(&mut self)
+        ensures { self.new ≡ record { threads = []; locks = []; locs = [] } }
+    {
+        self.threads.clear();
+        self.locks.clear();
+        self.locs.clear();
     }
 
     /// How many threads have names.

@@ -51,9 +51,14 @@ AreCut pieces = All IsCut pieces
 
 -- what the reads gave together with whatever text was read before them
 abbrev pub GivesOn : Position → LineReader → Position → Bool → LineReader → List ℕ → Ending → Type 0
-GivesOn now old later failed new gave More = (failed ≡ false) × ((turns : ℕ) (start : Position) (text : List ℕ) → HasGiven turns start now old.turns text → HasGiven turns start later new.turns (text ++ gave))
-GivesOn now old later failed new gave End = (turns : ℕ) (start : Position) (text : List ℕ) → HasGiven turns start now old.turns text → HasRead turns start later failed (text ++ gave) true
-GivesOn now old later failed new gave Broke = (turns : ℕ) (start : Position) (text : List ℕ) → HasGiven turns start now old.turns text → HasRead turns start later failed (text ++ gave) false
+GivesOn now old later failed new gave More = (failed ≡ false)
+    × ((turns : ℕ) (start : Position) (text : List ℕ) → HasGiven turns start now old.turns text
+    → HasGiven turns start later new.turns (text ++ gave))
+GivesOn now old later failed new gave End = (turns : ℕ) (start : Position) (text : List ℕ)
+    → HasGiven turns start now old.turns text → HasRead turns start later failed (text ++ gave) true
+GivesOn now old later failed new gave Broke = (turns : ℕ) (start : Position) (text : List ℕ)
+    → HasGiven turns start now old.turns text
+    → HasRead turns start later failed (text ++ gave) false
 
 -- so many reads may still be made
 abbrev pub turns_left : LineReader → Ending → ℕ
@@ -62,14 +67,16 @@ turns_left f End = f.turns
 turns_left f Broke = 0
 
 -- what the reads gave was added to this text
-pub record HasReadOn (now : Position) (old : LineReader) (before : List ℕ) (later : Position) (failed : Bool) (new : LineReader) (after : List ℕ) (ending : Ending) : Type 0 where
+pub record HasReadOn (now : Position) (old : LineReader) (before : List ℕ) (later : Position)
+    (failed : Bool) (new : LineReader) (after : List ℕ) (ending : Ending) : Type 0 where
   pub gave : List ℕ
   pub text : after ≡ before ++ gave
   pub gives : GivesOn now old later failed new gave ending
   pub within : length gave + turns_left new ending * CHUNK ≤ old.turns * CHUNK
 
 -- the next pieces were read and cut
-pub record HasReadPieces (now : Position) (old : LineReader) (later : Position) (failed : Bool) (new : LineReader) (pieces : List Piece) (ending : Ending) : Type 0 where
+pub record HasReadPieces (now : Position) (old : LineReader) (later : Position) (failed : Bool)
+    (new : LineReader) (pieces : List Piece) (ending : Ending) : Type 0 where
   pub reads : HasReadOn now old [] later failed new (text_of pieces) ending
   pub same_size : vec_len new.buffer ≡ vec_len old.buffer
   pub cut : AreCut pieces
@@ -85,19 +92,25 @@ pub record OnlyReadsAhead (old new : LineReader) : Type 0 where
 -- ---- what is judged
 
 -- the reader and the lists stand for the trace of this text
-pub record HasTakenPiece (new : LineReader) (seen : List ℕ) (lists : List (List Event)) : Type 0 where
+pub record HasTakenPiece (new : LineReader) (seen : List ℕ) (lists : List (List Event))
+    : Type 0 where
   pub later : Trace
   pub reaches : Reaches new.judge new.unfinished.items seen later
   pub listed : lists ≡ later.lists
 
 -- whatever text and trace they stood for before
-abbrev pub TakesPiece : LineReader → List (List Event) → List ℕ → LineReader → List (List Event) → Type 0
-TakesPiece old lists piece new lists_later = (seen : List ℕ) (told : Trace) → Reaches old.judge old.unfinished.items seen told → lists ≡ told.lists → HasTakenPiece new (seen ++ piece) lists_later
+abbrev pub TakesPiece : LineReader → List (List Event) → List ℕ → LineReader → List (List Event)
+    → Type 0
+TakesPiece old lists piece new lists_later = (seen : List ℕ) (told : Trace)
+    → Reaches old.judge old.unfinished.items seen told → lists ≡ told.lists
+    → HasTakenPiece new (seen ++ piece) lists_later
 
 -- a fault that is answered is the first one of each such text
-abbrev pub FailsPiece : LineReader → List (List Event) → List ℕ → Result (Unit {0}) ReadFault → Type 0
+abbrev pub FailsPiece : LineReader → List (List Event) → List ℕ → Result (Unit {0}) ReadFault
+    → Type 0
 FailsPiece old lists piece result =
-    (number : ℕ) (kind : StdKind) → result ≡ Err (Line number kind) → (seen : List ℕ) (told : Trace) → Reaches old.judge old.unfinished.items seen told → lists ≡ told.lists
+    (number : ℕ) (kind : StdKind) → result ≡ Err (Line number kind) → (seen : List ℕ) (told : Trace)
+    → Reaches old.judge old.unfinished.items seen told → lists ≡ told.lists
     → IsFaulty old.judge.limits (seen ++ piece) number kind
 
 -- no line was counted twice, and there are no more lines than bytes
@@ -108,7 +121,9 @@ pub record OnlyJudges (old new : LineReader) (bytes : ℕ) : Type 0 where
   pub lines : new.judge.line ≤ old.judge.line + bytes
 
 -- pieces were judged, or a line of them is at fault
-pub record HasTakenPieces (old : LineReader) (lists : List (List Event)) (pieces : List Piece) (new : LineReader) (lists_later : List (List Event)) (result : Result (Unit {0}) ReadFault) : Type 0 where
+pub record HasTakenPieces (old : LineReader) (lists : List (List Event)) (pieces : List Piece)
+    (new : LineReader) (lists_later : List (List Event)) (result : Result (Unit {0}) ReadFault)
+    : Type 0 where
   pub tells : OnOk result (TakesPiece old lists (text_of pieces) new lists_later)
   pub fault : FailsPiece old lists (text_of pieces) result
   pub only : OnOk result (OnlyJudges old new (length (text_of pieces)))
@@ -124,21 +139,29 @@ HasReadTo Broke turns start now failed left text = HasRead turns start now faile
 -- this was heard where a line of a text is at fault that was read whole, or not
 abbrev pub HearsFaulty : ℕ → StdKind → Bool → Heard → Type 0
 HearsFaulty number kind whole heard =
-    (limits : Bounds) (turns : ℕ) (start now : Position) (failed : Bool) (text : List ℕ) → HasRead turns start now failed text whole → IsFaulty limits text number kind → HasHeard limits turns start now failed heard
+    (limits : Bounds) (turns : ℕ) (start now : Position) (failed : Bool) (text : List ℕ)
+    → HasRead turns start now failed text whole → IsFaulty limits text number kind
+    → HasHeard limits turns start now failed heard
 
 -- this was heard where a line of the text is at fault that was read by then
-abbrev pub HearsFault : Ending → Position → Bool → ℕ → ℕ → StdKind → Position → Bool → Heard → Type 0
+abbrev pub HearsFault : Ending → Position → Bool → ℕ → ℕ → StdKind → Position → Bool → Heard
+    → Type 0
 HearsFault ending now failed left number kind later failed_later heard =
-    (limits : Bounds) (turns : ℕ) (start : Position) (text : List ℕ) → HasReadTo ending turns start now failed left text → IsFaulty limits text number kind → HasHeard limits turns start later failed_later heard
+    (limits : Bounds) (turns : ℕ) (start : Position) (text : List ℕ)
+    → HasReadTo ending turns start now failed left text → IsFaulty limits text number kind
+    → HasHeard limits turns start later failed_later heard
 
 -- this was heard of a text that was read to its end, or not, where these pieces of it weren't judged
 abbrev pub HearsPieces : LineReader → List (List Event) → List ℕ → Bool → Heard → Type 0
 HearsPieces f lists pieces whole heard =
-    (limits : Bounds) (turns : ℕ) (start now : Position) (failed : Bool) (seen : List ℕ) (told : Trace) → HasRead turns start now failed (seen ++ pieces) whole → f.judge.limits ≡ limits
-    → Reaches f.judge f.unfinished.items seen told → lists ≡ told.lists → HasHeard limits turns start now failed heard
+    (limits : Bounds) (turns : ℕ) (start now : Position) (failed : Bool) (seen : List ℕ)
+    (told : Trace) → HasRead turns start now failed (seen ++ pieces) whole → f.judge.limits ≡ limits
+    → Reaches f.judge f.unfinished.items seen told → lists ≡ told.lists
+    → HasHeard limits turns start now failed heard
 
 -- reading goes on: the one reader has read this text but for pieces that are ahead, and the other one has judged it
-pub record ReadsAhead (limits : Bounds) (turns : ℕ) (start now : Position) (f j : LineReader) (lists : List (List Event)) (pieces : List ℕ) : Type 0 where
+pub record ReadsAhead (limits : Bounds) (turns : ℕ) (start now : Position) (f j : LineReader)
+    (lists : List (List Event)) (pieces : List ℕ) : Type 0 where
   pub seen : List ℕ
   pub told : Trace
   pub given : HasGiven turns start now f.turns (seen ++ pieces)

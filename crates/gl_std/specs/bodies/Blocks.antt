@@ -34,7 +34,8 @@ shape_in names BlankSaid = Blank
 shape_in names (BadSaid kind) = Bad kind
 shape_in names OtherSaid = Other
 shape_in names (CallSaid operation thread operand location) =
-    Call (shown_operation operation) (named names.threads thread) (named (operands (shown_operation operation) names) operand) (named names.locs location)
+    Call (shown_operation operation) (named names.threads thread)
+    (named (operands (shown_operation operation) names) operand) (named names.locs location)
 
 -- what the lines of a block say
 abbrev pub shapes_of : Block → List Shape
@@ -46,7 +47,9 @@ IsNumbered names BlankSaid = Unit {0}
 IsNumbered names (BadSaid kind) = Unit {0}
 IsNumbered names OtherSaid = Unit {0}
 IsNumbered names (CallSaid operation thread operand location) =
-    (thread < length names.threads) × (operand < length (operands (shown_operation operation) names)) × (location < length names.locs)
+    (thread < length names.threads)
+    × (operand < length (operands (shown_operation operation) names))
+    × (location < length names.locs)
 
 abbrev pub AreNumbered : Block → Type 0
 AreNumbered block = All (IsNumbered block.names) block.said.items
@@ -85,7 +88,8 @@ pub record AreFew (block : Block) : Type 0 where
 
 -- where a number is known of a name of the block, it is that of the name among these
 abbrev pub AreKnown : List (List ℕ) → List (List ℕ) → List (Option ℕ) → Type 0
-AreKnown block names known = (number found : ℕ) → slice_get known number ≡ Some (Some found) → position (bytes_eq (named block number)) names ≡ Some found
+AreKnown block names known = (number found : ℕ) → slice_get known number ≡ Some (Some found)
+    → position (bytes_eq (named block number)) names ≡ Some found
 
 -- the same of names of each kind, of which each has its place
 pub record IsKnownOf (block names : NameLists) (known : Known) : Type 0 where
@@ -101,10 +105,12 @@ pub record IsKnownOf (block names : NameLists) (known : Known) : Type 0 where
 -- the trace after lines that say this, of which the first has this number
 abbrev pub after_shapes : Bounds → ℕ → Trace → List Shape → Result Trace ReadFault
 after_shapes limits number told [] = Ok told
-after_shapes limits number told (shape ∷ rest) = and_then (after_shape limits number told shape) (λ more. after_shapes limits (number + 1) more rest)
+after_shapes limits number told (shape ∷ rest) = and_then (after_shape limits number told shape)
+    (λ more. after_shapes limits (number + 1) more rest)
 
 -- the judge and the lists stand for the trace after lines that say this
-pub record HasTakenShapes (limits : Bounds) (number : ℕ) (told : Trace) (shapes : List Shape) (new : Judge) (lists : List (List Event)) : Type 0 where
+pub record HasTakenShapes (limits : Bounds) (number : ℕ) (told : Trace) (shapes : List Shape)
+    (new : Judge) (lists : List (List Event)) : Type 0 where
   pub later : Trace
   pub after : after_shapes limits number told shapes ≡ Ok later
   pub judged : HasJudged new later
@@ -112,10 +118,13 @@ pub record HasTakenShapes (limits : Bounds) (number : ℕ) (told : Trace) (shape
 
 -- whatever trace they stood for before
 abbrev pub TakesShapes : Judge → List (List Event) → List Shape → Judge → List (List Event) → Type 0
-TakesShapes old lists shapes new lists_later = (told : Trace) → HasJudged old told → lists ≡ told.lists → HasTakenShapes old.limits old.line told shapes new lists_later
+TakesShapes old lists shapes new lists_later = (told : Trace) → HasJudged old told
+    → lists ≡ told.lists → HasTakenShapes old.limits old.line told shapes new lists_later
 
 -- a fault that is answered is what comes after each of them
-abbrev pub FailsShapes : Judge → List (List Event) → List Shape → Result (Unit {0}) ReadFault → Type 0
+abbrev pub FailsShapes : Judge → List (List Event) → List Shape → Result (Unit {0}) ReadFault
+    → Type 0
 FailsShapes old lists shapes result =
-    (number : ℕ) (kind : StdKind) → result ≡ Err (Line number kind) → (told : Trace) → HasJudged old told → lists ≡ told.lists
+    (number : ℕ) (kind : StdKind) → result ≡ Err (Line number kind) → (told : Trace)
+    → HasJudged old told → lists ≡ told.lists
     → after_shapes old.limits old.line told shapes ≡ Err (Line number kind)

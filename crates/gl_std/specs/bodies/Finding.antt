@@ -37,7 +37,8 @@ found_in names operation thread operand location =
 -- these are their numbers, where each has one
 abbrev pub AreFoundAt : NameLists → Operation → List ℕ → List ℕ → List ℕ → ℕ → ℕ → ℕ → Type 0
 AreFoundAt names operation thread operand location own number loc =
-    record { thread = Some own; operand = Some number; loc = Some loc } ≡ found_in names operation thread operand location
+    record { thread = Some own; operand = Some number; loc = Some loc }
+    ≡ found_in names operation thread operand location
 
 -- one, if the name has no number
 abbrev pub if_new : Option ℕ → ℕ

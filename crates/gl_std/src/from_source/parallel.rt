@@ -3,6 +3,10 @@
 //! One thread judges the pieces that were read before, one after another, while the next ones are read, and cut into
 //! lines by the others. These number the names in each piece, so that the thread that judges looks a name up once for
 //! each piece that has it, and sees numbers else.
+//!
+//! The first piece is read before any thread is started, so that a text that ends in it costs what it costs one
+//! thread. Where most names of a piece are new to it, cutting it ahead doesn't pay: its lines are judged from its text, and
+//! for some rounds no piece is cut ahead.
 ghost use Rattle.std.specs.Prelude.{◌≡◌, ◌^◌, ◌<◌, ◌≤◌, [], ◌++◌, Bool, true, false, length, vec_len, IfOk, OnOk};
 ghost use Rattle.gl_io.specs.declared.source.TheConstants.{CHUNK};
 ghost use Rattle.gl_std.specs.Heard.{HasHeard};
@@ -23,8 +27,12 @@ use std::alloc::{AllocError, Global};
 use std::thread;
 use std::thread::{Threads, join_mut};
 
+// With fewer threads the calling one does all: two would wait for each other.
+const LEAST: usize = 3;
 // More threads than this have nothing to do.
 const MOST: usize = 64;
+// For so many rounds no piece is cut ahead, after one of which that didn't pay.
+const PAUSE: usize = 16;
 
 // What cuts pieces into lines.
 #[derive(Clone, Copy)]
@@ -32,8 +40,29 @@ struct Cutters {
     alloc: Global,
     // What the hash of a piece's names begins with.
     seed: Seed,
-    // So many threads cut.
+    // So many pieces are read in a round.
+    pieces: usize,
+    // So many threads cut them.
     threads: usize,
+    // Whether they are cut at all.
+    cuts: bool,
+}
+
+impl Cutters {
+    // As many threads as pieces, which cut them; or where that doesn't pay none that cuts.
+    fn new(alloc: Global, seed: Seed, pieces: usize, cuts: bool) -> Cutters
+        requires pieces { 0 < pieces }
+        ensures pieces { 0 < result.pieces }
+        ensures threads { 0 < result.threads }
+    {
+        Cutters {
+            alloc,
+            seed,
+            pieces,
+            threads: if cuts { pieces } else { 1 },
+            cuts,
+        }
+    }
 }
 
 // Cuts pieces into lines.
@@ -54,7 +83,7 @@ fn cut_all<R: Threads + Sync>(rt: &R, cutters: Cutters, pieces: &mut [Piece])
             ensures short { IsShort piece.new }
             ensures same { bytes_of piece.new ≡ bytes_of piece.old }
         {
-            piece.cut(cutters.alloc, cutters.seed);
+            piece.cut(cutters.alloc, cutters.seed, cutters.cuts);
         },
     );
 }
@@ -70,7 +99,7 @@ fn cut_pieces<R: Threads + Sync>(rt: &R, cutters: Cutters, pieces: &mut Vec<Piec
     cut_all(rt, cutters, pieces.as_mut_slice());
 }
 
-// Reads a piece for each thread that cuts, and cuts them into lines.
+// Reads the pieces of a round, and cuts them into lines.
 fn read_and_cut<T: Threads + Sync, R: Source>(
     rt: &T,
     cutters: Cutters,
@@ -79,6 +108,7 @@ fn read_and_cut<T: Threads + Sync, R: Source>(
     spare: &mut Vec<Piece>,
     pieces: &mut Vec<Piece>,
 ) -> Result<Ending, AllocError>
+    requires pieces { 0 < cutters.pieces }
     requires threads { 0 < cutters.threads }
     requires room { vec_len reader.old.buffer ≡ CHUNK }
     requires not_failed { R.failed input.old ≡ false }
@@ -87,12 +117,13 @@ fn read_and_cut<T: Threads + Sync, R: Source>(
         (HasReadPieces (R.position input.old) reader.old (R.position input.new)
         (R.failed input.new) reader.new pieces.new.items) }
 {
-    let ending = reader.read_ahead(cutters.alloc, input, spare, pieces, cutters.threads)?;
+    let ending = reader.read_ahead(cutters.alloc, input, spare, pieces, cutters.pieces)?;
     cut_pieces(rt, cutters, pieces);
     Ok(ending)
 }
 
-// Judges the pieces that were read ahead in a thread of its own, while the next ones are read and cut.
+// Judges the pieces that were read ahead in a thread of its own, while the next ones are read and cut. Where none
+// are ahead a single piece is read, and no thread started.
 fn take_and_read<T: Threads + Sync, R: Source>(
     rt: &T,
     cutters: Cutters,
@@ -104,6 +135,7 @@ fn take_and_read<T: Threads + Sync, R: Source>(
     spare: &mut Vec<Piece>,
     pieces: &mut Vec<Piece>,
 ) -> (Result<(), ReadFault>, Result<Ending, AllocError>)
+    requires pieces { 0 < cutters.pieces }
     requires threads { 0 < cutters.threads }
     requires can { CanJudge judge.old ahead.now }
     requires room { vec_len reader.old.buffer ≡ CHUNK }
@@ -114,13 +146,19 @@ fn take_and_read<T: Threads + Sync, R: Source>(
         (HasReadPieces (R.position input.old) reader.old (R.position input.new)
         (R.failed input.new) reader.new pieces.new.items) }
 {
+    if ahead.is_empty() {
+        let alone = Cutters::new(cutters.alloc, cutters.seed, 1, false);
+        let read = read_and_cut(rt, alone, reader, input, spare, pieces);
+        return (judge.take_pieces(cutters.alloc, lists, ahead), read);
+    }
     let mut taking = || -> Result<(), ReadFault>
         requires { CanJudge judge.now ahead.now }
         ensures { HasTakenPieces judge.entry.now lists.entry.now ahead.entry.now judge.exit.now
             lists.exit.now result }
     { judge.take_pieces(cutters.alloc, lists, ahead) };
     let mut reading = || -> Result<Ending, AllocError>
-        requires { (0 < cutters.threads) × (vec_len reader.now.buffer ≡ CHUNK)
+        requires { (0 < cutters.pieces) × (0 < cutters.threads)
+            × (vec_len reader.now.buffer ≡ CHUNK)
             × (R.failed input.now ≡ false) × (pieces.now.items ≡ []) }
         ensures { IfOk result
             (HasReadPieces (R.position input.entry.now) reader.entry.now
@@ -128,6 +166,17 @@ fn take_and_read<T: Threads + Sync, R: Source>(
             pieces.exit.now.items) }
     { read_and_cut(rt, cutters, reader, input, spare, pieces) };
     join_mut(rt, &mut taking, &mut reading)
+}
+
+// For how many rounds from here on no piece is cut, where there were so many more before these pieces.
+fn pause_after(pieces: &[Piece], pause: usize) -> usize {
+    if pause > 0 {
+        return pause - 1;
+    }
+    match pieces.last() {
+        Some(piece) => if piece.pays() { 0 } else { PAUSE },
+        None => 0,
+    }
 }
 
 // What was heard, where a line is at fault.
@@ -209,14 +258,11 @@ pub fn read_source_parallel<T: Threads + Sync, R: Source>(
         (R.failed input.new)) }
     ensures over { IfOk result (λ h. IfOk h.trace (IsTraceOver limits.now)) }
 {
-    if jobs < 3 {
+    if jobs < LEAST {
         return read_source(alloc, input, turns, limits, seed);
     }
-    let cutters = Cutters {
-        alloc,
-        seed,
-        threads: jobs.min(MOST) - 1,
-    };
+    let most = jobs.min(MOST) - 1;
+    let mut pause = 0;
     // the one judges what the other has read
     let mut reader = LineReader::new(alloc, limits, turns, seed)?;
     let mut judge = LineReader::new(alloc, limits, turns, seed)?;
@@ -225,6 +271,7 @@ pub fn read_source_parallel<T: Threads + Sync, R: Source>(
     let mut spare = Vec::new(alloc);
     loop {
         let mut pieces = Vec::new(alloc);
+        let cutters = Cutters::new(alloc, seed, most, pause == 0);
         let (taken, read) = take_and_read(
             rt,
             cutters,
@@ -246,6 +293,7 @@ pub fn read_source_parallel<T: Threads + Sync, R: Source>(
         }
         match ending {
             Ending::More => {
+                pause = pause_after(pieces.as_slice(), pause);
                 spare = ahead;
                 ahead = pieces;
             }

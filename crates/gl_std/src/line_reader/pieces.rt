@@ -1,5 +1,6 @@
 //! Reading ahead: what the reads give is cut into lines before it is judged.
-ghost use Rattle.std.specs.Prelude.{◌≡◌, ◌+◌, ◌^◌, ◌<◌, ◌≤◌, [], false, length, Ok, Some, vec_len, IfOk, OnOk};
+ghost use Rattle.std.specs.Prelude.{◌≡◌, ◌+◌, ◌^◌, ◌<◌, ◌≤◌, List, [], ◌∷◌, ◌++◌, Contains, false, length, Ok, Some, vec_len, IfOk, IfSome, OnOk};
+ghost use Rattle.gl_event.specs.declared.events.Event.{Event};
 ghost use Rattle.gl_io.specs.declared.source.TheConstants.{CHUNK};
 ghost use Rattle.gl_std.specs.Line.{cut_at};
 ghost use Rattle.gl_std.specs.Lines.{LF};
@@ -34,7 +35,7 @@ pub(crate) enum Ending {
 /// What some reads gave together, and what its lines say, once it was cut.
 pub(crate) struct Piece {
     text: Vec<u8>,
-    // None before it is cut, and where memory was refused.
+    // None where its lines are judged from its text. Before it is cut it may be that of another piece.
     block: Option<Block>,
 }
 
@@ -53,7 +54,6 @@ impl Piece {
         match spare.pop() {
             Some(mut piece) => {
                 piece.text.clear();
-                piece.block = None;
                 piece
             }
             None => Piece {
@@ -63,17 +63,46 @@ impl Piece {
         }
     }
 
-    /// Cuts it into lines. Each name is looked up at most once by hash.
-    pub(crate) fn cut(&mut self, alloc: Global, seed: Seed)
+    /// Cuts it into lines, where that is asked for and memory isn't refused. Else its lines are judged from its
+    /// text. Each name is looked up at most once by hash.
+    pub(crate) fn cut(&mut self, alloc: Global, seed: Seed, cuts: bool)
         requires short { IsShort self.old }
         ensures cut { IsCut self.new }
         ensures short { IsShort self.new }
         ensures same { bytes_of self.new ≡ bytes_of self.old }
     {
-        self.block = match Block::of(alloc, seed, self.text.as_slice()) {
+        let spare = self.block.take();
+        if !cuts {
+            return;
+        }
+        self.block = match Block::of(alloc, seed, self.text.as_slice(), spare) {
             Ok(block) => Some(block),
             Err(AllocError) => None,
         };
+    }
+
+    /// Whether its lines are judged quicker by numbers than from their text, as far as that is known.
+    pub(crate) fn pays(&self) -> bool {
+        match &self.block {
+            Some(block) => block.pays(),
+            None => true,
+        }
+    }
+
+    // What its lines say by numbers, where that is known and quicker than their text.
+    fn paying(&self) -> Option<&Block>
+        requires cut { IsCut self.now }
+        ensures { IfSome result (λ block. IsBlockOf (bytes_of self.now) block.now) }
+    {
+        match &self.block {
+            Some(block) => {
+                if block.pays() {
+                    return Some(block);
+                }
+                None
+            }
+            None => None,
+        }
     }
 }
 
@@ -227,16 +256,82 @@ impl LineReader {
         ensures fault { FailsPiece self.old lists.old (bytes_of piece.now) result }
         ensures only { OnOk result (OnlyJudges self.old self.new (length (bytes_of piece.now))) }
     {
-        let Some(block) = &piece.block else {
-            return Err(ReadFault::Memory);
-        };
         let text = piece.text.as_slice();
+        match piece.paying() {
+            Some(block) => self.take_cut(alloc, lists, text, block),
+            None => self.take_text(alloc, lists, text),
+        }
+    }
+
+    // Judges a piece from its text, line by line.
+    fn take_text(&mut self, alloc: Global, lists: &mut Lists, text: &[u8]) -> Result<(), ReadFault>
+        requires sound { IsSound self.old.judge }
+        requires few { length self.old.unfinished.items ≤ KEPT }
+        requires countable { self.old.judge.line + length text.now + 1 < 2 ^ 64 }
+        ensures tells { OnOk result
+            (TakesPiece self.old lists.old text.now self.new lists.new) }
+        ensures fault { FailsPiece self.old lists.old text.now result }
+        ensures only { OnOk result (OnlyJudges self.old self.new (length text.now)) }
+    {
+        let mut rest = text;
+        while let Some((end, after)) = cut(rest, LF) {
+            self.take_ended(alloc, lists, end)?;
+            rest = after;
+        }
+        self.take_unended(rest)
+    }
+
+    // Judges the line that ends here, where LF follows.
+    #[inline(always)]
+    fn take_ended(&mut self, alloc: Global, lists: &mut Lists, end: &[u8]) -> Result<(), ReadFault>
+        requires one_line { ¬ Contains end.now LF }
+        requires sound { IsSound self.old.judge }
+        requires few { length self.old.unfinished.items ≤ KEPT }
+        requires countable { self.old.judge.line + 1 < 2 ^ 64 }
+        ensures tells { OnOk result
+            (TakesPiece self.old lists.old (end.now ++ LF ∷ []) self.new lists.new) }
+        ensures fault { FailsPiece self.old lists.old (end.now ++ LF ∷ []) result }
+        ensures only { OnOk result (OnlyJudges self.old self.new (length end.now + 1)) }
+    {
+        let judged = end_line(&mut self.judge, &mut self.unfinished, end)?;
+        lists.add(alloc, self.judge.names(), judged)?;
+        Ok(())
+    }
+
+    // Keeps the beginning of a line, or what goes on with one.
+    fn take_unended(&mut self, more: &[u8]) -> Result<(), ReadFault>
+        requires none { ¬ Contains more.now LF }
+        requires sound { IsSound self.old.judge }
+        requires few { length self.old.unfinished.items ≤ KEPT }
+        ensures tells { OnOk result
+            ((lists : List (List Event)) → TakesPiece self.old lists more.now self.new lists) }
+        ensures fault { (lists : List (List Event)) → FailsPiece self.old lists more.now result }
+        ensures only { OnOk result (OnlyJudges self.old self.new (length more.now)) }
+    {
+        keep(&mut self.unfinished, more)?;
+        Ok(())
+    }
+
+    // Judges a piece that was cut.
+    fn take_cut(
+        &mut self,
+        alloc: Global,
+        lists: &mut Lists,
+        text: &[u8],
+        block: &Block,
+    ) -> Result<(), ReadFault>
+        requires sound { IsSound self.old.judge }
+        requires few { length self.old.unfinished.items ≤ KEPT }
+        requires block { IsBlockOf text.now block.now }
+        requires countable { self.old.judge.line + length text.now + 1 < 2 ^ 64 }
+        ensures tells { OnOk result
+            (TakesPiece self.old lists.old text.now self.new lists.new) }
+        ensures fault { FailsPiece self.old lists.old text.now result }
+        ensures only { OnOk result (OnlyJudges self.old self.new (length text.now)) }
+    {
         match cut(text, LF) {
             Some((end, after)) => self.take_lines(alloc, lists, text, end, after, block),
-            None => {
-                keep(&mut self.unfinished, text)?;
-                Ok(())
-            }
+            None => self.take_unended(text),
         }
     }
 

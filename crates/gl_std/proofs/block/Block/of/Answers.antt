@@ -13,12 +13,12 @@ add_lines-requires-clause-room c =
     let ended = ended-part after in
     let whole = ap length ended.1 in
     let lines = ap length c.ended_lines.ensures in
-    omega (arith, parts, length-append c.in-Some.field-0-0.now (LF ∷ after), whole, length-append (ended_lines after) ended.0, lines, c.requires.short, c.new-block.ensures.count)
+    omega (arith, parts, length-append c.in-Some.field-0-0.now (LF ∷ after), whole, length-append (ended_lines after) ended.0, lines, c.requires.short, c.empty-block.ensures.count)
 
 -- it has no LF
 pub returns-in-None : goal.returns-in-None
 returns-in-None c = record {
-  numbered = c.new.ensures.numbered;
-  says = c.new.ensures.none ∙ sym (ap (λ cut. map shape_of (lines (option_map_or (λ (p : List ℕ × List ℕ). ended_lines p.1) cut []))) (sym c.in-None.ensures));
-  count = c.new.ensures.count ∙ sym (ap (λ cut. length (lines (option_map_or (λ (p : List ℕ × List ℕ). ended_lines p.1) cut []))) (sym c.in-None.ensures));
+  numbered = c.empty-block.ensures.numbered;
+  says = c.empty-block.ensures.none ∙ sym (ap (λ cut. map shape_of (lines (option_map_or (λ (p : List ℕ × List ℕ). ended_lines p.1) cut []))) (sym c.in-None.ensures));
+  count = c.empty-block.ensures.count ∙ sym (ap (λ cut. length (lines (option_map_or (λ (p : List ℕ × List ℕ). ended_lines p.1) cut []))) (sym c.in-None.ensures));
 }
