@@ -1,5 +1,5 @@
 -- What is heard of a text that is read ahead.
-use Rattle.std.proofs.Common.{◌≡◌, ℕ, Bool, true, List, [], ◌∷◌, ◌++◌, length, Result, Ok, Err, refl, sym, ap, subst, ◌∙◌, arith}
+use Rattle.std.proofs.Common.{◌≡◌, ℕ, ◌*◌, ◌≤◌, Bool, true, List, [], ◌∷◌, ◌++◌, drop, length, take, Result, Ok, Err, refl, sym, ap, subst, ◌∙◌, arith}
 use Rattle.std.specs.Prelude.{vec_len, IfOk}
 use Rattle.std.specs.declared.alloc.AllocError.{AllocError}
 use Rattle.gl_event.specs.Bounds.{Bounds}
@@ -10,19 +10,23 @@ use Rattle.gl_std.specs.Heard.{HasHeard}
 use Rattle.gl_std.specs.LineReading.{HasGiven}
 use Rattle.gl_std.specs.Pieces.{IsFaulty}
 use Rattle.gl_std.specs.Trace.{nothing}
-use Rattle.gl_std.specs.bodies.Ahead.{text_of, AreCut, AreShort, CanJudge, CanReadAhead, FailsPiece, GivesOn, HasReadOn, HasReadPieces, HasReadTo, HearsPieces, OnlyJudges, ReadsAhead, TakesPiece}
-use Rattle.gl_std.specs.bodies.Hearing.{Hears}
-use Rattle.gl_std.specs.bodies.States.{Reaches, ReadsOn}
+use Rattle.gl_std.specs.bodies.Ahead.{text_of, AreCut, AreShort, CanJudge, CanReadAhead, FailsPiece, GivesOn, HasGoneOn, HasReadOn, HasReadPieces, HasReadTo, HearsPieces, HearsRest, OnlyJudges, ReadsAhead, TakesPiece}
+use Rattle.gl_std.specs.bodies.Hearing.{Hears, HearsOn, IsReading}
+use Rattle.gl_std.specs.bodies.States.{left_of, IsFit, IsSound, Reaches, ReadsOn}
 use Rattle.gl_std.specs.declared.faults.ReadFault.{ReadFault}
 use Rattle.gl_std.specs.declared.faults.ReadFault.TheVariants.{Line}
 use Rattle.gl_std.specs.declared.faults.StdKind.{StdKind}
 use Rattle.gl_std.specs.declared.from_source.Heard.{Heard}
+use Rattle.gl_std.specs.declared.judge.Judge.{Judge}
+use Rattle.gl_std.specs.declared.line_reader.TheConstants.{KEPT}
+use Rattle.gl_io.specs.declared.source.TheConstants.{CHUNK}
 use Rattle.gl_std.specs.declared.line_reader.LineReader.{LineReader}
 use Rattle.gl_std.specs.declared.line_reader.Step.TheVariants.{End as AtEnd}
 use Rattle.gl_std.specs.declared.line_reader.pieces.Ending.{Ending}
 use Rattle.gl_std.specs.declared.line_reader.pieces.Ending.TheVariants.{More, End, Broke}
 use Rattle.gl_std.specs.declared.line_reader.pieces.Piece.{Piece}
 use Rattle.gl_std.specs.declared.trace.Trace.{Trace}
+use Rattle.gl_std.proofs.LineByLine.{alike_reaches, append_nil, left_none}
 use Rattle.gl_std.proofs.PieceByPiece.{faulty_more}
 
 -- ---- the last pieces
@@ -145,3 +149,49 @@ no_piece_cut pieces none = subst AreCut (sym none) (λ k d within. absurd (omega
 
 pub faulty_parts : (limits : Bounds) (text : List ℕ) (number number2 : ℕ) (kind kind2 : StdKind) → number2 ≡ number → kind2 ≡ kind → IsFaulty limits text number kind → IsFaulty limits text number2 kind2
 faulty_parts limits text number number2 kind kind2 a b faulty = subst (λ n. IsFaulty limits text n kind2) (sym a) (subst (λ k. IsFaulty limits text number k) (sym b) faulty)
+
+-- ---- one reader in place of two
+
+-- nothing is left of its latest read
+gone_left : (f j new : LineReader) → HasGoneOn f j new → left_of new ≡ []
+gone_left f j new gone = ap (λ n. drop n (take new.end new.buffer.items)) (gone.begin ∙ sym gone.end) ∙ left_none new.buffer.items new.end
+
+pub gone_fit : (f j j2 new : LineReader) (pieces : List ℕ) → CanReadAhead f j pieces → OnlyJudges j j2 (length pieces) → HasGoneOn f j2 new → IsFit new
+gone_fit f j j2 new pieces can judges gone = record {
+  sound = subst IsSound (sym gone.judge) judges.sound;
+  order = omega (arith, gone.begin);
+  within = omega (arith, gone.end);
+  room = gone.same_size ∙ can.room;
+  few = subst (λ u. length u ≤ KEPT) (sym gone.beginning) judges.few;
+  countable = omega (arith, ap (λ (j : Judge). j.line) gone.judge, ap (λ n. n * CHUNK) gone.same_turns, judges.lines, can.countable, gone.end);
+}
+
+-- it reads on where the two were
+pub gone_on : (limits : Bounds) (turns : ℕ) (start now : Position) (f j j2 new : LineReader) (lists lists2 : List (List Event)) (pieces : List ℕ) → ReadsAhead limits turns start now f j lists pieces → TakesPiece j lists pieces j2 lists2 → j2.judge.limits ≡ j.judge.limits → HasGoneOn f j2 new → IsReading limits turns start now new lists2
+gone_on limits turns start now f j j2 new lists lists2 pieces ahead takes same gone =
+    let at = reached_ahead limits turns start now f j j2 lists lists2 pieces ahead takes in
+    let text = ahead.seen ++ pieces in
+    record {
+      text = text;
+      told = at.0;
+      reads = record {
+        given = subst (λ n. HasGiven turns start now n text) (sym gone.same_turns) ahead.given;
+        same = ap (λ (j : Judge). j.limits) gone.judge ∙ same ∙ ahead.same;
+        at = record {
+          seen = text;
+          parts = sym (append_nil text) ∙ ap (λ l. text ++ l) (sym (gone_left f j2 new gone));
+          reaches = alike_reaches j2 new text at.0 gone.judge gone.beginning at.1;
+        };
+      };
+      listed = at.2;
+    }
+
+-- what it hears is what is heard of the source
+pub heard_rest : (now later : Position) (failed : Bool) (f j j2 new : LineReader) (lists lists2 : List (List Event)) (pieces : List ℕ) (r : Result Heard AllocError) → IfOk r (HearsOn now new lists2 later failed) → TakesPiece j lists pieces j2 lists2 → j2.judge.limits ≡ j.judge.limits → HasGoneOn f j2 new → IfOk r (HearsRest now f j lists pieces later failed)
+heard_rest now later failed f j j2 new lists lists2 pieces (Err e) hears takes same gone = tt
+heard_rest now later failed f j j2 new lists lists2 pieces (Ok h) hears takes same gone = λ limits turns start ahead.
+    hears limits turns start (gone_on limits turns start now f j j2 new lists lists2 pieces ahead takes same gone)
+
+pub heard_after : (limits : Bounds) (turns : ℕ) (start now later : Position) (failed : Bool) (f j : LineReader) (lists : List (List Event)) (pieces : List ℕ) (r : Result Heard AllocError) → IfOk r (HearsRest now f j lists pieces later failed) → ReadsAhead limits turns start now f j lists pieces → IfOk r (HasHeard limits turns start later failed)
+heard_after limits turns start now later failed f j lists pieces (Err e) hears ahead = tt
+heard_after limits turns start now later failed f j lists pieces (Ok h) hears ahead = hears limits turns start ahead

@@ -183,3 +183,21 @@ pub record CanReadAhead (f j : LineReader) (pieces : List ℕ) : Type 0 where
   pub few : length j.unfinished.items ≤ KEPT
   pub room : vec_len f.buffer ≡ CHUNK
   pub countable : j.judge.line + length pieces + f.turns * CHUNK + 1 < 2 ^ 64
+
+-- ---- one reader in place of two
+
+-- the one goes on from what the other has judged, and nothing is left of its latest read
+pub record HasGoneOn (f j new : LineReader) : Type 0 where
+  pub judge : new.judge ≡ j.judge
+  pub beginning : new.unfinished.items ≡ j.unfinished.items
+  pub same_turns : new.turns ≡ f.turns
+  pub same_size : vec_len new.buffer ≡ vec_len f.buffer
+  pub begin : new.start ≡ 0
+  pub end : new.end ≡ 0
+
+-- this was heard of the source, where these pieces of it weren't judged and no more was read
+abbrev pub HearsRest : Position → LineReader → LineReader → List (List Event) → List ℕ → Position
+    → Bool → Heard → Type 0
+HearsRest now f j lists pieces later failed heard = (limits : Bounds) (turns : ℕ) (start : Position)
+    → ReadsAhead limits turns start now f j lists pieces
+    → HasHeard limits turns start later failed heard

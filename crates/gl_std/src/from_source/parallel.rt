@@ -6,15 +6,15 @@
 //!
 //! The first piece is read before any thread is started, so that a text that ends in it costs what it costs one
 //! thread. Where most names of a piece are new to it, cutting it ahead doesn't pay: its lines are judged from its text, and
-//! for some rounds no piece is cut ahead.
+//! where that is so of all pieces of a round, this thread goes on alone.
 ghost use Rattle.std.specs.Prelude.{◌≡◌, ◌^◌, ◌<◌, ◌≤◌, [], ◌++◌, Bool, true, false, length, vec_len, IfOk, OnOk};
 ghost use Rattle.gl_io.specs.declared.source.TheConstants.{CHUNK};
 ghost use Rattle.gl_std.specs.Heard.{HasHeard};
 ghost use Rattle.gl_std.specs.Trace.{IsTraceOver};
-ghost use Rattle.gl_std.specs.bodies.Ahead.{bytes_of, text_of, AreCut, AreShort, CanJudge, HasReadPieces, HasTakenPieces, HearsFault, HearsFaulty, HearsPieces, IsCut, IsShort};
+ghost use Rattle.gl_std.specs.bodies.Ahead.{bytes_of, text_of, AreCut, AreShort, CanJudge, CanReadAhead, HasReadPieces, HasTakenPieces, HearsFault, HearsFaulty, HearsPieces, HearsRest, IsCut, IsShort};
 ghost use Rattle.gl_std.specs.declared.line_reader.pieces.Ending.TheVariants.{More};
 
-use super::{Heard, finish, read_source};
+use super::{Heard, finish, read_on, read_source};
 use crate::faults::{ReadFault, StdKind};
 use crate::line_reader::LineReader;
 use crate::line_reader::pieces::{Ending, Piece};
@@ -31,8 +31,6 @@ use std::thread::{Threads, join_mut};
 const LEAST: usize = 3;
 // More threads than this have nothing to do.
 const MOST: usize = 64;
-// For so many rounds no piece is cut ahead, after one of which that didn't pay.
-const PAUSE: usize = 16;
 
 // What cuts pieces into lines.
 #[derive(Clone, Copy)]
@@ -40,29 +38,10 @@ struct Cutters {
     alloc: Global,
     // What the hash of a piece's names begins with.
     seed: Seed,
-    // So many pieces are read in a round.
-    pieces: usize,
-    // So many threads cut them.
+    // So many pieces are read in a round, and so many threads cut them.
     threads: usize,
     // Whether they are cut at all.
     cuts: bool,
-}
-
-impl Cutters {
-    // As many threads as pieces, which cut them; or where that doesn't pay none that cuts.
-    fn new(alloc: Global, seed: Seed, pieces: usize, cuts: bool) -> Cutters
-        requires pieces { 0 < pieces }
-        ensures pieces { 0 < result.pieces }
-        ensures threads { 0 < result.threads }
-    {
-        Cutters {
-            alloc,
-            seed,
-            pieces,
-            threads: if cuts { pieces } else { 1 },
-            cuts,
-        }
-    }
 }
 
 // Cuts pieces into lines.
@@ -108,7 +87,6 @@ fn read_and_cut<T: Threads + Sync, R: Source>(
     spare: &mut Vec<Piece>,
     pieces: &mut Vec<Piece>,
 ) -> Result<Ending, AllocError>
-    requires pieces { 0 < cutters.pieces }
     requires threads { 0 < cutters.threads }
     requires room { vec_len reader.old.buffer ≡ CHUNK }
     requires not_failed { R.failed input.old ≡ false }
@@ -117,7 +95,7 @@ fn read_and_cut<T: Threads + Sync, R: Source>(
         (HasReadPieces (R.position input.old) reader.old (R.position input.new)
         (R.failed input.new) reader.new pieces.new.items) }
 {
-    let ending = reader.read_ahead(cutters.alloc, input, spare, pieces, cutters.pieces)?;
+    let ending = reader.read_ahead(cutters.alloc, input, spare, pieces, cutters.threads)?;
     cut_pieces(rt, cutters, pieces);
     Ok(ending)
 }
@@ -135,7 +113,6 @@ fn take_and_read<T: Threads + Sync, R: Source>(
     spare: &mut Vec<Piece>,
     pieces: &mut Vec<Piece>,
 ) -> (Result<(), ReadFault>, Result<Ending, AllocError>)
-    requires pieces { 0 < cutters.pieces }
     requires threads { 0 < cutters.threads }
     requires can { CanJudge judge.old ahead.now }
     requires room { vec_len reader.old.buffer ≡ CHUNK }
@@ -147,8 +124,13 @@ fn take_and_read<T: Threads + Sync, R: Source>(
         (R.failed input.new) reader.new pieces.new.items) }
 {
     if ahead.is_empty() {
-        let alone = Cutters::new(cutters.alloc, cutters.seed, 1, false);
-        let read = read_and_cut(rt, alone, reader, input, spare, pieces);
+        let first = Cutters {
+            alloc: cutters.alloc,
+            seed: cutters.seed,
+            threads: 1,
+            cuts: false,
+        };
+        let read = read_and_cut(rt, first, reader, input, spare, pieces);
         return (judge.take_pieces(cutters.alloc, lists, ahead), read);
     }
     let mut taking = || -> Result<(), ReadFault>
@@ -157,8 +139,7 @@ fn take_and_read<T: Threads + Sync, R: Source>(
             lists.exit.now result }
     { judge.take_pieces(cutters.alloc, lists, ahead) };
     let mut reading = || -> Result<Ending, AllocError>
-        requires { (0 < cutters.pieces) × (0 < cutters.threads)
-            × (vec_len reader.now.buffer ≡ CHUNK)
+        requires { (0 < cutters.threads) × (vec_len reader.now.buffer ≡ CHUNK)
             × (R.failed input.now ≡ false) × (pieces.now.items ≡ []) }
         ensures { IfOk result
             (HasReadPieces (R.position input.entry.now) reader.entry.now
@@ -168,15 +149,14 @@ fn take_and_read<T: Threads + Sync, R: Source>(
     join_mut(rt, &mut taking, &mut reading)
 }
 
-// For how many rounds from here on no piece is cut, where there were so many more before these pieces.
-fn pause_after(pieces: &[Piece], pause: usize) -> usize {
-    if pause > 0 {
-        return pause - 1;
+// Whether cutting them ahead pays for one of these pieces, as far as that is known.
+fn pay(pieces: &[Piece]) -> bool {
+    for i in 0..pieces.len() {
+        if pieces[i].pays() {
+            return true;
+        }
     }
-    match pieces.last() {
-        Some(piece) => if piece.pays() { 0 } else { PAUSE },
-        None => 0,
-    }
+    false
 }
 
 // What was heard, where a line is at fault.
@@ -237,6 +217,35 @@ fn finish_ahead(
     }
 }
 
+// What is heard, where these pieces are judged and the rest is read by this thread alone.
+#[inline(never)]
+fn read_alone<R: Source>(
+    alloc: Global,
+    mut reader: LineReader,
+    mut judge: LineReader,
+    mut lists: Lists,
+    pieces: &[Piece],
+    input: &mut R,
+) -> Result<Heard, AllocError>
+    requires can { CanJudge judge pieces.now }
+    requires on { CanReadAhead reader judge (text_of pieces.now) }
+    requires not_failed { R.failed input.old ≡ false }
+    ensures { IfOk result
+        (HearsRest (R.position input.old) reader judge lists (text_of pieces.now)
+        (R.position input.new) (R.failed input.new)) }
+{
+    match judge.take_pieces(alloc, &mut lists, pieces) {
+        Ok(()) => {
+            reader.go_on_from(judge);
+            read_on(alloc, reader, lists, input)
+        }
+        Err(ReadFault::Line { line, kind }) => {
+            Ok(stop_ahead(reader, input, Ending::More, line, kind))
+        }
+        Err(ReadFault::Memory) => Err(AllocError),
+    }
+}
+
 /// As [`read_source`], in so many threads: what is heard doesn't depend on their number. With fewer than three the
 /// calling thread reads, cuts and judges line by line, since two would wait for each other.
 ///
@@ -261,8 +270,12 @@ pub fn read_source_parallel<T: Threads + Sync, R: Source>(
     if jobs < LEAST {
         return read_source(alloc, input, turns, limits, seed);
     }
-    let most = jobs.min(MOST) - 1;
-    let mut pause = 0;
+    let cutters = Cutters {
+        alloc,
+        seed,
+        threads: jobs.min(MOST) - 1,
+        cuts: true,
+    };
     // the one judges what the other has read
     let mut reader = LineReader::new(alloc, limits, turns, seed)?;
     let mut judge = LineReader::new(alloc, limits, turns, seed)?;
@@ -271,7 +284,6 @@ pub fn read_source_parallel<T: Threads + Sync, R: Source>(
     let mut spare = Vec::new(alloc);
     loop {
         let mut pieces = Vec::new(alloc);
-        let cutters = Cutters::new(alloc, seed, most, pause == 0);
         let (taken, read) = take_and_read(
             rt,
             cutters,
@@ -293,7 +305,9 @@ pub fn read_source_parallel<T: Threads + Sync, R: Source>(
         }
         match ending {
             Ending::More => {
-                pause = pause_after(pieces.as_slice(), pause);
+                if !pay(pieces.as_slice()) {
+                    return read_alone(alloc, reader, judge, lists, pieces.as_slice(), input);
+                }
                 spare = ahead;
                 ahead = pieces;
             }

@@ -4,7 +4,7 @@ ghost use Rattle.gl_event.specs.declared.events.Event.{Event};
 ghost use Rattle.gl_io.specs.declared.source.TheConstants.{CHUNK};
 ghost use Rattle.gl_std.specs.Line.{cut_at};
 ghost use Rattle.gl_std.specs.Lines.{LF};
-ghost use Rattle.gl_std.specs.bodies.Ahead.{bytes_of, text_of, AreShort, CanJudge, FailsPiece, HasReadOn, HasTakenPieces, IsCut, IsShort, OnlyJudges, OnlyReadsAhead, TakesPiece};
+ghost use Rattle.gl_std.specs.bodies.Ahead.{bytes_of, text_of, AreShort, CanJudge, FailsPiece, HasGoneOn, HasReadOn, HasTakenPieces, IsCut, IsShort, OnlyJudges, OnlyReadsAhead, TakesPiece};
 ghost use Rattle.gl_std.specs.bodies.Blocks.{IsBlockOf};
 ghost use Rattle.gl_std.specs.bodies.States.{IsSound};
 ghost use Rattle.gl_std.specs.declared.block.TheConstants.{LONGEST};
@@ -220,6 +220,24 @@ impl LineReader {
             Ok(false) => Ok(Ending::End),
             Err(Failed) => Ok(Ending::Broke),
         }
+    }
+
+    /// Goes on from what the other reader has judged, where nothing is left that this one has read.
+    pub(crate) fn go_on_from(&mut self, judged: LineReader)
+        ensures { HasGoneOn self.old judged self.new }
+    {
+        let LineReader {
+            judge,
+            unfinished,
+            buffer,
+            start: _,
+            end: _,
+            turns: _,
+        } = judged;
+        self.judge = judge;
+        self.unfinished = unfinished;
+        self.start = 0;
+        self.end = 0;
     }
 
     /// Judges the pieces, and puts the events that they tell into the lists. After a fault both are of no

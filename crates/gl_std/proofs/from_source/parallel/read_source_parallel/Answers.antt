@@ -5,7 +5,7 @@ use Rattle.std.specs.declared.alloc.AllocError.{AllocError}
 use Rattle.gl_event.specs.declared.events.Event.{Event}
 use Rattle.gl_std.specs.bodies.Ahead.{text_of, CanJudge, CanReadAhead, HasReadOn, HasReadPieces, OnlyJudges, ReadsAhead, TakesPiece}
 use Rattle.gl_std.specs.declared.faults.ReadFault.TheVariants.{Line}
-use Rattle.gl_std.proofs.HeardAhead.{ahead_more, ahead_nothing, can_finish, can_more, can_take, failed_ahead, faulty_parts, heard_last, no_piece_cut, no_piece_short, read_to}
+use Rattle.gl_std.proofs.HeardAhead.{ahead_more, ahead_nothing, can_finish, can_more, can_take, failed_ahead, faulty_parts, heard_after, heard_last, no_piece_cut, no_piece_short, read_to}
 use Rattle.gl_std.proofs.HeardSources.{heard_over}
 use Rattle.gl_std.proofs.from_source.parallel.read_source_parallel.Goals as goal
 
@@ -166,3 +166,65 @@ finish_ahead-requires-in-Broke g c =
     let only = subst (λ r. OnOk r (OnlyJudges j j2 (length front))) c.in-Ok.is call.ensures.taken.only in
     let can = subst (λ ps. CanReadAhead f j (text_of ps)) (sym c.as_slice.ensures.value) so_far.can in
     record { can = subst (λ ps. CanJudge j2 ps) (sym c.as_slice-in-Broke.ensures.value) (can_finish now later failed f f2 j j2 front call.new.pieces.items c.in_ok-ending.ending can only read) }
+
+-- cutting ahead doesn't pay
+pub read_alone-requires-clause-can : goal.read_alone-requires-clause-can
+read_alone-requires-clause-can g c =
+    let so_far = c.loop-pieces.invariant in
+    let call = c.take_and_read-taken in
+    let f = c.loop-pieces.reader in
+    let j = c.loop-pieces.judge in
+    let f2 = call.new.reader in
+    let j2 = call.new.judge in
+    let front = text_of c.as_slice.result.now in
+    let now = g.R.Source.position c.loop-pieces.input in
+    let later = g.R.Source.position call.new.input in
+    let failed = g.R.Source.failed call.new.input in
+    let read = subst (λ r. IfOk r (HasReadPieces now f later failed f2 call.new.pieces.items)) c.in_ok-ending.was call.ensures.read in
+    let only = subst (λ r. OnOk r (OnlyJudges j j2 (length front))) c.in-Ok.is call.ensures.taken.only in
+    let can = subst (λ ps. CanReadAhead f j (text_of ps)) (sym c.as_slice.ensures.value) so_far.can in
+    subst (λ ps. CanJudge j2 ps) (sym c.as_slice-then-not-pay.ensures.value) (can_finish now later failed f f2 j j2 front call.new.pieces.items c.in_ok-ending.ending can only read)
+
+pub read_alone-requires-clause-on : goal.read_alone-requires-clause-on
+read_alone-requires-clause-on g c =
+    let so_far = c.loop-pieces.invariant in
+    let call = c.take_and_read-taken in
+    let f = c.loop-pieces.reader in
+    let j = c.loop-pieces.judge in
+    let f2 = call.new.reader in
+    let j2 = call.new.judge in
+    let front = text_of c.as_slice.result.now in
+    let now = g.R.Source.position c.loop-pieces.input in
+    let later = g.R.Source.position call.new.input in
+    let failed = g.R.Source.failed call.new.input in
+    let read = subst (λ r. IfOk r (HasReadPieces now f later failed f2 call.new.pieces.items)) c.in_ok-ending.was call.ensures.read in
+    let only = subst (λ r. OnOk r (OnlyJudges j j2 (length front))) c.in-Ok.is call.ensures.taken.only in
+    let can = subst (λ ps. CanReadAhead f j (text_of ps)) (sym c.as_slice.ensures.value) so_far.can in
+    let on = subst (HasReadOn now f [] later failed f2 (text_of call.new.pieces.items)) c.in-More.is read.reads in
+    subst (λ ps. CanReadAhead f2 j2 (text_of ps)) (sym c.as_slice-then-not-pay.ensures.value) (can_more now later failed f f2 j j2 front (text_of call.new.pieces.items) can only read.same_size on)
+
+pub returns-then-not-pay-clause-heard : goal.returns-then-not-pay-clause-heard
+returns-then-not-pay-clause-heard g c =
+    let so_far = c.loop-pieces.invariant in
+    let call = c.take_and_read-taken in
+    let f = c.loop-pieces.reader in
+    let j = c.loop-pieces.judge in
+    let f2 = call.new.reader in
+    let j2 = call.new.judge in
+    let front = text_of c.as_slice.result.now in
+    let start = g.R.Source.position c.args.input.now in
+    let now = g.R.Source.position c.loop-pieces.input in
+    let later = g.R.Source.position call.new.input in
+    let failed = g.R.Source.failed call.new.input in
+    let read = subst (λ r. IfOk r (HasReadPieces now f later failed f2 call.new.pieces.items)) c.in_ok-ending.was call.ensures.read in
+    let only = subst (λ r. OnOk r (OnlyJudges j j2 (length front))) c.in-Ok.is call.ensures.taken.only in
+    let can = subst (λ ps. CanReadAhead f j (text_of ps)) (sym c.as_slice.ensures.value) so_far.can in
+    let pieces = text_of c.as_slice-then-not-pay.result.now in
+    let on = subst (HasReadOn now f [] later failed f2 pieces) c.in-More.is (subst (λ ps. HasReadOn now f [] later failed f2 (text_of ps) c.in_ok-ending.ending) (sym c.as_slice-then-not-pay.ensures.value) read.reads) in
+    let tells = subst (λ r. OnOk r (TakesPiece j c.loop-pieces.lists front j2 call.new.lists)) c.in-Ok.is call.ensures.taken.tells in
+    let ahead = subst (λ ps. ReadsAhead c.args.limits.now c.args.turns start now f j c.loop-pieces.lists (text_of ps)) (sym c.as_slice.ensures.value) so_far.reads in
+    heard_after c.args.limits.now c.args.turns start later (g.R.Source.position c.read_alone.new.input) (g.R.Source.failed c.read_alone.new.input) f2 j2 call.new.lists pieces c.read_alone.result c.read_alone.ensures
+    (ahead_more c.args.limits.now c.args.turns start now later failed f f2 j j2 c.loop-pieces.lists call.new.lists front pieces ahead on tells only.same_limits)
+
+pub returns-then-not-pay-clause-over : goal.returns-then-not-pay-clause-over
+returns-then-not-pay-clause-over g c = heard_over c.args.limits.now c.args.turns _ _ _ c.read_alone.result (returns-then-not-pay-clause-heard g c)
