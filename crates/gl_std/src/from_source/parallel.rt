@@ -247,7 +247,8 @@ fn read_alone<R: Source>(
 }
 
 /// As [`read_source`], in so many threads: what is heard doesn't depend on their number. With fewer than three the
-/// calling thread reads, cuts and judges line by line, since two would wait for each other.
+/// calling thread reads, cuts and judges line by line, since two would wait for each other. So it does where the text
+/// ends in its first half megabyte, and from where it is seen that most names are new.
 ///
 /// Err where memory was refused. Beside what [`read_source`] keeps in memory, there is a megabyte of the text for
 /// each thread, cut into lines.
