@@ -29,8 +29,8 @@ use std::thread::{Threads, join_mut};
 
 // With fewer threads the calling one does all: two would wait for each other.
 const LEAST: usize = 3;
-// More threads than this have nothing to do.
-const MOST: usize = 64;
+// More threads than this have nothing to do: what they cut waits for the one that judges.
+const MOST: usize = 8;
 
 // What cuts pieces into lines.
 #[derive(Clone, Copy)]
