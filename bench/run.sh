@@ -3,8 +3,8 @@
 #
 #     bench/run.sh [PROGRAM [ARGUMENT..]]
 #
-# PROGRAM is goodlock's (what ./goodlock runs, with `predict`, unless given); ARGUMENTs go to it, as `live` or
-# `live --stream --threads 1024`, which print the same.
+# PROGRAM is goodlock's (what ./goodlock runs, with `predict --jobs 1`, unless given: one thread reads, since processor
+# seconds are compared); ARGUMENTs go to it, as `live` or `live --stream --threads 1024`, which print the same.
 # BENCH_DIR   folder for the two Rust programs and the traces   (/tmp/goodlock-bench)
 # EVENTS      about how many lines a trace has              (1000000)
 # SHAPES      which shapes of bench/make_trace.py           (all)
@@ -26,7 +26,7 @@ case ${STAGE:-full} in
     *) echo "run.sh: STAGE is first or full" >&2; exit 2 ;;
 esac
 program=${1:-$(GOODLOCK_WHICH=1 "$top/goodlock")}
-if [ $# -gt 0 ]; then shift; else set -- predict; fi
+if [ $# -gt 0 ]; then shift; else set -- predict --jobs 1; fi
 
 if [ ! -x "$program" ]; then
     echo "run.sh: there is no program at $program" >&2

@@ -56,8 +56,8 @@ def trace_of(threads):
 
 
 def threads_of_sessions(program):
-    """A thread for each recorder and each shard's worker; the collector is the calling thread. With --stream the
-    calling thread reads and records, and the collector has a thread of its own."""
+    """A thread for each recorder and each shard's worker; the collector is the calling thread, which also reads a text as
+    small as this. With --stream the calling thread reads and records, and the collector has a thread of its own."""
     trace = trace_of(16)
     program.expect("predict starts no thread for sixteen edges", program.counts("predict", trace)[0] == 0)
     for recorders in (1, 2, 5, 16):
@@ -72,6 +72,24 @@ def threads_of_sessions(program):
             got = program.counts(words, trace)[0]
             program.expect(f"{words}: {1 + shards} threads, not {got}", got == 1 + shards)
     program.expect("live: 4 recorders and 4 shards", program.counts("live", trace)[0] == 8)
+
+
+def threads_that_read(program):
+    """One thread reads alone where fewer than three are asked for, or where the text is small; else some are started, as
+    many as the text has pieces for. Unless said, as many read as there are processors."""
+    trace = b"T0|acq(a)|1\nT0|rel(a)|2\n" * 100000
+    for words in ("predict", "stats", "replay"):
+        for jobs in (1, 2):
+            got = program.counts(f"{words} --jobs {jobs}", trace)[0]
+            program.expect(f"{words} --jobs {jobs} starts no thread, not {got}", got == 0)
+        for jobs in (3, 16):
+            got = program.counts(f"{words} --jobs {jobs}", trace)[0]
+            program.expect(f"{words} --jobs {jobs} starts threads", got > 1)
+            got = program.counts(f"{words} --jobs {jobs}", trace[: 24 * 16000])[0]
+            program.expect(f"{words} --jobs {jobs} starts no thread for a small text, not {got}", got == 0)
+        usual = program.counts(words, trace)[0]
+        several = len(os.sched_getaffinity(0)) >= 3
+        program.expect(f"{words}: several threads where there are as many processors", (usual > 1) == several)
 
 
 def room_of(program, words, few, many, trace=trace_of(2)):
@@ -107,6 +125,7 @@ def main():
     with tempfile.TemporaryDirectory() as folder:
         program = Program(sys.argv[1], folder)
         threads_of_sessions(program)
+        threads_that_read(program)
         rings_of_sessions(program)
     print(f"{program.passed} passed, {program.failed} failed")
     return 1 if program.failed else 0

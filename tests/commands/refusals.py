@@ -120,12 +120,14 @@ REPORTS = {"check": (OBJECTS, worked_traces.NONE_JSON),
 
 # Words that are answered without any input, and the status; what they print is theirs. By the command that knows them.
 USAGE = {
-    "predict": {"--help": 0, "--version": 0, "predict --help": 0, "": 2, "predict --len 17": 2, "predict --mode Full": 2},
+    "predict": {"--help": 0, "--version": 0, "predict --help": 0, "": 2, "predict --len 17": 2, "predict --mode Full": 2,
+                "predict --jobs 65": 2},
     "predict --findings": {
         "predict --findings=yes": 2, "predict --findings --findings": 2, "predict --findings --max 0": 2,
         "predict --findings --stream": 2, "stats --findings": 2, "replay --findings": 2, "check --findings": 2,
     },
-    "stats": {"stats --json": 2},
+    "stats": {"stats --json": 2, "stats --jobs x": 2},
+    "replay": {"replay --jobs=-1": 2, "replay --jobs 1 --jobs 1": 2},
     "live": {"live --help": 0, "live --ring 0": 2, "live --ring 65537": 2, "live --shards 0": 2, "live --recorders 17": 2},
     "live --findings": {"live --findings=yes": 2, "live --findings --findings": 2, "live --findings --max 0": 2},
     "live --stream --findings": {"live --stream --findings --findings": 2, "live --stream --findings --threads 0": 2},
@@ -133,7 +135,7 @@ USAGE = {
         "live --stream --threads 0": 2, "live --threads 1025": 2, "live --stream=yes": 2, "live --stream --stream": 2,
         "predict --stream": 2, "predict --threads 2": 2,
     },
-    "check": {"check --help": 0, "check --json": 2},
+    "check": {"check --help": 0, "check --json": 2, "check --jobs 1": 2},
 }  # fmt: skip
 
 # Options by which the threads of a session wait for one another all the time. A trace here has three threads at most.

@@ -204,6 +204,7 @@ def asked(random_, command, has_stream=True):
         options.append(["--mode", random_.choice(["basic", "guarded", "full"])])
         options.append(["--len", random_.choice([2, 3, 4, 5, 16])])
         options.append(["--max", random_.choice([1, 2, 3, 1000, 100_000])])
+    options.append(["--jobs", random_.choice([0, 1, 2, 3, 64])])
     if word == "live":
         options.append(["--recorders", random_.choice([1, 2, 3, 16])])
         options.append(["--shards", random_.choice([1, 2, 3, 16])])

@@ -14,17 +14,18 @@ _goodlock() {
     COMPREPLY=()
     case $last in
         --mode) _goodlock_words "basic guarded full" && return ;;
-        --len | --max | --recorders | --shards | --ring | --threads) return ;;
+        --len | --max | --recorders | --shards | --ring | --threads | --jobs) return ;;
     esac
     if [ "$COMP_CWORD" -eq 1 ]; then
         _goodlock_words "predict live stats replay check --help --version"
         return
     fi
     case ${COMP_WORDS[1]} in
-        predict) _goodlock_words "$query --json --findings" ;;
-        live) _goodlock_words "$query --json --findings --recorders --shards --ring --stream --threads" ;;
-        stats) _goodlock_words "$query" ;;
-        replay | check) _goodlock_words "--help" ;;
+        predict) _goodlock_words "$query --json --findings --jobs" ;;
+        live) _goodlock_words "$query --json --findings --recorders --shards --ring --stream --threads --jobs" ;;
+        stats) _goodlock_words "$query --jobs" ;;
+        replay) _goodlock_words "--jobs --help" ;;
+        check) _goodlock_words "--help" ;;
     esac
 }
 

@@ -20,6 +20,7 @@ ghost use Rattle.gl_commands.specs.Sessions.{HasEndedSession};
 use crate::answer::{Printed, counted, predicted, replayed, trace_or_line};
 use crate::checking::{checked, end_cut};
 use crate::ended::{Ended, Outcome};
+use crate::reading::Reading;
 use crate::recorded::recorded;
 use crate::streamed::streamed;
 use gl_event::Limits;
@@ -28,7 +29,7 @@ use gl_findings::Listing;
 use gl_io::{Sink, Source, WriteFault, read_whole, write_out};
 use gl_options::{Command, Form, LiveOptions};
 use gl_shards::{Gate, Open};
-use gl_std::{ReadFault, Seed, Trace, read_source};
+use gl_std::{ReadFault, Seed, Trace, read_source_parallel};
 use std::alloc::Global;
 use std::sync::Wait;
 use std::thread::Threads;
@@ -53,23 +54,26 @@ fn end_early(alloc: Global, read: Result<Trace, ReadFault>) -> Ended
 
 // Reads the input to its end: the trace of its text or the first fault, or how a command ends where
 // it can't be read so far.
-fn hear<I: Source>(
+fn hear<R: Threads + Sync, I: Source>(
+    rt: &R,
     alloc: Global,
     input: &mut I,
-    turns: u64,
-    seed: Seed,
+    reading: &Reading,
 ) -> Result<Result<Trace, ReadFault>, Ended>
     requires readable { I.failed input.old ≡ false }
-    requires few_turns { turns ≤ 2 ^ 40 }
+    requires few_turns { reading.now.turns ≤ 2 ^ 40 }
     ensures heard { IfOk result
-        (HasHeardAll turns
+        (HasHeardAll reading.now.turns
         (used (I.position input.old) (I.position input.new) (I.failed input.new))) }
     ensures over { IfOk result (λ read. IfOk read (IsTraceOver greatest)) }
     ensures early { IfErr result
-        (HasEndedEarly greatest turns
+        (HasEndedEarly greatest reading.now.turns
         (used (I.position input.old) (I.position input.new) (I.failed input.new))) }
 {
-    let Ok(heard) = read_source(alloc, input, turns, &Limits::greatest(), seed) else {
+    let Reading { turns, seed, .. } = *reading;
+    let jobs = reading.threads(rt);
+    let limits = Limits::greatest();
+    let Ok(heard) = read_source_parallel(rt, alloc, input, turns, &limits, seed, jobs) else {
         return Err(Ended::Memory);
     };
     if heard.is_whole {
@@ -119,19 +123,18 @@ fn predict_listing<R: AllocGlobal + Threads + Sync, I: Source, O: Sink>(
     rt: &R,
     input: &mut I,
     output: &mut O,
-    turns: u64,
-    seed: Seed,
+    reading: &Reading,
     listing: Listing,
     query: &Query,
     form: Form,
 ) -> Ended
-    requires ready { AreReady turns (I.failed input.old) (O.failed output.old) }
-    ensures { HasEnded (IsAnswer (prediction listing query.now form)) turns
+    requires ready { AreReady reading.now.turns (I.failed input.old) (O.failed output.old) }
+    ensures { HasEnded (IsAnswer (prediction listing query.now form)) reading.now.turns
         (used (I.position input.old) (I.position input.new) (I.failed input.new))
         (used (O.contents output.old) (O.contents output.new) (O.failed output.new)) result }
 {
     let alloc = rt.alloc();
-    match hear(alloc, input, turns, seed) {
+    match hear(rt, alloc, input, reading) {
         Ok(read) => end(output, predicted(rt, alloc, read, listing, query, form)),
         Err(ended) => ended,
     }
@@ -139,7 +142,7 @@ fn predict_listing<R: AllocGlobal + Threads + Sync, I: Source, O: Sink>(
 
 /// Reads a trace, predicts its deadlocks and writes the report in the form asked for.
 ///
-/// The input is read to its end, in at most `turns` reads, before anything else; its text isn't kept.
+/// The input is read to its end before anything else, as [`Reading`] says; its text isn't kept.
 /// The report is made whole before its first byte is written. Where the input can't be read to its
 /// end, the first fault in the lines that were ended before is answered, else
 /// [`Ended::ReadFailed`]. Each reader and writer is used only while it hasn't failed. Cycles are sought in
@@ -148,17 +151,16 @@ pub fn predict<R: AllocGlobal + Threads + Sync, I: Source, O: Sink>(
     rt: &R,
     input: &mut I,
     output: &mut O,
-    turns: u64,
-    seed: Seed,
+    reading: &Reading,
     query: &Query,
     form: Form,
 ) -> Ended
-    requires ready { AreReady turns (I.failed input.old) (O.failed output.old) }
-    ensures { HasEnded (IsAnswer (prediction Cycles query.now form)) turns
+    requires ready { AreReady reading.now.turns (I.failed input.old) (O.failed output.old) }
+    ensures { HasEnded (IsAnswer (prediction Cycles query.now form)) reading.now.turns
         (used (I.position input.old) (I.position input.new) (I.failed input.new))
         (used (O.contents output.old) (O.contents output.new) (O.failed output.new)) result }
 {
-    predict_listing(rt, input, output, turns, seed, Listing::Cycles, query, form)
+    predict_listing(rt, input, output, reading, Listing::Cycles, query, form)
 }
 
 /// Reads a trace, predicts its deadlocks and writes the findings in the form asked for: each signature of the
@@ -169,26 +171,16 @@ pub fn predict_findings<R: AllocGlobal + Threads + Sync, I: Source, O: Sink>(
     rt: &R,
     input: &mut I,
     output: &mut O,
-    turns: u64,
-    seed: Seed,
+    reading: &Reading,
     query: &Query,
     form: Form,
 ) -> Ended
-    requires ready { AreReady turns (I.failed input.old) (O.failed output.old) }
-    ensures { HasEnded (IsAnswer (prediction Findings query.now form)) turns
+    requires ready { AreReady reading.now.turns (I.failed input.old) (O.failed output.old) }
+    ensures { HasEnded (IsAnswer (prediction Findings query.now form)) reading.now.turns
         (used (I.position input.old) (I.position input.new) (I.failed input.new))
         (used (O.contents output.old) (O.contents output.new) (O.failed output.new)) result }
 {
-    predict_listing(
-        rt,
-        input,
-        output,
-        turns,
-        seed,
-        Listing::Findings,
-        query,
-        form,
-    )
+    predict_listing(rt, input, output, reading, Listing::Findings, query, form)
 }
 
 /// Reads a trace, records it again in running threads, and writes the report of what was recorded, in
@@ -199,27 +191,26 @@ pub fn predict_findings<R: AllocGlobal + Threads + Sync, I: Source, O: Sink>(
 /// timing. Each thread of the trace has a lane of its own; lane `t`
 /// is recorded by recorder thread `t` modulo their number, event after event; the collector runs in the
 /// calling thread, and a worker keeps the edges of each shard. A trace without threads opens no session.
-/// The input is read whole before a thread is started, and no thread records before all were.
+/// The input is read whole before a thread of the session is started, and no thread records before all were.
 ///
-/// With [`LiveOptions::stream`] the calling thread reads and records each event as it is read, into one of
-/// [`LiveOptions::threads`] lanes, and the collector has a thread of its own: edges are shipped before the
-/// input ends. It ends as `predict` does under that limit of threads; but reading stops at the first line
-/// with a fault, which is refused as `predict` refuses it, whatever follows.
+/// With [`LiveOptions::stream`] the calling thread alone reads, whatever [`Reading::jobs`] is, and records each
+/// event as it is read, into one of [`LiveOptions::threads`] lanes, and the collector has a thread of its own:
+/// edges are shipped before the input ends. It ends as `predict` does under that limit of threads; but reading
+/// stops at the first line with a fault, which is refused as `predict` refuses it, whatever follows.
 pub fn live<R: AllocGlobal + Threads + Wait + Sync, I: Source, O: Sink>(
     rt: &R,
     input: &mut I,
     output: &mut O,
-    turns: u64,
-    seed: Seed,
+    reading: &Reading,
     options: &LiveOptions,
 ) -> Ended
-    requires ready { AreReady turns (I.failed input.old) (O.failed output.old) }
+    requires ready { AreReady reading.now.turns (I.failed input.old) (O.failed output.old) }
     requires session { AreOfSession options.now }
-    ensures { HasEndedSession options.now turns
+    ensures { HasEndedSession options.now reading.now.turns
         (used (I.position input.old) (I.position input.new) (I.failed input.new))
         (used (O.contents output.old) (O.contents output.new) (O.failed output.new)) result }
 {
-    live_gated(rt, input, output, turns, seed, options, &Open)
+    live_gated(rt, input, output, reading, options, &Open)
 }
 
 /// As [`live`], with a gate that each worker passes before it keeps an edge.
@@ -227,22 +218,21 @@ pub fn live_gated<R: AllocGlobal + Threads + Wait + Sync, I: Source, O: Sink, G:
     rt: &R,
     input: &mut I,
     output: &mut O,
-    turns: u64,
-    seed: Seed,
+    reading: &Reading,
     options: &LiveOptions,
     gate: &G,
 ) -> Ended
-    requires ready { AreReady turns (I.failed input.old) (O.failed output.old) }
+    requires ready { AreReady reading.now.turns (I.failed input.old) (O.failed output.old) }
     requires session { AreOfSession options.now }
-    ensures { HasEndedSession options.now turns
+    ensures { HasEndedSession options.now reading.now.turns
         (used (I.position input.old) (I.position input.new) (I.failed input.new))
         (used (O.contents output.old) (O.contents output.new) (O.failed output.new)) result }
 {
     if options.stream {
-        return end(output, streamed(rt, input, turns, seed, options, gate));
+        return end(output, streamed(rt, input, reading, options, gate));
     }
     let alloc = rt.alloc();
-    match hear(alloc, input, turns, seed) {
+    match hear(rt, alloc, input, reading) {
         Ok(read) => end(output, recorded(rt, alloc, read, options, gate)),
         Err(ended) => ended,
     }
@@ -255,17 +245,16 @@ pub fn stats<R: AllocGlobal + Threads + Sync, I: Source, O: Sink>(
     rt: &R,
     input: &mut I,
     output: &mut O,
-    turns: u64,
-    seed: Seed,
+    reading: &Reading,
     query: &Query,
 ) -> Ended
-    requires ready { AreReady turns (I.failed input.old) (O.failed output.old) }
-    ensures { HasEnded (IsAnswer (counts query.now)) turns
+    requires ready { AreReady reading.now.turns (I.failed input.old) (O.failed output.old) }
+    ensures { HasEnded (IsAnswer (counts query.now)) reading.now.turns
         (used (I.position input.old) (I.position input.new) (I.failed input.new))
         (used (O.contents output.old) (O.contents output.new) (O.failed output.new)) result }
 {
     let alloc = rt.alloc();
-    match hear(alloc, input, turns, seed) {
+    match hear(rt, alloc, input, reading) {
         Ok(read) => end(output, counted(rt, alloc, read, query)),
         Err(ended) => ended,
     }
@@ -275,20 +264,19 @@ pub fn stats<R: AllocGlobal + Threads + Sync, I: Source, O: Sink>(
 ///
 /// Reads and fails as [`predict`] does, and refuses lines at fault alone: whether its forks and joins
 /// can have happened isn't asked.
-pub fn replay<R: AllocGlobal, I: Source, O: Sink>(
+pub fn replay<R: AllocGlobal + Threads + Sync, I: Source, O: Sink>(
     rt: &R,
     input: &mut I,
     output: &mut O,
-    turns: u64,
-    seed: Seed,
+    reading: &Reading,
 ) -> Ended
-    requires ready { AreReady turns (I.failed input.old) (O.failed output.old) }
-    ensures { HasEnded (IsPlainAnswer replay) turns
+    requires ready { AreReady reading.now.turns (I.failed input.old) (O.failed output.old) }
+    ensures { HasEnded (IsPlainAnswer replay) reading.now.turns
         (used (I.position input.old) (I.position input.new) (I.failed input.new))
         (used (O.contents output.old) (O.contents output.new) (O.failed output.new)) result }
 {
     let alloc = rt.alloc();
-    match hear(alloc, input, turns, seed) {
+    match hear(rt, alloc, input, reading) {
         Ok(read) => end(output, replayed(alloc, read)),
         Err(ended) => ended,
     }
@@ -304,27 +292,27 @@ pub fn check_input<R: AllocGlobal, I: Source, O: Sink>(
     rt: &R,
     input: &mut I,
     output: &mut O,
-    turns: u64,
-    seed: Seed,
+    reading: &Reading,
 ) -> Ended
-    requires ready { AreReady turns (I.failed input.old) (O.failed output.old) }
-    ensures { HasChecked turns
+    requires ready { AreReady reading.now.turns (I.failed input.old) (O.failed output.old) }
+    ensures { HasChecked reading.now.turns
         (used (I.position input.old) (I.position input.new) (I.failed input.new))
         (used (O.contents output.old) (O.contents output.new) (O.failed output.new)) result }
 {
     let alloc = rt.alloc();
-    let Ok(gathered) = read_whole(alloc, input, turns) else {
+    let Ok(gathered) = read_whole(alloc, input, reading.turns) else {
         return Ended::Memory;
     };
     let text = gathered.text.as_slice();
     if gathered.is_whole {
-        return end(output, checked(alloc, text, seed));
+        return end(output, checked(alloc, text, reading.seed));
     }
-    end_cut(alloc, text, seed)
+    end_cut(alloc, text, reading.seed)
 }
 
 /// Does what the words of the command line ask for, from the input to the output, in at most
-/// 1,000,000,000 reads. The seed is that of the names' hash: no answer depends on it.
+/// 1,000,000,000 reads, and with as many threads that read as they ask for. The seed is that of the names' hash:
+/// no answer depends on it, or on how many threads read.
 pub fn perform<R: AllocGlobal + Threads + Wait + Sync, I: Source, O: Sink>(
     rt: &R,
     input: &mut I,
@@ -339,14 +327,19 @@ pub fn perform<R: AllocGlobal + Threads + Wait + Sync, I: Source, O: Sink>(
         (used (I.position input.old) (I.position input.new) (I.failed input.new))
         (used (O.contents output.old) (O.contents output.new) (O.failed output.new)) result }
 {
+    let reading = Reading {
+        turns: TURNS,
+        seed,
+        jobs: command.jobs(),
+    };
     match command {
-        Command::Predict { query, form } => predict(rt, input, output, TURNS, seed, query, *form),
-        Command::Findings { query, form } => {
-            predict_findings(rt, input, output, TURNS, seed, query, *form)
+        Command::Predict { query, form, .. } => predict(rt, input, output, &reading, query, *form),
+        Command::Findings { query, form, .. } => {
+            predict_findings(rt, input, output, &reading, query, *form)
         }
-        Command::Live(options) => live(rt, input, output, TURNS, seed, options),
-        Command::Stats { query } => stats(rt, input, output, TURNS, seed, query),
-        Command::Replay => replay(rt, input, output, TURNS, seed),
-        Command::Check => check_input(rt, input, output, TURNS, seed),
+        Command::Live(options) => live(rt, input, output, &reading, options),
+        Command::Stats { query, .. } => stats(rt, input, output, &reading, query),
+        Command::Replay { .. } => replay(rt, input, output, &reading),
+        Command::Check => check_input(rt, input, output, &reading),
     }
 }

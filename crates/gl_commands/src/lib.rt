@@ -3,7 +3,8 @@
 //! ```text
 //! let mut input = FromStd::new(rt.stdin());
 //! let mut output = FromStd::new(rt.stdout());
-//! let ended = predict(&rt, &mut input, &mut output, turns, seed, &query, Form::Text);
+//! let reading = Reading { turns, seed, jobs };
+//! let ended = predict(&rt, &mut input, &mut output, &reading, &query, Form::Text);
 //! let (line, status) = said(&ended);       // what standard error gets, and the exit status
 //! ```
 //!
@@ -18,6 +19,7 @@ mod commands;
 mod ended;
 mod laws;
 mod limits;
+mod reading;
 mod recorded;
 mod refusal_lines;
 mod streamed;
@@ -28,3 +30,4 @@ pub use commands::{
 pub use ended::{Ended, Outcome, said};
 pub use laws::{answers_are_unique, plain_answers_are_unique};
 pub use limits::limits_in_numbers;
+pub use reading::Reading;

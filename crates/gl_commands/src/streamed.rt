@@ -14,6 +14,7 @@ ghost use Rattle.gl_commands.specs.bodies.Stops.{EndsUnwritten, HasAnswer, IfRef
 
 use crate::answer::{Printed, printed_in};
 use crate::ended::Ended;
+use crate::reading::Reading;
 use crate::recorded::listing_of;
 use crate::refusal_lines::{fault_line, inconsistent_line};
 use gl_cycles::Report;
@@ -22,7 +23,7 @@ use gl_io::Source;
 use gl_live::{LiveFault, StreamFault, StreamOptions, stream_listing};
 use gl_options::LiveOptions;
 use gl_shards::Gate;
-use gl_std::{Items, LinesFault, Names, Seed};
+use gl_std::{Items, LinesFault, Names};
 use std::alloc::Global;
 use std::sync::Wait;
 use std::thread::Threads;
@@ -161,30 +162,29 @@ fn answered(
 pub(crate) fn streamed<R: AllocGlobal + Threads + Wait + Sync, I: Source, G: Gate + Sync>(
     rt: &R,
     input: &mut I,
-    turns: u64,
-    seed: Seed,
+    reading: &Reading,
     options: &LiveOptions,
     gate: &G,
 ) -> Result<Printed, Ended>
     requires readable { I.failed input.old ≡ false }
-    requires few_turns { turns ≤ 2 ^ 40 }
+    requires few_turns { reading.now.turns ≤ 2 ^ 40 }
     requires session { AreOfSession options.now }
     requires as_it_comes { options.now.stream ≡ true }
     ensures printed { IfOk result
         (λ p. HasAnswer
         (IsAnswerUnder (with_threads options.now.threads)
-        (session_prediction options.now)) turns
+        (session_prediction options.now)) reading.now.turns
         (used (I.position input.old) (I.position input.new) (I.failed input.new))
         (Prints p.text.items p.outcome)) }
     ensures stopped { IfErr result
         (EndsUnwritten (with_threads options.now.threads)
         (IsAnswerUnder (with_threads options.now.threads)
-        (session_prediction options.now)) turns
+        (session_prediction options.now)) reading.now.turns
         (used (I.position input.old) (I.position input.new) (I.failed input.new))) }
 {
     let alloc = rt.alloc();
     let limits = Limits::of_session(options.threads, MAX_RING);
-    let items = Items::new(alloc, &limits, turns, seed)?;
+    let items = Items::new(alloc, &limits, reading.turns, reading.seed)?;
     let listing = listing_of(options);
     let session = StreamOptions {
         threads: options.threads,

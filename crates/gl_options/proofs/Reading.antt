@@ -12,7 +12,7 @@ use Rattle.clap.proofs.OnLiterals.{clap_on_literals}
 use Rattle.clap.specs.declared.error.kind.ErrorKind.{ErrorKind}
 use Rattle.clap.specs.declared.error.kind.ErrorKind.TheVariants as kind
 use Rattle.gl_filters.specs.Asked.{Asked}
-use Rattle.gl_options.specs.Options.{Asks, AsksForSession, AsksIn, IsCommand, IsEntered, IsNumberAt, IsUsageFor, IsUsageOf, goodlock}
+use Rattle.gl_options.specs.Options.{Asks, AsksForSession, AsksIn, IsCommand, IsEntered, IsJobsIn, IsNumberAt, IsUsageFor, IsUsageOf, goodlock}
 use Rattle.gl_options.specs.Sessions.{CanRun}
 use Rattle.gl_options.specs.declared.live_options.LiveOptions.{LiveOptions}
 use Rattle.gl_options.specs.declared.options.Command.{Command}
@@ -88,25 +88,25 @@ entered_name m c name of is = name_of_rows m ∙ ap (option_map (λ p. p.0)) of.
 -- no command was entered
 pub unentered : (m : ArgMatches) → (subcommand_name_of m ≡ Some (codes "predict") → ⊥) → (subcommand_name_of m ≡ Some (codes "live") → ⊥)
     → (subcommand_name_of m ≡ Some (codes "stats") → ⊥) → (subcommand_name_of m ≡ Some (codes "replay") → ⊥) → (subcommand_name_of m ≡ Some (codes "check") → ⊥) → (c : Command) → IsEntered (subcommand_rows_of m) c → ⊥
-unentered m no_predict no_live no_stats no_replay no_check (Predict q form) of = no_predict (entered_name m (Predict q form) (codes "predict") of of.is_command.0)
-unentered m no_predict no_live no_stats no_replay no_check (Findings q form) of = no_predict (entered_name m (Findings q form) (codes "predict") of of.is_command.0)
+unentered m no_predict no_live no_stats no_replay no_check (Predict q form jobs) of = no_predict (entered_name m (Predict q form jobs) (codes "predict") of of.is_command.0)
+unentered m no_predict no_live no_stats no_replay no_check (Findings q form jobs) of = no_predict (entered_name m (Findings q form jobs) (codes "predict") of of.is_command.0)
 unentered m no_predict no_live no_stats no_replay no_check (Live o) of = no_live (entered_name m (Live o) (codes "live") of of.is_command.0)
-unentered m no_predict no_live no_stats no_replay no_check (Stats q) of = no_stats (entered_name m (Stats q) (codes "stats") of of.is_command.0)
-unentered m no_predict no_live no_stats no_replay no_check Replay of = no_replay (entered_name m Replay (codes "replay") of of.is_command)
+unentered m no_predict no_live no_stats no_replay no_check (Stats q jobs) of = no_stats (entered_name m (Stats q jobs) (codes "stats") of of.is_command.0)
+unentered m no_predict no_live no_stats no_replay no_check (Replay jobs) of = no_replay (entered_name m (Replay jobs) (codes "replay") of of.is_command.0)
 unentered m no_predict no_live no_stats no_replay no_check Check of = no_check (entered_name m Check (codes "check") of of.is_command)
 
--- options that give no query
-pub no_prediction : (rows : List Row) → ((q : Asked) → AsksIn rows q → ⊥) → (c : Command) → IsCommand (codes "predict") rows c → ⊥
-no_prediction rows none (Predict q form) is = none q is.2
-no_prediction rows none (Findings q form) is = none q is.2
+-- options that give no query, or no number of threads that read
+pub no_prediction : (rows : List Row) → ((q : Asked) (jobs : ℕ) → AsksIn rows q → IsJobsIn rows jobs → ⊥) → (c : Command) → IsCommand (codes "predict") rows c → ⊥
+no_prediction rows none (Predict q form jobs) is = none q jobs is.2 is.4
+no_prediction rows none (Findings q form jobs) is = none q jobs is.2 is.4
 no_prediction rows none (Live o) is =
     let bad : true ≡ false = ap (λ (name : Text). length name == 7) is.0 in
     cc
-no_prediction rows none (Stats q) is =
+no_prediction rows none (Stats q jobs) is =
     let bad : true ≡ false = ap (λ (name : Text). length name == 7) is.0 in
     cc
-no_prediction rows none Replay is =
-    let bad : true ≡ false = ap (λ (name : Text). length name == 7) is in
+no_prediction rows none (Replay jobs) is =
+    let bad : true ≡ false = ap (λ (name : Text). length name == 7) is.0 in
     cc
 no_prediction rows none Check is =
     let bad : true ≡ false = ap (λ (name : Text). length name == 7) is in
@@ -116,40 +116,58 @@ abbrev first_letter : Text → ℕ
 first_letter [] = 0
 first_letter (letter ∷ rest) = letter
 
-pub no_stats : (rows : List Row) → ((q : Asked) → AsksIn rows q → ⊥) → (c : Command) → IsCommand (codes "stats") rows c → ⊥
-no_stats rows none (Predict q form) is =
+pub no_stats : (rows : List Row) → ((q : Asked) (jobs : ℕ) → AsksIn rows q → IsJobsIn rows jobs → ⊥) → (c : Command) → IsCommand (codes "stats") rows c → ⊥
+no_stats rows none (Predict q form jobs) is =
     let bad : true ≡ false = ap (λ (name : Text). length name == 5) is.0 in
     cc
-no_stats rows none (Findings q form) is =
+no_stats rows none (Findings q form jobs) is =
     let bad : true ≡ false = ap (λ (name : Text). length name == 5) is.0 in
     cc
 no_stats rows none (Live o) is =
     let bad : true ≡ false = ap (λ (name : Text). length name == 5) is.0 in
     cc
-no_stats rows none (Stats q) is = none q is.1
-no_stats rows none Replay is =
-    let bad : true ≡ false = ap (λ (name : Text). length name == 5) is in
+no_stats rows none (Stats q jobs) is = none q jobs is.1 is.2
+no_stats rows none (Replay jobs) is =
+    let bad : true ≡ false = ap (λ (name : Text). length name == 5) is.0 in
     cc
 no_stats rows none Check is =
     let bad : false ≡ true = ap (λ (name : Text). first_letter name == 99) is in
     cc
 
 pub no_session : (rows : List Row) → ((o : LiveOptions) → AsksIn rows o.query → AsksForSession rows o → ⊥) → (c : Command) → IsCommand (codes "live") rows c → ⊥
-no_session rows none (Predict q form) is =
+no_session rows none (Predict q form jobs) is =
     let bad : true ≡ false = ap (λ (name : Text). length name == 4) is.0 in
     cc
-no_session rows none (Findings q form) is =
+no_session rows none (Findings q form jobs) is =
     let bad : true ≡ false = ap (λ (name : Text). length name == 4) is.0 in
     cc
 no_session rows none (Live o) is = none o is.1 is.3
-no_session rows none (Stats q) is =
+no_session rows none (Stats q jobs) is =
     let bad : true ≡ false = ap (λ (name : Text). length name == 4) is.0 in
     cc
-no_session rows none Replay is =
-    let bad : true ≡ false = ap (λ (name : Text). length name == 4) is in
+no_session rows none (Replay jobs) is =
+    let bad : true ≡ false = ap (λ (name : Text). length name == 4) is.0 in
     cc
 no_session rows none Check is =
     let bad : true ≡ false = ap (λ (name : Text). length name == 4) is in
+    cc
+
+pub no_replay : (rows : List Row) → ((jobs : ℕ) → IsJobsIn rows jobs → ⊥) → (c : Command) → IsCommand (codes "replay") rows c → ⊥
+no_replay rows none (Predict q form jobs) is =
+    let bad : true ≡ false = ap (λ (name : Text). length name == 6) is.0 in
+    cc
+no_replay rows none (Findings q form jobs) is =
+    let bad : true ≡ false = ap (λ (name : Text). length name == 6) is.0 in
+    cc
+no_replay rows none (Live o) is =
+    let bad : true ≡ false = ap (λ (name : Text). length name == 6) is.0 in
+    cc
+no_replay rows none (Stats q jobs) is =
+    let bad : true ≡ false = ap (λ (name : Text). length name == 6) is.0 in
+    cc
+no_replay rows none (Replay jobs) is = none jobs is.1
+no_replay rows none Check is =
+    let bad : true ≡ false = ap (λ (name : Text). length name == 6) is in
     cc
 
 -- an option has one number
@@ -160,21 +178,21 @@ same_number rows id m n of_m of_n =
 
 -- what words ask for can be run
 pub can_run : (words : List Text) (c : Command) → Asks words c → CanRun c
-can_run words (Predict q form) asks = tt
-can_run words (Findings q form) asks = tt
+can_run words (Predict q form jobs) asks = tt
+can_run words (Findings q form jobs) asks = tt
 can_run words (Live o) asks =
     let numbers = asks.enters.is_command.3 in
     record {
-      some_recorder = numbers.recorders.some;
-      some_shard = numbers.shards.some;
+      some_recorder = numbers.recorders.enough;
+      some_shard = numbers.shards.enough;
       shards_fit = numbers.shards.fits;
-      some_ring = numbers.ring.some;
+      some_ring = numbers.ring.enough;
       ring_fits = numbers.ring.fits;
-      some_thread = λ _. numbers.threads.some;
+      some_thread = λ _. numbers.threads.enough;
       threads_fit = λ _. numbers.threads.fits;
     }
-can_run words (Stats q) asks = tt
-can_run words Replay asks = tt
+can_run words (Stats q jobs) asks = tt
+can_run words (Replay jobs) asks = tt
 can_run words Check asks = tt
 
 -- a value that no option takes

@@ -54,6 +54,10 @@ ring_rule = record (option_rule (codes "ring") (codes "256")) { parser = Some (t
 abbrev pub threads_rule : Rule
 threads_rule = record (option_rule (codes "threads") (codes "64")) { parser = Some (takes.Signed (pos 1) (pos 1024)) }
 
+-- whole numbers from 0 to 64
+abbrev pub jobs_rule : Rule
+jobs_rule = record (option_rule (codes "jobs") (codes "0")) { parser = Some (takes.Signed (pos 0) (pos 64)) }
+
 -- a flag
 abbrev pub flag_rule : Text → Rule
 flag_rule name = record (new_rule name) { long = Some name; action = Some SetTrue }
@@ -75,25 +79,26 @@ query_app name = with_rule (with_rule (with_rule (new_app name) mode_rule) len_r
 abbrev pub report_app : Text → App
 report_app name = with_rule (with_rule (query_app name) json_rule) findings_rule
 
--- the command that predicts
+-- the command that predicts, with how many threads read the trace
 abbrev pub predict : App
-predict = report_app (codes "predict")
+predict = with_rule (report_app (codes "predict")) jobs_rule
 
 -- the command of a session that reads first, with the numbers of its recorder threads, of its shards, and of the notes in a ring
 abbrev pub session_app : App
 session_app = with_rule (with_rule (with_rule (report_app (codes "live")) recorders_rule) shards_rule) ring_rule
 
--- the command that predicts by a session, with whether it records as the text comes, and then how many threads this may name
+-- the command that predicts by a session, with whether it records as the text comes, and then how many threads this may name; with how
+-- many threads read the trace
 abbrev pub live : App
-live = with_rule (with_rule session_app stream_rule) threads_rule
+live = with_rule (with_rule (with_rule session_app stream_rule) threads_rule) jobs_rule
 
--- the command that counts
+-- the command that counts, with how many threads read the trace
 abbrev pub stats : App
-stats = query_app (codes "stats")
+stats = with_rule (query_app (codes "stats")) jobs_rule
 
--- the command that writes the trace: it has no options
+-- the command that writes the trace, with how many threads read it
 abbrev pub replay : App
-replay = new_app (codes "replay")
+replay = with_rule (new_app (codes "replay")) jobs_rule
 
 -- the command that checks a report: it has no options
 abbrev pub check : App
@@ -136,11 +141,15 @@ pub record AsksIn (rows : List Row) (asked : Asked) : Type 0 where
   pub max : IsNumberAt rows (codes "max") asked.max
   pub range : IsInRange asked
 
--- the option's value is this number, and it is from 1 to the greatest
-pub record IsNumberIn (rows : List Row) (id : Text) (greatest number : ℕ) : Type 0 where
+-- the option's value is this number, and it is from the least to the greatest
+pub record IsNumberIn (rows : List Row) (id : Text) (least greatest number : ℕ) : Type 0 where
   pub value : IsNumberAt rows id number
-  pub some : 1 ≤ number
+  pub enough : least ≤ number
   pub fits : number ≤ greatest
+
+-- so many threads are to read the trace, or for 0 one for each processor
+abbrev pub IsJobsIn : List Row → ℕ → Type 0
+IsJobsIn rows jobs = IsNumberIn rows (codes "jobs") 0 64 jobs
 
 -- the flag was given, or it wasn't
 pub record IsFlagIn (rows : List Row) (id : Text) (is_given : Bool) : Type 0 where
@@ -150,11 +159,12 @@ pub record IsFlagIn (rows : List Row) (id : Text) (is_given : Bool) : Type 0 whe
 -- the options' values are these of a session, each number within its range
 pub record AsksForSession (rows : List Row) (options : LiveOptions) : Type 0 where
   pub findings : IsFlagIn rows (codes "findings") options.findings
-  pub recorders : IsNumberIn rows (codes "recorders") 16 options.recorders
-  pub shards : IsNumberIn rows (codes "shards") 16 options.shards
-  pub ring : IsNumberIn rows (codes "ring") 65536 options.ring
+  pub recorders : IsNumberIn rows (codes "recorders") 1 16 options.recorders
+  pub shards : IsNumberIn rows (codes "shards") 1 16 options.shards
+  pub ring : IsNumberIn rows (codes "ring") 1 65536 options.ring
   pub stream : IsFlagIn rows (codes "stream") options.stream
-  pub threads : IsNumberIn rows (codes "threads") 1024 options.threads
+  pub threads : IsNumberIn rows (codes "threads") 1 1024 options.threads
+  pub jobs : IsJobsIn rows options.jobs
 
 -- the flag asks for this form
 pub record IsFormIn (rows : List Row) (form : Form) : Type 0 where
@@ -163,12 +173,26 @@ pub record IsFormIn (rows : List Row) (form : Form) : Type 0 where
 
 -- a command of this name, whose options have these values, is this
 abbrev pub IsCommand : Text → List Row → Command → Type 0
-IsCommand name rows (Predict query form) = (name ≡ codes "predict") × IsFlagIn rows (codes "findings") false × AsksIn rows query × IsFormIn rows form
-IsCommand name rows (Findings query form) = (name ≡ codes "predict") × IsFlagIn rows (codes "findings") true × AsksIn rows query × IsFormIn rows form
+IsCommand name rows (Predict query form jobs) = (name ≡ codes "predict")
+    × IsFlagIn rows (codes "findings") false × AsksIn rows query × IsFormIn rows form
+    × IsJobsIn rows jobs
+IsCommand name rows (Findings query form jobs) = (name ≡ codes "predict")
+    × IsFlagIn rows (codes "findings") true × AsksIn rows query × IsFormIn rows form
+    × IsJobsIn rows jobs
 IsCommand name rows (Live options) = (name ≡ codes "live") × AsksIn rows options.query × IsFormIn rows options.form × AsksForSession rows options
-IsCommand name rows (Stats query) = (name ≡ codes "stats") × AsksIn rows query
-IsCommand name rows Replay = name ≡ codes "replay"
+IsCommand name rows (Stats query jobs) = (name ≡ codes "stats")
+    × AsksIn rows query × IsJobsIn rows jobs
+IsCommand name rows (Replay jobs) = (name ≡ codes "replay") × IsJobsIn rows jobs
 IsCommand name rows Check = name ≡ codes "check"
+
+-- how many threads are to read the trace of a command, or 0: `check` has its text read whole, by one
+abbrev pub jobs_of : Command → ℕ
+jobs_of (Predict query form jobs) = jobs
+jobs_of (Findings query form jobs) = jobs
+jobs_of (Live options) = options.jobs
+jobs_of (Stats query jobs) = jobs
+jobs_of (Replay jobs) = jobs
+jobs_of Check = 1
 
 -- the subcommand that was entered is this
 pub record IsEntered (entered : Option (Text × List Row)) (command : Command) : Type 0 where

@@ -19,6 +19,7 @@
 
 mod building;
 mod form;
+mod jobs;
 mod live_options;
 mod options;
 

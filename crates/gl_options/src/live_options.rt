@@ -2,11 +2,12 @@
 ghost use Rattle.std.specs.Prelude.{◌≡◌, ◌<◌, ◌≤◌, ◌^◌, ℕ, false, None, codes, IfOk, IfSome};
 ghost use Rattle.clap.specs.Words.{app_of, found_of, rows_of, rule_of};
 ghost use Rattle.clap.specs.declared.builder.command.Command.TheViews.{out-Command as fields_of};
-ghost use Rattle.gl_options.specs.Options.{live, session_app, recorders_rule, shards_rule, ring_rule, stream_rule, threads_rule, IsCommand, IsNumberIn};
+ghost use Rattle.gl_options.specs.Options.{live, session_app, recorders_rule, shards_rule, ring_rule, stream_rule, threads_rule, IsCommand};
 
 use crate::building::{described, with_option};
 use crate::form::Form;
-use crate::options::{Command, flag_in, form_in, number_at, query_in, report_command};
+use crate::jobs::{jobs_in, jobs_option};
+use crate::options::{Command, flag_in, form_in, number_in, query_in, report_command};
 use clap::{Arg, ArgAction, ArgMatches, value_parser};
 use gl_filters::Query;
 use std::alloc::{AllocError, Global};
@@ -34,6 +35,9 @@ pub struct LiveOptions {
     /// How many threads the trace may name where it is recorded as it is read, 1 to 1,024. Else it doesn't
     /// count.
     pub threads: u32,
+    /// How many threads read the trace, 1 to 64, or 0: one for each processor. A trace that is recorded as it is
+    /// read is read by one thread, whatever this is.
+    pub jobs: u32,
 }
 
 // The number of threads that record.
@@ -125,20 +129,8 @@ pub(crate) fn live_command<'a>(alloc: Global) -> Result<clap::Command<'a>, Alloc
         "Examples:\n  goodlock live < trace.std\n  goodlock live --recorders 2 --shards 3 --ring 1 --json < trace.std\n  some-recorder | goodlock live --stream --threads 256",
     );
     let command = with_option(command, stream_option(alloc));
-    with_option(command, threads_option(alloc))
-}
-
-// The number that was read for an option, where it is from 1 to the greatest.
-fn number_in(matches: &ArgMatches<'_>, id: &str, greatest: u32) -> Option<u32>
-    ensures some { IfSome result (IsNumberIn (rows_of (found_of matches.now)) id.now greatest) }
-    ensures none { result ≡ None → (n : ℕ)
-        → IsNumberIn (rows_of (found_of matches.now)) id.now greatest n → ⊥ }
-{
-    let number = number_at(matches, id)?;
-    if number < 1 || number > greatest {
-        return None;
-    }
-    Some(number)
+    let command = with_option(command, threads_option(alloc));
+    with_option(command, jobs_option(alloc))
 }
 
 /// The command that these values of its options ask for.
@@ -148,10 +140,11 @@ pub(crate) fn live_in(options: &ArgMatches<'_>) -> Option<Command>
         → IsCommand (codes "live") (rows_of (found_of options.now)) c → ⊥ }
 {
     let query = query_in(options)?;
-    let recorders = number_in(options, "recorders", 16)?;
-    let shards = number_in(options, "shards", 16)?;
-    let ring = number_in(options, "ring", 65_536)?;
-    let threads = number_in(options, "threads", 1_024)?;
+    let recorders = number_in(options, "recorders", 1, 16)?;
+    let shards = number_in(options, "shards", 1, 16)?;
+    let ring = number_in(options, "ring", 1, 65_536)?;
+    let threads = number_in(options, "threads", 1, 1_024)?;
+    let jobs = jobs_in(options)?;
     Some(Command::Live(LiveOptions {
         query,
         form: form_in(options),
@@ -161,5 +154,6 @@ pub(crate) fn live_in(options: &ArgMatches<'_>) -> Option<Command>
         ring,
         stream: flag_in(options, "stream"),
         threads,
+        jobs,
     }))
 }

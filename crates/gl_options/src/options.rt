@@ -5,10 +5,11 @@ ghost use Rattle.clap.specs.Words.{app_of, first_of, found_of, kind_of, rows_of,
 ghost use Rattle.clap.specs.declared.builder.command.Command.TheViews.{out-Command as fields_of};
 ghost use Rattle.gl_filters.specs.Asked.{Asked};
 ghost use Rattle.gl_options.specs.Options.{goodlock, program, predict, live, stats, replay, check, query_app, report_app, mode_rule, len_rule, max_rule, json_rule, findings_rule};
-ghost use Rattle.gl_options.specs.Options.{Asks, AsksIn, IsCommand, IsEntered, IsFlagIn, IsFormIn, IsNumberAt, IsUsageFor, IsUsageOf, mode_named};
+ghost use Rattle.gl_options.specs.Options.{Asks, AsksIn, IsCommand, IsEntered, IsFlagIn, IsFormIn, IsNumberAt, IsNumberIn, IsUsageFor, IsUsageOf, jobs_of, mode_named};
 
 use crate::building::{described, with_command, with_option};
 use crate::form::Form;
+use crate::jobs::{jobs_in, jobs_option};
 use crate::live_options::{LiveOptions, live_command, live_in};
 use clap::error::ErrorKind;
 use clap::{Arg, ArgAction, ArgMatches, Error, value_parser};
@@ -20,21 +21,38 @@ use std::convert::AsStr;
 const REFUSED: &str =
     "error: --mode takes basic, guarded or full\n\nFor more information, try '--help'.\n";
 
-/// What the program is to do.
+/// What the program is to do. Where a number of threads is 0, one reads for each processor.
 #[derive(Clone, Copy, Debug, PartialEq, Eq)]
 pub enum Command {
-    /// Read a trace and print the cycles that this query asks for, in this form.
-    Predict { query: Query, form: Form },
-    /// Read a trace and print the findings that this query asks for, in this form.
-    Findings { query: Query, form: Form },
+    /// Read a trace, by so many threads, and print the cycles that this query asks for, in this form.
+    Predict { query: Query, form: Form, jobs: u32 },
+    /// Read a trace, by so many threads, and print the findings that this query asks for, in this form.
+    Findings { query: Query, form: Form, jobs: u32 },
     /// Read a trace, run a session over it and print the cycles that its options ask for.
     Live(LiveOptions),
-    /// Read a trace and print counts of it and of the cycles that this query asks for.
-    Stats { query: Query },
-    /// Read a trace and print it as a text.
-    Replay,
+    /// Read a trace, by so many threads, and print counts of it and of the cycles that this query asks for.
+    Stats { query: Query, jobs: u32 },
+    /// Read a trace, by so many threads, and print it as a text.
+    Replay { jobs: u32 },
     /// Read a report and the trace that it is of, and print whether it is true.
     Check,
+}
+
+impl Command {
+    /// How many threads are to read the trace, or 0: one for each processor. `check` has its text read whole, by
+    /// one.
+    pub fn jobs(&self) -> u32
+        ensures { result ≡ jobs_of self.now }
+    {
+        match self {
+            Command::Predict { jobs, .. } => *jobs,
+            Command::Findings { jobs, .. } => *jobs,
+            Command::Live(options) => options.jobs,
+            Command::Stats { jobs, .. } => *jobs,
+            Command::Replay { jobs } => *jobs,
+            Command::Check => 1,
+        }
+    }
 }
 
 /// Why words ask for nothing that is to be done.
@@ -149,11 +167,12 @@ fn predict_command<'a>(alloc: Global) -> Result<clap::Command<'a>, AllocError>
     ensures shape { IfOk result (λ c. app_of c ≡ predict) }
     ensures local { IfOk result (λ c. (fields_of c).has_globals ≡ false) }
 {
-    described(
+    let command = described(
         report_command(alloc, "predict"),
         "Reads a trace from standard input and prints the deadlocks that it predicts",
         "Examples:\n  goodlock predict < trace.std\n  goodlock predict --mode guarded --len 3 --json < trace.std",
-    )
+    );
+    with_option(command, jobs_option(alloc))
 }
 
 // The command that counts.
@@ -161,25 +180,25 @@ fn stats_command<'a>(alloc: Global) -> Result<clap::Command<'a>, AllocError>
     ensures shape { IfOk result (λ c. app_of c ≡ stats) }
     ensures local { IfOk result (λ c. (fields_of c).has_globals ≡ false) }
 {
-    described(
+    let command = described(
         query_command(alloc, "stats"),
         "Reads a trace from standard input and counts its events, names, segments, edges and cycles",
         "Examples:\n  goodlock stats < trace.std\n  goodlock stats --mode basic --max 100000 < trace.std",
-    )
+    );
+    with_option(command, jobs_option(alloc))
 }
 
 // The command that writes the trace.
-fn replay_command<'a>(alloc: Global) -> clap::Command<'a>
-    ensures shape { app_of result ≡ replay }
-    ensures local { (fields_of result).has_globals ≡ false }
+fn replay_command<'a>(alloc: Global) -> Result<clap::Command<'a>, AllocError>
+    ensures shape { IfOk result (λ c. app_of c ≡ replay) }
+    ensures local { IfOk result (λ c. (fields_of c).has_globals ≡ false) }
 {
-    clap::Command::new(alloc, "replay")
-        .about(
-            "Reads a trace from standard input and prints its events again, thread by thread, each as a line",
-        )
-        .after_help(
-            "Examples:\n  goodlock replay < trace.std\n  goodlock replay < trace.std | goodlock predict",
-        )
+    let command = described(
+        Ok(clap::Command::new(alloc, "replay")),
+        "Reads a trace from standard input and prints its events again, thread by thread, each as a line",
+        "Examples:\n  goodlock replay < trace.std\n  goodlock replay < trace.std | goodlock predict",
+    );
+    with_option(command, jobs_option(alloc))
 }
 
 // The command that checks a report.
@@ -227,7 +246,7 @@ fn reporting<'a>(alloc: Global) -> Result<clap::Command<'a>, AllocError>
 fn command_line<'a>(alloc: Global) -> Result<clap::Command<'a>, AllocError>
     ensures { IfOk result (λ c. app_of c ≡ goodlock) }
 {
-    let command = with_command(reporting(alloc), Ok(replay_command(alloc)));
+    let command = with_command(reporting(alloc), replay_command(alloc));
     with_command(command, Ok(check_command(alloc)))
 }
 
@@ -254,6 +273,25 @@ pub(crate) fn number_at(matches: &ArgMatches<'_>, id: &str) -> Option<u32>
         → IsNumberAt (rows_of (found_of matches.now)) id.now n → ⊥ }
 {
     matches.get_one::<u32>(id)
+}
+
+/// The number that was read for an option, where it is from the least to the greatest.
+pub(crate) fn number_in(
+    matches: &ArgMatches<'_>,
+    id: &str,
+    least: u32,
+    greatest: u32,
+) -> Option<u32>
+    ensures some { IfSome result
+        (IsNumberIn (rows_of (found_of matches.now)) id.now least greatest) }
+    ensures none { result ≡ None → (n : ℕ)
+        → IsNumberIn (rows_of (found_of matches.now)) id.now least greatest n → ⊥ }
+{
+    let number = number_at(matches, id)?;
+    if number < least || number > greatest {
+        return None;
+    }
+    Some(number)
 }
 
 // The mode that was read.
@@ -333,11 +371,12 @@ fn predict_in(options: &ArgMatches<'_>) -> Option<Command>
         → IsCommand (codes "predict") (rows_of (found_of options.now)) c → ⊥ }
 {
     let query = query_in(options)?;
+    let jobs = jobs_in(options)?;
     let form = form_in(options);
     if flag_in(options, "findings") {
-        return Some(Command::Findings { query, form });
+        return Some(Command::Findings { query, form, jobs });
     }
-    Some(Command::Predict { query, form })
+    Some(Command::Predict { query, form, jobs })
 }
 
 // The command that these values of its options ask for.
@@ -347,7 +386,18 @@ fn stats_in(options: &ArgMatches<'_>) -> Option<Command>
         → IsCommand (codes "stats") (rows_of (found_of options.now)) c → ⊥ }
 {
     let query = query_in(options)?;
-    Some(Command::Stats { query })
+    let jobs = jobs_in(options)?;
+    Some(Command::Stats { query, jobs })
+}
+
+// The command that these values of its options ask for.
+fn replay_in(options: &ArgMatches<'_>) -> Option<Command>
+    ensures some { IfSome result (IsCommand (codes "replay") (rows_of (found_of options.now))) }
+    ensures none { result ≡ None → (c : Command)
+        → IsCommand (codes "replay") (rows_of (found_of options.now)) c → ⊥ }
+{
+    let jobs = jobs_in(options)?;
+    Some(Command::Replay { jobs })
 }
 
 // The command that was entered, where its options have values in their ranges.
@@ -366,8 +416,8 @@ fn command_in(matches: &ArgMatches<'_>) -> Option<Command>
     if let Some(options) = matches.subcommand_matches("stats") {
         return stats_in(options);
     }
-    if matches.subcommand_matches("replay").is_some() {
-        return Some(Command::Replay);
+    if let Some(options) = matches.subcommand_matches("replay") {
+        return replay_in(options);
     }
     match matches.subcommand_matches("check") {
         Some(_) => Some(Command::Check),
@@ -381,10 +431,10 @@ fn command_in(matches: &ArgMatches<'_>) -> Option<Command>
 /// `basic`, `guarded` or `full` (the default), `--len` with a number from 2 to 16 (4), and `--max` with
 /// one from 1 to 100,000 (1,000), of `predict` and `live` also `--json` and `--findings`, and of `live`
 /// `--recorders` and `--shards` with numbers from 1 to 16 (4 each), `--ring` with one from 1 to 65,536 (256),
-/// `--stream`, and `--threads` with a number from 1 to 1,024 (64), each once at the most; or `goodlock replay`
-/// or `goodlock check`. `--help`, of the program or of a command, and `--version` ask for a text. With
-/// `--findings`, `predict` and `live` ask for findings in place of cycles: cycles that were made at the same
-/// pairs of source places are one finding.
+/// `--stream`, and `--threads` with a number from 1 to 1,024 (64); or `goodlock replay`; of each of these also
+/// `--jobs` with a number from 0 to 64 (0), and each option once at the most; or `goodlock check`. `--help`, of
+/// the program or of a command, and `--version` ask for a text. With `--findings`, `predict` and `live` ask for
+/// findings in place of cycles: cycles that were made at the same pairs of source places are one finding.
 pub fn parse<'a, S: AsStr>(alloc: Global, words: &'a [S]) -> Result<Command, Usage>
     ensures asks { IfOk result (Asks (map S.text words.entry.now)) }
     ensures usage { IfErr result (IsUsageOf (map S.text words.entry.now)) }

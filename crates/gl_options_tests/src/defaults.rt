@@ -6,7 +6,8 @@ ghost use Rattle.gl_options.specs.declared.form.Form.TheVariants.{Text};
 use gl_filters::Query;
 use gl_options::{Form, LiveOptions};
 
-/// A session that predicts cycles by this query, in lines of text: 4 recorders, 4 shards, rings of 256.
+/// A session that predicts cycles by this query, in lines of text: 4 recorders, 4 shards, rings of 256, and a
+/// thread that reads for each processor.
 pub fn default_session(query: Query) -> LiveOptions
     ensures session { AreOfSession result }
     ensures query { result.query ≡ query }
@@ -17,6 +18,7 @@ pub fn default_session(query: Query) -> LiveOptions
     ensures ring { result.ring ≡ 256 }
     ensures stream { result.stream ≡ false }
     ensures threads { result.threads ≡ 64 }
+    ensures jobs { result.jobs ≡ 0 }
 {
     LiveOptions {
         query,
@@ -27,5 +29,6 @@ pub fn default_session(query: Query) -> LiveOptions
         ring: 256,
         stream: false,
         threads: 64,
+        jobs: 0,
     }
 }

@@ -30,10 +30,11 @@ fn expect_usage<R: Abort + AllocGlobal>(rt: &R, words: &[&str], is_shown: bool) 
     }
 }
 
-// The words ask for a prediction by this query in this form.
+// The words ask for a prediction by this query in this form, of a trace that a thread reads for each processor.
 fn expect_query<R: Abort + AllocGlobal>(rt: &R, words: &[&str], wanted: &Query, form: Form) {
     let query = *wanted;
-    expect_command(rt, words, &Command::Predict { query, form });
+    let jobs = 0;
+    expect_command(rt, words, &Command::Predict { query, form, jobs });
 }
 
 #[test]
@@ -53,14 +54,15 @@ fn options_and_defaults(rt: HostRuntime) -> Result<(), Fail> {
 #[test]
 fn findings_words(rt: HostRuntime) -> Result<(), Fail> {
     let query = full()?;
+    let jobs = 0;
     let form = Form::Text;
     let words = ["goodlock", "predict", "--findings"];
-    expect_command(&rt, &words, &Command::Findings { query, form });
+    expect_command(&rt, &words, &Command::Findings { query, form, jobs });
     let form = Form::Json;
     let words = ["goodlock", "predict", "--findings", "--json"];
-    expect_command(&rt, &words, &Command::Findings { query, form });
+    expect_command(&rt, &words, &Command::Findings { query, form, jobs });
     let words = ["goodlock", "predict", "--json"];
-    expect_command(&rt, &words, &Command::Predict { query, form });
+    expect_command(&rt, &words, &Command::Predict { query, form, jobs });
     Ok(())
 }
 
@@ -79,18 +81,22 @@ fn findings_usage_faults(rt: HostRuntime) {
 
 #[test]
 fn counting_replaying_and_checking(rt: HostRuntime) -> Result<(), Fail> {
+    let jobs = 0;
     let defaults = full()?;
     expect_command(
         &rt,
         &["goodlock", "stats"],
-        &Command::Stats { query: defaults },
+        &Command::Stats {
+            query: defaults,
+            jobs,
+        },
     );
     let query = query(Mode::Basic, 3, 7)?;
     let words = [
         "goodlock", "stats", "--len=3", "--max", "7", "--mode", "basic",
     ];
-    expect_command(&rt, &words, &Command::Stats { query });
-    expect_command(&rt, &["goodlock", "replay"], &Command::Replay);
+    expect_command(&rt, &words, &Command::Stats { query, jobs });
+    expect_command(&rt, &["goodlock", "replay"], &Command::Replay { jobs });
     expect_command(&rt, &["goodlock", "check"], &Command::Check);
     Ok(())
 }
@@ -189,4 +195,63 @@ fn stream_words(rt: HostRuntime) -> Result<(), Fail> {
     expect_usage(&rt, &["goodlock", "live", "--stream=yes"], false);
     expect_usage(&rt, &["goodlock", "predict", "--stream"], false);
     Ok(())
+}
+
+// With this value of `--jobs` each command that reads a trace asks for so many threads.
+fn expect_jobs<R: Abort + AllocGlobal>(rt: &R, full: &Query, value: &str, jobs: u32) {
+    let query = *full;
+    let form = Form::Text;
+    let words = ["goodlock", "predict", "--jobs", value];
+    expect_command(rt, &words, &Command::Predict { query, form, jobs });
+    let words = ["goodlock", "predict", "--jobs", value, "--findings"];
+    expect_command(rt, &words, &Command::Findings { query, form, jobs });
+    let words = ["goodlock", "stats", "--jobs", value];
+    expect_command(rt, &words, &Command::Stats { query, jobs });
+    let words = ["goodlock", "replay", "--jobs", value];
+    expect_command(rt, &words, &Command::Replay { jobs });
+    let options = LiveOptions {
+        jobs,
+        ..default_session(query)
+    };
+    let words = ["goodlock", "live", "--jobs", value];
+    expect_command(rt, &words, &Command::Live(options));
+}
+
+#[test]
+fn jobs_words(rt: HostRuntime) -> Result<(), Fail> {
+    let query = full()?;
+    expect_jobs(&rt, &query, "0", 0);
+    expect_jobs(&rt, &query, "1", 1);
+    expect_jobs(&rt, &query, "64", 64);
+    let options = LiveOptions {
+        stream: true,
+        jobs: 3,
+        ..default_session(query)
+    };
+    let words = ["goodlock", "live", "--jobs=3", "--stream"];
+    expect_command(&rt, &words, &Command::Live(options));
+    Ok(())
+}
+
+// The command takes no such value of `--jobs`, takes the option once, and with a value.
+fn expect_no_jobs<R: Abort + AllocGlobal>(rt: &R, command: &str) {
+    expect_usage(rt, &["goodlock", command, "--jobs", "65"], false);
+    expect_usage(rt, &["goodlock", command, "--jobs", "-1"], false);
+    expect_usage(rt, &["goodlock", command, "--jobs=-1"], false);
+    expect_usage(rt, &["goodlock", command, "--jobs", "x"], false);
+    expect_usage(rt, &["goodlock", command, "--jobs="], false);
+    expect_usage(rt, &["goodlock", command, "--jobs"], false);
+    let twice = ["goodlock", command, "--jobs", "1", "--jobs", "1"];
+    expect_usage(rt, &twice, false);
+}
+
+#[test]
+fn jobs_usage_faults(rt: HostRuntime) {
+    expect_no_jobs(&rt, "predict");
+    expect_no_jobs(&rt, "live");
+    expect_no_jobs(&rt, "stats");
+    expect_no_jobs(&rt, "replay");
+    expect_usage(&rt, &["goodlock", "check", "--jobs", "1"], false);
+    expect_usage(&rt, &["goodlock", "check", "--jobs", "0"], false);
+    expect_usage(&rt, &["goodlock", "--jobs", "1", "predict"], false);
 }

@@ -23,7 +23,7 @@ append_nil : {X : Type 0} (xs : List X) → xs ++ [] ≡ xs
 append_nil [] = refl
 append_nil (x ∷ xs) = ap (λ ys. x ∷ ys) (append_nil xs)
 
-IsFront-itself : {X : Type 0} (xs : List X) → IsFront xs xs
+pub IsFront-itself : {X : Type 0} (xs : List X) → IsFront xs xs
 IsFront-itself xs = ([], sym (append_nil xs))
 
 IsFront-then : {X : Type 0} (xs ys zs : List X) → IsFront xs ys → IsFront ys zs → IsFront xs zs
@@ -115,7 +115,7 @@ after_ruling_grows line told kept more Kept new is = subst (Grows told) (same_tr
 after_ruling_grows line told kept more Stray new is = subst (Grows told) (same_trace (record told { stray = told.stray + 1 }) more is) (Grows-itself told told.skipped (told.stray + 1))
 after_ruling_grows line told kept more (Fault kind) new is = absurd (no_trace (Line line kind) more is)
 
-after_shape_grows : (limits : Bounds) (line : ℕ) (told more : Trace) (shape : Shape) → IsTrace (after_shape limits line told shape) more → Grows told more
+pub after_shape_grows : (limits : Bounds) (line : ℕ) (told more : Trace) (shape : Shape) → IsTrace (after_shape limits line told shape) more → Grows told more
 after_shape_grows limits line told more Blank is = subst (Grows told) (same_trace told more is) (Grows-itself told told.skipped told.stray)
 after_shape_grows limits line told more (Bad kind) is = absurd (no_trace (Line line kind) more is)
 after_shape_grows limits line told more Other is = subst (Grows told) (same_trace (record told { skipped = told.skipped + 1 }) more is) (Grows-itself told (told.skipped + 1) told.stray)

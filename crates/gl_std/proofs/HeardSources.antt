@@ -5,7 +5,7 @@ use Rattle.gl_event.specs.Bounds.{Bounds}
 use Rattle.gl_event.specs.declared.events.Event.{Event}
 use Rattle.gl_io.specs.Positions.{Position}
 use Rattle.gl_std.specs.Heard.{HasHeard}
-use Rattle.gl_std.specs.bodies.Hearing.{Hears}
+use Rattle.gl_std.specs.bodies.Hearing.{Hears, HearsOn, IsReading}
 use Rattle.gl_std.specs.bodies.Stepping.{HasStepped}
 use Rattle.gl_std.specs.Pieces.{judged}
 use Rattle.gl_std.specs.Trace.{trace_of, IsTraceOver}
@@ -30,3 +30,13 @@ over_of limits text (Err e) is = tt
 pub heard_over : {F : Type 0} (limits : Bounds) (turns : ℕ) (old new : Position) (failed : Bool) (r : Result Heard F) → IfOk r (HasHeard limits turns old new failed) → IfOk r (λ h. IfOk h.trace (IsTraceOver limits))
 heard_over limits turns old new failed (Err e) heard = heard
 heard_over limits turns old new failed (Ok h) heard = over_of limits (judged h.is_whole heard.text) h.trace heard.trace
+
+-- what is heard where reading goes on, of each text
+pub heard_on : {F : Type 0} (now later : Position) (failed : Bool) (f : LineReader) (lists : List (List Event)) (r : Result Heard F) → ((limits : Bounds) (turns : ℕ) (start : Position) → IsReading limits turns start now f lists → IfOk r (HasHeard limits turns start later failed)) → IfOk r (HearsOn now f lists later failed)
+heard_on now later failed f lists (Err e) each = tt
+heard_on now later failed f lists (Ok h) each = λ limits turns start was. each limits turns start was
+
+-- and of one of them
+pub heard_so : {F : Type 0} (limits : Bounds) (turns : ℕ) (start now later : Position) (failed : Bool) (f : LineReader) (lists : List (List Event)) (r : Result Heard F) → IfOk r (HearsOn now f lists later failed) → IsReading limits turns start now f lists → IfOk r (HasHeard limits turns start later failed)
+heard_so limits turns start now later failed f lists (Err e) hears was = tt
+heard_so limits turns start now later failed f lists (Ok h) hears was = hears limits turns start was

@@ -1,6 +1,7 @@
 -- What a judge of lines knows.
-use Rattle.std.proofs.Common.{◌≡◌, ℕ, zero, suc, ◌+◌, ◌-◌, ◌<◌, ◌≤◌, Bool, true, false, cond, List, [], ◌∷◌, ◌++◌, length, replicate, Option, Some, None, All, Result, Ok, Err, get_or, is_none, unwrap_or, map, refl, sym, ap, subst, ◌∙◌, append_assoc, length-append, arith}
+use Rattle.std.proofs.Common.{◌≡◌, ℕ, zero, suc, ◌+◌, ◌-◌, ◌<◌, ◌≤◌, Bool, true, false, cond, List, [], ◌∷◌, ◌++◌, length, replicate, Option, Some, None, All, Result, Ok, Err, get_or, nat_le, nat_lt, is_none, unwrap_or, map, refl, sym, ap, subst, ◌∙◌, append_assoc, length-append, arith}
 use Rattle.std.specs.Prelude.{slice_get, slice_set, IfSome}
+use Rattle.std.proofs.lemmas.Bool.Decides.{nat_tests}
 use Rattle.std.proofs.lemmas.List.{length-map, length-replicate, replicate_more, map-append, map-set}
 use Rattle.gl_event.specs.Bounds.{AreWithinRange, Bounds}
 use Rattle.gl_event.specs.declared.events.Event.{Event}
@@ -16,6 +17,7 @@ use Rattle.gl_std.specs.Names.{NameLists}
 use Rattle.gl_std.specs.Trace.{events_of, with_event, with_list, after_call, IsTraceOver}
 use Rattle.gl_std.specs.bodies.Finding.{found_in, with_lists, event_found, limit_found, limit_fault, ruling_of, with_names, after_ruling}
 use Rattle.gl_std.specs.declared.faults.StdKind.{StdKind}
+use Rattle.gl_std.specs.declared.faults.StdKind.TheVariants.{TooManyThreads, TooManyEvents, TooManyNames}
 use Rattle.gl_std.specs.declared.faults.ReadFault.{ReadFault}
 use Rattle.gl_std.specs.declared.judge.Judged.{Judged}
 use Rattle.gl_std.specs.declared.judge.Judged.TheVariants.{Event as Told}
@@ -272,3 +274,30 @@ put_listed f rows old threads n thread event row new grown size within at is =
     map-set f rows thread new
     ∙ ap (λ es. slice_set (map f rows) thread es) (is ∙ ap (λ es. es ++ event ∷ []) same)
     ∙ ap (λ all. slice_set all thread (get_or all thread [] ++ event ∷ [])) (grown ∙ ap (λ m. old ++ replicate (threads - m) []) size)
+
+-- ---- names that have numbers
+
+same_names : (v : Bool) (threads locks locs : List (List ℕ)) → ◌≡◌ {A = NameLists} (record { threads = threads; locks = locks; locs = locs }) (record { threads = cond v threads threads; locks = cond v locks locks; locs = locs })
+same_names true threads locks locs = refl
+same_names false threads locks locs = refl
+
+-- none is added
+pub known_names : (names : NameLists) (operation : Operation) (thread operand location : List ℕ) (own number loc : ℕ) → names ≡ with_names names operation (record { thread = Some own; operand = Some number; loc = Some loc }) thread operand location
+known_names names operation thread operand location own number loc = same_names (is_on_thread operation) names.threads names.locks names.locs
+
+not_more : (most n : ℕ) (v : Bool) → n ≤ most → nat_lt most (n + 0 + cond v 0 0) ≡ false
+not_more most n true few = grind (arith, nat_tests, few)
+not_more most n false few = grind (arith, nat_tests, few)
+
+not_more_too : (most n : ℕ) (v : Bool) → n ≤ most → nat_lt most (n + cond v 0 0) ≡ false
+not_more_too most n true few = grind (arith, nat_tests, few)
+not_more_too most n false few = grind (arith, nat_tests, few)
+
+-- so that the number of events alone may be too great
+pub known_limit : (limits : Bounds) (names : NameLists) (events : ℕ) (operation : Operation) (own number loc : ℕ) → length names.threads ≤ limits.threads → length names.locks ≤ limits.names → length names.locs ≤ limits.names
+    → cond (nat_le limits.events events) (Some TooManyEvents) None ≡ limit_found limits names events operation (record { thread = Some own; operand = Some number; loc = Some loc })
+known_limit limits names events operation own number loc threads locks locs =
+    let a = not_more limits.threads (length names.threads) (is_on_thread operation) threads in
+    let b = not_more_too limits.names (length names.locks) (is_on_thread operation) locks in
+    let d = not_more_too limits.names (length names.locs) true locs in
+    (λ i. cond (sym a i) (Some TooManyThreads) (cond (nat_le limits.events events) (Some TooManyEvents) (cond (sym b i) (Some TooManyNames) (cond (sym d i) (Some TooManyNames) None))))

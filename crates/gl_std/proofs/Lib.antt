@@ -3,6 +3,7 @@ pub mod Cutting
 pub mod FirstFaults
 pub mod FoundNames
 pub mod Growth
+pub mod HeardAhead
 pub mod HeardSources
 pub mod ItemByItem
 pub mod JudgedLines
@@ -10,7 +11,9 @@ pub mod KeptLines
 pub mod LineByLine
 pub mod LinesOfTexts
 pub mod NameBytes
+pub mod NumberedLines
 pub mod PieceByPiece
+pub mod PiecesAhead
 pub mod Places
 pub mod Shapes
 pub mod WithinLimits

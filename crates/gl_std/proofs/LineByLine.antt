@@ -264,7 +264,7 @@ slice_rest xs i = take_all (length xs - i) (drop i xs) (omega (arith, length-dro
 
 -- ---- reads
 
-drop_none : (xs : List ℕ) → drop 0 xs ≡ xs
+pub drop_none : (xs : List ℕ) → drop 0 xs ≡ xs
 drop_none [] = refl
 drop_none (x ∷ xs) = refl
 
@@ -375,7 +375,7 @@ at_none P o is holds = subst (λ o. IfNone o P) is holds
 all_seen : (old : LineReader) (text : List ℕ) (told : Trace) (at : IsAt old text told) → left_of old ≡ [] → text ≡ at.seen
 all_seen old text told at none = at.parts ∙ ap (λ l. at.seen ++ l) none ∙ append_nil at.seen
 
-alike_reaches : (old f : LineReader) (seen : List ℕ) (told : Trace) → f.judge ≡ old.judge → f.unfinished.items ≡ old.unfinished.items → Reaches old.judge old.unfinished.items seen told → Reaches f.judge f.unfinished.items seen told
+pub alike_reaches : (old f : LineReader) (seen : List ℕ) (told : Trace) → f.judge ≡ old.judge → f.unfinished.items ≡ old.unfinished.items → Reaches old.judge old.unfinished.items seen told → Reaches f.judge f.unfinished.items seen told
 alike_reaches old f seen told judge kept reaches =
     subst (λ u. Reaches f.judge u seen told) (sym kept) (subst (λ j. Reaches j old.unfinished.items seen told) (sym judge) reaches)
 

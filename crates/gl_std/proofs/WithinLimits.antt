@@ -354,7 +354,7 @@ after_call_over limits line told more operation thread operand location over apa
     (λ keeps. let none = kept_ruling refused limit keeps in kept_over limits told operation thread operand location over apart (allowed limits told operation found none.1) none.0)
     by_found
 
-after_shape_over : (limits : Bounds) (line : ℕ) (told more : Trace) (shape : Shape) → AreApart shape → IsTraceOver limits told → IsTrace (after_shape limits line told shape) more → IsTraceOver limits more
+pub after_shape_over : (limits : Bounds) (line : ℕ) (told more : Trace) (shape : Shape) → AreApart shape → IsTraceOver limits told → IsTrace (after_shape limits line told shape) more → IsTraceOver limits more
 after_shape_over limits line told more Blank apart over is = subst (IsTraceOver limits) (same_trace told more is) over
 after_shape_over limits line told more (Bad kind) apart over is = absurd (no_trace (Line line kind) more is)
 after_shape_over limits line told more Other apart over is = subst (IsTraceOver limits) (same_trace (record told { skipped = told.skipped + 1 }) more is) (counted_over limits told (told.skipped + 1) told.stray over)

@@ -1,4 +1,6 @@
 -- The words of loops and private functions. No public contract cites them.
+pub mod Ahead
+pub mod Blocks
 pub mod Counting
 pub mod Finding
 pub mod Hearing

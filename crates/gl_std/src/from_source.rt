@@ -1,11 +1,11 @@
 //! Reading the text that a source gives.
-ghost use Rattle.std.specs.Prelude.{◌≡◌, ◌^◌, ◌≤◌, Bool, false, Ok, Err, IfOk, vec_len};
+ghost use Rattle.std.specs.Prelude.{◌≡◌, ◌+◌, ◌^◌, ◌<◌, ◌≤◌, Bool, false, Ok, Err, IfOk, vec_len};
 ghost use Rattle.gl_io.specs.Positions.{Position};
 ghost use Rattle.gl_io.specs.declared.source.TheConstants.{CHUNK};
-ghost use Rattle.gl_std.specs.bodies.States.{IsFit};
+ghost use Rattle.gl_std.specs.bodies.States.{IsFit, IsSound};
 ghost use Rattle.gl_std.specs.bodies.Stepping.{StepLeaves};
 ghost use Rattle.gl_std.specs.Heard.{HasHeard};
-ghost use Rattle.gl_std.specs.bodies.Hearing.{Hears};
+ghost use Rattle.gl_std.specs.bodies.Hearing.{Hears, HearsOn};
 ghost use Rattle.gl_std.specs.Trace.{IsTraceOver};
 ghost use Rattle.gl_std.specs.declared.line_reader.Step.TheVariants.{End};
 
@@ -17,6 +17,10 @@ use crate::trace::Trace;
 use gl_event::Limits;
 use gl_io::Source;
 use std::alloc::{AllocError, Global};
+
+mod parallel;
+
+pub use parallel::read_source_parallel;
 
 /// What was heard of a source.
 #[derive(Drop)]
@@ -31,7 +35,8 @@ pub struct Heard {
 // What was heard, where the source has ended. It is done once, so it stays out of the loop over lines.
 #[inline(never)]
 fn finish(alloc: Global, mut reader: LineReader, mut lists: Lists) -> Result<Heard, AllocError>
-    requires fit { IsFit reader }
+    requires sound { IsSound reader.judge }
+    requires countable { reader.judge.line + 1 < 2 ^ 64 }
     ensures heard { (now : Position) (failed : Bool)
         → IfOk result (Hears now failed reader lists (Ok End) now failed) }
 {
@@ -82,6 +87,29 @@ fn stop<R: Source>(
     }
 }
 
+// What is heard where reading goes on to the end of the source.
+fn read_on<R: Source>(
+    alloc: Global,
+    mut reader: LineReader,
+    mut lists: Lists,
+    input: &mut R,
+) -> Result<Heard, AllocError>
+    requires fit { IsFit reader }
+    requires not_failed { R.failed input.old ≡ false }
+    ensures { IfOk result
+        (HearsOn (R.position input.old) reader lists (R.position input.new)
+        (R.failed input.new)) }
+{
+    'lines: loop {
+        match reader.step(input) {
+            Ok(Step::More) => {}
+            Ok(Step::Told(judged)) => lists.add(alloc, reader.names(), judged)?,
+            Ok(Step::End) => return finish(alloc, reader, lists),
+            Err(fault) => return stop(reader, lists, input, fault),
+        }
+    }
+}
+
 /// The trace of the text that a source gives, read to its end in at most `turns` reads. The text is
 /// whole where one of them answered 0 bytes; it isn't where a read failed or the turns were used up
 /// before. Then only the lines that LF has ended are judged. After a fault the source is still read
@@ -105,14 +133,7 @@ pub fn read_source<R: Source>(
         (R.failed input.new)) }
     ensures over { IfOk result (λ h. IfOk h.trace (IsTraceOver limits.now)) }
 {
-    let mut reader = LineReader::new(alloc, limits, turns, seed)?;
-    let mut lists = Lists::new(Vec::new(alloc));
-    'lines: loop {
-        match reader.step(input) {
-            Ok(Step::More) => {}
-            Ok(Step::Told(judged)) => lists.add(alloc, reader.names(), judged)?,
-            Ok(Step::End) => return finish(alloc, reader, lists),
-            Err(fault) => return stop(reader, lists, input, fault),
-        }
-    }
+    let reader = LineReader::new(alloc, limits, turns, seed)?;
+    let lists = Lists::new(Vec::new(alloc));
+    read_on(alloc, reader, lists, input)
 }

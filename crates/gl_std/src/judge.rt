@@ -18,6 +18,9 @@ use crate::standing::{Ruling, rule};
 use gl_event::{Event, Limits, LocId, LockId, ThreadId, ThreadState};
 use std::alloc::{AllocError, Global};
 
+mod blocks;
+mod known;
+
 /// What a line is that isn't at fault.
 #[derive(Clone, Copy)]
 pub(crate) enum Judged {
@@ -163,6 +166,9 @@ impl Judge {
         ensures few_stray { self.new.stray ≤ self.old.stray + 1 }
     {
         let found = self.find(operation, thread, operand, location);
+        if let (Some(own), Some(number), Some(loc)) = (found.thread, found.operand, found.loc) {
+            return self.take_known(operation, own, number, loc);
+        }
         self.take_found(operation, thread, operand, location, &found)
     }
 
@@ -358,6 +364,7 @@ fn event_of(operation: Operation, operand: u32, loc: LocId) -> Event
 
 // Lets the thread of the event stand after it, and a new thread that it forks or joins after nothing,
 // unless the held locks or `limit` refuse the event.
+#[inline(always)]
 fn stand(
     standings: &mut Vec<ThreadState>,
     operation: Operation,
@@ -387,6 +394,7 @@ fn stand(
 }
 
 // `stand`, for the acting thread, known or new.
+#[inline(always)]
 fn stand_own(
     standings: &mut Vec<ThreadState>,
     found: &Found,

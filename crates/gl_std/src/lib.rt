@@ -40,6 +40,7 @@
 //! docs/GLOSSARY.md has its words beside those of the field.
 #![tactic(auto)]
 
+mod block;
 mod faults;
 mod from_source;
 mod guess;
@@ -51,6 +52,7 @@ mod line_reader;
 mod lists;
 mod name;
 mod names;
+mod said;
 mod seed;
 mod standing;
 mod stream;
@@ -58,7 +60,7 @@ mod trace;
 mod whole_text;
 
 pub use faults::{LinesFault, ReadFault, StdKind};
-pub use from_source::{Heard, read_source};
+pub use from_source::{Heard, read_source, read_source_parallel};
 pub use gl_io::{Failed, FromStd, Sink, Source};
 pub use laws::{
     faults_come_first, lines_are_unique, lines_follow_lines, lines_say_one_thing, reading_goes_on,

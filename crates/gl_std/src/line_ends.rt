@@ -1,6 +1,6 @@
 //! Where the lines of a text end.
-ghost use Rattle.std.specs.Prelude.{◌≡◌, ◌<◌, [], ◌∷◌, length, MatchOption};
-ghost use Rattle.gl_std.specs.Lines.{ended_lines, lines, without_cr};
+ghost use Rattle.std.specs.Prelude.{◌≡◌, ◌<◌, [], ◌∷◌, ◌++◌, length, Contains, MatchOption};
+ghost use Rattle.gl_std.specs.Lines.{LF, ended_lines, lines, without_cr};
 
 use crate::line::cut;
 use bstr::ByteSlice;
@@ -46,5 +46,16 @@ pub fn ended_lines(text: &[u8]) -> &[u8]
     match text.rfind_byte(LF) {
         Some(last) => &text[..last + 1],
         None => &[],
+    }
+}
+
+/// What follows the lines of a text that LF has ended: the beginning of one. Scans that.
+pub(crate) fn unended(text: &[u8]) -> &[u8]
+    ensures parts { text.now ≡ ended_lines text.now ++ result.now }
+    ensures unended { ¬ Contains result.now LF }
+{
+    match text.rfind_byte(LF) {
+        Some(last) => &text[last + 1..],
+        None => text,
     }
 }

@@ -15,6 +15,8 @@ use gl_event::Limits;
 use gl_io::{CHUNK, Failed, Source};
 use std::alloc::{AllocError, Global};
 
+pub(crate) mod pieces;
+
 /// So many bytes of a line that isn't ended are kept: enough to tell that it is too long.
 pub(crate) const KEPT: usize = MAX_LINE + 2;
 
@@ -244,6 +246,7 @@ impl LineReader {
 }
 
 // Judges the line that ends here, where LF follows.
+#[inline(always)]
 fn end_line(judge: &mut Judge, unfinished: &mut Vec<u8>, end: &[u8]) -> Result<Judged, ReadFault>
     requires one_line { ¬ Contains end.now LF }
     requires sound { IsSound judge.old }

@@ -12,8 +12,11 @@ use indexmap::IndexSet;
 use std::alloc::{AllocError, Global};
 use std::marker::Model;
 
+mod known;
+mod mentions;
 mod numbering;
 
+pub(crate) use known::Known;
 pub use numbering::NamesFault;
 
 /// Different names in order of first mention, so that the place of a name is its number.
@@ -50,6 +53,13 @@ impl NameList {
             names: IndexSet::with_hasher(alloc, seed),
             guesses: Guesses::new(alloc),
         }
+    }
+
+    /// Drops the names, and keeps their memory. What was guessed stays: a guess is compared before it is used.
+    fn clear(&mut self)
+        ensures { self.new ≡ [] }
+    {
+        self.names.clear();
     }
 
     /// How many names there are.
@@ -257,6 +267,15 @@ impl Names {
             locks: NameList::new(alloc, seed),
             locs: NameList::new(alloc, seed),
         }
+    }
+
+    /// Drops the names, and keeps their memory.
+    pub(crate) fn clear(&mut self)
+        ensures { self.new ≡ record { threads = []; locks = []; locs = [] } }
+    {
+        self.threads.clear();
+        self.locks.clear();
+        self.locs.clear();
     }
 
     /// How many threads have names.

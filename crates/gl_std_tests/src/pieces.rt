@@ -5,8 +5,9 @@ ghost use Rattle.gl_io.specs.Positions.{untold};
 ghost use Rattle.gl_std.specs.Trace.{IsTraceOver};
 
 use gl_event::{Limits, Memory};
-use gl_std::{Failed, Heard, Seed, Source, read_source};
+use gl_std::{Failed, Heard, Seed, Source, read_source, read_source_parallel};
 use std::alloc::Global;
+use std::thread::Threads;
 
 /// Gives its text in pieces, and then ends or fails.
 #[derive(Drop)]
@@ -61,4 +62,26 @@ pub fn hear(alloc: Global, input: &mut Pieces<'_>, turns: u64) -> Result<Heard, 
     ensures { IfOk result (λ heard. IfOk heard.trace (IsTraceOver greatest)) }
 {
     read_source(alloc, input, turns, &Limits::greatest(), Seed::fixed())
+}
+
+/// The same, in three threads.
+pub fn hear_in_threads<T: Threads + Sync>(
+    rt: &T,
+    alloc: Global,
+    input: &mut Pieces<'_>,
+    turns: u64,
+) -> Result<Heard, Memory>
+    requires sound { input.old.is_failed ≡ false }
+    requires few { turns ≤ 100 }
+    ensures { IfOk result (λ heard. IfOk heard.trace (IsTraceOver greatest)) }
+{
+    read_source_parallel(
+        rt,
+        alloc,
+        input,
+        turns,
+        &Limits::greatest(),
+        Seed::fixed(),
+        3,
+    )
 }

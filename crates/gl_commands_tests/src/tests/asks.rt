@@ -32,8 +32,13 @@ pub(super) const PREDICTION: Ask = Ask::Predict(Mode::Full, 4, 1_000);
 
 pub(super) const COUNTS: Ask = Ask::Stats(Mode::Full, 4, 1_000);
 
-// A session with these numbers, over given lanes, or where it is told over a text as it comes.
-fn live_options(query: Query, numbers: (u32, u32, u32), threads: Option<u32>) -> Option<LiveOptions>
+// A session with these numbers, over given lanes, or where it is told over a text as it comes. So many threads read.
+fn live_options(
+    query: Query,
+    numbers: (u32, u32, u32),
+    threads: Option<u32>,
+    jobs: u32,
+) -> Option<LiveOptions>
     ensures { IfSome result AreOfSession }
 {
     let (recorders, shards, ring) = numbers;
@@ -57,6 +62,7 @@ fn live_options(query: Query, numbers: (u32, u32, u32), threads: Option<u32>) ->
         ring,
         stream: threads.is_some(),
         threads: most,
+        jobs,
     })
 }
 
@@ -66,11 +72,12 @@ fn session(
     numbers: (u32, u32, u32),
     threads: Option<u32>,
     findings: bool,
+    jobs: u32,
 ) -> Option<Command>
     ensures { IfSome result CanRun }
 {
     let query = Query::new(Mode::Full, len, 1_000).ok()?;
-    let options = live_options(query, numbers, threads)?;
+    let options = live_options(query, numbers, threads, jobs)?;
     Some(Command::Live(LiveOptions {
         findings,
         ..options
@@ -78,51 +85,55 @@ fn session(
 }
 
 // A prediction over a whole text.
-fn prediction(mode: Mode, len: u32, max: u32, form: Form) -> Option<Command>
+fn prediction(mode: Mode, len: u32, max: u32, form: Form, jobs: u32) -> Option<Command>
     ensures { IfSome result CanRun }
 {
     let query = Query::new(mode, len, max).ok()?;
-    Some(Command::Predict { query, form })
+    Some(Command::Predict { query, form, jobs })
 }
 
 // Findings of a whole text.
-fn whole_findings() -> Option<Command>
+fn whole_findings(jobs: u32) -> Option<Command>
     ensures { IfSome result CanRun }
 {
     let query = Query::new(Mode::Full, 4, 1_000).ok()?;
     let form = Form::Text;
-    Some(Command::Findings { query, form })
+    Some(Command::Findings { query, form, jobs })
 }
 
 // Counts of a whole text.
-fn counts(mode: Mode, len: u32, max: u32) -> Option<Command>
+fn counts(mode: Mode, len: u32, max: u32, jobs: u32) -> Option<Command>
     ensures { IfSome result CanRun }
 {
     let query = Query::new(mode, len, max).ok()?;
-    Some(Command::Stats { query })
+    Some(Command::Stats { query, jobs })
 }
 
-// The command. None where there is none with these numbers.
-pub(super) fn command_of(ask: Ask) -> Option<Command>
+// The command, where so many threads are to read. None where there is none with these numbers.
+pub(super) fn command_of(ask: Ask, jobs: u32) -> Option<Command>
     ensures { IfSome result CanRun }
 {
     match ask {
-        Ask::Predict(mode, len, max) => prediction(mode, len, max, Form::Text),
-        Ask::Json => prediction(Mode::Full, 4, 1_000, Form::Json),
-        Ask::Findings => whole_findings(),
-        Ask::Live(recorders, shards, ring) => session(4, (recorders, shards, ring), None, false),
+        Ask::Predict(mode, len, max) => prediction(mode, len, max, Form::Text, jobs),
+        Ask::Json => prediction(Mode::Full, 4, 1_000, Form::Json, jobs),
+        Ask::Findings => whole_findings(jobs),
+        Ask::Live(recorders, shards, ring) => {
+            session(4, (recorders, shards, ring), None, false, jobs)
+        }
         Ask::LiveLong(recorders, shards, ring) => {
-            session(16, (recorders, shards, ring), None, false)
+            session(16, (recorders, shards, ring), None, false, jobs)
         }
         Ask::LiveFindings(recorders, shards, ring) => {
-            session(4, (recorders, shards, ring), None, true)
+            session(4, (recorders, shards, ring), None, true, jobs)
         }
-        Ask::Stream(threads, recorders) => session(4, (recorders, 2, 1), Some(threads), false),
+        Ask::Stream(threads, recorders) => {
+            session(4, (recorders, 2, 1), Some(threads), false, jobs)
+        }
         Ask::StreamFindings(threads, recorders) => {
-            session(4, (recorders, 2, 1), Some(threads), true)
+            session(4, (recorders, 2, 1), Some(threads), true, jobs)
         }
-        Ask::Stats(mode, len, max) => counts(mode, len, max),
-        Ask::Replay => Some(Command::Replay),
+        Ask::Stats(mode, len, max) => counts(mode, len, max, jobs),
+        Ask::Replay => Some(Command::Replay { jobs }),
         Ask::Check => Some(Command::Check),
     }
 }

@@ -129,7 +129,7 @@ pub(super) fn is_failed(ended: &Ended, count: usize) -> bool {
 
 // The writer is full, and holds what it is to hold.
 fn expect_full<R: Abort + AllocGlobal + Threads + Wait + Sync>(rt: &R, full: &Full) {
-    let command = command_of(full.ask).expect(rt, full.name);
+    let command = command_of(full.ask, 2).expect(rt, full.name);
     let held = vec![in rt.alloc(); 0u8; full.held.len()];
     let mut held = held.ok().expect(rt, full.name);
     let ended = run_into(rt, &command, full.text, held.as_mut_slice());

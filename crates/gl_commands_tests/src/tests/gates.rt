@@ -5,7 +5,7 @@ ghost use Rattle.gl_io.specs.Positions.{untold};
 use super::asks::{Ask, command_of};
 use super::runs::TURNS;
 use super::{NO_CYCLES, OPPOSITE_ORDER, OPPOSITE_ORDER_REPORT};
-use gl_commands::{Ended, live_gated};
+use gl_commands::{Ended, Reading, live_gated};
 use gl_io::{Failed, FromStd, Source};
 use gl_options::Command;
 use gl_shards::Gate;
@@ -88,11 +88,16 @@ fn gated<R: AllocGlobal + Threads + Wait + Sync, I: Source, G: Gate + Sync>(
 ) -> Option<(Ended, Vec<u8>)>
     requires { I.failed input.old ≡ false }
 {
-    let Command::Live(options) = command_of(ask)? else {
+    let Command::Live(options) = command_of(ask, 2)? else {
         return None;
     };
+    let reading = Reading {
+        turns: TURNS,
+        seed: Seed::fixed(),
+        jobs: options.jobs,
+    };
     let mut output = FromStd::new(Vec::new(rt.alloc()));
-    let ended = live_gated(rt, input, &mut output, TURNS, Seed::fixed(), &options, gate);
+    let ended = live_gated(rt, input, &mut output, &reading, &options, gate);
     Some((ended, output.into_inner()))
 }
 

@@ -7,7 +7,7 @@ ghost use Rattle.gl_options.specs.Sessions.{CanRun};
 use super::asks::{Ask, command_of};
 use super::texts::{Text, made};
 use crate::cut::Cut;
-use gl_commands::{Ended, check_input, live, predict, predict_findings, replay, stats};
+use gl_commands::{Ended, Reading, check_input, live, predict, predict_findings, replay, stats};
 use gl_io::{Failed, FromStd, Sink, Source};
 use gl_options::Command;
 use gl_std::Seed;
@@ -65,16 +65,20 @@ pub(super) fn run<R: AllocGlobal + Threads + Wait + Sync, I: Source, O: Sink>(
     requires few { turns ≤ 2 ^ 40 }
     requires runs { CanRun command.now }
 {
-    let seed = Seed::fixed();
+    let reading = Reading {
+        turns,
+        seed: Seed::fixed(),
+        jobs: command.jobs(),
+    };
     match command {
-        Command::Predict { query, form } => predict(rt, input, output, turns, seed, query, *form),
-        Command::Findings { query, form } => {
-            predict_findings(rt, input, output, turns, seed, query, *form)
+        Command::Predict { query, form, .. } => predict(rt, input, output, &reading, query, *form),
+        Command::Findings { query, form, .. } => {
+            predict_findings(rt, input, output, &reading, query, *form)
         }
-        Command::Live(options) => live(rt, input, output, turns, seed, options),
-        Command::Stats { query } => stats(rt, input, output, turns, seed, query),
-        Command::Replay => replay(rt, input, output, turns, seed),
-        Command::Check => check_input(rt, input, output, turns, seed),
+        Command::Live(options) => live(rt, input, output, &reading, options),
+        Command::Stats { query, .. } => stats(rt, input, output, &reading, query),
+        Command::Replay { .. } => replay(rt, input, output, &reading),
+        Command::Check => check_input(rt, input, output, &reading),
     }
 }
 
@@ -217,14 +221,17 @@ fn expect_run<R: Abort + AllocGlobal + Threads + Wait + Sync>(
     }
 }
 
-fn expect<R: Abort + AllocGlobal + Threads + Wait + Sync>(rt: &R, case: &Case) {
-    let command = command_of(case.ask).expect(rt, case.name);
+// The same where so many threads read.
+fn expect<R: Abort + AllocGlobal + Threads + Wait + Sync>(rt: &R, case: &Case, jobs: u32) {
+    let command = command_of(case.ask, jobs).expect(rt, case.name);
     let text = made(rt.alloc(), case.text).expect(rt, case.name);
     expect_run(rt, &command, &text, case);
 }
 
+// Each case ends alike whether one thread reads or several do.
 pub(super) fn expect_all<R: Abort + AllocGlobal + Threads + Wait + Sync>(rt: &R, cases: &[Case]) {
     for case in cases {
-        expect(rt, case);
+        expect(rt, case, 1);
+        expect(rt, case, 3);
     }
 }

@@ -236,7 +236,7 @@ fn expect_trace<R: Abort + AllocGlobal + Threads + Wait + Sync>(
     trace: &[u8],
     is_bad: bool,
 ) {
-    let command = command_of(row.ask).expect(rt, row.name);
+    let command = command_of(row.ask, 2).expect(rt, row.name);
     let head = head_of(&command);
     let text = joined(rt.alloc(), head, trace).expect(rt, row.name);
     let sample = Sample {
@@ -317,7 +317,7 @@ fn expect_rooms<R: Abort + AllocGlobal + Threads + Wait + Sync>(
 
 // The row's command into writers.
 fn expect_writers<R: Abort + AllocGlobal + Threads + Wait + Sync>(rt: &R, row: &Row) {
-    let command = command_of(row.ask).expect(rt, row.name);
+    let command = command_of(row.ask, 2).expect(rt, row.name);
     let text = joined(rt.alloc(), head_of(&command), OPPOSITE_ORDER).expect(rt, row.name);
     let asked = Try {
         name: row.name,

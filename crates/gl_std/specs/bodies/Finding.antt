@@ -1,5 +1,5 @@
 -- What is found out of a line that tells an event, by looking its names up before any of them is added.
-use Rattle.std.specs.Prelude.{ℕ, ◌+◌, List, [], ◌∷◌, ◌++◌, Option, Some, None, Result, Ok, Err, length, position, is_none, unwrap_or, nat_le, nat_lt, if◌then◌else◌}
+use Rattle.std.specs.Prelude.{◌≡◌, ℕ, ◌+◌, List, [], ◌∷◌, ◌++◌, Option, Some, None, Result, Ok, Err, length, position, is_none, unwrap_or, nat_le, nat_lt, if◌then◌else◌}
 use Rattle.std.specs.Option.{option_map_or}
 use Rattle.std.specs.Str.{bytes_eq}
 use Rattle.gl_event.specs.Bounds.{Bounds}
@@ -33,6 +33,12 @@ found_in names operation thread operand location =
       operand = position (bytes_eq operand) (if is_on_thread operation then with_name names.threads number thread else names.locks);
       loc = position (bytes_eq location) names.locs;
     }
+
+-- these are their numbers, where each has one
+abbrev pub AreFoundAt : NameLists → Operation → List ℕ → List ℕ → List ℕ → ℕ → ℕ → ℕ → Type 0
+AreFoundAt names operation thread operand location own number loc =
+    record { thread = Some own; operand = Some number; loc = Some loc }
+    ≡ found_in names operation thread operand location
 
 -- one, if the name has no number
 abbrev pub if_new : Option ℕ → ℕ

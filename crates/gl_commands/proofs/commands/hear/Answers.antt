@@ -16,6 +16,6 @@ returns-clause-early g c =
     let heard = c.in-Ok.heard in
     let was = c.in-Ok.ensures.heard in
     let trace : trace_of greatest (ended_lines was.text) ≡ heard.trace =
-    ap (λ limits. trace_of limits (ended_lines was.text)) (sym c.greatest.ensures) ∙ ap (λ whole. trace_of c.greatest.result (judged whole was.text)) (sym c.if-heard.false) ∙ was.trace in
+    ap (λ limits. trace_of limits (ended_lines was.text)) (sym c.greatest-limits.ensures) ∙ ap (λ whole. trace_of c.greatest-limits.result (judged whole was.text)) (sym c.if-heard.false) ∙ was.trace in
     cut_short was.text c.end_early.result
-    (subst (HasRead c.args.turns (g.I.Source.position c.args.input.now) (g.I.Source.position c.read_source.new.input) (g.I.Source.failed c.read_source.new.input) was.text) c.if-heard.false was.read) (c.end_early.ensures was.text trace)
+    (subst (HasRead c.args.reading.now.turns (g.I.Source.position c.args.input.now) (g.I.Source.position c.read_source_parallel.new.input) (g.I.Source.failed c.read_source_parallel.new.input) was.text) c.if-heard.false was.read) (c.end_early.ensures was.text trace)

@@ -18,3 +18,7 @@ returns-in_err-ring-clause-none c = λ _.
 pub returns-in_err-threads-clause-none : goal.returns-in_err-threads-clause-none
 returns-in_err-threads-clause-none c = λ _.
     no_session (rows_of (found_of c.args.options.now)) (λ o query numbers. c.in_err-threads.ensures.none refl o.threads numbers.threads)
+
+pub returns-in_err-jobs-clause-none : goal.returns-in_err-jobs-clause-none
+returns-in_err-jobs-clause-none c = λ _.
+    no_session (rows_of (found_of c.args.options.now)) (λ o query numbers. c.in_err-jobs.ensures.none refl o.jobs numbers.jobs)

@@ -4,4 +4,9 @@ use Rattle.gl_options.proofs.Reading.{no_stats}
 use Rattle.gl_options.proofs.options.stats_in.Goals as goal
 
 pub returns-in_err-query-clause-none : goal.returns-in_err-query-clause-none
-returns-in_err-query-clause-none c = λ _. no_stats (rows_of (found_of c.args.options.now)) (c.in_err-query.ensures.none refl)
+returns-in_err-query-clause-none c = λ _.
+    no_stats (rows_of (found_of c.args.options.now)) (λ query jobs asks told. c.in_err-query.ensures.none refl query asks)
+
+pub returns-in_err-jobs-clause-none : goal.returns-in_err-jobs-clause-none
+returns-in_err-jobs-clause-none c = λ _.
+    no_stats (rows_of (found_of c.args.options.now)) (λ query jobs asks told. c.in_err-jobs.ensures.none refl jobs told)

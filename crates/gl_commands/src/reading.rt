@@ -1,0 +1,32 @@
+//! How an input is read.
+ghost use Rattle.std.specs.Prelude.{◌≡◌, ◌≤◌};
+
+use gl_std::Seed;
+use std::thread::{Threads, available_parallelism};
+
+/// How an input is read. What a command answers depends neither on the seed nor on how many threads read.
+#[derive(Clone, Copy)]
+pub struct Reading {
+    /// The most reads.
+    pub turns: u64,
+    /// What the hash of names begins with: for texts of others, one that was drawn at random.
+    pub seed: Seed,
+    /// How many threads read the trace, or 0: one for each processor that the program may use.
+    pub jobs: u32,
+}
+
+impl Reading {
+    /// How many threads read the trace: one where it can't be told how many processors there are.
+    pub(crate) fn threads(&self, rt: &impl Threads) -> usize
+        ensures told { 1 ≤ self.now.jobs → result ≡ self.now.jobs }
+        ensures some { 1 ≤ result }
+    {
+        if self.jobs > 0 {
+            return self.jobs as usize;
+        }
+        match available_parallelism(rt) {
+            Ok(processors) => processors.get(),
+            Err(_) => 1,
+        }
+    }
+}

@@ -1,0 +1,197 @@
+-- What is heard of a text that is read ahead.
+use Rattle.std.proofs.Common.{◌≡◌, ℕ, ◌*◌, ◌≤◌, Bool, true, List, [], ◌∷◌, ◌++◌, drop, length, take, Result, Ok, Err, refl, sym, ap, subst, ◌∙◌, arith}
+use Rattle.std.specs.Prelude.{vec_len, IfOk}
+use Rattle.std.specs.declared.alloc.AllocError.{AllocError}
+use Rattle.gl_event.specs.Bounds.{Bounds}
+use Rattle.gl_event.specs.declared.events.Event.{Event}
+use Rattle.gl_io.specs.Positions.{Position}
+use Rattle.gl_io.specs.Reads.{HasRead}
+use Rattle.gl_std.specs.Heard.{HasHeard}
+use Rattle.gl_std.specs.LineReading.{HasGiven}
+use Rattle.gl_std.specs.Pieces.{IsFaulty}
+use Rattle.gl_std.specs.Trace.{nothing}
+use Rattle.gl_std.specs.bodies.Ahead.{text_of, AreCut, AreShort, CanJudge, CanReadAhead, FailsPiece, GivesOn, HasGoneOn, HasReadOn, HasReadPieces, HasReadTo, HearsPieces, HearsRest, OnlyJudges, ReadsAhead, TakesPiece}
+use Rattle.gl_std.specs.bodies.Hearing.{Hears, HearsOn, IsReading}
+use Rattle.gl_std.specs.bodies.States.{left_of, IsFit, IsSound, Reaches, ReadsOn}
+use Rattle.gl_std.specs.declared.faults.ReadFault.{ReadFault}
+use Rattle.gl_std.specs.declared.faults.ReadFault.TheVariants.{Line}
+use Rattle.gl_std.specs.declared.faults.StdKind.{StdKind}
+use Rattle.gl_std.specs.declared.from_source.Heard.{Heard}
+use Rattle.gl_std.specs.declared.judge.Judge.{Judge}
+use Rattle.gl_std.specs.declared.line_reader.TheConstants.{KEPT}
+use Rattle.gl_io.specs.declared.source.TheConstants.{CHUNK}
+use Rattle.gl_std.specs.declared.line_reader.LineReader.{LineReader}
+use Rattle.gl_std.specs.declared.line_reader.Step.TheVariants.{End as AtEnd}
+use Rattle.gl_std.specs.declared.line_reader.pieces.Ending.{Ending}
+use Rattle.gl_std.specs.declared.line_reader.pieces.Ending.TheVariants.{More, End, Broke}
+use Rattle.gl_std.specs.declared.line_reader.pieces.Piece.{Piece}
+use Rattle.gl_std.specs.declared.trace.Trace.{Trace}
+use Rattle.gl_std.proofs.LineByLine.{alike_reaches, append_nil, left_none}
+use Rattle.gl_std.proofs.PieceByPiece.{faulty_more}
+
+-- ---- the last pieces
+
+-- the text was read whole
+pub heard_whole : (old new : LineReader) (lists lists2 : List (List Event)) (pieces : List ℕ) (whole : Bool) (r : Result Heard AllocError) → ((now : Position) (failed : Bool) → IfOk r (Hears now failed new lists2 (Ok AtEnd) now failed)) → TakesPiece old lists pieces new lists2 → new.judge.limits ≡ old.judge.limits → whole ≡ true → IfOk r (HearsPieces old lists pieces whole)
+heard_whole old new lists lists2 pieces whole (Err e) hears takes limits is = tt
+heard_whole old new lists lists2 pieces whole (Ok h) hears takes limits is = λ bounds turns start now failed seen told read same reaches listed.
+    let more = takes seen told reaches listed in
+    hears now failed bounds turns start (seen ++ pieces) more.later (subst (HasRead turns start now failed (seen ++ pieces)) is read, limits ∙ same, more.reaches) more.listed
+
+-- whatever was heard of them was heard of the source
+pub heard_pieces : (limits : Bounds) (turns : ℕ) (start now : Position) (failed whole : Bool) (f : LineReader) (lists : List (List Event)) (pieces seen : List ℕ) (told : Trace) (r : Result Heard AllocError) → IfOk r (HearsPieces f lists pieces whole) → HasRead turns start now failed (seen ++ pieces) whole → f.judge.limits ≡ limits → Reaches f.judge f.unfinished.items seen told → lists ≡ told.lists → IfOk r (HasHeard limits turns start now failed)
+heard_pieces limits turns start now failed whole f lists pieces seen told (Err e) hears read same reaches listed = tt
+heard_pieces limits turns start now failed whole f lists pieces seen told (Ok h) hears read same reaches listed = hears limits turns start now failed seen told read same reaches listed
+
+-- ---- reading ahead
+
+nothing_before : (front rest : List ℕ) → [] ≡ front ++ rest → front ≡ []
+nothing_before [] rest is = refl
+nothing_before (b ∷ front) rest is = absurd (nil_cons is)
+  where
+    nil_cons : [] ≡ b ∷ (front ++ rest) → ⊥
+    nil_cons e = cc
+
+-- before the first read
+pub ahead_nothing : (limits : Bounds) (turns : ℕ) (start : Position) (f j : LineReader) (lists : List (List Event)) (pieces : List ℕ) → ReadsOn limits turns start start f [] nothing → ReadsOn limits turns start start j [] nothing → lists ≡ [] → pieces ≡ [] → ReadsAhead limits turns start start f j lists pieces
+ahead_nothing limits turns start f j lists pieces on same none empty =
+    let front = nothing_before same.at.seen _ same.at.parts in
+    record {
+      seen = same.at.seen;
+      told = nothing;
+      given = subst (HasGiven turns start start f.turns) (sym ((λ i. front i ++ empty i))) on.given;
+      same = same.same;
+      reaches = same.at.reaches;
+      listed = none;
+    }
+
+-- what the reads gave, after a text that was read before them
+pub read_to : (ending : Ending) (turns : ℕ) (start now later : Position) (failed : Bool) (old new : LineReader) (text gave : List ℕ) → GivesOn now old later failed new gave ending → HasGiven turns start now old.turns text → HasReadTo ending turns start later failed new.turns (text ++ gave)
+read_to More turns start now later failed old new text gave gives given = gives.1 turns start text given
+read_to End turns start now later failed old new text gave gives given = gives turns start text given
+read_to Broke turns start now later failed old new text gave gives given = gives turns start text given
+
+-- the trace of all that was judged
+reached_ahead : (limits : Bounds) (turns : ℕ) (start now : Position) (f j j2 : LineReader) (lists lists2 : List (List Event)) (front : List ℕ) (ahead : ReadsAhead limits turns start now f j lists front) → TakesPiece j lists front j2 lists2 → (told : Trace) × Reaches j2.judge j2.unfinished.items (ahead.seen ++ front) told × (lists2 ≡ told.lists)
+reached_ahead limits turns start now f j j2 lists lists2 front ahead takes =
+    let more = takes ahead.seen ahead.told ahead.reaches ahead.listed in
+    (more.later, more.reaches, more.listed)
+
+-- what was read ahead was judged, and more was read
+pub ahead_more : (limits : Bounds) (turns : ℕ) (start now later : Position) (failed : Bool) (f f2 j j2 : LineReader) (lists lists2 : List (List Event)) (front pieces : List ℕ) → ReadsAhead limits turns start now f j lists front → HasReadOn now f [] later failed f2 pieces More → TakesPiece j lists front j2 lists2 → j2.judge.limits ≡ j.judge.limits → ReadsAhead limits turns start later f2 j2 lists2 pieces
+ahead_more limits turns start now later failed f f2 j j2 lists lists2 front pieces ahead on takes same =
+    let at = reached_ahead limits turns start now f j j2 lists lists2 front ahead takes in
+    record {
+      seen = ahead.seen ++ front;
+      told = at.0;
+      given = subst (λ t. HasGiven turns start later f2.turns ((ahead.seen ++ front) ++ t)) (sym on.text) (on.gives.1 turns start (ahead.seen ++ front) ahead.given);
+      same = same ∙ ahead.same;
+      reaches = at.1;
+      listed = at.2;
+    }
+
+-- a line of what was read ahead is at fault
+pub failed_ahead : (limits : Bounds) (turns : ℕ) (start now : Position) (f j : LineReader) (lists : List (List Event)) (front gave : List ℕ) (r : Result (Unit {0}) ReadFault) (number : ℕ) (kind : StdKind) (ahead : ReadsAhead limits turns start now f j lists front) → FailsPiece j lists front r → r ≡ Err (Line number kind) → IsFaulty limits ((ahead.seen ++ front) ++ gave) number kind
+failed_ahead limits turns start now f j lists front gave r number kind ahead fails is =
+    let faulty = fails number kind is ahead.seen ahead.told ahead.reaches ahead.listed in
+    faulty_more limits (ahead.seen ++ front) gave number kind (subst (λ l. IsFaulty l (ahead.seen ++ front) number kind) ahead.same faulty)
+
+-- the last pieces, after those that were read ahead
+pub heard_last : (limits : Bounds) (turns : ℕ) (start now later : Position) (failed whole : Bool) (f j j2 : LineReader) (lists lists2 : List (List Event)) (front gave pieces : List ℕ) (r : Result Heard AllocError) → ReadsAhead limits turns start now f j lists front → ((text : List ℕ) → HasGiven turns start now f.turns text → HasRead turns start later failed (text ++ gave) whole) → gave ≡ pieces
+    → TakesPiece j lists front j2 lists2 → j2.judge.limits ≡ j.judge.limits → IfOk r (HearsPieces j2 lists2 pieces whole) → IfOk r (HasHeard limits turns start later failed)
+heard_last limits turns start now later failed whole f j j2 lists lists2 front gave pieces r ahead reads is takes same hears =
+    let at = reached_ahead limits turns start now f j j2 lists lists2 front ahead takes in
+    heard_pieces limits turns start later failed whole j2 lists2 pieces (ahead.seen ++ front) at.0 r hears
+    (subst (λ t. HasRead turns start later failed ((ahead.seen ++ front) ++ t) whole) is (reads (ahead.seen ++ front) ahead.given))
+    (same ∙ ahead.same) at.1 at.2
+
+-- ---- nothing is counted beyond what numbers hold
+
+pub can_take : (f j : LineReader) (pieces : List Piece) → CanReadAhead f j (text_of pieces) → AreShort pieces → AreCut pieces → CanJudge j pieces
+can_take f j pieces can short cut = record { sound = can.sound; few = can.few; countable = omega (arith, can.countable); short = short; cut = cut }
+
+pub can_finish : (now later : Position) (failed : Bool) (f f2 j j2 : LineReader) (front : List ℕ) (pieces : List Piece) (ending : Ending) → CanReadAhead f j front → OnlyJudges j j2 (length front) → HasReadPieces now f later failed f2 pieces ending → CanJudge j2 pieces
+can_finish now later failed f f2 j j2 front pieces ending can judges read = record {
+  sound = judges.sound;
+  few = judges.few;
+  countable = omega (arith, can.countable, judges.lines, ap length read.reads.text, read.reads.within);
+  short = read.short;
+  cut = read.cut;
+}
+
+pub can_more : (now later : Position) (failed : Bool) (f f2 j j2 : LineReader) (front pieces : List ℕ) → CanReadAhead f j front → OnlyJudges j j2 (length front) → vec_len f2.buffer ≡ vec_len f.buffer → HasReadOn now f [] later failed f2 pieces More → CanReadAhead f2 j2 pieces
+can_more now later failed f f2 j j2 front pieces can judges same on = record {
+  sound = judges.sound;
+  few = judges.few;
+  room = same ∙ can.room;
+  countable = omega (arith, can.countable, judges.lines, ap length on.text, on.within);
+}
+
+-- ---- pieces that were read into none
+
+pub read_cut : (now later : Position) (failed : Bool) (old new : LineReader) (none pieces cut : List Piece) (ending : Ending) → none ≡ [] → text_of cut ≡ text_of pieces → HasReadOn now old (text_of none) later failed new (text_of pieces) ending → HasReadOn now old [] later failed new (text_of cut) ending
+read_cut now later failed old new none pieces cut ending empty same on = record {
+  gave = on.gave;
+  text = same ∙ on.text ∙ ap (λ ps. text_of ps ++ on.gave) empty;
+  gives = on.gives;
+  within = on.within;
+}
+
+-- ---- no pieces
+
+pub no_piece_short : (pieces : List Piece) → pieces ≡ [] → AreShort pieces
+no_piece_short pieces none = subst AreShort (sym none) (λ k d within. absurd (omega (arith, within)))
+
+pub no_piece_cut : (pieces : List Piece) → pieces ≡ [] → AreCut pieces
+no_piece_cut pieces none = subst AreCut (sym none) (λ k d within. absurd (omega (arith, within)))
+
+-- ---- a fault by its parts
+
+pub faulty_parts : (limits : Bounds) (text : List ℕ) (number number2 : ℕ) (kind kind2 : StdKind) → number2 ≡ number → kind2 ≡ kind → IsFaulty limits text number kind → IsFaulty limits text number2 kind2
+faulty_parts limits text number number2 kind kind2 a b faulty = subst (λ n. IsFaulty limits text n kind2) (sym a) (subst (λ k. IsFaulty limits text number k) (sym b) faulty)
+
+-- ---- one reader in place of two
+
+-- nothing is left of its latest read
+gone_left : (f j new : LineReader) → HasGoneOn f j new → left_of new ≡ []
+gone_left f j new gone = ap (λ n. drop n (take new.end new.buffer.items)) (gone.begin ∙ sym gone.end) ∙ left_none new.buffer.items new.end
+
+pub gone_fit : (f j j2 new : LineReader) (pieces : List ℕ) → CanReadAhead f j pieces → OnlyJudges j j2 (length pieces) → HasGoneOn f j2 new → IsFit new
+gone_fit f j j2 new pieces can judges gone = record {
+  sound = subst IsSound (sym gone.judge) judges.sound;
+  order = omega (arith, gone.begin);
+  within = omega (arith, gone.end);
+  room = gone.same_size ∙ can.room;
+  few = subst (λ u. length u ≤ KEPT) (sym gone.beginning) judges.few;
+  countable = omega (arith, ap (λ (j : Judge). j.line) gone.judge, ap (λ n. n * CHUNK) gone.same_turns, judges.lines, can.countable, gone.end);
+}
+
+-- it reads on where the two were
+pub gone_on : (limits : Bounds) (turns : ℕ) (start now : Position) (f j j2 new : LineReader) (lists lists2 : List (List Event)) (pieces : List ℕ) → ReadsAhead limits turns start now f j lists pieces → TakesPiece j lists pieces j2 lists2 → j2.judge.limits ≡ j.judge.limits → HasGoneOn f j2 new → IsReading limits turns start now new lists2
+gone_on limits turns start now f j j2 new lists lists2 pieces ahead takes same gone =
+    let at = reached_ahead limits turns start now f j j2 lists lists2 pieces ahead takes in
+    let text = ahead.seen ++ pieces in
+    record {
+      text = text;
+      told = at.0;
+      reads = record {
+        given = subst (λ n. HasGiven turns start now n text) (sym gone.same_turns) ahead.given;
+        same = ap (λ (j : Judge). j.limits) gone.judge ∙ same ∙ ahead.same;
+        at = record {
+          seen = text;
+          parts = sym (append_nil text) ∙ ap (λ l. text ++ l) (sym (gone_left f j2 new gone));
+          reaches = alike_reaches j2 new text at.0 gone.judge gone.beginning at.1;
+        };
+      };
+      listed = at.2;
+    }
+
+-- what it hears is what is heard of the source
+pub heard_rest : (now later : Position) (failed : Bool) (f j j2 new : LineReader) (lists lists2 : List (List Event)) (pieces : List ℕ) (r : Result Heard AllocError) → IfOk r (HearsOn now new lists2 later failed) → TakesPiece j lists pieces j2 lists2 → j2.judge.limits ≡ j.judge.limits → HasGoneOn f j2 new → IfOk r (HearsRest now f j lists pieces later failed)
+heard_rest now later failed f j j2 new lists lists2 pieces (Err e) hears takes same gone = tt
+heard_rest now later failed f j j2 new lists lists2 pieces (Ok h) hears takes same gone = λ limits turns start ahead.
+    hears limits turns start (gone_on limits turns start now f j j2 new lists lists2 pieces ahead takes same gone)
+
+pub heard_after : (limits : Bounds) (turns : ℕ) (start now later : Position) (failed : Bool) (f j : LineReader) (lists : List (List Event)) (pieces : List ℕ) (r : Result Heard AllocError) → IfOk r (HearsRest now f j lists pieces later failed) → ReadsAhead limits turns start now f j lists pieces → IfOk r (HasHeard limits turns start later failed)
+heard_after limits turns start now later failed f j lists pieces (Err e) hears ahead = tt
+heard_after limits turns start now later failed f j lists pieces (Ok h) hears ahead = hears limits turns start ahead

@@ -1,0 +1,15 @@
+use Rattle.std.proofs.Common.{Ok, ap}
+use Rattle.gl_std.proofs.HeardAhead.{no_piece_short, read_cut}
+use Rattle.gl_std.proofs.from_source.parallel.read_and_cut.Goals as goal
+
+pub returns : goal.returns
+returns g c = record {
+  reads = read_cut _ _ _ c.args.reader.now c.read_ahead.new.self c.args.pieces.now.items c.read_ahead.new.pieces.items c.cut_pieces.new.pieces.items c.in_ok-ending.ending c.requires.none c.cut_pieces.ensures.same c.in_ok-ending.ensures.reads;
+  same_size = c.in_ok-ending.ensures.only.same_size;
+  cut = c.cut_pieces.ensures.cut;
+  short = c.cut_pieces.ensures.short;
+  fewer = λ more. c.in_ok-ending.ensures.fewer (ap (λ e. Ok e) more);
+}
+
+pub read_ahead-requires-clause-short : goal.read_ahead-requires-clause-short
+read_ahead-requires-clause-short g c = no_piece_short c.args.pieces.now.items c.requires.none

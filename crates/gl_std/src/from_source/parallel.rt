@@ -1,0 +1,319 @@
+//! Reading the text that a source gives in several threads.
+//!
+//! One thread judges the pieces that were read before, one after another, while the next ones are read, and cut into
+//! lines by the others. These number the names in each piece, so that the thread that judges looks a name up once for
+//! each piece that has it, and sees numbers else.
+//!
+//! The first piece is read before any thread is started, so that a text that ends in it costs what it costs one
+//! thread. Where most names of a piece are new to it, cutting it ahead doesn't pay: its lines are judged from its text, and
+//! where that is so of all pieces of a round, this thread goes on alone.
+ghost use Rattle.std.specs.Prelude.{◌≡◌, ◌^◌, ◌<◌, ◌≤◌, [], ◌++◌, Bool, true, false, length, vec_len, IfOk, OnOk};
+ghost use Rattle.gl_io.specs.declared.source.TheConstants.{CHUNK};
+ghost use Rattle.gl_std.specs.Heard.{HasHeard};
+ghost use Rattle.gl_std.specs.Trace.{IsTraceOver};
+ghost use Rattle.gl_std.specs.bodies.Ahead.{bytes_of, text_of, AreCut, AreShort, CanJudge, CanReadAhead, HasReadPieces, HasTakenPieces, HearsFault, HearsFaulty, HearsPieces, HearsRest, IsCut, IsShort};
+ghost use Rattle.gl_std.specs.declared.line_reader.pieces.Ending.TheVariants.{More};
+
+use super::{Heard, finish, read_on, read_source};
+use crate::faults::{ReadFault, StdKind};
+use crate::line_reader::LineReader;
+use crate::line_reader::pieces::{Ending, Piece};
+use crate::lists::Lists;
+use crate::seed::Seed;
+use crate::trace::Trace;
+use gl_event::Limits;
+use gl_io::Source;
+use std::alloc::{AllocError, Global};
+use std::thread;
+use std::thread::{Threads, join_mut};
+
+// With fewer threads the calling one does all: two would wait for each other.
+const LEAST: usize = 3;
+// More threads than this have nothing to do: what they cut waits for the one that judges.
+const MOST: usize = 8;
+
+// What cuts pieces into lines.
+#[derive(Clone, Copy)]
+struct Cutters {
+    alloc: Global,
+    // What the hash of a piece's names begins with.
+    seed: Seed,
+    // So many pieces are read in a round, and so many threads cut them.
+    threads: usize,
+    // Whether they are cut at all.
+    cuts: bool,
+}
+
+// Cuts pieces into lines.
+fn cut_all<R: Threads + Sync>(rt: &R, cutters: Cutters, pieces: &mut [Piece])
+    requires threads { 0 < cutters.threads }
+    requires short { AreShort pieces.old }
+    ensures cut { AreCut pieces.new }
+    ensures short { AreShort pieces.new }
+    ensures same { text_of pieces.new ≡ text_of pieces.old }
+{
+    thread::for_each_mut(
+        rt,
+        pieces,
+        cutters.threads,
+        &|_place: usize, piece: &mut Piece|
+            requires { IsShort piece.now }
+            ensures cut { IsCut piece.new }
+            ensures short { IsShort piece.new }
+            ensures same { bytes_of piece.new ≡ bytes_of piece.old }
+        {
+            piece.cut(cutters.alloc, cutters.seed, cutters.cuts);
+        },
+    );
+}
+
+// As `cut_all`, of all pieces of a list.
+fn cut_pieces<R: Threads + Sync>(rt: &R, cutters: Cutters, pieces: &mut Vec<Piece>)
+    requires threads { 0 < cutters.threads }
+    requires short { AreShort pieces.old.items }
+    ensures cut { AreCut pieces.new.items }
+    ensures short { AreShort pieces.new.items }
+    ensures same { text_of pieces.new.items ≡ text_of pieces.old.items }
+{
+    cut_all(rt, cutters, pieces.as_mut_slice());
+}
+
+// Reads the pieces of a round, and cuts them into lines.
+fn read_and_cut<T: Threads + Sync, R: Source>(
+    rt: &T,
+    cutters: Cutters,
+    reader: &mut LineReader,
+    input: &mut R,
+    spare: &mut Vec<Piece>,
+    pieces: &mut Vec<Piece>,
+) -> Result<Ending, AllocError>
+    requires threads { 0 < cutters.threads }
+    requires room { vec_len reader.old.buffer ≡ CHUNK }
+    requires not_failed { R.failed input.old ≡ false }
+    requires none { pieces.old.items ≡ [] }
+    ensures { IfOk result
+        (HasReadPieces (R.position input.old) reader.old (R.position input.new)
+        (R.failed input.new) reader.new pieces.new.items) }
+{
+    let ending = reader.read_ahead(cutters.alloc, input, spare, pieces, cutters.threads)?;
+    cut_pieces(rt, cutters, pieces);
+    Ok(ending)
+}
+
+// Judges the pieces that were read ahead in a thread of its own, while the next ones are read and cut. Where none
+// are ahead a single piece is read, and no thread started.
+fn take_and_read<T: Threads + Sync, R: Source>(
+    rt: &T,
+    cutters: Cutters,
+    judge: &mut LineReader,
+    lists: &mut Lists,
+    ahead: &[Piece],
+    reader: &mut LineReader,
+    input: &mut R,
+    spare: &mut Vec<Piece>,
+    pieces: &mut Vec<Piece>,
+) -> (Result<(), ReadFault>, Result<Ending, AllocError>)
+    requires threads { 0 < cutters.threads }
+    requires can { CanJudge judge.old ahead.now }
+    requires room { vec_len reader.old.buffer ≡ CHUNK }
+    requires not_failed { R.failed input.old ≡ false }
+    requires none { pieces.old.items ≡ [] }
+    ensures taken { HasTakenPieces judge.old lists.old ahead.now judge.new lists.new result.0 }
+    ensures read { IfOk result.1
+        (HasReadPieces (R.position input.old) reader.old (R.position input.new)
+        (R.failed input.new) reader.new pieces.new.items) }
+{
+    if ahead.is_empty() {
+        let first = Cutters {
+            alloc: cutters.alloc,
+            seed: cutters.seed,
+            threads: 1,
+            cuts: false,
+        };
+        let read = read_and_cut(rt, first, reader, input, spare, pieces);
+        return (judge.take_pieces(cutters.alloc, lists, ahead), read);
+    }
+    let mut taking = || -> Result<(), ReadFault>
+        requires { CanJudge judge.now ahead.now }
+        ensures { HasTakenPieces judge.entry.now lists.entry.now ahead.entry.now judge.exit.now
+            lists.exit.now result }
+    { judge.take_pieces(cutters.alloc, lists, ahead) };
+    let mut reading = || -> Result<Ending, AllocError>
+        requires { (0 < cutters.threads) × (vec_len reader.now.buffer ≡ CHUNK)
+            × (R.failed input.now ≡ false) × (pieces.now.items ≡ []) }
+        ensures { IfOk result
+            (HasReadPieces (R.position input.entry.now) reader.entry.now
+            (R.position input.exit.now) (R.failed input.exit.now) reader.exit.now
+            pieces.exit.now.items) }
+    { read_and_cut(rt, cutters, reader, input, spare, pieces) };
+    join_mut(rt, &mut taking, &mut reading)
+}
+
+// Whether cutting them ahead pays for one of these pieces, as far as that is known.
+fn pay(pieces: &[Piece]) -> bool {
+    for i in 0..pieces.len() {
+        if pieces[i].pays() {
+            return true;
+        }
+    }
+    false
+}
+
+// What was heard, where a line is at fault.
+fn faulty(line: u64, kind: StdKind, is_whole: bool) -> Heard
+    ensures { HearsFaulty line kind is_whole result }
+{
+    Heard {
+        trace: Err(ReadFault::Line { line, kind }),
+        is_whole,
+    }
+}
+
+// What was heard, where a line is at fault that was read. The source is still read to its end.
+#[inline(never)]
+fn stop_ahead<R: Source>(
+    mut reader: LineReader,
+    input: &mut R,
+    ending: Ending,
+    line: u64,
+    kind: StdKind,
+) -> Heard
+    requires room { vec_len reader.buffer ≡ CHUNK }
+    requires not_failed { ending ≡ More → R.failed input.old ≡ false }
+    ensures { HearsFault ending (R.position input.old) (R.failed input.old) reader.turns line kind
+        (R.position input.new) (R.failed input.new) result }
+{
+    match ending {
+        Ending::More => faulty(line, kind, reader.drain(input)),
+        Ending::End => faulty(line, kind, true),
+        Ending::Broke => faulty(line, kind, false),
+    }
+}
+
+// What was heard, where no more comes after these pieces: the text is whole, or a read failed or no turn was left.
+#[inline(never)]
+fn finish_ahead(
+    alloc: Global,
+    mut reader: LineReader,
+    mut lists: Lists,
+    pieces: &[Piece],
+    is_whole: bool,
+) -> Result<Heard, AllocError>
+    requires can { CanJudge reader pieces.now }
+    ensures { IfOk result (HearsPieces reader lists (text_of pieces.now) is_whole) }
+{
+    match reader.take_pieces(alloc, &mut lists, pieces) {
+        Ok(()) => {
+            if is_whole {
+                return finish(alloc, reader, lists);
+            }
+            Ok(Heard {
+                trace: Ok(Trace::of(reader.into_judge(), lists)),
+                is_whole: false,
+            })
+        }
+        Err(ReadFault::Line { line, kind }) => Ok(faulty(line, kind, is_whole)),
+        Err(ReadFault::Memory) => Err(AllocError),
+    }
+}
+
+// What is heard, where these pieces are judged and the rest is read by this thread alone.
+#[inline(never)]
+fn read_alone<R: Source>(
+    alloc: Global,
+    mut reader: LineReader,
+    mut judge: LineReader,
+    mut lists: Lists,
+    pieces: &[Piece],
+    input: &mut R,
+) -> Result<Heard, AllocError>
+    requires can { CanJudge judge pieces.now }
+    requires on { CanReadAhead reader judge (text_of pieces.now) }
+    requires not_failed { R.failed input.old ≡ false }
+    ensures { IfOk result
+        (HearsRest (R.position input.old) reader judge lists (text_of pieces.now)
+        (R.position input.new) (R.failed input.new)) }
+{
+    match judge.take_pieces(alloc, &mut lists, pieces) {
+        Ok(()) => {
+            reader.go_on_from(judge);
+            read_on(alloc, reader, lists, input)
+        }
+        Err(ReadFault::Line { line, kind }) => {
+            Ok(stop_ahead(reader, input, Ending::More, line, kind))
+        }
+        Err(ReadFault::Memory) => Err(AllocError),
+    }
+}
+
+/// As [`read_source`], in so many threads: what is heard doesn't depend on their number. With fewer than three the
+/// calling thread reads, cuts and judges line by line, since two would wait for each other. So it does where the text
+/// ends in its first half megabyte, and from where it is seen that most names are new.
+///
+/// Err where memory was refused. Beside what [`read_source`] keeps in memory, there is a megabyte of the text for
+/// each thread, cut into lines.
+pub fn read_source_parallel<T: Threads + Sync, R: Source>(
+    rt: &T,
+    alloc: Global,
+    input: &mut R,
+    turns: u64,
+    limits: &Limits,
+    seed: Seed,
+    jobs: usize,
+) -> Result<Heard, AllocError>
+    requires not_failed { R.failed input.old ≡ false }
+    requires few_turns { turns ≤ 2 ^ 40 }
+    ensures heard { IfOk result
+        (HasHeard limits.now turns (R.position input.old) (R.position input.new)
+        (R.failed input.new)) }
+    ensures over { IfOk result (λ h. IfOk h.trace (IsTraceOver limits.now)) }
+{
+    if jobs < LEAST {
+        return read_source(alloc, input, turns, limits, seed);
+    }
+    let cutters = Cutters {
+        alloc,
+        seed,
+        threads: jobs.min(MOST) - 1,
+        cuts: true,
+    };
+    // the one judges what the other has read
+    let mut reader = LineReader::new(alloc, limits, turns, seed)?;
+    let mut judge = LineReader::new(alloc, limits, turns, seed)?;
+    let mut lists = Lists::new(Vec::new(alloc));
+    let mut ahead = Vec::new(alloc);
+    let mut spare = Vec::new(alloc);
+    loop {
+        let mut pieces = Vec::new(alloc);
+        let (taken, read) = take_and_read(
+            rt,
+            cutters,
+            &mut judge,
+            &mut lists,
+            ahead.as_slice(),
+            &mut reader,
+            input,
+            &mut spare,
+            &mut pieces,
+        );
+        let ending = read?;
+        match taken {
+            Ok(()) => {}
+            Err(ReadFault::Line { line, kind }) => {
+                return Ok(stop_ahead(reader, input, ending, line, kind));
+            }
+            Err(ReadFault::Memory) => return Err(AllocError),
+        }
+        match ending {
+            Ending::More => {
+                if !pay(pieces.as_slice()) {
+                    return read_alone(alloc, reader, judge, lists, pieces.as_slice(), input);
+                }
+                spare = ahead;
+                ahead = pieces;
+            }
+            Ending::End => return finish_ahead(alloc, judge, lists, pieces.as_slice(), true),
+            Ending::Broke => return finish_ahead(alloc, judge, lists, pieces.as_slice(), false),
+        }
+    }
+}

@@ -1,0 +1,202 @@
+//! Judging the lines of a block, whose names have numbers of its own.
+ghost use Rattle.std.specs.Prelude.{◌≡◌, ◌+◌, ◌^◌, ◌<◌, ◌≤◌, false, [], ◌∷◌, All, length, vec_len, IfOk, OnOk};
+ghost use Rattle.gl_std.specs.Line.{is_on_itself};
+ghost use Rattle.gl_std.specs.Trace.{after_shape, operands};
+ghost use Rattle.gl_std.specs.bodies.Blocks.{named, shape_in, shapes_of, AreNumbered, FailsShapes, IsKnownOf, IsNumbered, TakesShapes};
+ghost use Rattle.gl_std.specs.bodies.Finding.{found_in};
+ghost use Rattle.gl_std.specs.bodies.Judgements.{AreApart, FailsAs, HasJudgedMore, TellsAs};
+ghost use Rattle.gl_std.specs.bodies.Shown.{shown_operation};
+ghost use Rattle.gl_std.specs.bodies.States.{IsSound};
+ghost use Rattle.gl_std.specs.bodies.Telling.{IsKnown};
+ghost use Rattle.gl_std.specs.declared.said.Said.TheVariants.{Call as CallSaid};
+
+use super::{Judge, Judged};
+use crate::block::Block;
+use crate::faults::ReadFault;
+use crate::line::Operation;
+use crate::lists::Lists;
+use crate::names::{Found, Known, Names};
+use crate::said::Said;
+use gl_event::{LocId, ThreadId};
+use std::alloc::Global;
+
+impl Judge {
+    /// Takes what the lines of a block say, and puts the events that they tell into the lists. After a fault
+    /// both are of no use.
+    pub(crate) fn take_block(
+        &mut self,
+        alloc: Global,
+        lists: &mut Lists,
+        block: &Block,
+    ) -> Result<(), ReadFault>
+        requires sound { IsSound self.old }
+        requires numbered { AreNumbered block.now }
+        requires apart { All AreApart (shapes_of block.now) }
+        requires countable { self.old.line + vec_len block.now.said + 1 < 2 ^ 64 }
+        ensures tells { OnOk result
+            (TakesShapes self.old lists.old (shapes_of block.now) self.new lists.new) }
+        ensures fault { FailsShapes self.old lists.old (shapes_of block.now) result }
+        ensures sound { OnOk result (IsSound self.new) }
+        ensures limits { self.new.limits ≡ self.old.limits }
+        ensures line { OnOk result (self.new.line ≡ self.old.line + vec_len block.now.said) }
+    {
+        let mut known = Known::new(alloc, &block.names)?;
+        for i in 0..block.said.len() {
+            self.take_said(alloc, lists, &block.names, &mut known, block.said[i])?;
+        }
+        Ok(())
+    }
+
+    // Takes what a line says.
+    #[inline(always)]
+    fn take_said(
+        &mut self,
+        alloc: Global,
+        lists: &mut Lists,
+        names: &Names,
+        known: &mut Known,
+        said: Said,
+    ) -> Result<(), ReadFault>
+        requires sound { IsSound self.old }
+        requires numbered { IsNumbered names.now said }
+        requires apart { AreApart (shape_in names.now said) }
+        requires known { IsKnownOf names.now self.old.names known.old }
+        requires countable { self.old.line + 1 < 2 ^ 64 }
+        ensures tells { OnOk result
+            (TakesShapes self.old lists.old (shape_in names.now said ∷ []) self.new lists.new) }
+        ensures fault { FailsShapes self.old lists.old (shape_in names.now said ∷ []) result }
+        ensures known { OnOk result (IsKnownOf names.now self.new.names known.new) }
+        ensures sound { OnOk result (IsSound self.new) }
+        ensures limits { self.new.limits ≡ self.old.limits }
+        ensures line { OnOk result (self.new.line ≡ self.old.line + 1) }
+    {
+        let judged = self.judge_said(names, known, said)?;
+        self.line += 1;
+        lists.add(alloc, &self.names, judged)?;
+        Ok(())
+    }
+
+    // What a line is that says this.
+    #[inline(always)]
+    fn judge_said(
+        &mut self,
+        names: &Names,
+        known: &mut Known,
+        said: Said,
+    ) -> Result<Judged, ReadFault>
+        requires sound { IsSound self.old }
+        requires numbered { IsNumbered names.now said }
+        requires apart { AreApart (shape_in names.now said) }
+        requires known { IsKnownOf names.now self.old.names known.old }
+        requires countable { self.old.line + 1 < 2 ^ 64 }
+        ensures ok { IfOk result
+            (TellsAs self.old self.new
+            (λ told. after_shape self.old.limits self.old.line told (shape_in names.now said))) }
+        ensures judged { IfOk result (HasJudgedMore self.old self.new) }
+        ensures of_thread { IfOk result
+            (λ judged. IsKnown judged (length self.new.names.threads)) }
+        ensures fault { FailsAs self.old
+            (λ told. after_shape self.old.limits self.old.line told (shape_in names.now said))
+            result }
+        ensures known { IsKnownOf names.now self.old.names known.new }
+        ensures limits { self.new.limits ≡ self.old.limits }
+        ensures line { self.new.line ≡ self.old.line }
+        ensures few_skipped { self.new.skipped ≤ self.old.skipped + 1 }
+        ensures few_stray { self.new.stray ≤ self.old.stray + 1 }
+    {
+        match said {
+            Said::Blank => Ok(Judged::Blank),
+            Said::Bad(kind) => Err(ReadFault::Line {
+                line: self.line,
+                kind,
+            }),
+            Said::Other => {
+                self.skipped += 1;
+                Ok(Judged::Skipped)
+            }
+            Said::Call {
+                operation,
+                thread,
+                operand,
+                location,
+            } => self.judge_call(names, known, operation, thread, operand, location),
+        }
+    }
+
+    // `judge_said`, for a line that tells an event.
+    #[inline(always)]
+    fn judge_call(
+        &mut self,
+        names: &Names,
+        known: &mut Known,
+        operation: Operation,
+        thread: ThreadId,
+        operand: u32,
+        location: LocId,
+    ) -> Result<Judged, ReadFault>
+        requires sound { IsSound self.old }
+        requires numbered { IsNumbered names.now (CallSaid operation thread operand location) }
+        requires apart { AreApart
+            (shape_in names.now (CallSaid operation thread operand location)) }
+        requires known { IsKnownOf names.now self.old.names known.old }
+        requires countable { self.old.line + 1 < 2 ^ 64 }
+        ensures ok { IfOk result
+            (TellsAs self.old self.new
+            (λ told. after_shape self.old.limits self.old.line told
+            (shape_in names.now (CallSaid operation thread operand location)))) }
+        ensures judged { IfOk result (HasJudgedMore self.old self.new) }
+        ensures of_thread { IfOk result
+            (λ judged. IsKnown judged (length self.new.names.threads)) }
+        ensures fault { FailsAs self.old
+            (λ told. after_shape self.old.limits self.old.line told
+            (shape_in names.now (CallSaid operation thread operand location))) result }
+        ensures known { IsKnownOf names.now self.old.names known.new }
+        ensures limits { self.new.limits ≡ self.old.limits }
+        ensures line { self.new.line ≡ self.old.line }
+        ensures few_skipped { self.new.skipped ≤ self.old.skipped + 1 }
+        ensures few_stray { self.new.stray ≤ self.old.stray + 1 }
+    {
+        let found = self.find_said(names, known, operation, thread, operand, location);
+        if let (Some(own), Some(number), Some(loc)) = (found.thread, found.operand, found.loc) {
+            return self.take_known(operation, own, number, loc);
+        }
+        self.take_found(
+            operation,
+            names.thread(thread),
+            names.operand(operation, operand),
+            names.loc(location),
+            &found,
+        )
+    }
+
+    // The numbers here of the names that have these in a block. None is looked up that was known before.
+    #[inline(always)]
+    fn find_said(
+        &mut self,
+        names: &Names,
+        known: &mut Known,
+        operation: Operation,
+        thread: ThreadId,
+        operand: u32,
+        location: LocId,
+    ) -> Found
+        requires numbered { IsNumbered names.now (CallSaid operation thread operand location) }
+        requires apart { is_on_itself (shown_operation operation) (named names.now.threads thread)
+            (named (operands (shown_operation operation) names.now) operand) ≡ false }
+        requires known { IsKnownOf names.now self.old.names known.old }
+        ensures found { result ≡ found_in self.old.names (shown_operation operation)
+            (named names.now.threads thread)
+            (named (operands (shown_operation operation) names.now) operand)
+            (named names.now.locs location) }
+        ensures known { IsKnownOf names.now self.old.names known.new }
+        ensures same { self.new ≡ self.old }
+    {
+        Found {
+            thread: self.names.find_known_thread(names, known, thread),
+            operand: self
+                .names
+                .find_known_operand(names, known, operation, operand),
+            loc: self.names.find_known_loc(names, known, location),
+        }
+    }
+}

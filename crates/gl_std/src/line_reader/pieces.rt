@@ -1,0 +1,383 @@
+//! Reading ahead: what the reads give is cut into lines before it is judged.
+ghost use Rattle.std.specs.Prelude.{◌≡◌, ◌+◌, ◌^◌, ◌<◌, ◌≤◌, List, [], ◌∷◌, ◌++◌, Contains, false, length, Ok, Some, vec_len, IfOk, IfSome, OnOk};
+ghost use Rattle.gl_event.specs.declared.events.Event.{Event};
+ghost use Rattle.gl_io.specs.declared.source.TheConstants.{CHUNK};
+ghost use Rattle.gl_std.specs.Line.{cut_at};
+ghost use Rattle.gl_std.specs.Lines.{LF};
+ghost use Rattle.gl_std.specs.bodies.Ahead.{bytes_of, text_of, AreShort, CanJudge, FailsPiece, HasGoneOn, HasReadOn, HasTakenPieces, IsCut, IsShort, OnlyJudges, OnlyReadsAhead, TakesPiece};
+ghost use Rattle.gl_std.specs.bodies.Blocks.{IsBlockOf};
+ghost use Rattle.gl_std.specs.bodies.States.{IsSound};
+ghost use Rattle.gl_std.specs.declared.block.TheConstants.{LONGEST};
+ghost use Rattle.gl_std.specs.declared.line_reader.TheConstants.{KEPT};
+ghost use Rattle.gl_std.specs.declared.line_reader.pieces.Ending.TheVariants.{More};
+
+use super::{LineReader, end_line, keep};
+use crate::block::{Block, LONGEST};
+use crate::faults::ReadFault;
+use crate::line::cut;
+use crate::line_ends::{LF, unended};
+use crate::lists::Lists;
+use crate::seed::Seed;
+use gl_io::{CHUNK, Failed, Source};
+use std::alloc::{AllocError, Global};
+
+/// What comes after some reads.
+#[derive(Clone, Copy)]
+pub(crate) enum Ending {
+    /// There may be more.
+    More,
+    /// The source has ended.
+    End,
+    /// A read failed, or no turn is left.
+    Broke,
+}
+
+/// What some reads gave together, and what its lines say, once it was cut.
+pub(crate) struct Piece {
+    text: Vec<u8>,
+    // None where its lines are judged from its text. Before it is cut it may be that of another piece.
+    block: Option<Block>,
+}
+
+// Written out, so that it is proved once: a derived drop is proved again wherever a piece is let go.
+impl Drop for Piece {
+    fn drop(self) {
+        let Piece { text, block } = self;
+    }
+}
+
+impl Piece {
+    // A piece without text, in the memory of another one if there is one.
+    fn empty(alloc: Global, spare: &mut Vec<Piece>) -> Piece
+        ensures none { bytes_of result ≡ [] }
+    {
+        match spare.pop() {
+            Some(mut piece) => {
+                piece.text.clear();
+                piece
+            }
+            None => Piece {
+                text: Vec::new(alloc),
+                block: None,
+            },
+        }
+    }
+
+    /// Cuts it into lines, where that is asked for and memory isn't refused. Else its lines are judged from its
+    /// text. Each name is looked up at most once by hash.
+    pub(crate) fn cut(&mut self, alloc: Global, seed: Seed, cuts: bool)
+        requires short { IsShort self.old }
+        ensures cut { IsCut self.new }
+        ensures short { IsShort self.new }
+        ensures same { bytes_of self.new ≡ bytes_of self.old }
+    {
+        let spare = self.block.take();
+        if !cuts {
+            return;
+        }
+        self.block = match Block::of(alloc, seed, self.text.as_slice(), spare) {
+            Ok(block) => Some(block),
+            Err(AllocError) => None,
+        };
+    }
+
+    /// Whether its lines are judged quicker by numbers than from their text, as far as that is known.
+    pub(crate) fn pays(&self) -> bool {
+        match &self.block {
+            Some(block) => block.pays(),
+            None => true,
+        }
+    }
+
+    // What its lines say by numbers, where that is known and quicker than their text.
+    fn paying(&self) -> Option<&Block>
+        requires cut { IsCut self.now }
+        ensures { IfSome result (λ block. IsBlockOf (bytes_of self.now) block.now) }
+    {
+        match &self.block {
+            Some(block) => {
+                if block.pays() {
+                    return Some(block);
+                }
+                None
+            }
+            None => None,
+        }
+    }
+}
+
+impl LineReader {
+    /// Reads on until there are so many pieces more, in the memory of those that are spare.
+    pub(crate) fn read_ahead<R: Source>(
+        &mut self,
+        alloc: Global,
+        input: &mut R,
+        spare: &mut Vec<Piece>,
+        pieces: &mut Vec<Piece>,
+        most: usize,
+    ) -> Result<Ending, AllocError>
+        requires room { vec_len self.old.buffer ≡ CHUNK }
+        requires not_failed { R.failed input.old ≡ false }
+        requires short { AreShort pieces.old.items }
+        requires few { vec_len pieces.old < most }
+        ensures reads { IfOk result
+            (HasReadOn (R.position input.old) self.old (text_of pieces.old.items)
+            (R.position input.new) (R.failed input.new) self.new (text_of pieces.new.items)) }
+        ensures only { OnOk result (OnlyReadsAhead self.old self.new) }
+        ensures short { OnOk result (AreShort pieces.new.items) }
+        ensures fewer { result ≡ Ok More → self.new.turns < self.old.turns }
+    {
+        while pieces.len() + 1 < most {
+            match self.read_piece(alloc, input, spare, pieces)? {
+                Ending::More => {}
+                Ending::End => return Ok(Ending::End),
+                Ending::Broke => return Ok(Ending::Broke),
+            }
+        }
+        self.read_piece(alloc, input, spare, pieces)
+    }
+
+    // Adds a piece.
+    fn read_piece<R: Source>(
+        &mut self,
+        alloc: Global,
+        input: &mut R,
+        spare: &mut Vec<Piece>,
+        pieces: &mut Vec<Piece>,
+    ) -> Result<Ending, AllocError>
+        requires room { vec_len self.old.buffer ≡ CHUNK }
+        requires not_failed { R.failed input.old ≡ false }
+        requires short { AreShort pieces.old.items }
+        ensures reads { IfOk result
+            (HasReadOn (R.position input.old) self.old (text_of pieces.old.items)
+            (R.position input.new) (R.failed input.new) self.new (text_of pieces.new.items)) }
+        ensures only { OnOk result (OnlyReadsAhead self.old self.new) }
+        ensures short { OnOk result (AreShort pieces.new.items) }
+        ensures fewer { result ≡ Ok More → self.new.turns < self.old.turns }
+        ensures one { result ≡ Ok More → vec_len pieces.new ≡ vec_len pieces.old + 1 }
+    {
+        let mut piece = Piece::empty(alloc, spare);
+        let ending = self.read_into(input, &mut piece)?;
+        pieces.push(piece)?;
+        Ok(ending)
+    }
+
+    // Fills a piece with what some reads give.
+    fn read_into<R: Source>(
+        &mut self,
+        input: &mut R,
+        piece: &mut Piece,
+    ) -> Result<Ending, AllocError>
+        requires room { vec_len self.old.buffer ≡ CHUNK }
+        requires not_failed { R.failed input.old ≡ false }
+        requires none { bytes_of piece.old ≡ [] }
+        ensures reads { IfOk result
+            (HasReadOn (R.position input.old) self.old (bytes_of piece.old)
+            (R.position input.new) (R.failed input.new) self.new (bytes_of piece.new)) }
+        ensures only { OnOk result (OnlyReadsAhead self.old self.new) }
+        ensures short { OnOk result (IsShort piece.new) }
+        ensures fewer { result ≡ Ok More → self.new.turns < self.old.turns }
+    {
+        match self.read_more(input, piece)? {
+            Ending::More => {}
+            Ending::End => return Ok(Ending::End),
+            Ending::Broke => return Ok(Ending::Broke),
+        }
+        while piece.text.len() <= LONGEST - CHUNK {
+            match self.read_more(input, piece)? {
+                Ending::More => {}
+                Ending::End => return Ok(Ending::End),
+                Ending::Broke => return Ok(Ending::Broke),
+            }
+        }
+        Ok(Ending::More)
+    }
+
+    // Adds what one read gives to a piece, where that is something.
+    fn read_more<R: Source>(
+        &mut self,
+        input: &mut R,
+        piece: &mut Piece,
+    ) -> Result<Ending, AllocError>
+        requires room { vec_len self.old.buffer ≡ CHUNK }
+        requires not_failed { R.failed input.old ≡ false }
+        requires short { length (bytes_of piece.old) + CHUNK ≤ LONGEST }
+        ensures reads { IfOk result
+            (HasReadOn (R.position input.old) self.old (bytes_of piece.old)
+            (R.position input.new) (R.failed input.new) self.new (bytes_of piece.new)) }
+        ensures only { OnOk result (OnlyReadsAhead self.old self.new) }
+        ensures short { OnOk result (IsShort piece.new) }
+        ensures fewer { result ≡ Ok More → self.new.turns < self.old.turns }
+    {
+        if self.turns == 0 {
+            return Ok(Ending::Broke);
+        }
+        match self.fill(input) {
+            Ok(true) => {
+                piece.text.extend_from_slice(&self.buffer[..self.end])?;
+                Ok(Ending::More)
+            }
+            Ok(false) => Ok(Ending::End),
+            Err(Failed) => Ok(Ending::Broke),
+        }
+    }
+
+    /// Goes on from what the other reader has judged, where nothing is left that this one has read.
+    pub(crate) fn go_on_from(&mut self, judged: LineReader)
+        ensures { HasGoneOn self.old judged self.new }
+    {
+        let LineReader {
+            judge,
+            unfinished,
+            buffer,
+            start: _,
+            end: _,
+            turns: _,
+        } = judged;
+        self.judge = judge;
+        self.unfinished = unfinished;
+        self.start = 0;
+        self.end = 0;
+    }
+
+    /// Judges the pieces, and puts the events that they tell into the lists. After a fault both are of no
+    /// use.
+    pub(crate) fn take_pieces(
+        &mut self,
+        alloc: Global,
+        lists: &mut Lists,
+        pieces: &[Piece],
+    ) -> Result<(), ReadFault>
+        requires can { CanJudge self.old pieces.now }
+        ensures { HasTakenPieces self.old lists.old pieces.now self.new lists.new result }
+    {
+        for i in 0..pieces.len() {
+            self.take_piece(alloc, lists, &pieces[i])?;
+        }
+        Ok(())
+    }
+
+    // Judges a piece.
+    fn take_piece(
+        &mut self,
+        alloc: Global,
+        lists: &mut Lists,
+        piece: &Piece,
+    ) -> Result<(), ReadFault>
+        requires sound { IsSound self.old.judge }
+        requires few { length self.old.unfinished.items ≤ KEPT }
+        requires short { IsShort piece.now }
+        requires cut { IsCut piece.now }
+        requires countable { self.old.judge.line + length (bytes_of piece.now) + 1 < 2 ^ 64 }
+        ensures tells { OnOk result
+            (TakesPiece self.old lists.old (bytes_of piece.now) self.new lists.new) }
+        ensures fault { FailsPiece self.old lists.old (bytes_of piece.now) result }
+        ensures only { OnOk result (OnlyJudges self.old self.new (length (bytes_of piece.now))) }
+    {
+        let text = piece.text.as_slice();
+        match piece.paying() {
+            Some(block) => self.take_cut(alloc, lists, text, block),
+            None => self.take_text(alloc, lists, text),
+        }
+    }
+
+    // Judges a piece from its text, line by line.
+    fn take_text(&mut self, alloc: Global, lists: &mut Lists, text: &[u8]) -> Result<(), ReadFault>
+        requires sound { IsSound self.old.judge }
+        requires few { length self.old.unfinished.items ≤ KEPT }
+        requires countable { self.old.judge.line + length text.now + 1 < 2 ^ 64 }
+        ensures tells { OnOk result
+            (TakesPiece self.old lists.old text.now self.new lists.new) }
+        ensures fault { FailsPiece self.old lists.old text.now result }
+        ensures only { OnOk result (OnlyJudges self.old self.new (length text.now)) }
+    {
+        let mut rest = text;
+        while let Some((end, after)) = cut(rest, LF) {
+            self.take_ended(alloc, lists, end)?;
+            rest = after;
+        }
+        self.take_unended(rest)
+    }
+
+    // Judges the line that ends here, where LF follows.
+    #[inline(always)]
+    fn take_ended(&mut self, alloc: Global, lists: &mut Lists, end: &[u8]) -> Result<(), ReadFault>
+        requires one_line { ¬ Contains end.now LF }
+        requires sound { IsSound self.old.judge }
+        requires few { length self.old.unfinished.items ≤ KEPT }
+        requires countable { self.old.judge.line + 1 < 2 ^ 64 }
+        ensures tells { OnOk result
+            (TakesPiece self.old lists.old (end.now ++ LF ∷ []) self.new lists.new) }
+        ensures fault { FailsPiece self.old lists.old (end.now ++ LF ∷ []) result }
+        ensures only { OnOk result (OnlyJudges self.old self.new (length end.now + 1)) }
+    {
+        let judged = end_line(&mut self.judge, &mut self.unfinished, end)?;
+        lists.add(alloc, self.judge.names(), judged)?;
+        Ok(())
+    }
+
+    // Keeps the beginning of a line, or what goes on with one.
+    fn take_unended(&mut self, more: &[u8]) -> Result<(), ReadFault>
+        requires none { ¬ Contains more.now LF }
+        requires sound { IsSound self.old.judge }
+        requires few { length self.old.unfinished.items ≤ KEPT }
+        ensures tells { OnOk result
+            ((lists : List (List Event)) → TakesPiece self.old lists more.now self.new lists) }
+        ensures fault { (lists : List (List Event)) → FailsPiece self.old lists more.now result }
+        ensures only { OnOk result (OnlyJudges self.old self.new (length more.now)) }
+    {
+        keep(&mut self.unfinished, more)?;
+        Ok(())
+    }
+
+    // Judges a piece that was cut.
+    fn take_cut(
+        &mut self,
+        alloc: Global,
+        lists: &mut Lists,
+        text: &[u8],
+        block: &Block,
+    ) -> Result<(), ReadFault>
+        requires sound { IsSound self.old.judge }
+        requires few { length self.old.unfinished.items ≤ KEPT }
+        requires block { IsBlockOf text.now block.now }
+        requires countable { self.old.judge.line + length text.now + 1 < 2 ^ 64 }
+        ensures tells { OnOk result
+            (TakesPiece self.old lists.old text.now self.new lists.new) }
+        ensures fault { FailsPiece self.old lists.old text.now result }
+        ensures only { OnOk result (OnlyJudges self.old self.new (length text.now)) }
+    {
+        match cut(text, LF) {
+            Some((end, after)) => self.take_lines(alloc, lists, text, end, after, block),
+            None => self.take_unended(text),
+        }
+    }
+
+    // Judges a piece that has an LF: what stands before it, the lines of the block, and the beginning of a line
+    // after these.
+    fn take_lines(
+        &mut self,
+        alloc: Global,
+        lists: &mut Lists,
+        piece: &[u8],
+        end: &[u8],
+        after: &[u8],
+        block: &Block,
+    ) -> Result<(), ReadFault>
+        requires sound { IsSound self.old.judge }
+        requires few { length self.old.unfinished.items ≤ KEPT }
+        requires parts { Some (end.now, after.now) ≡ cut_at LF piece.now }
+        requires block { IsBlockOf piece.now block.now }
+        requires countable { self.old.judge.line + length piece.now + 1 < 2 ^ 64 }
+        ensures tells { OnOk result
+            (TakesPiece self.old lists.old piece.now self.new lists.new) }
+        ensures fault { FailsPiece self.old lists.old piece.now result }
+        ensures only { OnOk result (OnlyJudges self.old self.new (length piece.now)) }
+    {
+        let judged = end_line(&mut self.judge, &mut self.unfinished, end)?;
+        lists.add(alloc, self.judge.names(), judged)?;
+        self.judge.take_block(alloc, lists, block)?;
+        keep(&mut self.unfinished, unended(after))?;
+        Ok(())
+    }
+}

@@ -1,0 +1,92 @@
+//! Names that get their numbers line by line, each line taken alone.
+ghost use Rattle.std.specs.Prelude.{◌≡◌, ◌+◌, ◌*◌, ◌^◌, ◌<◌, ◌≤◌, Some, length, slice_get, IfOk, OnOk};
+ghost use Rattle.gl_std.specs.Laws.{IsFront};
+ghost use Rattle.gl_std.specs.Line.{Shape};
+ghost use Rattle.gl_std.specs.Line.Shape.{Call};
+ghost use Rattle.gl_std.specs.bodies.Blocks.{shape_in, AddsFew, GoOn, IsNumbered};
+ghost use Rattle.gl_std.specs.bodies.Shown.{shown, shown_operation};
+
+use super::{NameList, Names};
+use crate::line::{Operation, Shape};
+use crate::said::Said;
+use gl_event::{LocId, ThreadId};
+use std::alloc::{AllocError, Global};
+
+impl NameList {
+    // The name's number. A new name gets the next one. Where it is as guessed, that takes no look-up by hash.
+    #[inline(always)]
+    fn number_again(&mut self, alloc: Global, name: &[u8]) -> Result<u32, AllocError>
+        requires room { length self.old + 1 < 2 ^ 32 }
+        ensures stands { IfOk result (λ number. slice_get self.new number ≡ Some name.now) }
+        ensures front { OnOk result (IsFront self.old self.new) }
+        ensures few { OnOk result (length self.new ≤ length self.old + 1) }
+    {
+        if let Some(number) = self.find_again(name) {
+            return Ok(number);
+        }
+        let number = self.len();
+        self.add(alloc, name)?;
+        Ok(number)
+    }
+}
+
+impl Names {
+    /// What a line says, by the numbers of its names. A new name gets the next number.
+    #[inline(always)]
+    pub(crate) fn said_of(&mut self, alloc: Global, shape: Shape<'_>) -> Result<Said, AllocError>
+        requires threads { length self.old.threads + 2 < 2 ^ 32 }
+        requires locks { length self.old.locks + 1 < 2 ^ 32 }
+        requires locs { length self.old.locs + 1 < 2 ^ 32 }
+        ensures numbered { IfOk result (IsNumbered self.new) }
+        ensures says { IfOk result (λ said. shape_in self.new said ≡ shown shape.entry) }
+        ensures go_on { OnOk result (GoOn self.old self.new) }
+        ensures few { OnOk result (AddsFew self.old self.new) }
+    {
+        match shape {
+            Shape::Blank => Ok(Said::Blank),
+            Shape::Bad(kind) => Ok(Said::Bad(kind)),
+            Shape::Other => Ok(Said::Other),
+            Shape::Call {
+                operation,
+                thread,
+                operand,
+                location,
+            } => self.number_call(alloc, operation, thread, operand, location),
+        }
+    }
+
+    // `said_of`, for a line that tells an event.
+    #[inline(always)]
+    fn number_call(
+        &mut self,
+        alloc: Global,
+        operation: Operation,
+        thread: &[u8],
+        operand: &[u8],
+        location: &[u8],
+    ) -> Result<Said, AllocError>
+        requires threads { length self.old.threads + 2 < 2 ^ 32 }
+        requires locks { length self.old.locks + 1 < 2 ^ 32 }
+        requires locs { length self.old.locs + 1 < 2 ^ 32 }
+        ensures numbered { IfOk result (IsNumbered self.new) }
+        ensures says { IfOk result
+            (λ said. shape_in self.new said
+            ≡ Call (shown_operation operation) thread.now operand.now location.now) }
+        ensures go_on { OnOk result (GoOn self.old self.new) }
+        ensures few { OnOk result (AddsFew self.old self.new) }
+    {
+        let thread = self.threads.number_again(alloc, thread)?;
+        let location = self.locs.number_again(alloc, location)?;
+        let operand = if operation.is_on_thread() {
+            self.threads.number_again(alloc, operand)?
+        } else {
+            self.locks.number_again(alloc, operand)?
+        };
+        Ok(Said::Call {
+            operation,
+            thread: ThreadId::new(thread),
+            operand,
+            location: LocId::new(location),
+        })
+    }
+}
