@@ -100,6 +100,25 @@ def test_the_program_may_be_named(path, tmp_path):
     assert reports() == {"a.std.json": {}}
 
 
+@pytest.mark.parametrize(
+    "words, options, asked",
+    [
+        (["-j", "2"], [], ["--jobs", "1"]),
+        (["-j", "2"], ["--len", "3"], ["--jobs", "1", "--len", "3"]),
+        (["-j", "2"], ["--jobs", "4"], ["--jobs", "4"]),
+        (["-j", "2"], ["--jobs=4"], ["--jobs=4"]),
+        (["-j", "1"], [], []),
+    ],
+)
+def test_one_thread_reads_a_trace_where_several_are_predicted(path, words, options, asked):
+    for name in ("a.std", "b.std"):
+        write(name, TRACE)
+    write("stand-in", "#!/bin/sh\ncat >/dev/null\nprintf '\"%s\" ' \"$@\" | sed 's/ $//; s/ /, /g; s/.*/[&]/'\n")
+    os.chmod("stand-in", 0o755)
+    assert predict_all(path, "--program", "./stand-in", *words, "a.std", "b.std", "--", *options)[0] == 0
+    assert list(reports().values()) == [["predict", "--json", *asked]] * 2
+
+
 def test_a_program_that_fails_leaves_no_report(path):
     write("a.std", TRACE)
     write("stand-in", "#!/bin/sh\necho '{\"half'\necho 'goodlock: write failed' >&2\nexit 4\n")
