@@ -84,10 +84,7 @@ fn cuts(alloc: Global, lists: &[Vec<Event>]) -> Result<Vec<Vec<Event>>, AllocErr
 fn closers(alloc: Global, list: &[Event]) -> Result<Vec<Event>, AllocError>
     ensures { IfOk result (λ v. v.items ≡ filter closes list.now) }
 {
-    list.iter()
-        .copied()
-        .filter(|e| e.closes())
-        .collect(alloc)
+    list.iter().copied().filter(|e| e.closes()).collect(alloc)
 }
 
 // What is one step before each segment of the thread.
