@@ -54,7 +54,12 @@ SHAPES = {
     },
     # All edges of a thread lie on loops, and each leads on to hundreds of its own thread.
     "all-pairs": {
-        "small": ["--locks 100", "--threads 2 --locks 100", "--threads 4 --locks 50 --common 2", "--locks 1 --common 60 --threads 2 --gated"],
+        "small": [
+            "--locks 100",
+            "--threads 2 --locks 100",
+            "--threads 4 --locks 50 --common 2",
+            "--locks 1 --common 60 --threads 2 --gated",
+        ],
         "large": [
             "--locks 400",
             "--threads 8 --locks 120",

@@ -484,11 +484,18 @@ def main():
     parser.add_argument("--events-a-section", type=int, help="of a cache: how long its maintainer's own lock is held")
     parser.add_argument("--tried", type=float, help="of a server: share of the locks inside another that are tried")
     parser.add_argument("--common", type=int, help="of all pairs: locks that each thread has, beside those of its own")
-    parser.add_argument("--gated", dest="is_gated", action="store_true", default=None, help="of all pairs: under one gate lock")
-    parser.add_argument("--in-turn", dest="is_in_turn", action="store_true", default=None, help="of all pairs: thread by thread")
+    parser.add_argument(
+        "--gated", dest="is_gated", action="store_true", default=None, help="of all pairs: under one gate lock"
+    )
+    parser.add_argument(
+        "--in-turn", dest="is_in_turn", action="store_true", default=None, help="of all pairs: thread by thread"
+    )
     parser.add_argument("--crlf", action="store_true", help="lines end with CR LF")
     options = parser.parse_args()
-    for name, value in {**GENERAL, **{**SHAPES, **KNOTS, **SERVERS, **PAIRS, **FINDINGS, **NAMES}[options.shape]}.items():
+    for name, value in {
+        **GENERAL,
+        **{**SHAPES, **KNOTS, **SERVERS, **PAIRS, **FINDINGS, **NAMES}[options.shape],
+    }.items():
         if getattr(options, name, None) is None:
             grows = name == "locks" and options.shape in SERVERS
             setattr(options, name, max(4, round(value * options.events / RECORDED)) if grows else value)
