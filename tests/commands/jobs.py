@@ -24,7 +24,7 @@ SHAPES = ("few-locks", "many-locks", "forks", "readers", "connections", "ordinar
 # lines that are no events, or faults of a line alone
 OTHERS = (b"", b"T0|w(x)|3", b"T0|req(l)|4", b"T0|rel(never)|5", b"new|acq(l)|6", b"T1|fork(new2)|7")
 FAULTS = (b"T0", b"T0|acq(a)", b"|acq(a)|1", b"T0|acq()|1", b"T0|fork(T0)|1", b"x" * 65537, b"y" * 700000)
-WORDS = ("replay", "stats", "predict --json", "predict --findings", "live --json")
+WORDS = ("replay", "stats", "predict --json", "predict --findings", "live --json", "check")
 JOBS = (2, 3, 4, 9, 0)
 
 
@@ -95,6 +95,9 @@ def main():
         for case in range(given.cases):
             path.write_bytes(text_of(rng))
             words = rng.choice(WORDS).split()
+            if words == ["check"]:
+                report = answer(program, ["predict", "--json", "--jobs", "1"], path, rng)[1]
+                path.write_bytes((report or b"{}\n") + path.read_bytes())  # a trace that is refused has no report
             wanted = answer(program, [*words, "--jobs", "1"], path, rng)
             for jobs in JOBS:
                 got = answer(program, [*words, "--jobs", str(jobs)], path, rng)

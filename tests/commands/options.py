@@ -42,6 +42,10 @@ class Program:
         threads, size = map(int, line.split())
         return threads, size
 
+    def report(self, trace):
+        """The line of JSON that is the trace's report."""
+        return subprocess.run([self.path, "predict", "--json"], input=trace, stdout=subprocess.PIPE).stdout
+
     def expect(self, what, is_so):
         self.passed += is_so
         self.failed += not is_so
@@ -77,15 +81,17 @@ def threads_of_sessions(program):
 def threads_that_read(program):
     """One thread reads alone where fewer than three are asked for, or where the text is small; else some are started, as
     many as the text has pieces for. Unless said, as many read as there are processors."""
-    trace = b"T0|acq(a)|1\nT0|rel(a)|2\n" * 100000
-    for words in ("predict", "stats", "replay"):
+    events = b"T0|acq(a)|1\nT0|rel(a)|2\n"
+    for words in ("predict", "stats", "replay", "check"):
+        report = program.report(events) if words == "check" else b""  # that of all these traces, which have no edge
+        trace = report + events * 100000
         for jobs in (1, 2):
             got = program.counts(f"{words} --jobs {jobs}", trace)[0]
             program.expect(f"{words} --jobs {jobs} starts no thread, not {got}", got == 0)
         for jobs in (3, 16):
             got = program.counts(f"{words} --jobs {jobs}", trace)[0]
             program.expect(f"{words} --jobs {jobs} starts threads", got > 1)
-            got = program.counts(f"{words} --jobs {jobs}", trace[: 24 * 16000])[0]
+            got = program.counts(f"{words} --jobs {jobs}", report + events * 16000)[0]
             program.expect(f"{words} --jobs {jobs} starts no thread for a small text, not {got}", got == 0)
         usual = program.counts(words, trace)[0]
         several = len(os.sched_getaffinity(0)) >= 3

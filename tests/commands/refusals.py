@@ -135,7 +135,7 @@ USAGE = {
         "live --stream --threads 0": 2, "live --threads 1025": 2, "live --stream=yes": 2, "live --stream --stream": 2,
         "predict --stream": 2, "predict --threads 2": 2,
     },
-    "check": {"check --help": 0, "check --json": 2, "check --jobs 1": 2},
+    "check": {"check --help": 0, "check --json": 2, "check --jobs 65": 2},
 }  # fmt: skip
 
 # Options by which the threads of a session wait for one another all the time. A trace here has three threads at most.

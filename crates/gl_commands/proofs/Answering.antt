@@ -1,5 +1,5 @@
 -- What is answered to a text of which the trace, or the first fault, is known.
-use Rattle.std.proofs.Common.{◌≡◌, ◌∙◌, ℕ, Bool, List, [], ◌∷◌, Option, Some, Result, Ok, Err, IfOk, IfErr, sym, ap, subst, inl, inr}
+use Rattle.std.proofs.Common.{◌≡◌, ◌∙◌, ℕ, Bool, List, [], ◌∷◌, Option, Some, Result, Ok, Err, IfOk, IfErr, refl, sym, ap, subst, inl, inr}
 use Rattle.std.specs.Prelude.{slice_get}
 use Rattle.std.proofs.lemmas.Option.{same_Some}
 use Rattle.gl_event.specs.Bounds.{Bounds, greatest}
@@ -12,10 +12,15 @@ use Rattle.gl_segments.specs.Segments.{Before, IsLeastInRing, IsRing}
 use Rattle.gl_filters.specs.Asked.{Asked}
 use Rattle.gl_edges.specs.Edges.{edges}
 use Rattle.gl_cycles.specs.declared.found.Report.{Report}
-use Rattle.gl_findings.specs.Reports.{IsReportListing}
+use Rattle.gl_findings.specs.Reports.{report_with, IsReportWith}
+use Rattle.gl_findings.specs.declared.listing.Contents.{Contents}
 use Rattle.gl_findings.specs.declared.listing.Listing.{Listing}
 use Rattle.gl_findings.specs.declared.listing.Listing.TheVariants as lists
-use Rattle.gl_commands.specs.Answer.{Answer, IsAnswerUnder, IsLeastBeforeItself, IsPlainAnswer, report_of}
+use Rattle.gl_options.specs.declared.form.Form.{Form}
+use Rattle.gl_options.specs.declared.form.Form.TheVariants.{Text, Json}
+use Rattle.gl_std.specs.Names.{NameLists}
+use Rattle.gl_commands.specs.Answer.{Answer, IsAnswerUnder, IsLeastBeforeItself, IsPlainAnswer, outcome_of, prediction, printed_report}
+use Rattle.gl_commands.specs.bodies.Needed.{contents_for}
 use Rattle.gl_commands.specs.Answer.Answer.{Prints, Refusal}
 use Rattle.gl_commands.specs.Answer.IsAnswerUnder.{bad_line, no_order, ordered}
 use Rattle.gl_commands.specs.Answer.IsPlainAnswer.{bad_line as plain_fault}
@@ -73,25 +78,32 @@ pub no_trace : (printed : Trace → Answer) (read : Result Trace ReadFault) (lin
     → (text : List ℕ) → trace_of greatest text ≡ read → IsPlainAnswer printed text (Refusal line)
 no_trace printed read line fault text is = subst (λ l. IsPlainAnswer printed text (Refusal l)) (sym fault.said) (plain_fault fault.number fault.kind (is ∙ fault.first))
 
+-- what is printed of a report that lists cycles, or findings, in this form
+abbrev pub print_of : Listing → Form → NameLists → Report → Answer
+print_of listing form names report = Prints (printed_report listing form names report) (outcome_of report)
+
+-- is what is printed of the one that has what that needs
+pub needs_no_more : (listing : Listing) (form : Form) (asked : Asked) (before : Segment → Segment → Bool) (trace : Trace)
+    → prediction listing asked form before trace ≡ print_of listing form trace.names (report_with (contents_for listing form) asked before (edges trace.lists))
+needs_no_more lists.Cycles Text asked before trace = refl
+needs_no_more lists.Cycles Json asked before trace = refl
+needs_no_more lists.Findings Text asked before trace = refl
+needs_no_more lists.Findings Json asked before trace = refl
+
 -- what is printed of a trace and its report
-pub with_report : (limits : Bounds) (printed : (Segment → Segment → Bool) → Trace → Answer) (from : Report → Answer) (listing : Listing) (asked : Asked) (read : Result Trace ReadFault) (trace : Trace) (report : Report)
-    → IsReportOf listing asked read trace report → ((before : Segment → Segment → Bool) → printed before trace ≡ from (report_of listing asked before trace))
+pub with_report : (limits : Bounds) (printed : (Segment → Segment → Bool) → Trace → Answer) (from : Report → Answer) (contents : Contents) (asked : Asked) (read : Result Trace ReadFault) (trace : Trace) (report : Report)
+    → IsReportOf contents asked read trace report → ((before : Segment → Segment → Bool) → printed before trace ≡ from (report_with contents asked before (edges trace.lists)))
     → (text : List ℕ) → trace_of limits text ≡ read → IsAnswerUnder limits printed text (from report)
-with_report limits printed from listing asked read trace report of same text is =
+with_report limits printed from contents asked read trace report of same text is =
     subst (IsAnswerUnder limits printed text) (same of.before ∙ ap from (sym of.is_report)) (ordered trace of.before (is ∙ of.is_read) of.consistent of.decides)
 
--- the report that a session gave
-of_session : (listing : Listing) (asked : Asked) (read : Result Trace ReadFault) (trace : Trace) (report : Report)
-    → read ≡ Ok trace → IsReportListing listing asked (edges trace.lists) trace.lists report → IsReportOf listing asked read trace report
-of_session lists.Cycles asked read trace report was of = record { is_read = was; before = of.before; consistent = of.consistent; decides = of.decides; is_report = of.is }
-of_session lists.Findings asked read trace report was of = record { is_read = was; before = of.before; consistent = of.consistent; decides = of.decides; is_report = of.is }
-
 -- where a session gave the report
-pub with_session : (limits : Bounds) (printed : (Segment → Segment → Bool) → Trace → Answer) (from : Report → Answer) (listing : Listing) (asked : Asked) (read : Result Trace ReadFault) (trace : Trace) (report : Report)
-    → read ≡ Ok trace → IsReportListing listing asked (edges trace.lists) trace.lists report → ((before : Segment → Segment → Bool) → printed before trace ≡ from (report_of listing asked before trace))
+pub with_session : (limits : Bounds) (printed : (Segment → Segment → Bool) → Trace → Answer) (from : Report → Answer) (contents : Contents) (asked : Asked) (read : Result Trace ReadFault) (trace : Trace) (report : Report)
+    → read ≡ Ok trace → IsReportWith contents asked (edges trace.lists) trace.lists report → ((before : Segment → Segment → Bool) → printed before trace ≡ from (report_with contents asked before (edges trace.lists)))
     → (text : List ℕ) → trace_of limits text ≡ read → IsAnswerUnder limits printed text (from report)
-with_session limits printed from listing asked read trace report was of =
-    with_report limits printed from listing asked read trace report (of_session listing asked read trace report was of)
+with_session limits printed from contents asked read trace report was of =
+    with_report limits printed from contents asked read trace report
+    (record { is_read = was; before = of.before; consistent = of.consistent; decides = of.decides; is_report = of.is })
 
 -- a ring leads from its first segment back to it
 before_itself : (lists : List (List Event)) (ring : List Segment) (at : Segment) → slice_get ring 0 ≡ Some at → IsRing lists ring → Before lists at at

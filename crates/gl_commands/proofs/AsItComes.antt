@@ -20,7 +20,8 @@ use Rattle.gl_filters.specs.Asked.{Asked}
 use Rattle.gl_cycles.specs.declared.found.Report.{Report}
 use Rattle.gl_findings.specs.declared.listing.Listing.{Listing}
 use Rattle.gl_live.specs.Streamed.{Becomes}
-use Rattle.gl_commands.specs.Answer.{Answer, IsAnswerUnder, outcome_of, prediction, printed_report}
+use Rattle.gl_commands.specs.Answer.{Answer, IsAnswerUnder, prediction}
+use Rattle.gl_commands.specs.bodies.Needed.{contents_for}
 use Rattle.gl_commands.specs.Answer.Answer.{Prints, Refusal}
 use Rattle.gl_commands.specs.Answer.IsAnswerUnder.{bad_line, no_order}
 use Rattle.gl_io.specs.Uses.{SourceUse}
@@ -33,7 +34,7 @@ use Rattle.gl_commands.specs.declared.ended.Ended.{Ended}
 use Rattle.gl_commands.specs.declared.ended.Ended.TheVariants as variant
 use Rattle.gl_options.specs.declared.form.Form.{Form}
 use Rattle.gl_commands.specs.declared.answer.Printed.{Printed}
-use Rattle.gl_commands.proofs.Answering.{least_of_ring, printed_as, with_session}
+use Rattle.gl_commands.proofs.Answering.{least_of_ring, needs_no_more, print_of, printed_as, with_session}
 use Rattle.gl_commands.proofs.FirstFaults.{no_fault_before}
 
 -- ---- ends that need no text
@@ -77,18 +78,19 @@ names_of_parts items names skipped stray are limits turns input text told named 
 
 -- the report is printed
 pub printed_whole : (listing : Listing) (asked : Asked) (form : Form) (limits : Bounds) (turns : ℕ) (input : SourceUse) (items : Stream) (report : Report) (names : NameLists) (answer : Result Printed Ended)
-    → AreNames items names → IfOk answer (λ p. Prints p.text.items p.outcome ≡ Prints (printed_report listing form names report) (outcome_of report))
-    → Becomes listing asked limits turns input items (Ok report) → IfOk answer (λ p. HasAnswer (IsAnswerUnder limits (prediction listing asked form)) turns input (Prints p.text.items p.outcome))
+    → AreNames items names → IfOk answer (λ p. Prints p.text.items p.outcome ≡ print_of listing form names report)
+    → Becomes (contents_for listing form) asked limits turns input items (Ok report) → IfOk answer (λ p. HasAnswer (IsAnswerUnder limits (prediction listing asked form)) turns input (Prints p.text.items p.outcome))
 printed_whole listing asked form limits turns input items report names answer named is became =
     let told = became.told in
     let whole = whole_at_end limits turns input items became.text told became.tells became.reports.0 in
     let names_are : names ≡ told.names = named limits turns input became.text told whole.named became.tells in
-    printed_as answer (HasAnswer (IsAnswerUnder limits (prediction listing asked form)) turns input) (Prints (printed_report listing form names report) (outcome_of report)) is
+    printed_as answer (HasAnswer (IsAnswerUnder limits (prediction listing asked form)) turns input) (print_of listing form names report) is
     (record {
       text = became.text;
       whole = whole.read;
-      is = subst (λ n. IsAnswerUnder limits (prediction listing asked form) became.text (Prints (printed_report listing form n report) (outcome_of report))) (sym names_are)
-          (with_session limits (prediction listing asked form) (λ r. Prints (printed_report listing form told.names r) (outcome_of r)) listing asked (Ok told) told report refl became.reports.1 (λ before. refl) became.text whole.trace);
+      is = subst (λ n. IsAnswerUnder limits (prediction listing asked form) became.text (print_of listing form n report)) (sym names_are)
+          (with_session limits (prediction listing asked form) (print_of listing form told.names) (contents_for listing form) asked (Ok told) told report refl became.reports.1
+          (λ before. needs_no_more listing form asked before told) became.text whole.trace);
     })
 
 -- a segment is before itself

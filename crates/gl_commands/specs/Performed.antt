@@ -17,4 +17,4 @@ HasPerformed (Findings query form jobs) turns input output ended = HasEnded (IsA
 HasPerformed (Live options) turns input output ended = HasEndedSession options turns input output ended
 HasPerformed (Stats query jobs) turns input output ended = HasEnded (IsAnswer (counts query)) turns input output ended
 HasPerformed (Replay jobs) turns input output ended = HasEnded (IsPlainAnswer replay) turns input output ended
-HasPerformed Check turns input output ended = HasChecked turns input output ended
+HasPerformed (Check jobs) turns input output ended = HasChecked turns input output ended

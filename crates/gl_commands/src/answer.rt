@@ -7,10 +7,13 @@ ghost use Rattle.gl_event.specs.Bounds.{greatest};
 ghost use Rattle.gl_std.specs.Trace.{trace_of, IsTraceOver};
 ghost use Rattle.gl_segments.specs.Clocks.{is_before, OrdersBy};
 ghost use Rattle.gl_segments.specs.Segments.{IsConsistent};
+ghost use Rattle.gl_edges.specs.Edges.{edges};
+ghost use Rattle.gl_findings.specs.Reports.{report_with};
 ghost use Rattle.gl_findings.specs.declared.listing.Listing.TheVariants.{Cycles, Findings};
 ghost use Rattle.gl_report.specs.Counts.{stats_of, stats_text};
-ghost use Rattle.gl_commands.specs.Answer.{IsAnswer, IsPlainAnswer, counts, outcome_of, prediction, printed_report, replay, report_of};
+ghost use Rattle.gl_commands.specs.Answer.{IsAnswer, IsPlainAnswer, counts, outcome_of, prediction, printed_report, replay};
 ghost use Rattle.gl_commands.specs.Answer.Answer.{Prints, Refusal};
+ghost use Rattle.gl_commands.specs.bodies.Needed.{contents_for};
 ghost use Rattle.gl_commands.specs.bodies.Stops.{IfRefused, IsFaultIn, IsLoopOf, IsReportOf, SaysWhyNoReport};
 
 use crate::ended::{Ended, Outcome};
@@ -19,7 +22,7 @@ use gl_cycles::Report;
 use gl_edges::edges_of;
 use gl_event::Memory;
 use gl_filters::Query;
-use gl_findings::{Listing, listing_by_parallel};
+use gl_findings::{Contents, Listing, report_with_parallel};
 use gl_options::Form;
 use gl_report::{Stats, findings_json_text, findings_text, json_text, stats_text, text};
 use gl_segments::{Order, OrderFault};
@@ -124,21 +127,33 @@ fn print(
     }
 }
 
+/// What a report that lists cycles, or findings, has to have to be printed in this form: a text has no trim order.
+pub(crate) fn contents_for(listing: Listing, form: Form) -> Contents
+    ensures { result ≡ contents_for listing form }
+{
+    match (listing, form) {
+        (Listing::Cycles, Form::Text) => Contents::Cycles,
+        (Listing::Cycles, Form::Json) => Contents::CyclesAndTrim,
+        (Listing::Findings, Form::Text | Form::Json) => Contents::Findings,
+    }
+}
+
 // The report of a trace whose segments have this order.
 fn report_by(
     rt: &(impl Threads + Sync),
     alloc: Global,
     trace: &Trace,
     order: &Order,
-    listing: Listing,
+    contents: Contents,
     query: &Query,
 ) -> Result<Report, Memory>
     requires { IsTraceOver greatest trace.now }
     ensures { IfOk result
-        (λ r. r ≡ report_of listing query.now (is_before order.now) trace.now) }
+        (λ r. r
+        ≡ report_with contents query.now (is_before order.now) (edges trace.now.lists)) }
 {
     let edges = edges_of(alloc, trace.lists.as_slice())?;
-    listing_by_parallel(rt, alloc, listing, edges, order, query)
+    report_with_parallel(rt, alloc, contents, edges, order, query)
 }
 
 // The report of a trace, or the line that says which segment is before itself.
@@ -146,15 +161,15 @@ fn report_or_line(
     rt: &(impl Threads + Sync),
     alloc: Global,
     trace: &Trace,
-    listing: Listing,
+    contents: Contents,
     query: &Query,
 ) -> Result<Report, Ended>
     requires { IsTraceOver greatest trace.now }
-    ensures report { IfOk result (λ r. IsReportOf listing query.now (Ok trace.now) trace.now r) }
+    ensures report { IfOk result (λ r. IsReportOf contents query.now (Ok trace.now) trace.now r) }
     ensures refused { IfErr result (λ ended. IfRefused ended (IsLoopOf trace.now)) }
 {
     let order = order_or_line(alloc, trace)?;
-    let report = report_by(rt, alloc, trace, &order, listing, query)?;
+    let report = report_by(rt, alloc, trace, &order, contents, query)?;
     Ok(report)
 }
 
@@ -163,16 +178,16 @@ fn trace_and_report(
     rt: &(impl Threads + Sync),
     alloc: Global,
     read: Result<Trace, ReadFault>,
-    listing: Listing,
+    contents: Contents,
     query: &Query,
 ) -> Result<Reported, Ended>
     requires { IfOk read (IsTraceOver greatest) }
-    ensures report { IfOk result (λ r. IsReportOf listing query.now read r.trace r.report) }
+    ensures report { IfOk result (λ r. IsReportOf contents query.now read r.trace r.report) }
     ensures over { IfOk result (λ r. IsTraceOver greatest r.trace) }
     ensures refused { IfErr result (λ ended. IfRefused ended (SaysWhyNoReport read)) }
 {
     let trace = trace_or_line(alloc, read)?;
-    match report_or_line(rt, alloc, &trace, listing, query) {
+    match report_or_line(rt, alloc, &trace, contents, query) {
         Ok(report) => Ok(Reported { trace, report }),
         Err(ended) => {
             drop(trace);
@@ -228,7 +243,8 @@ pub(crate) fn predicted(
         (λ line. (text : List ℕ) → trace_of greatest text ≡ read
         → IsAnswer (prediction listing query.now form) text (Refusal line))) }
 {
-    let Reported { trace, report } = trace_and_report(rt, alloc, read, listing, query)?;
+    let contents = contents_for(listing, form);
+    let Reported { trace, report } = trace_and_report(rt, alloc, read, contents, query)?;
     let answer = printed_in(alloc, listing, form, &trace.names, &report);
     drop(report);
     drop(trace);
@@ -267,7 +283,7 @@ pub(crate) fn counted(
         (λ line. (text : List ℕ) → trace_of greatest text ≡ read
         → IsAnswer (counts query.now) text (Refusal line))) }
 {
-    let Reported { trace, report } = trace_and_report(rt, alloc, read, Listing::Cycles, query)?;
+    let Reported { trace, report } = trace_and_report(rt, alloc, read, Contents::Cycles, query)?;
     let answer = printed_counts(alloc, &trace, &report);
     drop(report);
     drop(trace);

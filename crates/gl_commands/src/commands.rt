@@ -20,7 +20,7 @@ ghost use Rattle.gl_commands.specs.Sessions.{HasEndedSession};
 use crate::answer::{Printed, counted, predicted, replayed, trace_or_line};
 use crate::checking::{checked, end_cut};
 use crate::ended::{Ended, Outcome};
-use crate::reading::Reading;
+use crate::reading::{Reading, TURNS};
 use crate::recorded::recorded;
 use crate::streamed::streamed;
 use gl_event::Limits;
@@ -33,9 +33,6 @@ use gl_std::{ReadFault, Seed, Trace, read_source_parallel};
 use std::alloc::Global;
 use std::sync::Wait;
 use std::thread::Threads;
-
-// The most reads of the program's input.
-const TURNS: u64 = 1_000_000_000;
 
 // How a command ends over a text that wasn't read whole, with this trace or first fault of the
 // lines that LF has ended.
@@ -287,8 +284,9 @@ pub fn replay<R: AllocGlobal + Threads + Sync, I: Source, O: Sink>(
 ///
 /// Fails as [`predict`] does, and refuses each trace that has a line at fault, with the number of the line
 /// in the trace, before it looks at the report. Where the input can't be read to its end, it judges the
-/// lines of the trace that were ended. The input is kept in memory.
-pub fn check_input<R: AllocGlobal, I: Source, O: Sink>(
+/// lines of the trace that were ended. The input is kept in memory, and the trace read from there by several
+/// threads, as [`Reading`] says.
+pub fn check_input<R: AllocGlobal + Threads + Sync, I: Source, O: Sink>(
     rt: &R,
     input: &mut I,
     output: &mut O,
@@ -305,9 +303,9 @@ pub fn check_input<R: AllocGlobal, I: Source, O: Sink>(
     };
     let text = gathered.text.as_slice();
     if gathered.is_whole {
-        return end(output, checked(alloc, text, reading.seed));
+        return end(output, checked(rt, alloc, text, reading));
     }
-    end_cut(alloc, text, reading.seed)
+    end_cut(rt, alloc, text, reading)
 }
 
 /// Does what the words of the command line ask for, from the input to the output, in at most
@@ -340,6 +338,6 @@ pub fn perform<R: AllocGlobal + Threads + Wait + Sync, I: Source, O: Sink>(
         Command::Live(options) => live(rt, input, output, &reading, options),
         Command::Stats { query, .. } => stats(rt, input, output, &reading, query),
         Command::Replay { .. } => replay(rt, input, output, &reading),
-        Command::Check => check_input(rt, input, output, &reading),
+        Command::Check { .. } => check_input(rt, input, output, &reading),
     }
 }

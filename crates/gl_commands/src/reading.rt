@@ -4,6 +4,9 @@ ghost use Rattle.std.specs.Prelude.{◌≡◌, ◌≤◌};
 use gl_std::Seed;
 use std::thread::{Threads, available_parallelism};
 
+/// The most reads of the program's input.
+pub(crate) const TURNS: u64 = 1_000_000_000;
+
 /// How an input is read. What a command answers depends neither on the seed nor on how many threads read.
 #[derive(Clone, Copy)]
 pub struct Reading {

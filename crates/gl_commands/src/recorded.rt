@@ -2,7 +2,7 @@
 ghost use Rattle.std.specs.Prelude.{◌≡◌, ℕ, Ok, List, IfOk, IfErr};
 ghost use Rattle.gl_event.specs.Bounds.{greatest};
 ghost use Rattle.gl_edges.specs.Edges.{edges};
-ghost use Rattle.gl_findings.specs.Reports.{IsReportListing};
+ghost use Rattle.gl_findings.specs.Reports.{IsReportWith};
 ghost use Rattle.gl_live.specs.Faults.{IsLiveFault};
 ghost use Rattle.gl_live.specs.declared.faults.LiveFault.TheVariants.{Memory as OutOfMemory, Unconfirmed as NotConfirmed};
 ghost use Rattle.gl_std.specs.Trace.{trace_of, IsTraceOver};
@@ -10,15 +10,16 @@ ghost use Rattle.gl_options.specs.Sessions.{AreOfSession};
 ghost use Rattle.gl_commands.specs.Answer.{IsAnswer};
 ghost use Rattle.gl_commands.specs.Answer.Answer.{Prints, Refusal};
 ghost use Rattle.gl_commands.specs.Sessions.{listing_of, session_prediction};
+ghost use Rattle.gl_commands.specs.bodies.Needed.{contents_of};
 ghost use Rattle.gl_commands.specs.bodies.Stops.{IfStopped, IsLoopOf};
 
-use crate::answer::{Printed, printed_in, trace_or_line};
+use crate::answer::{Printed, contents_for, printed_in, trace_or_line};
 use crate::ended::Ended;
 use crate::refusal_lines::inconsistent_line;
 use gl_cycles::Report;
 use gl_event::Memory;
-use gl_findings::Listing;
-use gl_live::{LiveFault, SessionOptions, live_listing};
+use gl_findings::{Contents, Listing};
+use gl_live::{LiveFault, SessionOptions, live_report_with};
 use gl_options::LiveOptions;
 use gl_shards::Gate;
 use gl_std::{ReadFault, Trace};
@@ -34,6 +35,26 @@ pub(crate) fn listing_of(options: &LiveOptions) -> Listing
         return Listing::Findings;
     }
     Listing::Cycles
+}
+
+/// What the report that the options ask for has to have to be printed.
+pub(crate) fn contents_of(options: &LiveOptions) -> Contents
+    ensures { result ≡ contents_of options.now }
+{
+    contents_for(listing_of(options), options.form)
+}
+
+// What the options ask a session over lists to be run with.
+fn session_of(options: &LiveOptions) -> SessionOptions
+    ensures recorders { result.recorders ≡ options.now.recorders }
+    ensures shards { result.shards ≡ options.now.shards }
+    ensures ring { result.ring ≡ options.now.ring }
+{
+    SessionOptions {
+        recorders: options.recorders,
+        shards: options.shards,
+        ring: options.ring,
+    }
 }
 
 // How the command ends where a session over the trace gives no report for this reason.
@@ -66,32 +87,14 @@ fn session_report<R: Threads + Wait + Sync, G: Gate + Sync>(
     requires trace { IsTraceOver greatest trace.now }
     requires session { AreOfSession options.now }
     ensures report { IfOk result
-        (λ report. IsReportListing (listing_of options.now) options.now.query
+        (λ report. IsReportWith (contents_of options.now) options.now.query
         (edges trace.now.lists) trace.now.lists report) }
     ensures refused { IfErr result (λ ended. IfStopped ended (IsLoopOf trace.now)) }
 {
-    let LiveOptions {
-        query,
-        recorders,
-        shards,
-        ring,
-        ..
-    } = *options;
-    let session = SessionOptions {
-        recorders,
-        shards,
-        ring,
-    };
-    let listing = listing_of(options);
-    match live_listing(
-        rt,
-        alloc,
-        trace.lists.as_slice(),
-        &session,
-        listing,
-        &query,
-        gate,
-    ) {
+    let lists = trace.lists.as_slice();
+    let session = session_of(options);
+    let contents = contents_of(options);
+    match live_report_with(rt, alloc, lists, &session, contents, &options.query, gate) {
         Ok(report) => Ok(report),
         Err(fault) => Err(ended_for(alloc, trace, fault)),
     }

@@ -9,24 +9,38 @@ ghost use Rattle.gl_commands.specs.Answer.{IsAnswerUnder};
 ghost use Rattle.gl_commands.specs.Answer.Answer.{Prints};
 ghost use Rattle.gl_io.specs.Uses.{SourceUse, used};
 ghost use Rattle.gl_commands.specs.RefusalLines.{inconsistent_line};
-ghost use Rattle.gl_commands.specs.Sessions.{listing_of, session_prediction};
+ghost use Rattle.gl_commands.specs.Sessions.{session_prediction};
+ghost use Rattle.gl_commands.specs.bodies.Needed.{contents_of};
 ghost use Rattle.gl_commands.specs.bodies.Stops.{EndsUnwritten, HasAnswer, IfRefused, IsEndOfText};
 
 use crate::answer::{Printed, printed_in};
 use crate::ended::Ended;
 use crate::reading::Reading;
-use crate::recorded::listing_of;
+use crate::recorded::{contents_of, listing_of};
 use crate::refusal_lines::{fault_line, inconsistent_line};
 use gl_cycles::Report;
 use gl_event::{Limits, MAX_RING, Segment};
 use gl_io::Source;
-use gl_live::{LiveFault, StreamFault, StreamOptions, stream_listing};
+use gl_live::{LiveFault, StreamFault, StreamOptions, stream_report_with};
 use gl_options::LiveOptions;
 use gl_shards::Gate;
 use gl_std::{Items, LinesFault, Names};
 use std::alloc::Global;
 use std::sync::Wait;
 use std::thread::Threads;
+
+// What the options ask a session over a text to be run with.
+fn stream_of(options: &LiveOptions) -> StreamOptions
+    ensures threads { result.threads ≡ options.now.threads }
+    ensures shards { result.shards ≡ options.now.shards }
+    ensures ring { result.ring ≡ options.now.ring }
+{
+    StreamOptions {
+        threads: options.threads,
+        shards: options.shards,
+        ring: options.ring,
+    }
+}
 
 // How a session ends over a text of which this fault was met.
 fn end_of_text(alloc: Global, fault: LinesFault) -> Ended
@@ -50,7 +64,7 @@ fn printed_of(
     items: Items,
 ) -> Result<Printed, Ended>
     ensures printed { (limits : Bounds) (turns : ℕ) (input : SourceUse)
-        → Becomes (listing_of options.now) options.now.query limits turns input items (Ok report)
+        → Becomes (contents_of options.now) options.now.query limits turns input items (Ok report)
         → IfOk result
         (λ p. HasAnswer
         (IsAnswerUnder limits (session_prediction options.now)) turns input
@@ -83,7 +97,7 @@ fn end_of_loop(
     items: Items,
 ) -> Ended
     ensures { (limits : Bounds) (turns : ℕ) (input : SourceUse)
-        → Becomes (listing_of options.now) options.now.query limits turns input items
+        → Becomes (contents_of options.now) options.now.query limits turns input items
         (Err (Session (Inconsistent at ring)))
         → EndsUnwritten limits
         (IsAnswerUnder limits (session_prediction options.now)) turns input result }
@@ -103,7 +117,7 @@ fn end_without_report(
     items: Items,
 ) -> Ended
     ensures ends { (limits : Bounds) (turns : ℕ) (input : SourceUse)
-        → Becomes (listing_of options.now) options.now.query limits turns input items (Err fault)
+        → Becomes (contents_of options.now) options.now.query limits turns input items (Err fault)
         → FailsInTime {Y = Report} input.before input.after items (Err fault)
         → EndsUnwritten limits
         (IsAnswerUnder limits (session_prediction options.now)) turns input result }
@@ -137,13 +151,13 @@ fn answered(
     items: Items,
 ) -> Result<Printed, Ended>
     ensures printed { (limits : Bounds) (turns : ℕ) (input : SourceUse)
-        → Becomes (listing_of options.now) options.now.query limits turns input items reported
+        → Becomes (contents_of options.now) options.now.query limits turns input items reported
         → IfOk result
         (λ p. HasAnswer
         (IsAnswerUnder limits (session_prediction options.now)) turns input
         (Prints p.text.items p.outcome)) }
     ensures stopped { (limits : Bounds) (turns : ℕ) (input : SourceUse)
-        → Becomes (listing_of options.now) options.now.query limits turns input items reported
+        → Becomes (contents_of options.now) options.now.query limits turns input items reported
         → FailsInTime input.before input.after items reported
         → IfErr result
         (EndsUnwritten limits
@@ -185,19 +199,15 @@ pub(crate) fn streamed<R: AllocGlobal + Threads + Wait + Sync, I: Source, G: Gat
     let alloc = rt.alloc();
     let limits = Limits::of_session(options.threads, MAX_RING);
     let items = Items::new(alloc, &limits, reading.turns, reading.seed)?;
-    let listing = listing_of(options);
-    let session = StreamOptions {
-        threads: options.threads,
-        shards: options.shards,
-        ring: options.ring,
-    };
-    let (reported, items) = stream_listing(
+    let contents = contents_of(options);
+    let session = stream_of(options);
+    let (reported, items) = stream_report_with(
         rt,
         alloc,
         items,
         input,
         &session,
-        listing,
+        contents,
         &options.query,
         gate,
     );

@@ -18,7 +18,7 @@ use Rattle.gl_engine.specs.Recording.{Recording, Closed, next_note, recorded, re
 use Rattle.gl_world.proofs.Lists.{same_some, get_in, get_set_same, get_set_other}
 use Rattle.gl_live.specs.bodies.Padded.{padded}
 use Rattle.gl_live.specs.bodies.Rosters.{Identity, Roster, left_by, identity_of, IsReceiptOf, IsOnRoster}
-use Rattle.gl_live.specs.bodies.Streams.{AreRecorded, FollowOn, Follows, HasTaken, IsOfThreads, Stops, StopsAfter}
+use Rattle.gl_live.specs.bodies.Streams.{AreRecorded, KeepUp, HaveKeptUp, HasTaken, IsOfThreads, Stops, StopsAfter}
 use Rattle.gl_live.proofs.Rostered.{recorded_more}
 
 same_or_not : (i j : ℕ) → (i ≡ j) ⊎ (i ≢ j)
@@ -156,7 +156,7 @@ of_threads item names known thread event is = subst (λ x. IsOfNamed names (Ok x
 
 module _ (s : Roster) (limits : Bounds) (turns : ℕ) (input : SourceUse) (items : Stream) (text : List ℕ) (told : Trace) where
   -- what the items told with one more is recorded
-  pub follows_more : (item : Item) (recorders : List Recording) → GoesOn limits turns input items text told (Ok item) → AreRecorded s (with_item item (names_of items) told).lists recorders → Follows s limits turns input items recorders
+  pub follows_more : (item : Item) (recorders : List Recording) → GoesOn limits turns input items text told (Ok item) → AreRecorded s (with_item item (names_of items) told).lists recorders → HaveKeptUp s limits turns input items recorders
   follows_more item recorders on are = record { text = text ++ on.piece; told = with_item item (names_of items) told; tells = on.tells; recorded = are }
 
   -- nothing more is recorded
@@ -167,7 +167,7 @@ module _ (now later : Position) (failed failed2 : Bool) (items more : Stream) (r
   -- recorders that take the next item follow on
   pub follows_next : (item : Item) → IsNextAnswer now failed items later failed2 more (Ok item)
       → ((s : Roster) (names : NameLists) (told : Trace) → IsOfThreads (length names.threads) item → AreRecorded s told.lists recorders → AreRecorded s (with_item item names told).lists recorders2)
-      → FollowOn now failed items recorders later failed2 more recorders2
+      → KeepUp now failed items recorders later failed2 more recorders2
   follows_next item next recorded = λ s limits turns start follows.
       follows_more s limits turns (used start later failed2) more follows.text follows.told item recorders2
       (next.tells limits turns start follows.text follows.told follows.tells)

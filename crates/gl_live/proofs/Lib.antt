@@ -2,7 +2,6 @@ pub mod Rostered
 pub mod Dealt
 pub mod Opened
 pub mod Leaving
-pub mod Listings
 pub mod Padding
 pub mod Following
 pub mod Streamings

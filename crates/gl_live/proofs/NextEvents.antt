@@ -24,7 +24,7 @@ use Rattle.gl_std.specs.declared.trace.Trace.{Trace}
 use Rattle.gl_std.proofs.WithinLimits.{trace_of_over}
 use Rattle.gl_engine.specs.Recording.{Recording, recorded}
 use Rattle.gl_world.proofs.Lists.{found_within}
-use Rattle.gl_live.specs.bodies.Streams.{CanBeTaken, Follows, IsRecording, MayTake}
+use Rattle.gl_live.specs.bodies.Streams.{CanBeTaken, HaveKeptUp, IsRecording, MayTake}
 use Rattle.gl_live.proofs.Following.{is_told, listed_here}
 
 -- ---- greater limits
@@ -121,7 +121,7 @@ can_be_taken now later failed failed2 items more recorders item result answer re
 
 -- recorders go on after items were recorded
 pub still_recording : (now later : Position) (failed failed2 : Bool) (items more : Stream) (old new : List Recording) → length new ≡ length old → (recording : IsRecording now failed items old)
-    → (Follows recording.s recording.limits recording.turns (used recording.start now failed) items old → Follows recording.s recording.limits recording.turns (used recording.start later failed2) more new) → IsRecording later failed2 more new
+    → (HaveKeptUp recording.s recording.limits recording.turns (used recording.start now failed) items old → HaveKeptUp recording.s recording.limits recording.turns (used recording.start later failed2) more new) → IsRecording later failed2 more new
 still_recording now later failed failed2 items more old new count recording follows = record {
   s = recording.s;
   limits = recording.limits;

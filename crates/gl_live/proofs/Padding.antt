@@ -10,11 +10,10 @@ use Rattle.gl_segments.specs.Segments.{Before, IsConsistent, IsLeastInRing, IsRi
 use Rattle.gl_edges.specs.Edges.{edges, edges_of_list, once}
 use Rattle.gl_filters.specs.Asked.{Asked}
 use Rattle.gl_cycles.specs.declared.found.Report.{Report}
-use Rattle.gl_findings.specs.Reports.{listing_by, IsReportListing}
-use Rattle.gl_findings.specs.declared.listing.Listing.{Listing}
+use Rattle.gl_findings.specs.Reports.{report_with, IsReportWith}
+use Rattle.gl_findings.specs.declared.listing.Contents.{Contents}
 use Rattle.gl_world.proofs.Lists.{same_some}
 use Rattle.gl_live.specs.bodies.Padded.{padded, HaveAll}
-use Rattle.gl_live.proofs.Listings.{is_listing, listed_by}
 
 -- ---- what stands at a place
 
@@ -147,8 +146,12 @@ edges_same more lists = ap once (made_same more 0 lists)
 
 -- ---- the report
 
-pub report_only : (more : ℕ) (lists : List (List Event)) → HaveAll lists → (listing : Listing) (asked : Asked) (report : Report) → IsReportListing listing asked (edges (padded more lists)) (padded more lists) report
-    → IsReportListing listing asked (edges lists) lists report
-report_only more lists all listing asked report is =
-    let by = listed_by listing asked (edges (padded more lists)) (padded more lists) report is in
-    is_listing listing asked (edges lists) lists report by.0 (consistent_only more lists all by.1) (decides_only more lists all by.0 by.2) (by.3 ∙ ap (listing_by listing asked by.0) (edges_same more lists))
+pub report_only : (more : ℕ) (lists : List (List Event)) → HaveAll lists → (contents : Contents) (asked : Asked) (report : Report) → IsReportWith contents asked (edges (padded more lists)) (padded more lists) report
+    → IsReportWith contents asked (edges lists) lists report
+report_only more lists all contents asked report is =
+    record {
+      consistent = consistent_only more lists all is.consistent;
+      before = is.before;
+      decides = decides_only more lists all is.before is.decides;
+      is = is.is ∙ ap (report_with contents asked is.before) (edges_same more lists);
+    }

@@ -10,8 +10,8 @@ use Rattle.gl_io.specs.Uses.{SourceUse}
 use Rattle.gl_filters.specs.Asked.{Asked}
 use Rattle.gl_edges.specs.Edges.{edges}
 use Rattle.gl_cycles.specs.declared.found.Report.{Report}
-use Rattle.gl_findings.specs.Reports.{IsReportListing}
-use Rattle.gl_findings.specs.declared.listing.Listing.{Listing}
+use Rattle.gl_findings.specs.Reports.{IsReportWith}
+use Rattle.gl_findings.specs.declared.listing.Contents.{Contents}
 use Rattle.gl_shards.specs.Feeds.{Sending}
 use Rattle.gl_std.specs.Streaming.{HasTold, HasToldAt, IsDone, Stream}
 use Rattle.gl_std.specs.Trace.{nothing, IsNamed, IsTraceOver}
@@ -25,7 +25,7 @@ use Rattle.gl_live.specs.Faults.{IsLiveFault}
 use Rattle.gl_live.specs.Streamed.{Becomes, FailsInTime, IsStreamFault}
 use Rattle.gl_live.specs.bodies.Padded.{padded, HaveAll}
 use Rattle.gl_live.specs.bodies.Rosters.{Roster, roster_of, gathered_from, AreReceipts, IsReceiptOf}
-use Rattle.gl_live.specs.bodies.Streams.{AreRecorded, Follows, HasGathered, HasStreamed, HasTaken, Stops}
+use Rattle.gl_live.specs.bodies.Streams.{AreRecorded, HaveKeptUp, HasGathered, HasStreamed, HasTaken, Stops}
 use Rattle.gl_live.specs.declared.faults.LiveFault.{LiveFault}
 use Rattle.gl_live.specs.declared.faults.LiveFault.TheVariants.{Inconsistent, Memory, Unconfirmed}
 use Rattle.gl_live.specs.declared.faults.StreamFault.{StreamFault}
@@ -37,7 +37,7 @@ use Rattle.gl_live.proofs.Padding.{least_only, report_only}
 use Rattle.gl_live.proofs.Rostered.{all_same}
 
 -- nothing was read
-pub begins : (c : Collecting) (limits : Bounds) (turns : ℕ) (input : SourceUse) (items : Stream) (recorders : List Recording) → AreRecorded (roster_of c) [] recorders → HasTold limits turns input items [] nothing → Follows (roster_of c) limits turns input items recorders
+pub begins : (c : Collecting) (limits : Bounds) (turns : ℕ) (input : SourceUse) (items : Stream) (recorders : List Recording) → AreRecorded (roster_of c) [] recorders → HasTold limits turns input items [] nothing → HaveKeptUp (roster_of c) limits turns input items recorders
 begins c limits turns input items recorders unused told = record { text = []; told = nothing; tells = told; recorded = unused }
 
 -- what was gathered of the session that its collector's thread was given
@@ -48,7 +48,7 @@ has_gathered own c its outlets g same alike is = subst (λ os. HasGathered c os 
 pub streamed : (limits : Bounds) (turns : ℕ) (input : SourceUse) (threads : ℕ) (items : Stream) (c : Collecting) (outlets : List Sending) (recorders : List Recording) (before : List Closed) (ran : Ran)
     → HasGathered c outlets ran.gathered → before ≡ [] → length recorders ≡ threads → IsDone items
     → ((s : Roster) (lists : List (List Event)) → All (HasTaken s lists) recorders → All (IsReceiptOf s lists) before → All (IsReceiptOf s lists) ran.receipts.items)
-    → Follows (roster_of c) limits turns input items recorders → HasStreamed limits turns input threads items (Ok ran)
+    → HaveKeptUp (roster_of c) limits turns input items recorders → HasStreamed limits turns input threads items (Ok ran)
 streamed limits turns input threads items c outlets recorders before ran gathered none count done closed follows =
     let lists = follows.told.lists in record {
       text = follows.text;
@@ -107,15 +107,15 @@ module _ (limits : Bounds) (turns : ℕ) (input : SourceUse) (items : Stream) wh
     concluded : (P : List (List Event) → Type 0) → ((lists : List (List Event)) → ran.gathered.limits.threads ≡ length lists → All (IsReceiptOf (gathered_from ran.gathered) lists) ran.receipts.items → P lists) → P (padded more of.told.lists)
     concluded P each = each (padded more of.told.lists) (threads ∙ fits ∙ sym (long more of.told.lists)) (of.leaves.1 more fits)
 
-    pub becomes_report : (listing : Listing) (asked : Asked) (report : Report)
-        → ((lists : List (List Event)) → ran.gathered.limits.threads ≡ length lists → All (IsReceiptOf (gathered_from ran.gathered) lists) ran.receipts.items → IsReportListing listing asked (edges lists) lists report)
-        → Becomes listing asked limits turns input items (Ok report)
-    becomes_report listing asked report each =
+    pub becomes_report : (contents : Contents) (asked : Asked) (report : Report)
+        → ((lists : List (List Event)) → ran.gathered.limits.threads ≡ length lists → All (IsReceiptOf (gathered_from ran.gathered) lists) ran.receipts.items → IsReportWith contents asked (edges lists) lists report)
+        → Becomes contents asked limits turns input items (Ok report)
+    becomes_report contents asked report each =
         record {
           text = of.text;
           told = of.told;
           tells = of.tells;
-          reports = (of.leaves.0, report_only more of.told.lists (have_all limits of.told its) listing asked report (concluded (λ lists. IsReportListing listing asked (edges lists) lists report) each));
+          reports = (of.leaves.0, report_only more of.told.lists (have_all limits of.told its) contents asked report (concluded (λ lists. IsReportWith contents asked (edges lists) lists report) each));
         }
 
     fault_only : (fault : LiveFault) → IsLiveFault (padded more of.told.lists) fault → IsLiveFault of.told.lists fault
@@ -128,13 +128,13 @@ module _ (limits : Bounds) (turns : ℕ) (input : SourceUse) (items : Stream) wh
     session_fault Memory is = tt
     session_fault Unconfirmed is = tt
 
-    pub becomes_fault : (listing : Listing) (asked : Asked) (fault : LiveFault)
-        → ((lists : List (List Event)) → ran.gathered.limits.threads ≡ length lists → All (IsReceiptOf (gathered_from ran.gathered) lists) ran.receipts.items → IsLiveFault lists fault) → Becomes listing asked limits turns input items (Err (Session fault))
-    becomes_fault listing asked fault each =
+    pub becomes_fault : (contents : Contents) (asked : Asked) (fault : LiveFault)
+        → ((lists : List (List Event)) → ran.gathered.limits.threads ≡ length lists → All (IsReceiptOf (gathered_from ran.gathered) lists) ran.receipts.items → IsLiveFault lists fault) → Becomes contents asked limits turns input items (Err (Session fault))
+    becomes_fault contents asked fault each =
         record { text = of.text; told = of.told; tells = of.tells; reports = session_fault fault (fault_only fault (concluded (λ lists. IsLiveFault lists fault) each)) }
 
-  pub becomes_stopped : (listing : Listing) (asked : Asked) (threads : ℕ) (fault : StreamFault) → HasStreamed limits turns input threads items (Err fault) → Becomes listing asked limits turns input items (Err fault)
-  becomes_stopped listing asked threads fault of = record { text = of.text; told = of.told; tells = of.tells; reports = of.leaves }
+  pub becomes_stopped : (contents : Contents) (asked : Asked) (threads : ℕ) (fault : StreamFault) → HasStreamed limits turns input threads items (Err fault) → Becomes contents asked limits turns input items (Err fault)
+  becomes_stopped contents asked threads fault of = record { text = of.text; told = of.told; tells = of.tells; reports = of.leaves }
 
 -- ---- when it fails
 

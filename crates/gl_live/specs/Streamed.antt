@@ -7,8 +7,8 @@ use Rattle.gl_segments.specs.Segments.{IsLeastInRing}
 use Rattle.gl_filters.specs.Asked.{Asked}
 use Rattle.gl_edges.specs.Edges.{edges}
 use Rattle.gl_cycles.specs.declared.found.Report.{Report}
-use Rattle.gl_findings.specs.Reports.{IsReportListing}
-use Rattle.gl_findings.specs.declared.listing.Listing.{Listing}
+use Rattle.gl_findings.specs.Reports.{IsReportWith}
+use Rattle.gl_findings.specs.declared.listing.Contents.{Contents}
 use Rattle.gl_std.specs.Streaming.{HasFault, HasTold, IsDone, Stream}
 use Rattle.gl_std.specs.Trace.{nothing}
 use Rattle.gl_std.specs.declared.trace.Trace.{Trace}
@@ -39,14 +39,14 @@ FailsInTime old new items (Ok y) = Unit {0}
 FailsInTime old new items (Err (Text fault)) = Unit {0}
 FailsInTime old new items (Err (Session fault)) = (new ≡ old) ⊎ IsDone items
 
--- the report of all that was told, which lists cycles or findings, or why there is none
-abbrev pub IsReportOf : Listing → Asked → Stream → Trace → Result Report StreamFault → Type 0
-IsReportOf listing asked items told (Ok report) = IsDone items × IsReportListing listing asked (edges told.lists) told.lists report
-IsReportOf listing asked items told (Err fault) = IsStreamFault items told fault
+-- the report of all that was told, with these contents, or why there is none
+abbrev pub IsReportOf : Contents → Asked → Stream → Trace → Result Report StreamFault → Type 0
+IsReportOf contents asked items told (Ok report) = IsDone items × IsReportWith contents asked (edges told.lists) told.lists report
+IsReportOf contents asked items told (Err fault) = IsStreamFault items told fault
 
 -- the reads gave a text, and the items told a trace of it, of which this is the report
-pub record Becomes (listing : Listing) (asked : Asked) (limits : Bounds) (turns : ℕ) (input : SourceUse) (items : Stream) (result : Result Report StreamFault) : Type 0 where
+pub record Becomes (contents : Contents) (asked : Asked) (limits : Bounds) (turns : ℕ) (input : SourceUse) (items : Stream) (result : Result Report StreamFault) : Type 0 where
   pub text : List ℕ
   pub told : Trace
   pub tells : HasTold limits turns input items text told
-  pub reports : IsReportOf listing asked items told result
+  pub reports : IsReportOf contents asked items told result

@@ -22,7 +22,7 @@ mod streaming;
 mod working;
 
 pub use faults::{LiveFault, StreamFault};
-pub use live::{live_listing, live_report};
+pub use live::{live_report, live_report_with};
 pub use session::SessionOptions;
-pub use stream::{stream_listing, stream_report};
+pub use stream::{stream_report, stream_report_with};
 pub use streaming::StreamOptions;

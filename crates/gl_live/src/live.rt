@@ -14,7 +14,7 @@ ghost use Rattle.gl_shards.specs.declared.shard.TheConstants.{MAX_SHARDS};
 ghost use Rattle.gl_shards.specs.Feeds.{AllSent};
 ghost use Rattle.gl_engine.specs.Recording.{Closed};
 ghost use Rattle.gl_engine.specs.Settling.{IsSettled};
-ghost use Rattle.gl_findings.specs.Reports.{IsReportListing};
+ghost use Rattle.gl_findings.specs.Reports.{IsReportWith};
 ghost use Rattle.gl_live.specs.Faults.{IsLiveFault};
 ghost use Rattle.gl_live.specs.bodies.Runs.{HasRun};
 ghost use Rattle.gl_live.specs.bodies.Rosters.{gathered_from, AreReceipts, IsReceiptOf};
@@ -29,7 +29,7 @@ use gl_engine::preallocated::keep;
 use gl_engine::{Gathered, Receipt, Settled};
 use gl_event::Event;
 use gl_filters::Query;
-use gl_findings::Listing;
+use gl_findings::Contents;
 use gl_shards::{Gate, Sent, Served, Table};
 use std::alloc::Global;
 use std::sync::Wait;
@@ -83,29 +83,28 @@ fn report_settled(
     alloc: Global,
     settled: Settled,
     tables: Vec<Table>,
-    listing: Listing,
+    contents: Contents,
     query: &Query,
 ) -> Result<Report, LiveFault>
     ensures report { (receipts : List Closed) (sent : List AllSent)
         → IsSettled receipts settled sent → tables.items ≡ map (λ s. once s.sent) sent
         → IfOk result
-        (λ report. IsReportListing listing query.now (edges settled) settled report) }
+        (λ report. IsReportWith contents query.now (edges settled) settled report) }
     ensures fault { IfErr result (IsLiveFault settled) }
 {
     let Ok(edges) = settled.edges(tables) else {
         return Err(LiveFault::Memory);
     };
-    report_over(rt, alloc, listing, edges, settled.lists(), query)
+    report_over(rt, alloc, contents, edges, settled.lists(), query)
 }
 
-/// The report of a session that has run, which lists cycles or findings: that of the lists that its
-/// receipts are for.
+/// The report of a session that has run, with these contents: that of the lists that its receipts are for.
 pub fn conclude(
     rt: &(impl Threads + Sync),
     alloc: Global,
     ran: Ran,
     tables: Vec<Table>,
-    listing: Listing,
+    contents: Contents,
     query: &Query,
 ) -> Result<Report, LiveFault>
     requires run { HasRun (vec_capacity tables) ran.gathered ran.served.items }
@@ -114,7 +113,7 @@ pub fn conclude(
     requires none { vec_len tables ≡ 0 }
     ensures report { (lists : List (List Event)) → ran.gathered.limits.threads ≡ length lists
         → All (IsReceiptOf (gathered_from ran.gathered) lists) ran.receipts.items
-        → IfOk result (λ report. IsReportListing listing query.now (edges lists) lists report) }
+        → IfOk result (λ report. IsReportWith contents query.now (edges lists) lists report) }
     ensures fault { (lists : List (List Event)) → ran.gathered.limits.threads ≡ length lists
         → All (IsReceiptOf (gathered_from ran.gathered) lists) ran.receipts.items
         → IfErr result (IsLiveFault lists) }
@@ -127,7 +126,7 @@ pub fn conclude(
     let mut tables = tables;
     match settle(gathered, receipts.as_mut_slice()) {
         Ok((settled, sent)) => match settle_workers(served, sent, &mut tables) {
-            Ok(()) => report_settled(rt, alloc, settled, tables, listing, query),
+            Ok(()) => report_settled(rt, alloc, settled, tables, contents, query),
             Err(fault) => Err(fault),
         },
         Err(fault) => Err(fault),
@@ -139,20 +138,19 @@ fn report_of_none(
     rt: &(impl Threads + Sync),
     alloc: Global,
     lists: &[Vec<Event>],
-    listing: Listing,
+    contents: Contents,
     query: &Query,
 ) -> Result<Report, LiveFault>
     requires none { lists.now ≡ [] }
     ensures report { IfOk result
-        (λ report. IsReportListing listing query.now (edges (lists_of lists.now))
+        (λ report. IsReportWith contents query.now (edges (lists_of lists.now))
         (lists_of lists.now) report) }
     ensures fault { IfErr result (IsLiveFault (lists_of lists.now)) }
 {
-    report_over(rt, alloc, listing, EdgeList::new(alloc), lists, query)
+    report_over(rt, alloc, contents, EdgeList::new(alloc), lists, query)
 }
 
-/// The report of these lists that lists cycles or findings, by a session in which threads record them at
-/// once: whatever their timing, it is that of the lists. A thread's number is the position of its list.
+/// The report of these lists with these contents, by a session in which threads record them at once: whatever their timing, it is that of the lists. A thread's number is the position of its list.
 ///
 /// Lane `t` is recorded by recorder thread `t` modulo their number, list after list; each worker is passed
 /// the gate; the collector runs in the calling thread. No recorder thread records before every thread was
@@ -160,15 +158,15 @@ fn report_of_none(
 ///
 /// # Errors
 ///
-/// In this order: [`LiveFault::Memory`] where a growth was refused before the threads;
-/// [`LiveFault::Unconfirmed`] where a thread couldn't be started; what went wrong in the run; a worker, of
-/// the least shard, that had no memory; then why there is no report.
-pub fn live_listing<R: Threads + Wait + Sync, G: Gate + Sync>(
+/// [`LiveFault::Memory`] where a growth was refused; [`LiveFault::Unconfirmed`] where a thread couldn't be
+/// started, and where the session isn't confirmed; [`LiveFault::Inconsistent`] where a segment of the lists is
+/// before itself. Which one comes first where several could isn't promised.
+pub fn live_report_with<R: Threads + Wait + Sync, G: Gate + Sync>(
     rt: &R,
     alloc: Global,
     lists: &[Vec<Event>],
     options: &SessionOptions,
-    listing: Listing,
+    contents: Contents,
     query: &Query,
     gate: &G,
 ) -> Result<Report, LiveFault>
@@ -179,12 +177,12 @@ pub fn live_listing<R: Threads + Wait + Sync, G: Gate + Sync>(
     requires some_ring { 1 ≤ options.now.ring }
     requires ring_fits { options.now.ring ≤ MAX_RING }
     ensures report { IfOk result
-        (λ report. IsReportListing listing query.now (edges (lists_of lists.now))
+        (λ report. IsReportWith contents query.now (edges (lists_of lists.now))
         (lists_of lists.now) report) }
     ensures fault { IfErr result (IsLiveFault (lists_of lists.now)) }
 {
     if lists.is_empty() {
-        return report_of_none(rt, alloc, lists, listing, query);
+        return report_of_none(rt, alloc, lists, contents, query);
     }
     let threads = lists.len() as u32;
     let Ok((recorders, session)) = prepare(alloc, threads, options.shards, options.ring) else {
@@ -197,16 +195,17 @@ pub fn live_listing<R: Threads + Wait + Sync, G: Gate + Sync>(
         return Err(LiveFault::Memory);
     };
     match run_session(rt, alloc, lists, gate, session, workloads) {
-        Ok(ran) => conclude(rt, alloc, ran, tables, listing, query),
+        Ok(ran) => conclude(rt, alloc, ran, tables, contents, query),
         Err(fault) => Err(fault),
     }
 }
 
-/// The Goodlock report of these lists, by a session as in [`live_listing`]: it lists cycles.
+/// The Goodlock report of these lists, by a session as in [`live_report_with`]: it lists cycles, and has
+/// the trim order.
 ///
 /// # Errors
 ///
-/// Those of [`live_listing`], in the same order.
+/// Those of [`live_report_with`].
 pub fn live_report<R: Threads + Wait + Sync, G: Gate + Sync>(
     rt: &R,
     alloc: Global,
@@ -225,5 +224,13 @@ pub fn live_report<R: Threads + Wait + Sync, G: Gate + Sync>(
         (λ report. IsGoodlockReport query.now (lists_of lists.now) report) }
     ensures fault { IfErr result (IsLiveFault (lists_of lists.now)) }
 {
-    live_listing(rt, alloc, lists, options, Listing::Cycles, query, gate)
+    live_report_with(
+        rt,
+        alloc,
+        lists,
+        options,
+        Contents::CyclesAndTrim,
+        query,
+        gate,
+    )
 }

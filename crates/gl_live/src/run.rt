@@ -9,7 +9,7 @@ ghost use Rattle.gl_live.specs.Faults.{IsLiveFault};
 ghost use Rattle.gl_shards.specs.declared.shard.TheConstants.{MAX_SHARDS};
 ghost use Rattle.gl_live.specs.bodies.Workloads.{IsWorkloadOf};
 ghost use Rattle.gl_live.specs.bodies.Ready.{IsReady};
-ghost use Rattle.gl_live.specs.bodies.Runs.{HasRun};
+ghost use Rattle.gl_live.specs.bodies.Runs.{HasRecordedLists, HasRun};
 ghost use Rattle.gl_live.specs.bodies.Rosters.{gathered_from, roster_of, IsReceiptOf};
 
 use crate::faults::LiveFault;
@@ -118,7 +118,7 @@ fn join_threads<'s, R: Threads>(
 
 // Starts the workers and the recorder threads, in the room that is there for their handles, and then
 // runs the collector. No recorder records before all threads are started.
-fn run_in_room<'s, E, R: Threads + Wait + Sync, G: Gate + Sync>(
+fn run_with_handles<'s, E, R: Threads + Wait + Sync, G: Gate + Sync>(
     scope: &'s Scope<'s, E>,
     rt: &'s R,
     alloc: Global,
@@ -136,13 +136,7 @@ fn run_in_room<'s, E, R: Threads + Wait + Sync, G: Gate + Sync>(
     requires work_room { vec_len workers + length session.inlets.items ≤ vec_capacity workers }
     requires none_records { recorders.items ≡ [] }
     requires record_room { vec_len recorders + length workloads.items ≤ vec_capacity recorders }
-    ensures run { IfOk result
-        (λ ran. HasRun (length session.outlets.items) ran.gathered ran.served.items) }
-    ensures threads { IfOk result (λ ran. ran.gathered.limits.threads ≡ length lists.now) }
-    ensures receipts { IfOk result
-        (λ ran. All
-        (IsReceiptOf (gathered_from ran.gathered) (lists_of lists.now)) ran.receipts.items) }
-    ensures fault { (all : List (List Event)) → IfErr result (IsLiveFault all) }
+    ensures { HasRecordedLists session (length lists.now) (lists_of lists.now) result }
 {
     let Session {
         collector,
@@ -194,13 +188,7 @@ fn run_threads<'s, E, R: Threads + Wait + Sync, G: Gate + Sync>(
 ) -> Result<Ran, LiveFault>
     requires ready { IsReady (length lists.now) session }
     requires workloads { All (IsWorkloadOf (roster_of session.collector)) workloads.items }
-    ensures run { IfOk result
-        (λ ran. HasRun (length session.outlets.items) ran.gathered ran.served.items) }
-    ensures threads { IfOk result (λ ran. ran.gathered.limits.threads ≡ length lists.now) }
-    ensures receipts { IfOk result
-        (λ ran. All
-        (IsReceiptOf (gathered_from ran.gathered) (lists_of lists.now)) ran.receipts.items) }
-    ensures fault { (all : List (List Event)) → IfErr result (IsLiveFault all) }
+    ensures { HasRecordedLists session (length lists.now) (lists_of lists.now) result }
 {
     let Ok(workers) = Vec::with_capacity(alloc, session.inlets.len()) else {
         return Err(LiveFault::Memory);
@@ -208,7 +196,7 @@ fn run_threads<'s, E, R: Threads + Wait + Sync, G: Gate + Sync>(
     let Ok(recorders) = Vec::with_capacity(alloc, workloads.len()) else {
         return Err(LiveFault::Memory);
     };
-    run_in_room(
+    run_with_handles(
         scope, rt, alloc, start, lists, gate, session, workloads, workers, recorders,
     )
 }
@@ -227,13 +215,7 @@ pub fn run_session<R: Threads + Wait + Sync, G: Gate + Sync>(
 ) -> Result<Ran, LiveFault>
     requires ready { IsReady (length lists.now) session }
     requires workloads { All (IsWorkloadOf (roster_of session.collector)) workloads.items }
-    ensures run { IfOk result
-        (λ ran. HasRun (length session.outlets.items) ran.gathered ran.served.items) }
-    ensures threads { IfOk result (λ ran. ran.gathered.limits.threads ≡ length lists.now) }
-    ensures receipts { IfOk result
-        (λ ran. All
-        (IsReceiptOf (gathered_from ran.gathered) (lists_of lists.now)) ran.receipts.items) }
-    ensures fault { (all : List (List Event)) → IfErr result (IsLiveFault all) }
+    ensures { HasRecordedLists session (length lists.now) (lists_of lists.now) result }
 {
     let begin = StartGate::new();
     let start = &begin;
@@ -243,15 +225,8 @@ pub fn run_session<R: Threads + Wait + Sync, G: Gate + Sync>(
         move |scope| -> Result<Ran, LiveFault>
             requires ready { IsReady (length lists.now) session }
             requires workloads { All (IsWorkloadOf (roster_of session.collector)) workloads.items }
-            ensures run { IfOk result
-                (λ ran. HasRun (length session.outlets.items) ran.gathered ran.served.items) }
-            ensures threads { IfOk result
-                (λ ran. ran.gathered.limits.threads ≡ length lists.entry.now) }
-            ensures receipts { IfOk result
-                (λ ran. All
-                (IsReceiptOf (gathered_from ran.gathered)
-                (lists_of lists.entry.now)) ran.receipts.items) }
-            ensures fault { (all : List (List Event)) → IfErr result (IsLiveFault all) }
+            ensures { HasRecordedLists session (length lists.entry.now)
+                (lists_of lists.entry.now) result }
         { run_threads(scope, rt, alloc, start, lists, gate, session, workloads) },
     )
 }

@@ -2,6 +2,7 @@
 ghost use Rattle.std.specs.Prelude.{◌≡◌, ◌<◌, ◌≤◌, ◌+◌, [], map, length, IfOk, OnOk};
 ghost use Rattle.std.specs.List.{All};
 ghost use Rattle.std.specs.Vec.{vec_len, vec_capacity};
+ghost use Rattle.gl_event.specs.Bounds.{of_session};
 ghost use Rattle.gl_event.specs.declared.limits.TheConstants.{MAX_THREADS, MAX_RING};
 ghost use Rattle.gl_shards.specs.declared.shard.TheConstants.{MAX_SHARDS};
 ghost use Rattle.gl_live.specs.bodies.Workloads.{AreDealt, IsWorkloadOf};
@@ -120,6 +121,8 @@ fn add_feed(
         ≡ map (λ o. o.feed) outlets.new.items) }
     ensures unsent { All (λ o. o.sent ≡ []) outlets.old.items
         → OnOk result (All (λ o. o.sent ≡ []) outlets.new.items) }
+    ensures room { All (λ o. o.capacity ≡ capacity) outlets.old.items
+        → OnOk result (All (λ o. o.capacity ≡ capacity) outlets.new.items) }
 {
     let (outlet, inlet) = feed(alloc, capacity)?;
     outlets.push(outlet)?;
@@ -135,6 +138,7 @@ fn feeds(alloc: Global, count: u32, capacity: u32) -> Result<(Vec<Outlet>, Vec<I
     ensures feeds { IfOk result
         (λ ends. map (λ i. i.feed) ends.1.items ≡ map (λ o. o.feed) ends.0.items) }
     ensures unsent { IfOk result (λ ends. All (λ o. o.sent ≡ []) ends.0.items) }
+    ensures room { IfOk result (λ ends. All (λ o. o.capacity ≡ capacity) ends.0.items) }
 {
     let mut outlets = Vec::with_capacity(alloc, count as usize)?;
     let mut inlets = Vec::with_capacity(alloc, count as usize)?;
@@ -166,6 +170,9 @@ pub fn prepare(
         (λ opened. AreRecorded (roster_of opened.1.collector) [] opened.0.items) }
     ensures threads { IfOk result (λ opened. length opened.0.items ≡ threads) }
     ensures shards { IfOk result (λ opened. length opened.1.outlets.items ≡ shards) }
+    ensures lanes { IfOk result (λ opened. opened.1.collector.limits ≡ of_session threads ring) }
+    ensures feeds { IfOk result
+        (λ opened. All (λ o. o.capacity ≡ ring) opened.1.outlets.items) }
 {
     let receipts = Vec::with_capacity(alloc, threads as usize)?;
     let served = Vec::with_capacity(alloc, shards as usize)?;

@@ -3,7 +3,7 @@ ghost use Rattle.std.specs.Prelude.{◌≡◌, ◌≤◌, ℕ, Bool, [], List, I
 ghost use Rattle.std.specs.Vec.{vec_len, vec_capacity};
 ghost use Rattle.gl_event.specs.Bounds.{Bounds};
 ghost use Rattle.gl_event.specs.declared.limits.TheConstants.{MAX_THREADS, MAX_RING};
-ghost use Rattle.gl_findings.specs.declared.listing.Listing.TheVariants.{Cycles};
+ghost use Rattle.gl_findings.specs.declared.listing.Contents.TheVariants.{CyclesAndTrim};
 ghost use Rattle.gl_io.specs.Positions.{Position};
 ghost use Rattle.gl_io.specs.Uses.{SourceUse, used};
 ghost use Rattle.gl_shards.specs.declared.shard.TheConstants.{MAX_SHARDS};
@@ -21,7 +21,7 @@ use crate::session::prepare;
 use crate::streaming::{StreamOptions, read_session};
 use gl_cycles::Report;
 use gl_filters::Query;
-use gl_findings::Listing;
+use gl_findings::Contents;
 use gl_shards::{Gate, Table};
 use gl_std::{Items, Source};
 use std::alloc::Global;
@@ -34,7 +34,7 @@ fn report_streamed(
     alloc: Global,
     ran: Result<Ran, StreamFault>,
     tables: Vec<Table>,
-    listing: Listing,
+    contents: Contents,
     query: &Query,
 ) -> Result<Report, StreamFault>
     requires run { IfOk ran (λ r. HasRun (vec_capacity tables) r.gathered r.served.items) }
@@ -44,12 +44,12 @@ fn report_streamed(
     ensures becomes { (limits : Bounds) (turns : ℕ) (input : SourceUse) (items : Items)
         → IfOk ran (λ r. r.gathered.limits.threads ≡ limits.threads)
         → HasStreamed limits turns input limits.threads items ran
-        → Becomes listing query.now limits turns input items result }
+        → Becomes contents query.now limits turns input items result }
     ensures in_time { (old new : Position) (items : Items) → OnOk ran (IsDone items)
         → FailsInTime old new items ran → FailsInTime old new items result }
 {
     match ran {
-        Ok(ran) => match conclude(rt, alloc, ran, tables, listing, query) {
+        Ok(ran) => match conclude(rt, alloc, ran, tables, contents, query) {
             Ok(report) => Ok(report),
             Err(fault) => Err(StreamFault::Session(fault)),
         },
@@ -57,8 +57,8 @@ fn report_streamed(
     }
 }
 
-/// The report of the text that a source gives, which lists cycles or findings, by a session that records
-/// it as it is read: whatever the threads' timing, it is that of the trace of the text, where this names no
+/// The report of the text that a source gives, with these contents, by a session that records it as it is
+/// read: whatever the threads' timing, it is that of the trace of the text, where this names no
 /// more threads than there are lanes.
 ///
 /// The items are those of the text, of which none was asked for yet, under a limit of as many threads as
@@ -69,17 +69,18 @@ fn report_streamed(
 ///
 /// # Errors
 ///
-/// In this order: [`LiveFault::Memory`] where a growth was refused before the
-/// threads; [`LiveFault::Unconfirmed`] where a thread couldn't be started;
-/// [`StreamFault::Text`] with the fault that the items answered; what went wrong in the run; a worker, of
-/// the least shard, that had no memory; then why there is no report.
-pub fn stream_listing<R: Threads + Wait + Sync, S: Source, G: Gate + Sync>(
+/// [`StreamFault::Text`] with the fault that the items answered; [`StreamFault::Session`] with
+/// [`LiveFault::Memory`] where a growth was refused, [`LiveFault::Unconfirmed`] where a thread couldn't be
+/// started, and where the session isn't confirmed, and [`LiveFault::Inconsistent`] where a segment of the
+/// text's trace is before itself. What isn't the text's comes before anything was read, or once all was told;
+/// which one comes first where several could isn't promised else.
+pub fn stream_report_with<R: Threads + Wait + Sync, S: Source, G: Gate + Sync>(
     rt: &R,
     alloc: Global,
     items: Items,
     input: &mut S,
     options: &StreamOptions,
-    listing: Listing,
+    contents: Contents,
     query: &Query,
     gate: &G,
 ) -> (Result<Report, StreamFault>, Items)
@@ -96,7 +97,7 @@ pub fn stream_listing<R: Threads + Wait + Sync, S: Source, G: Gate + Sync>(
         → limits.threads ≡ options.now.threads
         → HasTold limits turns
         (used start (S.position input.old) (S.failed input.old)) items [] nothing
-        → Becomes listing query.now limits turns
+        → Becomes contents query.now limits turns
         (used start (S.position input.new) (S.failed input.new)) result.1 result.0 }
     ensures in_time { FailsInTime (S.position input.old)
         (S.position input.new) result.1 result.0 }
@@ -110,17 +111,17 @@ pub fn stream_listing<R: Threads + Wait + Sync, S: Source, G: Gate + Sync>(
     };
     let (ran, items) = read_session(rt, alloc, gate, session, recorders, items, input);
     (
-        report_streamed(rt, alloc, ran, tables, listing, query),
+        report_streamed(rt, alloc, ran, tables, contents, query),
         items,
     )
 }
 
-/// The Goodlock report of the text that a source gives, by a session as in [`stream_listing`]: it lists
-/// cycles.
+/// The Goodlock report of the text that a source gives, by a session as in
+/// [`stream_report_with`]: it lists cycles, and has the trim order.
 ///
 /// # Errors
 ///
-/// Those of [`stream_listing`], in the same order.
+/// Those of [`stream_report_with`].
 pub fn stream_report<R: Threads + Wait + Sync, S: Source, G: Gate + Sync>(
     rt: &R,
     alloc: Global,
@@ -143,18 +144,18 @@ pub fn stream_report<R: Threads + Wait + Sync, S: Source, G: Gate + Sync>(
         → limits.threads ≡ options.now.threads
         → HasTold limits turns
         (used start (S.position input.old) (S.failed input.old)) items [] nothing
-        → Becomes Cycles query.now limits turns
+        → Becomes CyclesAndTrim query.now limits turns
         (used start (S.position input.new) (S.failed input.new)) result.1 result.0 }
     ensures in_time { FailsInTime (S.position input.old)
         (S.position input.new) result.1 result.0 }
 {
-    stream_listing(
+    stream_report_with(
         rt,
         alloc,
         items,
         input,
         options,
-        Listing::Cycles,
+        Contents::CyclesAndTrim,
         query,
         gate,
     )

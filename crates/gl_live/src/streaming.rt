@@ -8,11 +8,8 @@ ghost use Rattle.gl_std.specs.Listed.{listed};
 ghost use Rattle.gl_std.specs.Names.{NameLists};
 ghost use Rattle.gl_std.specs.Streaming.{with_item, CanBeAsked, IsDone};
 ghost use Rattle.gl_std.specs.declared.trace.Trace.{Trace};
-ghost use Rattle.gl_live.specs.Streamed.{FailsInTime, IsUnread};
-ghost use Rattle.gl_live.specs.bodies.Runs.{HasRun};
-ghost use Rattle.gl_live.specs.bodies.Ready.{IsReady};
-ghost use Rattle.gl_live.specs.bodies.Rosters.{Roster, gathered_from, roster_of, AreReceipts, IsReceiptOf};
-ghost use Rattle.gl_live.specs.bodies.Streams.{AreRecorded, CanBeTaken, FollowOn, HasGathered, HasTaken, IsOfThreads, IsRecording, MayTake, StopsAfter, StreamsOn};
+ghost use Rattle.gl_live.specs.bodies.Rosters.{Roster, IsReceiptOf};
+ghost use Rattle.gl_live.specs.bodies.Streams.{AreRecorded, CanBeTaken, HasGathered, HasRecordedText, HasTaken, IsAtStart, IsOfThreads, IsRecording, KeepUp, MayTake, StopsAfter};
 
 use crate::faults::{LiveFault, StreamFault};
 use crate::recording::close_wait;
@@ -83,7 +80,7 @@ fn record_next<R: Wait, S: Source>(
     ensures usable { CanBeAsked items.new (S.failed input.new) }
     ensures count { length recorders.new.items ≡ length recorders.old.items }
     ensures follows { OnOk result
-        (FollowOn (S.position input.old) (S.failed input.old) items.old recorders.old.items
+        (KeepUp (S.position input.old) (S.failed input.old) items.old recorders.old.items
         (S.position input.new) (S.failed input.new) items.new recorders.new.items) }
     ensures done { result ≡ Ok false → IsDone items.new }
     ensures stops { IfErr result
@@ -113,7 +110,7 @@ fn record_items<R: Wait, S: Source>(
         (S.failed input.old) items.old recorders.old.items }
     ensures count { length recorders.new.items ≡ length recorders.old.items }
     ensures follows { OnOk result
-        (FollowOn (S.position input.old) (S.failed input.old) items.old recorders.old.items
+        (KeepUp (S.position input.old) (S.failed input.old) items.old recorders.old.items
         (S.position input.new) (S.failed input.new) items.new recorders.new.items) }
     ensures done { OnOk result (IsDone items.new) }
     ensures stops { IfErr result
@@ -156,7 +153,7 @@ impl Promise<Gathered> for GatheredBy {
 }
 
 // A collector's thread.
-type Gathering = PromisedHandle<Gathered, GatheredBy>;
+type CollectorThread = PromisedHandle<Gathered, GatheredBy>;
 
 // Starts the collector's thread.
 fn start_collector<'s, E, R: Threads + Wait + Sync>(
@@ -164,7 +161,7 @@ fn start_collector<'s, E, R: Threads + Wait + Sync>(
     rt: &'s R,
     collector: Collector,
     outlets: Vec<Outlet>,
-) -> Option<Gathering>
+) -> Option<CollectorThread>
     requires some { 1 ≤ length outlets.items }
     requires fit { length outlets.items ≤ MAX_SHARDS }
     requires unsent { All (λ o. o.sent ≡ []) outlets.items }
@@ -182,13 +179,13 @@ fn start_collector<'s, E, R: Threads + Wait + Sync>(
             requires fit { length outlets.items ≤ MAX_SHARDS }
             requires unsent { All (λ o. o.sent ≡ []) outlets.items }
             ensures { HasGathered collector outlets.items result }
-        { gather(rt, collector, outlets) },
+        { run_collector(rt, collector, outlets) },
     );
     gathering.ok()
 }
 
 // Runs the collector.
-fn gather<R: Wait>(rt: &R, collector: Collector, outlets: Vec<Outlet>) -> Gathered
+fn run_collector<R: Wait>(rt: &R, collector: Collector, outlets: Vec<Outlet>) -> Gathered
     requires some { 1 ≤ length outlets.items }
     requires fit { length outlets.items ≤ MAX_SHARDS }
     requires unsent { All (λ o. o.sent ≡ []) outlets.items }
@@ -207,7 +204,7 @@ fn start_collecting<'s, E, R: Threads + Wait + Sync, G: Gate + Sync>(
     outlets: Vec<Outlet>,
     inlets: Vec<Inlet>,
     workers: &mut Vec<Working>,
-) -> Option<Gathering>
+) -> Option<CollectorThread>
     requires some { 1 ≤ length outlets.items }
     requires fit { length outlets.items ≤ MAX_SHARDS }
     requires unsent { All (λ o. o.sent ≡ []) outlets.items }
@@ -228,7 +225,7 @@ fn start_collecting<'s, E, R: Threads + Wait + Sync, G: Gate + Sync>(
 
 // Starts the workers, in the room that is there for their handles, and the collector, and then reads and
 // records.
-fn record_in_room<'s, E, R: Threads + Wait + Sync, S: Source, G: Gate + Sync>(
+fn record_and_collect<'s, E, R: Threads + Wait + Sync, S: Source, G: Gate + Sync>(
     scope: &'s Scope<'s, E>,
     rt: &'s R,
     alloc: Global,
@@ -239,22 +236,13 @@ fn record_in_room<'s, E, R: Threads + Wait + Sync, S: Source, G: Gate + Sync>(
     items: &mut Items,
     input: &mut S,
 ) -> Result<Ran, StreamFault>
-    requires ready { IsReady (length recorders.items) session }
-    requires unused { AreRecorded (roster_of session.collector) [] recorders.items }
+    requires start { IsAtStart session recorders.items (S.position input.old)
+        (S.failed input.old) items.old }
     requires none_works { workers.items ≡ [] }
     requires work_room { vec_len workers + length session.inlets.items ≤ vec_capacity workers }
-    requires usable { CanBeAsked items.old (S.failed input.old) }
-    requires unread { IsUnread (length recorders.items) (S.position input.old)
-        (S.failed input.old) items.old }
-    ensures ours { IfOk result
-        (λ ran. AreReceipts (gathered_from ran.gathered) ran.receipts.items) }
-    ensures run { IfOk result
-        (λ ran. HasRun (length session.outlets.items) ran.gathered ran.served.items) }
-    ensures threads { IfOk result (λ ran. ran.gathered.limits.threads ≡ length recorders.items) }
-    ensures streamed { StreamsOn (S.position input.old) (S.failed input.old) items.old
-        (S.position input.new) (S.failed input.new) (length recorders.items) items.new result }
-    ensures done { OnOk result (IsDone items.new) }
-    ensures in_time { FailsInTime (S.position input.old) (S.position input.new) items.new result }
+    ensures { HasRecordedText session (length recorders.items) (S.position input.old)
+        (S.failed input.old) items.old (S.position input.new) (S.failed input.new) items.new
+        result }
 {
     let Session {
         collector,
@@ -300,25 +288,16 @@ fn record_text<'s, E, R: Threads + Wait + Sync, S: Source, G: Gate + Sync>(
     items: &mut Items,
     input: &mut S,
 ) -> Result<Ran, StreamFault>
-    requires ready { IsReady (length recorders.items) session }
-    requires unused { AreRecorded (roster_of session.collector) [] recorders.items }
-    requires usable { CanBeAsked items.old (S.failed input.old) }
-    requires unread { IsUnread (length recorders.items) (S.position input.old)
+    requires start { IsAtStart session recorders.items (S.position input.old)
         (S.failed input.old) items.old }
-    ensures ours { IfOk result
-        (λ ran. AreReceipts (gathered_from ran.gathered) ran.receipts.items) }
-    ensures run { IfOk result
-        (λ ran. HasRun (length session.outlets.items) ran.gathered ran.served.items) }
-    ensures threads { IfOk result (λ ran. ran.gathered.limits.threads ≡ length recorders.items) }
-    ensures streamed { StreamsOn (S.position input.old) (S.failed input.old) items.old
-        (S.position input.new) (S.failed input.new) (length recorders.items) items.new result }
-    ensures done { OnOk result (IsDone items.new) }
-    ensures in_time { FailsInTime (S.position input.old) (S.position input.new) items.new result }
+    ensures { HasRecordedText session (length recorders.items) (S.position input.old)
+        (S.failed input.old) items.old (S.position input.new) (S.failed input.new) items.new
+        result }
 {
     let Ok(workers) = Vec::with_capacity(alloc, session.inlets.len()) else {
         return Err(StreamFault::Session(LiveFault::Memory));
     };
-    record_in_room(
+    record_and_collect(
         scope, rt, alloc, gate, session, recorders, workers, items, input,
     )
 }
@@ -334,24 +313,12 @@ fn lend_text<'s, 'x, E, R: Threads + Wait + Sync, S: Source, G: Gate + Sync>(
     items: Items,
     input: &'x mut S,
 ) -> (Result<Ran, StreamFault>, Items, &'x mut S)
-    requires ready { IsReady (length recorders.items) session }
-    requires unused { AreRecorded (roster_of session.collector) [] recorders.items }
-    requires usable { CanBeAsked items (S.failed input.old) }
-    requires unread { IsUnread (length recorders.items) (S.position input.old)
+    requires start { IsAtStart session recorders.items (S.position input.old)
         (S.failed input.old) items }
-    ensures ours { IfOk result.0
-        (λ ran. AreReceipts (gathered_from ran.gathered) ran.receipts.items) }
     ensures same { result.2.ghost_name ≡ input.entry.ghost_name }
-    ensures run { IfOk result.0
-        (λ ran. HasRun (length session.outlets.items) ran.gathered ran.served.items) }
-    ensures threads { IfOk result.0
-        (λ ran. ran.gathered.limits.threads ≡ length recorders.items) }
-    ensures streamed { StreamsOn (S.position input.old) (S.failed input.old) items
-        (S.position result.2.now) (S.failed result.2.now)
-        (length recorders.items) result.1 result.0 }
-    ensures done { OnOk result.0 (IsDone result.1) }
-    ensures in_time { FailsInTime (S.position input.old)
-        (S.position result.2.now) result.1 result.0 }
+    ensures text { HasRecordedText session (length recorders.items) (S.position input.old)
+        (S.failed input.old) items (S.position result.2.now) (S.failed result.2.now) result.1
+        result.0 }
 {
     let mut items = items;
     let ran = record_text(
@@ -373,45 +340,22 @@ pub fn read_session<R: Threads + Wait + Sync, S: Source, G: Gate + Sync>(
     items: Items,
     input: &mut S,
 ) -> (Result<Ran, StreamFault>, Items)
-    requires ready { IsReady (length recorders.items) session }
-    requires unused { AreRecorded (roster_of session.collector) [] recorders.items }
-    requires usable { CanBeAsked items (S.failed input.old) }
-    requires unread { IsUnread (length recorders.items) (S.position input.old)
+    requires start { IsAtStart session recorders.items (S.position input.old)
         (S.failed input.old) items }
-    ensures ours { IfOk result.0
-        (λ ran. AreReceipts (gathered_from ran.gathered) ran.receipts.items) }
-    ensures run { IfOk result.0
-        (λ ran. HasRun (length session.outlets.items) ran.gathered ran.served.items) }
-    ensures threads { IfOk result.0
-        (λ ran. ran.gathered.limits.threads ≡ length recorders.items) }
-    ensures streamed { StreamsOn (S.position input.old) (S.failed input.old) items
-        (S.position input.new) (S.failed input.new) (length recorders.items) result.1 result.0 }
-    ensures done { OnOk result.0 (IsDone result.1) }
-    ensures in_time { FailsInTime (S.position input.old)
-        (S.position input.new) result.1 result.0 }
+    ensures { HasRecordedText session (length recorders.items) (S.position input.old)
+        (S.failed input.old) items (S.position input.new) (S.failed input.new) result.1
+        result.0 }
 {
     let (ran, items, _input) = thread::scope(
         thread::scope_env(),
         rt,
         move |scope| -> (Result<Ran, StreamFault>, Items, &mut S)
-            requires ready { IsReady (length recorders.items) session }
-            requires unused { AreRecorded (roster_of session.collector) [] recorders.items }
-            requires usable { CanBeAsked items (S.failed input.now) }
-            requires unread { IsUnread (length recorders.items) (S.position input.now)
+            requires start { IsAtStart session recorders.items (S.position input.now)
                 (S.failed input.now) items }
-            ensures ours { IfOk result.0
-                (λ ran. AreReceipts (gathered_from ran.gathered) ran.receipts.items) }
             ensures same { result.2.ghost_name ≡ input.entry.ghost_name }
-            ensures run { IfOk result.0
-                (λ ran. HasRun (length session.outlets.items) ran.gathered ran.served.items) }
-            ensures threads { IfOk result.0
-                (λ ran. ran.gathered.limits.threads ≡ length recorders.items) }
-            ensures streamed { StreamsOn (S.position input.entry.now) (S.failed input.entry.now)
-                items (S.position result.2.now) (S.failed result.2.now)
-                (length recorders.items) result.1 result.0 }
-            ensures done { OnOk result.0 (IsDone result.1) }
-            ensures in_time { FailsInTime (S.position input.entry.now)
-                (S.position result.2.now) result.1 result.0 }
+            ensures text { HasRecordedText session (length recorders.items)
+                (S.position input.entry.now) (S.failed input.entry.now) items
+                (S.position result.2.now) (S.failed result.2.now) result.1 result.0 }
         { lend_text(scope, rt, alloc, gate, session, recorders, items, input) },
     );
     (ran, items)

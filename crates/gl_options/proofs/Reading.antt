@@ -93,7 +93,7 @@ unentered m no_predict no_live no_stats no_replay no_check (Findings q form jobs
 unentered m no_predict no_live no_stats no_replay no_check (Live o) of = no_live (entered_name m (Live o) (codes "live") of of.is_command.0)
 unentered m no_predict no_live no_stats no_replay no_check (Stats q jobs) of = no_stats (entered_name m (Stats q jobs) (codes "stats") of of.is_command.0)
 unentered m no_predict no_live no_stats no_replay no_check (Replay jobs) of = no_replay (entered_name m (Replay jobs) (codes "replay") of of.is_command.0)
-unentered m no_predict no_live no_stats no_replay no_check Check of = no_check (entered_name m Check (codes "check") of of.is_command)
+unentered m no_predict no_live no_stats no_replay no_check (Check jobs) of = no_check (entered_name m (Check jobs) (codes "check") of of.is_command.0)
 
 -- options that give no query, or no number of threads that read
 pub no_prediction : (rows : List Row) → ((q : Asked) (jobs : ℕ) → AsksIn rows q → IsJobsIn rows jobs → ⊥) → (c : Command) → IsCommand (codes "predict") rows c → ⊥
@@ -108,8 +108,8 @@ no_prediction rows none (Stats q jobs) is =
 no_prediction rows none (Replay jobs) is =
     let bad : true ≡ false = ap (λ (name : Text). length name == 7) is.0 in
     cc
-no_prediction rows none Check is =
-    let bad : true ≡ false = ap (λ (name : Text). length name == 7) is in
+no_prediction rows none (Check jobs) is =
+    let bad : true ≡ false = ap (λ (name : Text). length name == 7) is.0 in
     cc
 
 abbrev first_letter : Text → ℕ
@@ -130,8 +130,8 @@ no_stats rows none (Stats q jobs) is = none q jobs is.1 is.2
 no_stats rows none (Replay jobs) is =
     let bad : true ≡ false = ap (λ (name : Text). length name == 5) is.0 in
     cc
-no_stats rows none Check is =
-    let bad : false ≡ true = ap (λ (name : Text). first_letter name == 99) is in
+no_stats rows none (Check jobs) is =
+    let bad : false ≡ true = ap (λ (name : Text). first_letter name == 99) is.0 in
     cc
 
 pub no_session : (rows : List Row) → ((o : LiveOptions) → AsksIn rows o.query → AsksForSession rows o → ⊥) → (c : Command) → IsCommand (codes "live") rows c → ⊥
@@ -148,8 +148,8 @@ no_session rows none (Stats q jobs) is =
 no_session rows none (Replay jobs) is =
     let bad : true ≡ false = ap (λ (name : Text). length name == 4) is.0 in
     cc
-no_session rows none Check is =
-    let bad : true ≡ false = ap (λ (name : Text). length name == 4) is in
+no_session rows none (Check jobs) is =
+    let bad : true ≡ false = ap (λ (name : Text). length name == 4) is.0 in
     cc
 
 pub no_replay : (rows : List Row) → ((jobs : ℕ) → IsJobsIn rows jobs → ⊥) → (c : Command) → IsCommand (codes "replay") rows c → ⊥
@@ -166,9 +166,27 @@ no_replay rows none (Stats q jobs) is =
     let bad : true ≡ false = ap (λ (name : Text). length name == 6) is.0 in
     cc
 no_replay rows none (Replay jobs) is = none jobs is.1
-no_replay rows none Check is =
-    let bad : true ≡ false = ap (λ (name : Text). length name == 6) is in
+no_replay rows none (Check jobs) is =
+    let bad : true ≡ false = ap (λ (name : Text). length name == 6) is.0 in
     cc
+
+pub no_check : (rows : List Row) → ((jobs : ℕ) → IsJobsIn rows jobs → ⊥) → (c : Command) → IsCommand (codes "check") rows c → ⊥
+no_check rows none (Predict q form jobs) is =
+    let bad : true ≡ false = ap (λ (name : Text). length name == 5) is.0 in
+    cc
+no_check rows none (Findings q form jobs) is =
+    let bad : true ≡ false = ap (λ (name : Text). length name == 5) is.0 in
+    cc
+no_check rows none (Live o) is =
+    let bad : true ≡ false = ap (λ (name : Text). length name == 5) is.0 in
+    cc
+no_check rows none (Stats q jobs) is =
+    let bad : true ≡ false = ap (λ (name : Text). first_letter name == 99) is.0 in
+    cc
+no_check rows none (Replay jobs) is =
+    let bad : true ≡ false = ap (λ (name : Text). length name == 5) is.0 in
+    cc
+no_check rows none (Check jobs) is = none jobs is.1
 
 -- an option has one number
 pub same_number : (rows : List Row) (id : Text) (m n : ℕ) → IsNumberAt rows id m → IsNumberAt rows id n → m ≡ n
@@ -193,7 +211,7 @@ can_run words (Live o) asks =
     }
 can_run words (Stats q jobs) asks = tt
 can_run words (Replay jobs) asks = tt
-can_run words Check asks = tt
+can_run words (Check jobs) asks = tt
 
 -- a value that no option takes
 pub refused_value : (words : List Text) (u : Usage) → IsUsageFor kind.InvalidValue u → ((c : Command) → Asks words c → ⊥)

@@ -1,5 +1,5 @@
 -- The command line: its commands and options, and what words ask for.
-use Rattle.std.specs.Prelude.{◌≡◌, ◌≢◌, ◌≤◌, ◌⊎◌, ⊤, ℕ, Bool, true, false, List, [], ◌∷◌, Option, Some, None, codes, pos, if◌then◌else◌, option_and_then}
+use Rattle.std.specs.Prelude.{◌≡◌, ◌≢◌, ◌≤◌, ◌⊎◌, ⊤, ℕ, Bool, true, false, List, [], ◌∷◌, Option, Some, None, codes, pos, if◌then◌else◌, option_and_then, string_bytes}
 use Rattle.std.specs.Str.{bytes_eq}
 use Rattle.std.specs.Str.Parse.{IsNumeral, digits_value, without_leading_plus}
 use Rattle.clap.specs.Words.{App, IsAmong, Row, Rule, Text, fault_of, first_of, new_app, new_rule, one_of, subcommand_of, with_rule, with_subcommand}
@@ -100,9 +100,9 @@ stats = with_rule (query_app (codes "stats")) jobs_rule
 abbrev pub replay : App
 replay = with_rule (new_app (codes "replay")) jobs_rule
 
--- the command that checks a report: it has no options
+-- the command that checks a report, with how many threads read the trace
 abbrev pub check : App
-check = new_app (codes "check")
+check = with_rule (new_app (codes "check")) jobs_rule
 
 -- the program: a subcommand is required
 abbrev pub program : App
@@ -183,16 +183,16 @@ IsCommand name rows (Live options) = (name ≡ codes "live") × AsksIn rows opti
 IsCommand name rows (Stats query jobs) = (name ≡ codes "stats")
     × AsksIn rows query × IsJobsIn rows jobs
 IsCommand name rows (Replay jobs) = (name ≡ codes "replay") × IsJobsIn rows jobs
-IsCommand name rows Check = name ≡ codes "check"
+IsCommand name rows (Check jobs) = (name ≡ codes "check") × IsJobsIn rows jobs
 
--- how many threads are to read the trace of a command, or 0: `check` has its text read whole, by one
+-- how many threads are to read the trace of a command, or 0
 abbrev pub jobs_of : Command → ℕ
 jobs_of (Predict query form jobs) = jobs
 jobs_of (Findings query form jobs) = jobs
 jobs_of (Live options) = options.jobs
 jobs_of (Stats query jobs) = jobs
 jobs_of (Replay jobs) = jobs
-jobs_of Check = 1
+jobs_of (Check jobs) = jobs
 
 -- the subcommand that was entered is this
 pub record IsEntered (entered : Option (Text × List Row)) (command : Command) : Type 0 where
@@ -219,6 +219,12 @@ abbrev pub IsUsageFor : ErrorKind → Usage → Type 0
 IsUsageFor failed (Shown text) = shows failed ≡ true
 IsUsageFor failed (Refused text) = (shows failed ≡ false) × (failed ≢ kind.OutOfMemory)
 IsUsageFor failed Memory = ⊤
+
+-- a refusal, of a value that no option takes, says what `--mode` takes
+abbrev pub NamesModes : Usage → Type 0
+NamesModes (Refused text) = string_bytes text
+    ≡ codes "error: --mode takes basic, guarded or full\n\nFor more information, try '--help'.\n"
+NamesModes other = ⊤
 
 -- a text is shown where the words ask for help or the version; they are refused where they hold a mistake, or a value that no option takes
 abbrev pub IsUsageOf : List Text → Usage → Type 0

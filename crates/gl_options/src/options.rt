@@ -5,7 +5,7 @@ ghost use Rattle.clap.specs.Words.{app_of, first_of, found_of, kind_of, rows_of,
 ghost use Rattle.clap.specs.declared.builder.command.Command.TheViews.{out-Command as fields_of};
 ghost use Rattle.gl_filters.specs.Asked.{Asked};
 ghost use Rattle.gl_options.specs.Options.{goodlock, program, predict, live, stats, replay, check, query_app, report_app, mode_rule, len_rule, max_rule, json_rule, findings_rule};
-ghost use Rattle.gl_options.specs.Options.{Asks, AsksIn, IsCommand, IsEntered, IsFlagIn, IsFormIn, IsNumberAt, IsNumberIn, IsUsageFor, IsUsageOf, jobs_of, mode_named};
+ghost use Rattle.gl_options.specs.Options.{Asks, AsksIn, IsCommand, IsEntered, IsFlagIn, IsFormIn, IsNumberAt, IsNumberIn, IsUsageFor, IsUsageOf, NamesModes, jobs_of, mode_named};
 
 use crate::building::{described, with_command, with_option};
 use crate::form::Form;
@@ -34,13 +34,12 @@ pub enum Command {
     Stats { query: Query, jobs: u32 },
     /// Read a trace, by so many threads, and print it as a text.
     Replay { jobs: u32 },
-    /// Read a report and the trace that it is of, and print whether it is true.
-    Check,
+    /// Read a report and the trace that it is of, this by so many threads, and print whether it is true.
+    Check { jobs: u32 },
 }
 
 impl Command {
-    /// How many threads are to read the trace, or 0: one for each processor. `check` has its text read whole, by
-    /// one.
+    /// How many threads are to read the trace, or 0: one for each processor.
     pub fn jobs(&self) -> u32
         ensures { result ≡ jobs_of self.now }
     {
@@ -50,7 +49,7 @@ impl Command {
             Command::Live(options) => options.jobs,
             Command::Stats { jobs, .. } => *jobs,
             Command::Replay { jobs } => *jobs,
-            Command::Check => 1,
+            Command::Check { jobs } => *jobs,
         }
     }
 }
@@ -202,17 +201,16 @@ fn replay_command<'a>(alloc: Global) -> Result<clap::Command<'a>, AllocError>
 }
 
 // The command that checks a report.
-fn check_command<'a>(alloc: Global) -> clap::Command<'a>
-    ensures shape { app_of result ≡ check }
-    ensures local { (fields_of result).has_globals ≡ false }
+fn check_command<'a>(alloc: Global) -> Result<clap::Command<'a>, AllocError>
+    ensures shape { IfOk result (λ c. app_of c ≡ check) }
+    ensures local { IfOk result (λ c. (fields_of c).has_globals ≡ false) }
 {
-    clap::Command::new(alloc, "check")
-        .about(
-            "Reads a JSON report, which is one line, and then its trace from standard input, and says whether the report is true",
-        )
-        .after_help(
-            "Examples:\n  cat report.json trace.std | goodlock check\n  (goodlock predict --json < trace.std; cat trace.std) | goodlock check",
-        )
+    let command = described(
+        Ok(clap::Command::new(alloc, "check")),
+        "Reads a JSON report, which is one line, and then its trace from standard input, and says whether the report is true",
+        "Examples:\n  cat report.json trace.std | goodlock check\n  (goodlock predict --json < trace.std; cat trace.std) | goodlock check",
+    );
+    with_option(command, jobs_option(alloc))
 }
 
 // The program without its commands.
@@ -247,7 +245,7 @@ fn command_line<'a>(alloc: Global) -> Result<clap::Command<'a>, AllocError>
     ensures { IfOk result (λ c. app_of c ≡ goodlock) }
 {
     let command = with_command(reporting(alloc), replay_command(alloc));
-    with_command(command, Ok(check_command(alloc)))
+    with_command(command, check_command(alloc))
 }
 
 // The mode of this name.
@@ -356,7 +354,8 @@ fn usage_of(alloc: Global, error: &Error) -> Usage
 
 // A value that no option takes.
 fn refused(alloc: Global) -> Usage
-    ensures { IsUsageFor InvalidValue result }
+    ensures usage { IsUsageFor InvalidValue result }
+    ensures text { NamesModes result }
 {
     match String::from_str(alloc, REFUSED) {
         Ok(text) => Usage::Refused(text),
@@ -400,6 +399,16 @@ fn replay_in(options: &ArgMatches<'_>) -> Option<Command>
     Some(Command::Replay { jobs })
 }
 
+// The command that these values of its options ask for.
+fn check_in(options: &ArgMatches<'_>) -> Option<Command>
+    ensures some { IfSome result (IsCommand (codes "check") (rows_of (found_of options.now))) }
+    ensures none { result ≡ None → (c : Command)
+        → IsCommand (codes "check") (rows_of (found_of options.now)) c → ⊥ }
+{
+    let jobs = jobs_in(options)?;
+    Some(Command::Check { jobs })
+}
+
 // The command that was entered, where its options have values in their ranges.
 fn command_in(matches: &ArgMatches<'_>) -> Option<Command>
     ensures some { IfSome result (IsEntered (subcommand_rows_of matches.now)) }
@@ -419,10 +428,10 @@ fn command_in(matches: &ArgMatches<'_>) -> Option<Command>
     if let Some(options) = matches.subcommand_matches("replay") {
         return replay_in(options);
     }
-    match matches.subcommand_matches("check") {
-        Some(_) => Some(Command::Check),
-        None => None,
+    if let Some(options) = matches.subcommand_matches("check") {
+        return check_in(options);
     }
+    None
 }
 
 /// What these words ask for, of which the first is the program's name, or why they ask for nothing.
@@ -431,8 +440,8 @@ fn command_in(matches: &ArgMatches<'_>) -> Option<Command>
 /// `basic`, `guarded` or `full` (the default), `--len` with a number from 2 to 16 (4), and `--max` with
 /// one from 1 to 100,000 (1,000), of `predict` and `live` also `--json` and `--findings`, and of `live`
 /// `--recorders` and `--shards` with numbers from 1 to 16 (4 each), `--ring` with one from 1 to 65,536 (256),
-/// `--stream`, and `--threads` with a number from 1 to 1,024 (64); or `goodlock replay`; of each of these also
-/// `--jobs` with a number from 0 to 64 (0), and each option once at the most; or `goodlock check`. `--help`, of
+/// `--stream`, and `--threads` with a number from 1 to 1,024 (64); or `goodlock replay`, or `goodlock check`; of
+/// each of these also `--jobs` with a number from 0 to 64 (0), and each option once at the most. `--help`, of
 /// the program or of a command, and `--version` ask for a text. With `--findings`, `predict` and `live` ask for
 /// findings in place of cycles: cycles that were made at the same pairs of source places are one finding.
 pub fn parse<'a, S: AsStr>(alloc: Global, words: &'a [S]) -> Result<Command, Usage>

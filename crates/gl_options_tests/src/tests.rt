@@ -97,7 +97,7 @@ fn counting_replaying_and_checking(rt: HostRuntime) -> Result<(), Fail> {
     ];
     expect_command(&rt, &words, &Command::Stats { query, jobs });
     expect_command(&rt, &["goodlock", "replay"], &Command::Replay { jobs });
-    expect_command(&rt, &["goodlock", "check"], &Command::Check);
+    expect_command(&rt, &["goodlock", "check"], &Command::Check { jobs });
     Ok(())
 }
 
@@ -209,6 +209,8 @@ fn expect_jobs<R: Abort + AllocGlobal>(rt: &R, full: &Query, value: &str, jobs: 
     expect_command(rt, &words, &Command::Stats { query, jobs });
     let words = ["goodlock", "replay", "--jobs", value];
     expect_command(rt, &words, &Command::Replay { jobs });
+    let words = ["goodlock", "check", "--jobs", value];
+    expect_command(rt, &words, &Command::Check { jobs });
     let options = LiveOptions {
         jobs,
         ..default_session(query)
@@ -251,7 +253,6 @@ fn jobs_usage_faults(rt: HostRuntime) {
     expect_no_jobs(&rt, "live");
     expect_no_jobs(&rt, "stats");
     expect_no_jobs(&rt, "replay");
-    expect_usage(&rt, &["goodlock", "check", "--jobs", "1"], false);
-    expect_usage(&rt, &["goodlock", "check", "--jobs", "0"], false);
+    expect_no_jobs(&rt, "check");
     expect_usage(&rt, &["goodlock", "--jobs", "1", "predict"], false);
 }

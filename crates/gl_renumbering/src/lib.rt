@@ -17,8 +17,6 @@
 mod laws;
 mod numbers;
 mod renumbering;
-#[cfg(test)]
-mod tests;
 mod threads;
 mod unnamed;
 

@@ -8,6 +8,7 @@ use std::test::Fail;
 mod cut_texts;
 mod faults;
 mod pieces;
+mod renumbered;
 mod rewritten;
 mod tables;
 mod texts;

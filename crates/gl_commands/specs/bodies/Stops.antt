@@ -7,7 +7,9 @@ use Rattle.gl_segments.specs.Laws.{DecidesBefore}
 use Rattle.gl_segments.specs.Segments.{IsConsistent}
 use Rattle.gl_filters.specs.Asked.{Asked}
 use Rattle.gl_cycles.specs.declared.found.Report.{Report}
-use Rattle.gl_findings.specs.declared.listing.Listing.{Listing}
+use Rattle.gl_edges.specs.Edges.{edges}
+use Rattle.gl_findings.specs.Reports.{report_with}
+use Rattle.gl_findings.specs.declared.listing.Contents.{Contents}
 use Rattle.gl_std.specs.declared.faults.StdKind.{StdKind}
 use Rattle.gl_io.specs.Reads.{HasRead}
 use Rattle.gl_std.specs.declared.faults.LinesFault.{LinesFault}
@@ -15,7 +17,7 @@ use Rattle.gl_std.specs.declared.faults.LinesFault.TheVariants.{Line as BadLine,
 use Rattle.gl_std.specs.declared.faults.ReadFault.{ReadFault}
 use Rattle.gl_std.specs.declared.faults.ReadFault.TheVariants.{Line}
 use Rattle.gl_std.specs.declared.trace.Trace.{Trace}
-use Rattle.gl_commands.specs.Answer.{Answer, IsLeastBeforeItself, report_of}
+use Rattle.gl_commands.specs.Answer.{Answer, IsLeastBeforeItself}
 use Rattle.gl_io.specs.Uses.{SinkUse, SourceUse}
 use Rattle.gl_commands.specs.Ending.{HasEndedStreamed}
 use Rattle.gl_commands.specs.RefusalLines.{fault_line, inconsistent_line}
@@ -50,13 +52,13 @@ pub record IsLoopOf (trace : Trace) (line : List ℕ) : Type 0 where
 abbrev pub SaysWhyNoReport : Result Trace ReadFault → List ℕ → Type 0
 SaysWhyNoReport read line = IsFaultIn read line ⊎ ((trace : Trace) × (read ≡ Ok trace) × IsLoopOf trace line)
 
--- the trace is the one that was read, and this is the report of it that lists cycles, or findings
-pub record IsReportOf (listing : Listing) (asked : Asked) (read : Result Trace ReadFault) (trace : Trace) (report : Report) : Type 0 where
+-- the trace is the one that was read, and this is the report of it with these contents
+pub record IsReportOf (contents : Contents) (asked : Asked) (read : Result Trace ReadFault) (trace : Trace) (report : Report) : Type 0 where
   pub is_read : read ≡ Ok trace
   pub before : Segment → Segment → Bool
   pub consistent : IsConsistent trace.lists
   pub decides : DecidesBefore trace.lists before
-  pub is_report : report ≡ report_of listing asked before trace
+  pub is_report : report ≡ report_with contents asked before (edges trace.lists)
 
 -- ---- a session that records a text as it comes
 

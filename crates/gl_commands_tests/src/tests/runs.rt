@@ -78,7 +78,7 @@ pub(super) fn run<R: AllocGlobal + Threads + Wait + Sync, I: Source, O: Sink>(
         Command::Live(options) => live(rt, input, output, &reading, options),
         Command::Stats { query, .. } => stats(rt, input, output, &reading, query),
         Command::Replay { .. } => replay(rt, input, output, &reading),
-        Command::Check => check_input(rt, input, output, &reading),
+        Command::Check { .. } => check_input(rt, input, output, &reading),
     }
 }
 

@@ -6,10 +6,10 @@ use crate::texts::unread_items;
 use gl_cycles::Report;
 use gl_event::{Event, Memory};
 use gl_filters::{Mode, Query};
-use gl_findings::Listing;
+use gl_findings::Contents;
 use gl_io::FromStd;
 use gl_live::{
-    LiveFault, SessionOptions, StreamFault, StreamOptions, live_listing, stream_listing,
+    LiveFault, SessionOptions, StreamFault, StreamOptions, live_report_with, stream_report_with,
 };
 use gl_shards::Open;
 use gl_worked::ops::Op::Acq;
@@ -29,11 +29,12 @@ fn lists_of(alloc: Global, lists: &[&[Event]]) -> Result<Vec<Vec<Event>>, Memory
     Ok(copies)
 }
 
-// The report of at most so many findings of the lists, by a session of two recorder threads and three
+// The report of the lists with at most so many cycles or findings, by a session of two recorder threads and three
 // workers, with lanes and feeds of one note, if it has one.
 fn found<R: AllocGlobal + Threads + Wait + Sync>(
     rt: &R,
     lists: &[Vec<Event>],
+    contents: Contents,
     max: u32,
 ) -> Option<Report> {
     if lists.len() > 16 {
@@ -45,8 +46,7 @@ fn found<R: AllocGlobal + Threads + Wait + Sync>(
         shards: 3,
         ring: 1,
     };
-    let listing = Listing::Findings;
-    live_listing(rt, rt.alloc(), lists, &options, listing, &query, &Open).ok()
+    live_report_with(rt, rt.alloc(), lists, &options, contents, &query, &Open).ok()
 }
 
 // Whether the report is over so many edges, and shows these cycles, and whether there are more.
@@ -73,7 +73,10 @@ fn crossed_by_four_threads(rt: HostRuntime) -> Result<(), Fail> {
     let report = reported(&rt, lists.as_slice(), 2, 3, 1, &Open);
     let report = report.expect(&rt, "the session is confirmed");
     assert_eq!(rt; counts(&report), (4, 4, false));
-    let report = found(&rt, lists.as_slice(), 1).expect(&rt, "the session is confirmed");
+    let report = found(&rt, lists.as_slice(), Contents::Findings, 1).expect(
+        &rt,
+        "the session is confirmed",
+    );
     assert!(rt; shows(&report, 4, &[&[0, 2]], false));
     Ok(())
 }
@@ -86,14 +89,20 @@ fn two_findings(rt: HostRuntime) -> Result<(), Fail> {
     let second = [event_of(Acq(1, 2)), event_of(Acq(0, 3))];
     let third = [event_of(Acq(1, 4)), event_of(Acq(0, 5))];
     let lists = lists_of(rt.alloc(), &[&one, &one, &second, &third])?;
-    let report = found(&rt, lists.as_slice(), 2).expect(&rt, "the session is confirmed");
+    let report = found(&rt, lists.as_slice(), Contents::Findings, 2).expect(
+        &rt,
+        "the session is confirmed",
+    );
     assert!(rt; shows(&report, 4, &[&[0, 2], &[0, 3]], false));
-    let report = found(&rt, lists.as_slice(), 1).expect(&rt, "the session is confirmed");
+    let report = found(&rt, lists.as_slice(), Contents::Findings, 1).expect(
+        &rt,
+        "the session is confirmed",
+    );
     assert!(rt; shows(&report, 4, &[&[0, 2]], true));
     Ok(())
 }
 
-// One edge is in no cycle: trimming takes it away, as a report of cycles says, and one of findings doesn't.
+// One edge is in no cycle: trimming takes it away, as a report says that has the trim order, and no other one.
 #[test]
 fn no_finding(rt: HostRuntime) -> Result<(), Fail> {
     let one = [event_of(Acq(0, 0)), event_of(Acq(1, 1))];
@@ -101,7 +110,13 @@ fn no_finding(rt: HostRuntime) -> Result<(), Fail> {
     let report = reported(&rt, lists.as_slice(), 2, 3, 1, &Open);
     let report = report.expect(&rt, "the session is confirmed");
     assert!(rt; report.trim.is_some());
-    let report = found(&rt, lists.as_slice(), 1).expect(&rt, "the session is confirmed");
+    let report = found(&rt, lists.as_slice(), Contents::Findings, 1).expect(
+        &rt,
+        "the session is confirmed",
+    );
+    assert!(rt; shows(&report, 1, &[], false));
+    assert!(rt; report.trim.is_none());
+    let report = found(&rt, lists.as_slice(), Contents::Cycles, 1).expect(&rt, "it is confirmed");
     assert!(rt; shows(&report, 1, &[], false));
     assert!(rt; report.trim.is_none());
     Ok(())
@@ -111,7 +126,10 @@ fn no_finding(rt: HostRuntime) -> Result<(), Fail> {
 #[test]
 fn no_lists(rt: HostRuntime) {
     let lists: Vec<Vec<Event>> = Vec::new(rt.alloc());
-    let report = found(&rt, lists.as_slice(), 1).expect(&rt, "there is nothing to confirm");
+    let report = found(&rt, lists.as_slice(), Contents::Findings, 1).expect(
+        &rt,
+        "there is nothing to confirm",
+    );
     assert!(rt; shows(&report, 0, &[], false));
     assert!(rt; report.trim.is_none());
 }
@@ -121,7 +139,7 @@ fn no_lists(rt: HostRuntime) {
 fn of_text<R: AllocGlobal + Threads + Wait + Sync>(
     rt: &R,
     text: &[u8],
-    listing: Listing,
+    contents: Contents,
 ) -> Result<Result<Report, StreamFault>, Fail> {
     let items = unread_items(rt.alloc(), 64)?;
     let query = Query::new(Mode::Full, 16, 1_000)?;
@@ -131,13 +149,13 @@ fn of_text<R: AllocGlobal + Threads + Wait + Sync>(
         ring: 1,
     };
     let mut input = FromStd::new(text);
-    let (result, _items) = stream_listing(
+    let (result, _items) = stream_report_with(
         rt,
         rt.alloc(),
         items,
         &mut input,
         &options,
-        listing,
+        contents,
         &query,
         &Open,
     );
@@ -153,9 +171,9 @@ const CROSSED: &[u8] = b"T0|acq(a)|1\nT0|acq(b)|2\nT0|rel(b)|3\nT0|rel(a)|4\n\
 // The text's four cycles are one finding.
 #[test]
 fn crossed_in_a_text(rt: HostRuntime) -> Result<(), Fail> {
-    let report = of_text(&rt, CROSSED, Listing::Cycles)?.expect(&rt, "it is confirmed");
+    let report = of_text(&rt, CROSSED, Contents::CyclesAndTrim)?.expect(&rt, "it is confirmed");
     assert!(rt; shows(&report, 4, &[&[0, 2], &[0, 3], &[1, 2], &[1, 3]], false));
-    let report = of_text(&rt, CROSSED, Listing::Findings)?.expect(&rt, "it is confirmed");
+    let report = of_text(&rt, CROSSED, Contents::Findings)?.expect(&rt, "it is confirmed");
     assert!(rt; shows(&report, 4, &[&[0, 2]], false));
     Ok(())
 }
@@ -164,7 +182,7 @@ fn crossed_in_a_text(rt: HostRuntime) -> Result<(), Fail> {
 #[test]
 fn joined_by_each_other(rt: HostRuntime) -> Result<(), Fail> {
     let text = b"T0|join(T1)|1\nT1|join(T0)|2\n";
-    match of_text(&rt, text, Listing::Findings)? {
+    match of_text(&rt, text, Contents::Findings)? {
         Err(StreamFault::Session(LiveFault::Inconsistent { .. })) => {}
         other => assert!(rt; false, "{other:?}"),
     }

@@ -2,7 +2,7 @@ use Rattle.std.proofs.Common.{◌≡◌, List, ℕ, refl}
 use Rattle.std.proofs.lemmas.Result.{err_from_is_err_and}
 use Rattle.gl_event.specs.Bounds.{greatest}
 use Rattle.gl_std.specs.Trace.{trace_of}
-use Rattle.gl_findings.specs.declared.listing.Listing.TheVariants as lists
+use Rattle.gl_findings.specs.declared.listing.Contents.TheVariants as only
 use Rattle.gl_report.specs.Counts.{stats_of, stats_text}
 use Rattle.gl_commands.specs.Answer.{IsAnswer, counts}
 use Rattle.gl_commands.specs.Answer.Answer.{Prints, Refusal}
@@ -24,7 +24,7 @@ returns-clause-printed g c =
     let both = c.in_ok-trace.field-0 in
     let from = Prints (stats_text (stats_of both.trace both.report)) Done in
     printed_as c.printed_counts-answer.result (λ answer. (text : List ℕ) → trace_of greatest text ≡ c.args.read → IsAnswer asked text answer) from c.printed_counts-answer.ensures.printed
-    (with_report greatest asked (λ report. Prints (stats_text (stats_of both.trace report)) Done) lists.Cycles c.args.query.now c.args.read both.trace both.report c.in_ok-trace.ensures.report (λ before. refl))
+    (with_report greatest asked (λ report. Prints (stats_text (stats_of both.trace report)) Done) only.Cycles c.args.query.now c.args.read both.trace both.report c.in_ok-trace.ensures.report (λ before. refl))
 
 pub returns-clause-refused : goal.returns-clause-refused
 returns-clause-refused g c =

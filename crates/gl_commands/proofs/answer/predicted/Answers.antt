@@ -1,11 +1,12 @@
-use Rattle.std.proofs.Common.{◌≡◌, List, ℕ, refl}
+use Rattle.std.proofs.Common.{◌≡◌, List, ℕ, subst}
 use Rattle.std.proofs.lemmas.Result.{err_from_is_err_and}
 use Rattle.gl_event.specs.Bounds.{greatest}
 use Rattle.gl_std.specs.Trace.{trace_of}
-use Rattle.gl_commands.specs.Answer.{IsAnswer, outcome_of, prediction, printed_report}
-use Rattle.gl_commands.specs.Answer.Answer.{Prints, Refusal}
-use Rattle.gl_commands.specs.bodies.Stops.{IfRefused, SaysWhyNoReport}
-use Rattle.gl_commands.proofs.Answering.{memory_alone, no_report, printed_as, refused_then, with_report}
+use Rattle.gl_commands.specs.Answer.{IsAnswer, prediction}
+use Rattle.gl_commands.specs.Answer.Answer.{Refusal}
+use Rattle.gl_commands.specs.bodies.Needed.{contents_for}
+use Rattle.gl_commands.specs.bodies.Stops.{IfRefused, IsReportOf, SaysWhyNoReport}
+use Rattle.gl_commands.proofs.Answering.{memory_alone, needs_no_more, no_report, print_of, printed_as, refused_then, with_report}
 use Rattle.gl_commands.proofs.answer.predicted.Goals as goal
 
 pub returns-in_err-trace-clause-refused : goal.returns-in_err-trace-clause-refused
@@ -19,9 +20,12 @@ pub returns-clause-printed : goal.returns-clause-printed
 returns-clause-printed g c =
     let asked = prediction c.args.listing c.args.query.now c.args.form in
     let both = c.in_ok-trace.field-0 in
-    let from = Prints (printed_report c.args.listing c.args.form both.trace.names both.report) (outcome_of both.report) in
-    printed_as c.printed_in-answer.result (λ answer. (text : List ℕ) → trace_of greatest text ≡ c.args.read → IsAnswer asked text answer) from c.printed_in-answer.ensures.printed
-    (with_report greatest asked (λ report. Prints (printed_report c.args.listing c.args.form both.trace.names report) (outcome_of report)) c.args.listing c.args.query.now c.args.read both.trace both.report c.in_ok-trace.ensures.report (λ before. refl))
+    let from = print_of c.args.listing c.args.form both.trace.names in
+    let needed = contents_for c.args.listing c.args.form in
+    let of = subst (λ k. IsReportOf k c.args.query.now c.args.read both.trace both.report) c.contents_for-contents.ensures c.in_ok-trace.ensures.report in
+    printed_as c.printed_in-answer.result (λ answer. (text : List ℕ) → trace_of greatest text ≡ c.args.read → IsAnswer asked text answer) (from both.report) c.printed_in-answer.ensures.printed
+    (with_report greatest asked from needed c.args.query.now c.args.read both.trace both.report of
+    (λ before. needs_no_more c.args.listing c.args.form c.args.query.now before both.trace))
 
 pub returns-clause-refused : goal.returns-clause-refused
 returns-clause-refused g c =

@@ -2,14 +2,14 @@ use Rattle.std.proofs.Common.{◌≡◌, ap, ◌∙◌}
 use Rattle.std.proofs.lemmas.Result.{IfOk-weaker, err_from_is_err_and}
 use Rattle.gl_segments.specs.Clocks.{is_before}
 use Rattle.gl_edges.specs.Edges.{edges}
-use Rattle.gl_findings.specs.Reports.{listing_by}
+use Rattle.gl_findings.specs.Reports.{report_with}
 use Rattle.gl_commands.proofs.answer.report_by.Goals as goal
 
 pub returns : goal.returns
 returns g c =
-    let by = listing_by c.args.listing c.args.query.now (is_before c.args.order.now) in
+    let by = report_with c.args.contents c.args.query.now (is_before c.args.order.now) in
     let same = c.in_ok-edges.ensures ∙ ap edges c.as_slice.ensures in
-    IfOk-weaker c.listing_by_parallel.result (λ report. report ≡ by c.in_ok-edges.edges) (λ report. report ≡ by (edges c.args.trace.now.lists)) (λ report is. is ∙ ap by same) c.listing_by_parallel.ensures
+    IfOk-weaker c.report_with_parallel.result (λ report. report ≡ by c.in_ok-edges.edges) (λ report. report ≡ by (edges c.args.trace.now.lists)) (λ report is. is ∙ ap by same) c.report_with_parallel.ensures
 
 pub returns-in_err-edges : goal.returns-in_err-edges
 returns-in_err-edges g c =

@@ -15,4 +15,4 @@ returns-in-Err-clause-refused g c =
 
 pub returns-in-Ok-clause-report : goal.returns-in-Ok-clause-report
 returns-in-Ok-clause-report g c =
-    subst (λ read. IsReportOf c.args.listing c.args.query.now read c.in_ok-trace.trace c.in-Ok.report) (sym c.in_ok-trace.ensures.trace) c.in-Ok.ensures.report
+    subst (λ read. IsReportOf c.args.contents c.args.query.now read c.in_ok-trace.trace c.in-Ok.report) (sym c.in_ok-trace.ensures.trace) c.in-Ok.ensures.report

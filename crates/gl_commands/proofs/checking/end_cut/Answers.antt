@@ -7,11 +7,11 @@ use Rattle.gl_commands.proofs.FirstFaults.{ends_early, no_fault_before}
 use Rattle.gl_commands.proofs.checking.end_cut.Goals as goal
 
 pub returns-in-Ok : goal.returns-in-Ok
-returns-in-Ok c =
+returns-in-Ok g c =
     let lines = c.ended_lines.ensures ∙ ap ended_lines c.split_input.ensures.trace in
     no_fault_before greatest (trace_in c.args.input.now) c.in-Ok.trace (ap (trace_of greatest) (sym lines) ∙ c.in-Ok.ensures.trace)
 
 pub returns-in-Err : goal.returns-in-Err
-returns-in-Err c =
+returns-in-Err g c =
     let lines = c.ended_lines.ensures ∙ ap ended_lines c.split_input.ensures.trace in
     ends_early greatest (trace_in c.args.input.now) (trace_of greatest c.ended_lines.result.now) c.in-Err.ended (ap (trace_of greatest) (sym lines)) c.in-Err.ensures.refused

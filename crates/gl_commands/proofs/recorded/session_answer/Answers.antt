@@ -3,11 +3,12 @@ use Rattle.std.specs.Prelude.{IfOk}
 use Rattle.std.proofs.lemmas.Result.{err_from_is_err_and}
 use Rattle.gl_event.specs.Bounds.{greatest}
 use Rattle.gl_std.specs.Trace.{trace_of}
-use Rattle.gl_commands.specs.Answer.{IsAnswer, outcome_of, printed_report}
+use Rattle.gl_commands.specs.Answer.{IsAnswer}
 use Rattle.gl_commands.specs.Sessions.{listing_of, session_prediction}
+use Rattle.gl_commands.specs.bodies.Needed.{contents_of}
 use Rattle.gl_commands.specs.Answer.Answer.{Prints, Refusal}
 use Rattle.gl_commands.specs.bodies.Stops.{IfStopped, IsLoopOf}
-use Rattle.gl_commands.proofs.Answering.{memory_alone, no_report, printed_as, stopped_then, with_session}
+use Rattle.gl_commands.proofs.Answering.{memory_alone, needs_no_more, no_report, print_of, printed_as, stopped_then, with_session}
 use Rattle.gl_commands.proofs.recorded.session_answer.Goals as goal
 
 pub returns-in_err-report-clause-refused : goal.returns-in_err-report-clause-refused
@@ -26,9 +27,10 @@ returns-clause-printed g c =
     let asked = session_prediction c.args.options.now in
     let trace = c.args.trace.now in
     let report = c.in_ok-report.report in
-    let is = subst (λ l. IfOk c.printed_in-answer.result (λ p. Prints p.text.items p.outcome ≡ Prints (printed_report l form trace.names report) (outcome_of report))) c.listing_of-listing.ensures c.printed_in-answer.ensures.printed in
-    printed_as c.printed_in-answer.result (λ answer. (text : List ℕ) → trace_of greatest text ≡ Ok trace → IsAnswer asked text answer) (Prints (printed_report listing form trace.names report) (outcome_of report)) is
-    (with_session greatest asked (λ r. Prints (printed_report listing form trace.names r) (outcome_of r)) listing query (Ok trace) trace report refl c.in_ok-report.ensures.report (λ before. refl))
+    let is = subst (λ l. IfOk c.printed_in-answer.result (λ p. Prints p.text.items p.outcome ≡ print_of l form trace.names report)) c.listing_of-listing.ensures c.printed_in-answer.ensures.printed in
+    printed_as c.printed_in-answer.result (λ answer. (text : List ℕ) → trace_of greatest text ≡ Ok trace → IsAnswer asked text answer) (print_of listing form trace.names report) is
+    (with_session greatest asked (print_of listing form trace.names) (contents_of c.args.options.now) query (Ok trace) trace report refl c.in_ok-report.ensures.report
+    (λ before. needs_no_more listing form query before trace))
 
 pub returns-clause-refused : goal.returns-clause-refused
 returns-clause-refused g c =

@@ -1,4 +1,4 @@
-use Rattle.std.proofs.Common.{Bool, [], refl, sym, subst, ap}
+use Rattle.std.proofs.Common.{Bool, [], ◌∙◌, sym, subst, ap}
 use Rattle.std.proofs.lemmas.Result.{err_from_is_err_and}
 use Rattle.gl_event.specs.Bounds.{Bounds}
 use Rattle.gl_std.specs.Streaming.{HasTold}
@@ -17,14 +17,14 @@ returns-in_err-items-clause-stopped g c =
     rw (p.1, p.2) (ends_without_memory limits (IsAnswerUnder limits (session_prediction c.args.options.now)) c.args.reading.now.turns
     (used (g.I.Source.position c.args.input.now) (g.I.Source.position c.args.input.now) (g.I.Source.failed c.args.input.now)))
 
-pub stream_listing-reported-requires-clause-unread : goal.stream_listing-reported-requires-clause-unread
-stream_listing-reported-requires-clause-unread g c κs within =
+pub stream_report_with-reported-requires-clause-unread : goal.stream_report_with-reported-requires-clause-unread
+stream_report_with-reported-requires-clause-unread g c κs within =
     let start = g.I.Source.position c.args.input.now in
     record {
       limits = c.of_session-limits.result;
       turns = c.args.reading.now.turns;
       start = start;
-      as_many = ap (λ (b : Bounds). b.threads) c.of_session-limits.ensures;
+      as_many = ap (λ (b : Bounds). b.threads) c.of_session-limits.ensures ∙ sym c.stream_of-session.ensures.threads;
       tells = subst (λ (failed : Bool). HasTold c.of_session-limits.result c.args.reading.now.turns (used start start failed) c.in_ok-items.items [] nothing) (sym c.requires.readable) (c.in_ok-items.ensures.tells start);
     }
 
@@ -34,7 +34,7 @@ returns-clause-printed g c =
     let start = g.I.Source.position c.args.input.now in
     let told = subst (λ (b : Bounds). HasTold b c.args.reading.now.turns (used start start (g.I.Source.failed c.args.input.now)) c.in_ok-items.items [] nothing) c.of_session-limits.ensures
     (subst (λ (failed : Bool). HasTold c.of_session-limits.result c.args.reading.now.turns (used start start failed) c.in_ok-items.items [] nothing) (sym c.requires.readable) (c.in_ok-items.ensures.tells start)) in
-    c.answered.ensures.printed limits c.args.reading.now.turns (used start (g.I.Source.position c.stream_listing-reported.new.input) (g.I.Source.failed c.stream_listing-reported.new.input)) (rw c.listing_of-listing.ensures at (c.stream_listing-reported.ensures.becomes limits c.args.reading.now.turns start refl told))
+    c.answered.ensures.printed limits c.args.reading.now.turns (used start (g.I.Source.position c.stream_report_with-reported.new.input) (g.I.Source.failed c.stream_report_with-reported.new.input)) (rw c.contents_of-contents.ensures at (c.stream_report_with-reported.ensures.becomes limits c.args.reading.now.turns start (sym c.stream_of-session.ensures.threads) told))
 
 pub returns-clause-stopped : goal.returns-clause-stopped
 returns-clause-stopped g c =
@@ -42,5 +42,5 @@ returns-clause-stopped g c =
     let start = g.I.Source.position c.args.input.now in
     let told = subst (λ (b : Bounds). HasTold b c.args.reading.now.turns (used start start (g.I.Source.failed c.args.input.now)) c.in_ok-items.items [] nothing) c.of_session-limits.ensures
     (subst (λ (failed : Bool). HasTold c.of_session-limits.result c.args.reading.now.turns (used start start failed) c.in_ok-items.items [] nothing) (sym c.requires.readable) (c.in_ok-items.ensures.tells start)) in
-    c.answered.ensures.stopped limits c.args.reading.now.turns (used start (g.I.Source.position c.stream_listing-reported.new.input) (g.I.Source.failed c.stream_listing-reported.new.input)) (rw c.listing_of-listing.ensures at (c.stream_listing-reported.ensures.becomes limits c.args.reading.now.turns start refl told))
-    c.stream_listing-reported.ensures.in_time
+    c.answered.ensures.stopped limits c.args.reading.now.turns (used start (g.I.Source.position c.stream_report_with-reported.new.input) (g.I.Source.failed c.stream_report_with-reported.new.input)) (rw c.contents_of-contents.ensures at (c.stream_report_with-reported.ensures.becomes limits c.args.reading.now.turns start (sym c.stream_of-session.ensures.threads) told))
+    c.stream_report_with-reported.ensures.in_time

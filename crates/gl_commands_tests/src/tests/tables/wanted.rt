@@ -139,7 +139,7 @@ pub(super) fn answered<'a>(command: &Command, trace: &'a [u8]) -> Wanted<'a> {
         Command::Findings { .. } => found(trace.len()),
         Command::Stats { .. } => printed(counted(trace.len()), 0),
         Command::Replay { .. } => replayed(trace),
-        Command::Check => judged(trace.len()),
+        Command::Check { .. } => judged(trace.len()),
     }
 }
 

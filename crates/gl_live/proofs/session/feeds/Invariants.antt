@@ -8,4 +8,5 @@ invariant-loop l = record {
   count : length l.outlets.items ≡ l.counter;
   feeds : map (λ i. i.feed) l.inlets.items ≡ map (λ o. o.feed) l.outlets.items;
   unsent : All (λ o. o.sent ≡ []) l.outlets.items;
+  room : All (λ o. o.capacity ≡ l.capacity) l.outlets.items;
 }

@@ -4,7 +4,7 @@ use Rattle.gl_io.specs.Positions.{Position}
 use Rattle.gl_io.specs.Uses.{used}
 use Rattle.gl_std.specs.Streaming.{CanBeAsked}
 use Rattle.gl_live.specs.bodies.Rosters.{Roster}
-use Rattle.gl_live.specs.bodies.Streams.{Follows}
+use Rattle.gl_live.specs.bodies.Streams.{HaveKeptUp}
 use Rattle.gl_live.proofs.streaming.record_items.Given as goal
 
 -- what the items told so far is recorded
@@ -14,6 +14,6 @@ invariant-loop g l = record {
   finite : (goal.iterator-loop g).is_finite l.iterator';
   usable : CanBeAsked l.items (g.S.Source.failed l.input);
   count : length l.recorders.items ≡ length l.initial.recorders.items;
-  follows : (s : Roster) (limits : Bounds) (turns : ℕ) (start : Position) → Follows s limits turns (used start (g.S.Source.position l.initial.input) (g.S.Source.failed l.initial.input)) l.initial.items l.initial.recorders.items
-      → Follows s limits turns (used start (g.S.Source.position l.input) (g.S.Source.failed l.input)) l.items l.recorders.items;
+  follows : (s : Roster) (limits : Bounds) (turns : ℕ) (start : Position) → HaveKeptUp s limits turns (used start (g.S.Source.position l.initial.input) (g.S.Source.failed l.initial.input)) l.initial.items l.initial.recorders.items
+      → HaveKeptUp s limits turns (used start (g.S.Source.position l.input) (g.S.Source.failed l.input)) l.items l.recorders.items;
 }

@@ -29,5 +29,5 @@ returns-clause-usage g c =
     let words = map g.S.AsStr.text c.args.words.now in
     let fits : fault_of (app_of c.in_ok-command_line.field-0) words ≡ [] = c.in-Ok.ensures.kinds (ap is_simple_and_free line ∙ is_read) in
     let entered = (c.in-Ok.ensures.matches (ap is_simple line ∙ is_simple_line)).1 ∙ ap (λ (a : App). subcommand_of a words) line in
-    refused_value words c.refused.result c.refused.ensures
+    refused_value words c.refused.result c.refused.ensures.usage
     (λ command asks. c.in-None.ensures.none refl command (subst (λ o. IsEntered o command) (sym entered) asks.enters)) (ap (λ (a : App). fault_of a words) (sym line) ∙ fits)

@@ -2,7 +2,7 @@ use Rattle.std.proofs.Common.{◌≡◌, sym, ◌∙◌, subst}
 use Rattle.std.specs.Prelude.{IfOk}
 use Rattle.gl_io.specs.Uses.{used}
 use Rattle.gl_live.specs.bodies.Streams.{HasStreamed}
-use Rattle.gl_live.proofs.stream.stream_listing.Goals as goal
+use Rattle.gl_live.proofs.stream.stream_report_with.Goals as goal
 
 pub returns-clause-becomes : goal.returns-clause-becomes
 returns-clause-becomes g c = λ limits turns start threads told.

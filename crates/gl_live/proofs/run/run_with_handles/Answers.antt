@@ -3,7 +3,7 @@ use Rattle.gl_segments.specs.Orders.{lists_of}
 use Rattle.gl_shards.specs.declared.shard.TheConstants.{MAX_SHARDS}
 use Rattle.gl_event.specs.Bounds.{Bounds}
 use Rattle.gl_live.proofs.Leaving.{unsent_at, as_long, roster_same}
-use Rattle.gl_live.proofs.run.run_in_room.Goals as goal
+use Rattle.gl_live.proofs.run.run_with_handles.Goals as goal
 
 pub run-gathered-requires-clause-unsent : goal.run-gathered-requires-clause-unsent
 run-gathered-requires-clause-unsent g c = unsent_at c.args.session.outlets.items c.requires.ready.unsent
@@ -15,16 +15,17 @@ pub join_threads-requires-clause-room : goal.join_threads-requires-clause-room
 join_threads-requires-clause-room g c =
     omega (arith, c.requires.ready.served_room, as_long _ _ c.start_threads.new.workers.items c.args.session.inlets.items (c.if-not-start_threads.ensures.feeds refl))
 
-pub returns-clause-run : goal.returns-clause-run
-returns-clause-run g c =
+pub returns : goal.returns
+returns g c =
     let feeds = c.if-not-start_threads.ensures.feeds refl ∙ c.requires.ready.feeds in
-    c.join_threads.ensures.run (length c.args.session.outlets.items) (as_long _ _ c.start_threads.new.workers.items c.args.session.outlets.items feeds) (λ none. feeds ∙ sym (c.run-gathered.ensures.feeds none))
-
-pub returns-clause-threads : goal.returns-clause-threads
-returns-clause-threads g c = c.join_threads.ensures.threads (length c.args.lists.now) (ap (λ (b : Bounds). b.threads) c.run-gathered.ensures.limits ∙ c.requires.ready.threads_are)
-
-pub returns-clause-receipts : goal.returns-clause-receipts
-returns-clause-receipts g c =
-    c.join_threads.ensures.receipts c.args.session.collector (lists_of c.args.lists.now)
-    (sym (roster_same c.run-gathered.result c.args.session.collector c.run-gathered.ensures.session c.run-gathered.ensures.limits c.run-gathered.ensures.lanes))
-    (c.if-not-start_threads.ensures.lists refl) c.requires.ready.no_receipt
+    record {
+      run =
+          c.join_threads.ensures.run (length c.args.session.outlets.items) (as_long _ _ c.start_threads.new.workers.items c.args.session.outlets.items feeds)
+          (λ none. feeds ∙ sym (c.run-gathered.ensures.feeds none));
+      threads = c.join_threads.ensures.threads (length c.args.lists.now) (ap (λ (b : Bounds). b.threads) c.run-gathered.ensures.limits ∙ c.requires.ready.threads_are);
+      receipts =
+          c.join_threads.ensures.receipts c.args.session.collector (lists_of c.args.lists.now)
+          (sym (roster_same c.run-gathered.result c.args.session.collector c.run-gathered.ensures.session c.run-gathered.ensures.limits c.run-gathered.ensures.lanes))
+          (c.if-not-start_threads.ensures.lists refl) c.requires.ready.no_receipt;
+      fault = c.join_threads.ensures.fault;
+    }

@@ -4,7 +4,7 @@ use Rattle.gl_segments.specs.Orders.{lists_of}
 use Rattle.gl_live.specs.bodies.Rosters.{gathered_from, roster_of}
 use Rattle.gl_live.proofs.Leaving.{are_receipts}
 use Rattle.gl_live.proofs.Opened.{all_unused}
-use Rattle.gl_live.proofs.live.live_listing.Goals as goal
+use Rattle.gl_live.proofs.live.live_report_with.Goals as goal
 
 pub returns-in-Ok-run_session-clause-report : goal.returns-in-Ok-run_session-clause-report
 returns-in-Ok-run_session-clause-report g c =
