@@ -134,6 +134,6 @@ pub(super) fn command_of(ask: Ask, jobs: u32) -> Option<Command>
         }
         Ask::Stats(mode, len, max) => counts(mode, len, max, jobs),
         Ask::Replay => Some(Command::Replay { jobs }),
-        Ask::Check => Some(Command::Check),
+        Ask::Check => Some(Command::Check { jobs }),
     }
 }

@@ -217,7 +217,7 @@ fn expect_fronts<R: Abort + AllocGlobal + Threads + Wait + Sync>(
 // What stands before the trace in a text for the command.
 fn head_of(command: &Command) -> &'static [u8] {
     match command {
-        Command::Check => &TRUE_REPORT[..HEAD],
+        Command::Check { .. } => &TRUE_REPORT[..HEAD],
         _ => b"",
     }
 }
