@@ -9,7 +9,7 @@ ghost use Rattle.gl_pruning.specs.Sought.{KeepsSought};
 
 use crate::grains::Grain;
 use crate::loops::edges_on_loops;
-use crate::narrowing::{Reason, leave_out_parallel};
+use crate::narrowing::{Reason, count_set, leave_out_parallel};
 use crate::parts::Part;
 use crate::sought::Sought;
 use gl_event::Memory;
@@ -50,7 +50,8 @@ impl Sought<'_> {
         Ok(kept)
     }
 
-    /// Leaves out edges for all reasons, with so much effort for each.
+    /// Leaves out edges for all reasons, with so much effort for each. Where a reason left out some, it is gone
+    /// through once more, but for all the effort.
     ///
     /// Err where memory was refused.
     pub fn leave_out_in_turn(
@@ -63,9 +64,30 @@ impl Sought<'_> {
         ensures { OnOk result (KeepsSought self.now kept.new.items) }
     {
         for reason in reasons() {
-            self.leave_out(alloc, reason, Part::whole().within(effort), kept)?;
+            self.leave_out_again(alloc, reason, effort, kept)?;
         }
         Ok(())
+    }
+
+    // Leaves out edges for a reason, and once more where that left out some: the same effort gets further then. All
+    // the effort isn't made twice.
+    fn leave_out_again(
+        &self,
+        alloc: Global,
+        reason: Reason,
+        effort: usize,
+        kept: &mut Vec<bool>,
+    ) -> Result<(), Memory>
+        requires { KeepsSought self.now kept.old.items }
+        ensures { OnOk result (KeepsSought self.now kept.new.items) }
+    {
+        let part = Part::whole().within(effort);
+        let before = count_set(kept);
+        self.leave_out(alloc, reason, part, kept)?;
+        if effort == ALL_EFFORT || count_set(kept) == before {
+            return Ok(());
+        }
+        self.leave_out(alloc, reason, part, kept)
     }
 
     /// Which edges may be in a cycle, as far as all reasons tell: for each a flag.
@@ -78,7 +100,7 @@ impl Sought<'_> {
     }
 }
 
-/// The same as [`Sought::leave_out_in_turn`], on several threads.
+/// The same as [`Sought::leave_out_in_turn`], on several threads, and with each reason once.
 ///
 /// Err where memory was refused.
 pub fn leave_out_in_turn_parallel(

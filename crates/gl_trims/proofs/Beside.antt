@@ -1,5 +1,6 @@
 -- Steps of trimming.
-use Rattle.std.proofs.Common.{◌≡◌, ◌≢◌, ℕ, ◌+◌, ◌-◌, ◌<◌, ◌≤◌, Bool, true, false, not, List, [], length, set, get_or, replicate, Option, Some, None, Result, Ok, Err, OnOk, is_some, refl, sym, ap, subst, ◌∙◌, arith, inl, inr}
+use Rattle.std.proofs.Common.{◌≡◌, ◌≢◌, ℕ, zero, suc, ◌+◌, ◌-◌, ◌<◌, ◌≤◌, Bool, true, false, not, List, [], length, set, get_or, replicate, Option, Some, None, is_some, refl, sym, ap, subst, ◌∙◌, arith, inl, inr}
+use Rattle.std.specs.Bool.{Decides}
 use Rattle.std.specs.Prelude.{slice_get, unwrap_or, IfSome, Contains}
 use Rattle.std.proofs.lemmas.Bool.{cases_eq, eq-eqb, false≢true, cases_lt, and_parts, false_from_ne_true, not-true}
 use Rattle.std.proofs.lemmas.List.{length-set, length-replicate}
@@ -84,11 +85,12 @@ module _ (before : Segment → Segment → Bool) (mode : Mode) (edges : List Edg
           shares = shares_on i (p + 1) e next at on;
         }
 
-    -- past a hint that is gone
-    pub start_after_hint : (i p : ℕ) (e f : Edge) (next : Option ℕ) → slice_get edges i ≡ Some e → slice_get edges p ≡ Some f → IsHint before mode edges gone side i (Some p) → slice_get gone p ≡ Some true
-        → IsNextWith (lock_towards (opposite side)) edges [] (lock_towards (opposite side) f) (p + 1) next → IsStart before mode edges gone side i next
-    start_after_hint i p e f next at there had is_gone is =
-        start_after i p e f next at there had.passed (shares_lock before mode side e f (had.fits.1 e f at there)) (λ left. absurd (false≢true (same_Some false true (sym left ∙ is_gone)))) is
+    -- a hint is where to begin again
+    pub start_again : (i p : ℕ) → IsHint before mode edges gone side i (Some p) → IsStart before mode edges gone side i (Some p)
+    start_again i p had = record {
+      passed = had.passed;
+      shares = (had.fits.0, λ e f at_e at_f. shares_lock before mode side e f (had.fits.1 e f at_e at_f));
+    }
 
     -- one that may come beside it is a hint
     pub hint_found : (i p : ℕ) → IsStart before mode edges gone side i (Some p) → ((e f : Edge) → slice_get edges i ≡ Some e → slice_get edges p ≡ Some f → is_beside before mode side e f ≡ true) → IsHint before mode edges gone side i (Some p)
@@ -102,26 +104,27 @@ module _ (before : Segment → Segment → Bool) (mode : Mode) (edges : List Edg
     hint_within i None size same is = tt
     hint_within i (Some p) size same is = omega (arith, is.fits.0)
 
-    pub hints_put : (n m i : ℕ) (place : Option ℕ) (old new : Hints) → AreHints before mode edges gone side n old → i < length edges → IsHint before mode edges gone side i place
-        → new.chain ≡ old.chain → new.places.items ≡ set old.places.items i place → new.watchers ≡ watched_at place i old.watchers → ((j : ℕ) → j < m → j ≢ i → j < n) → AreHints before mode edges gone side m new
-    hints_put n m i place old new had within is chain places watchers below =
+    pub hints_put : (i : ℕ) (place : Option ℕ) (old new : Hints) → AreHints before mode edges gone side old → i < length edges → IsHint before mode edges gone side i place
+        → new.users ≡ old.users → new.chain ≡ old.chain → new.places.items ≡ set old.places.items i place → new.watchers ≡ watched_at place i old.watchers → AreHints before mode edges gone side new
+    hints_put i place old new had within is users chain places watchers =
         let in_places : i < length old.places.items = omega (arith, had.long) in
         let in_watchers = hint_within i place (length old.watchers) had.as_long is in
         record {
           long = ap length places ∙ length-set old.places.items i place ∙ had.long;
           as_long = ap length watchers ∙ length_watched place i old.watchers ∙ had.as_long;
+          users = subst (AreUsers (opposite side) edges [] (length edges)) (sym users) had.users;
           chain = subst (AreChained (opposite side) edges 0) (sym chain) had.chain;
-          each = λ j hint early at.
-              let there : slice_get (set old.places.items i place) j ≡ Some hint = sym (ap (λ l. slice_get l j) places) ∙ at in
+          each = λ j p at.
+              let there : slice_get (set old.places.items i place) j ≡ Some (Some p) = sym (ap (λ l. slice_get l j) places) ∙ at in
               elim (cases_eq j i) [
                 | inl same ↦
-                    let is_hint : place ≡ hint = same_Some place hint (sym (set_here old.places.items i place in_places) ∙ ap (slice_get (set old.places.items i place)) (sym same) ∙ there) in
-                    subst (λ m. IsHint before mode edges gone side m hint) (sym same) (subst (IsHint before mode edges gone side i) is_hint is)
+                    let is_hint : place ≡ Some p = same_Some place (Some p) (sym (set_here old.places.items i place in_places) ∙ ap (slice_get (set old.places.items i place)) (sym same) ∙ there) in
+                    subst (λ m. IsHint before mode edges gone side m (Some p)) (sym same) (subst (IsHint before mode edges gone side i) is_hint is)
                 | inr other ↦
-                    let inside = slice_get_within (set old.places.items i place) j hint there in
-                    had.each j hint (below j early other) (sym (set_elsewhere old.places.items i j place other (omega (arith, length-set old.places.items i place))) ∙ there)
+                    let inside = slice_get_within (set old.places.items i place) j (Some p) there in
+                    had.each j p (sym (set_elsewhere old.places.items i j place other (omega (arith, length-set old.places.items i place))) ∙ there)
               ];
-          watched = λ j p early at left.
+          watched = λ j p at left.
               let there : slice_get (set old.places.items i place) j ≡ Some (Some p) = sym (ap (λ l. slice_get l j) places) ∙ at in
               subst (λ w. Contains (get_or w p []) j) (sym watchers) (elim (cases_eq j i) [
                 | inl same ↦
@@ -130,20 +133,20 @@ module _ (before : Segment → Segment → Bool) (mode : Mode) (edges : List Edg
                     subst (λ m. Contains (get_or (watched_at place i old.watchers) p []) m) (sym same) (subst (λ o. Contains (get_or (watched_at o i old.watchers) p []) i) (sym is_place) (watched_has p i old.watchers p_within))
                 | inr other ↦
                     let inside = slice_get_within (set old.places.items i place) j (Some p) there in
-                    watched_keeps place i old.watchers p j in_watchers (had.watched j p (below j early other) (sym (set_elsewhere old.places.items i j place other (omega (arith, length-set old.places.items i place))) ∙ there) left)
+                    watched_keeps place i old.watchers p j in_watchers (had.watched j p (sym (set_elsewhere old.places.items i j place other (omega (arith, length-set old.places.items i place))) ∙ there) left)
               ]);
         }
 
     -- an edge has none beside it where all that share its lock have its thread
     pub none_of_other : (users : Users) (i : ℕ) (e : Edge) → AreUsers (opposite side) edges [] (length edges) users → slice_get edges i ≡ Some e
-        → ((t : ℕ) → MayUse users (lock_towards side e) t → t ≡ e.thread) → IsHint before mode edges gone side i None
+        → ((t : ℕ) → MayUse users (lock_towards side e) t → t ≡ e.thread) → IsStart before mode edges gone side i None
     none_of_other users i e are at only = record {
       passed = λ q e2 f below at_e at_f left. false_from_ne_true _ (λ fits.
           let same : e ≡ e2 = same_Some e e2 (sym at ∙ at_e) in
           let shared : lock_towards (opposite side) f ≡ lock_towards side e = shares_lock before mode side e2 f fits ∙ ap (lock_towards side) (sym same) in
           let is_own : f.thread ≡ e.thread = only f.thread (subst (λ l. MayUse users l f.thread) shared (are q f below at_f (λ out. absurd (let o = out in cc)))) in
           other_thread before mode side e2 f fits (is_own ∙ ap (λ x. x.thread) same));
-      fits = tt;
+      shares = tt;
     }
 
     -- where no place is left nothing is
@@ -158,10 +161,10 @@ module _ (before : Segment → Segment → Bool) (mode : Mode) (edges : List Edg
         unset q false at left = refl
 
     -- what stands at a place that is left may come beside it
-    pub beside_placed : (n : ℕ) (hints : Hints) (i : ℕ) (e : Edge) → AreHints before mode edges gone side n hints → i < n → slice_get edges i ≡ Some e → IsPlaced gone hints.places.items i
+    pub beside_placed : (hints : Hints) (i : ℕ) (e : Edge) → AreHints before mode edges gone side hints → slice_get edges i ≡ Some e → IsPlaced gone hints.places.items i
         → HasBeside before mode edges (IsFlagged gone) side e
-    beside_placed n hints i e are within at_e placed =
-        let is = are.each i (Some placed.place) within placed.is in
+    beside_placed hints i e are at_e placed =
+        let is = are.each i placed.place placed.is in
         let other = element_at edges placed.place is.fits.0 in
         record { place = placed.place; other = other.0; stands = other.1; is_left = λ flagged. false≢true (same_Some false true (sym placed.is_left ∙ flagged)); fits = is.fits.1 e other.0 at_e other.1 }
 
@@ -178,10 +181,10 @@ module _ (before : Segment → Segment → Bool) (mode : Mode) (edges : List Edg
     }
 
   -- the places on both sides
-  pub placed_on : (n : ℕ) (sides : Sides) (side : Side) (i : ℕ) (e : Edge) → AreBothHints before mode edges gone n sides → i < n → slice_get edges i ≡ Some e → IsPlaced gone (places_of side sides) i
+  pub placed_on : (sides : Sides) (side : Side) (i : ℕ) (e : Edge) → AreBothHints before mode edges gone sides → slice_get edges i ≡ Some e → IsPlaced gone (places_of side sides) i
       → HasBeside before mode edges (IsFlagged gone) side e
-  placed_on n sides Follower i e are within at_e placed = beside_placed Follower n sides.followers i e are.followers within at_e placed
-  placed_on n sides Leader i e are within at_e placed = beside_placed Leader n sides.leaders i e are.leaders within at_e placed
+  placed_on sides Follower i e are at_e placed = beside_placed Follower sides.followers i e are.followers at_e placed
+  placed_on sides Leader i e are at_e placed = beside_placed Leader sides.leaders i e are.leaders at_e placed
 
   -- a position where one side is missing is stuck
   pub stuck_from : (i : ℕ) (side : Side) (e : Edge) → slice_get edges i ≡ Some e → slice_get gone i ≡ Some false → ¬ HasBeside before mode edges (IsFlagged gone) side e
@@ -211,9 +214,9 @@ module _ (before : Segment → Segment → Bool) (mode : Mode) (edges : List Edg
   }
 
   -- what doesn't wait is settled
-  pub settled_below : (size n : ℕ) (sides : Sides) (waiting : Waiting) → AreBothHints before mode edges gone size sides → AreAwake gone size sides waiting → n ≤ size → ((j : ℕ) → j < n → waits waiting j ≡ false)
+  pub settled_below : (size n : ℕ) (sides : Sides) (waiting : Waiting) → AreBothHints before mode edges gone sides → AreAwake gone size sides waiting → n ≤ size → ((j : ℕ) → j < n → waits waiting j ≡ false)
       → AreSettled before mode edges gone n
-  settled_below size n sides waiting are awake le none = λ j e side below at_e left. placed_on size sides side j e are (omega arith) at_e (awake.placed j side (omega arith) left (none j below))
+  settled_below size n sides waiting are awake le none = λ j e side below at_e left. placed_on sides side j e are at_e (awake.placed j side (omega arith) left (none j below))
 
   -- what is settled isn't stuck
   pub not_stuck : (n j : ℕ) → length gone ≡ length edges → AreSettled before mode edges gone n → j < n → ¬ IsStuck before mode edges (IsFlagged gone) j
@@ -234,28 +237,46 @@ pub fewer_places : (size many : ℕ) (next : Option ℕ) (place : ℕ) (after : 
 fewer_places size many next place after same is within later =
     subst (λ m. m - unwrap_or after m < m - unwrap_or next m) same (subst (λ o. size - unwrap_or after size < size - unwrap_or o size) (sym is) (omega (arith, within, later)))
 
--- a place that is gone is given up
-pub kept_put : (gone : List Bool) (places : List (Option ℕ)) (i p : ℕ) (next : Option ℕ) → slice_get places i ≡ Some (Some p) → slice_get gone p ≡ Some true → KeepPlaced gone places (set places i next)
-kept_put gone places i p next at is_gone = λ j placed.
+-- who has no place that is left gives none up
+pub kept_put : (gone : List Bool) (places : List (Option ℕ)) (i : ℕ) (next : Option ℕ) → ¬ IsPlaced gone places i → KeepPlaced gone places (set places i next)
+kept_put gone places i next none = λ j placed.
     elim (cases_eq j i) [
-      | inl same ↦
-          let is : p ≡ placed.place = same_Some p placed.place (same_Some (Some p) (Some placed.place) (sym at ∙ ap (slice_get places) (sym same) ∙ placed.is)) in
-          absurd (false≢true (same_Some false true (sym placed.is_left ∙ ap (slice_get gone) (sym is) ∙ is_gone)))
+      | inl same ↦ absurd (none (subst (IsPlaced gone places) same placed))
       | inr other ↦ record { place = placed.place; is = set_elsewhere places i j next other (slice_get_within places j (Some placed.place) placed.is) ∙ placed.is; is_left = placed.is_left }
     ]
 
--- before any edge has a place
-pub hints_none : (before : Segment → Segment → Bool) (mode : Mode) (edges : List Edge) (gone : List Bool) (side : Side) (hints : Hints) (size : ℕ) → size ≡ length edges → length hints.places.items ≡ size
-    → hints.watchers ≡ replicate size [] → AreChained (opposite side) edges 0 hints.chain → AreHints before mode edges gone side 0 hints
-hints_none before mode edges gone side hints size same long empty chain = record {
-  long = long ∙ same;
-  as_long = ap length empty ∙ length-replicate size [] ∙ same;
-  chain = chain;
-  each = λ i place early at. absurd (omega arith);
-  watched = λ i p early at left. absurd (omega arith);
-}
+-- an edge that has a place is placed if that isn't gone
+pub placed_if_left : (gone : List Bool) (places : List (Option ℕ)) (i p : ℕ) (is_gone : Bool) → slice_get places i ≡ Some (Some p) → slice_get gone p ≡ Some is_gone → Decides (not is_gone) (IsPlaced gone places i)
+placed_if_left gone places i p true at flag = (
+  λ is. absurd (false≢true is),
+  λ placed.
+      let same : placed.place ≡ p = same_Some placed.place p (same_Some (Some placed.place) (Some p) (sym placed.is ∙ at)) in
+      absurd (false≢true (same_Some false true (sym placed.is_left ∙ ap (slice_get gone) same ∙ flag))),
+)
+placed_if_left gone places i p false at flag = (λ is. record { place = p; is = at; is_left = flag }, λ placed. refl)
 
--- three facts of a result, and what follows from them
-pub on_ok_three : {T E A B C D : Type 0} (r : Result T E) → OnOk r A → OnOk r B → OnOk r C → (A → B → C → D) → OnOk r D
-on_ok_three (Ok v) a b c all = all a b c
-on_ok_three (Err e) a b c all = tt
+pub unplaced_if_none : (gone : List Bool) (places : List (Option ℕ)) (i : ℕ) → slice_get places i ≡ Some None → Decides false (IsPlaced gone places i)
+unplaced_if_none gone places i at = (λ is. absurd (false≢true is), λ placed. absurd (let clash = same_Some None (Some placed.place) (sym at ∙ placed.is) in cc))
+
+-- what is no place is none
+pub none_alone : (Is : Option ℕ → Type 0) → ((p : ℕ) → ¬ Is (Some p)) → (place : Option ℕ) → Is place → place ≡ None
+none_alone Is never None is = refl
+none_alone Is never (Some p) is = absurd (never p is)
+
+-- nothing stands where no edge has a place
+unplaced : (size i p : ℕ) → ¬ (slice_get (replicate size None) i ≡ Some (Some p))
+unplaced zero i p at = absurd (cc)
+unplaced (suc n) zero p at = absurd (cc)
+unplaced (suc n) (suc i) p at = unplaced n i p at
+
+-- before any edge has a place
+pub hints_none : (before : Segment → Segment → Bool) (mode : Mode) (edges : List Edge) (gone : List Bool) (side : Side) (hints : Hints) (size : ℕ) → size ≡ length edges → hints.places.items ≡ replicate size None
+    → hints.watchers ≡ replicate size [] → AreUsers (opposite side) edges [] size hints.users → AreChained (opposite side) edges 0 hints.chain → AreHints before mode edges gone side hints
+hints_none before mode edges gone side hints size same none empty users chain = record {
+  long = ap length none ∙ length-replicate size None ∙ same;
+  as_long = ap length empty ∙ length-replicate size [] ∙ same;
+  users = subst (λ n. AreUsers (opposite side) edges [] n hints.users) same users;
+  chain = chain;
+  each = λ i p at. absurd (unplaced size i p (sym (ap (λ l. slice_get l i) none) ∙ at));
+  watched = λ i p at left. absurd (unplaced size i p (sym (ap (λ l. slice_get l i) none) ∙ at));
+}

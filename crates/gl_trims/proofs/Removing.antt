@@ -17,6 +17,7 @@ use Rattle.gl_trims.specs.bodies.Waiting.{waits, AreEarlier}
 use Rattle.gl_trims.specs.declared.waiting.Waiting.{Waiting}
 use Rattle.gl_index.specs.Indexes.{AreChained}
 use Rattle.gl_index.specs.Sides.{opposite}
+use Rattle.gl_index.specs.Users.{AreUsers}
 use Rattle.gl_trims.specs.declared.trims.Sides.{Sides}
 use Rattle.gl_index.specs.declared.sides.Side.TheVariants.{Follower, Leader}
 use Rattle.gl_trims.proofs.Watching.{left_other}
@@ -200,36 +201,37 @@ module _ (before : Segment → Segment → Bool) (mode : Mode) (edges : List Edg
         beside_to (IsFlagged gone) (Contains removed) agree side e (settled i e side below at (unflagged i below kept))
 
   -- hints stay hints, and those whose place goes are told
-  hints_gone : (gone : List Bool) (side : Side) (n : ℕ) (old new : Hints) (i : ℕ) → length gone ≡ length edges → i < length edges → AreHints before mode edges gone side n old → IsWoken i old new → AreHints before mode edges (set gone i true) side n new
-  hints_gone gone side n old new i long inside are woken = record {
+  hints_gone : (gone : List Bool) (side : Side) (old new : Hints) (i : ℕ) → length gone ≡ length edges → i < length edges → AreHints before mode edges gone side old → IsWoken i old new → AreHints before mode edges (set gone i true) side new
+  hints_gone gone side old new i long inside are woken = record {
     long = ap length woken.places ∙ are.long;
     as_long = ap length woken.watchers ∙ length-set old.watchers i [] ∙ are.as_long;
+    users = subst (AreUsers (opposite side) edges [] (length edges)) (sym woken.users) are.users;
     chain = subst (AreChained (opposite side) edges 0) (sym woken.chain) are.chain;
-    each = λ j place early at.
-        let is = are.each j place early (sym (ap (λ l. slice_get l j) woken.places) ∙ at) in
+    each = λ j p at.
+        let is = are.each j p (sym (ap (λ l. slice_get l j) woken.places) ∙ at) in
         record {
           passed = λ q e f below at_e at_f unset. is.passed q e f below at_e at_f (was_unset gone i q (omega (arith, long, slice_get_within edges q f at_f)) (omega (arith, long, inside)) unset).1;
           fits = is.fits;
         };
-    watched = λ j p early at unset.
-        let hint = are.each j (Some p) early (sym (ap (λ l. slice_get l j) woken.places) ∙ at) in
+    watched = λ j p at unset.
+        let hint = are.each j p (sym (ap (λ l. slice_get l j) woken.places) ∙ at) in
         let was = was_unset gone i p (omega (arith, long, hint.fits.0)) (omega (arith, long, inside)) unset in
-        subst (λ w. Contains (get_or w p []) j) (sym woken.watchers) (left_other old.watchers i p j was.0 (are.watched j p early (sym (ap (λ l. slice_get l j) woken.places) ∙ at) was.1));
+        subst (λ w. Contains (get_or w p []) j) (sym woken.watchers) (left_other old.watchers i p j was.0 (are.watched j p (sym (ap (λ l. slice_get l j) woken.places) ∙ at) was.1));
   }
 
-  pub both_gone : (gone : List Bool) (n : ℕ) (old new : Sides) (i : ℕ) → length gone ≡ length edges → i < length edges → AreBothHints before mode edges gone n old
-      → IsWoken i old.followers new.followers → IsWoken i old.leaders new.leaders → AreBothHints before mode edges (set gone i true) n new
-  both_gone gone n old new i long inside are followers leaders =
-      record { followers = hints_gone gone Follower n old.followers new.followers i long inside are.followers followers; leaders = hints_gone gone Leader n old.leaders new.leaders i long inside are.leaders leaders }
+  pub both_gone : (gone : List Bool) (old new : Sides) (i : ℕ) → length gone ≡ length edges → i < length edges → AreBothHints before mode edges gone old
+      → IsWoken i old.followers new.followers → IsWoken i old.leaders new.leaders → AreBothHints before mode edges (set gone i true) new
+  both_gone gone old new i long inside are followers leaders =
+      record { followers = hints_gone gone Follower old.followers new.followers i long inside are.followers followers; leaders = hints_gone gone Leader old.leaders new.leaders i long inside are.leaders leaders }
 
   -- who is left and doesn't wait keeps its places
-  places_gone : (gone : List Bool) (side : Side) (n : ℕ) (old new : Hints) (i j : ℕ) → length gone ≡ length edges → i < length edges → AreHints before mode edges gone side n old → IsWoken i old new → j < n
+  places_gone : (gone : List Bool) (side : Side) (old new : Hints) (i j : ℕ) → length gone ≡ length edges → i < length edges → AreHints before mode edges gone side old → IsWoken i old new
       → list_any (λ w. eqb w j) (get_or old.watchers i []) ≡ false → IsPlaced gone old.places.items j → IsPlaced (set gone i true) new.places.items j
-  places_gone gone side n old new i j long inside are woken early unwatched placed =
-      let hint = are.each j (Some placed.place) early placed.is in
+  places_gone gone side old new i j long inside are woken unwatched placed =
+      let hint = are.each j placed.place placed.is in
       elim (cases_eq placed.place i) [
         | inl same ↦
-            let watches = are.watched j placed.place early placed.is placed.is_left in
+            let watches = are.watched j placed.place placed.is placed.is_left in
             absurd (false≢true (sym unwatched ∙ any_from_contains (get_or old.watchers i []) j (subst (λ p. Contains (get_or old.watchers p []) j) same watches)))
         | inr other ↦ record {
           place = placed.place;
@@ -238,7 +240,7 @@ module _ (before : Segment → Segment → Bool) (mode : Mode) (edges : List Edg
         }
       ]
 
-  pub awake_gone : (gone : List Bool) (size : ℕ) (old new : Sides) (i : ℕ) (had has : Waiting) → length gone ≡ length edges → size ≡ length edges → i < size → AreBothHints before mode edges gone size old
+  pub awake_gone : (gone : List Bool) (size : ℕ) (old new : Sides) (i : ℕ) (had has : Waiting) → length gone ≡ length edges → size ≡ length edges → i < size → AreBothHints before mode edges gone old
       → IsWoken i old.followers new.followers → IsWoken i old.leaders new.leaders
       → ((j : ℕ) → waits has j ≡ ((waits had j || list_any (λ w. eqb w j) (get_or old.followers.watchers i [])) || list_any (λ w. eqb w j) (get_or old.leaders.watchers i [])))
       → AreEarlier has → has.next ≡ had.next → AreAwake gone size old had → AreAwake (set gone i true) size new has
@@ -248,10 +250,10 @@ module _ (before : Segment → Segment → Bool) (mode : Mode) (edges : List Edg
     placed = λ j side below unset silent.
         let none : (waits had j ≡ false) × (list_any (λ w. eqb w j) (get_or old.followers.watchers i []) ≡ false) × (list_any (λ w. eqb w j) (get_or old.leaders.watchers i []) ≡ false) = all_false _ _ _ (sym (told j) ∙ silent) in
         let was = was_unset gone i j (omega (arith, long, same)) (omega (arith, long, same)) unset in
-        on side j below none.1 none.2 (awake.placed j side below was.1 none.0);
+        on side j none.1 none.2 (awake.placed j side below was.1 none.0);
   }
     where
-      on : (side : Side) (j : ℕ) → j < size → list_any (λ w. eqb w j) (get_or old.followers.watchers i []) ≡ false → list_any (λ w. eqb w j) (get_or old.leaders.watchers i []) ≡ false
+      on : (side : Side) (j : ℕ) → list_any (λ w. eqb w j) (get_or old.followers.watchers i []) ≡ false → list_any (λ w. eqb w j) (get_or old.leaders.watchers i []) ≡ false
           → IsPlaced gone (places_of side old) j → IsPlaced (set gone i true) (places_of side new) j
-      on Follower j below follows leads placed = places_gone gone Follower size old.followers new.followers i j long (omega (arith, same, inside)) are.followers followers below follows placed
-      on Leader j below follows leads placed = places_gone gone Leader size old.leaders new.leaders i j long (omega (arith, same, inside)) are.leaders leaders below leads placed
+      on Follower j follows leads placed = places_gone gone Follower old.followers new.followers i j long (omega (arith, same, inside)) are.followers followers follows placed
+      on Leader j follows leads placed = places_gone gone Leader old.leaders new.leaders i j long (omega (arith, same, inside)) are.leaders leaders leads placed

@@ -1,12 +1,13 @@
 //! Trimming: edges that nothing may follow in a cycle, or that may follow nothing, go one by one.
-ghost use Rattle.std.specs.Prelude.{◌≡◌, ◌+◌, ◌<◌, ◌||◌, ℕ, true, false, List, [], Some, length, set, get_or, slice_get, nat_lt, ◌==◌, IfOk, IfSome, OnOk, MatchOption, vec_len};
+ghost use Rattle.std.specs.Prelude.{◌≡◌, ◌<◌, ◌||◌, ℕ, Bool, true, false, List, [], Some, length, set, get_or, slice_get, nat_lt, ◌==◌, IfOk, IfSome, OnOk, MatchOption, vec_len};
+ghost use Rattle.std.specs.Bool.{Decides};
 ghost use Rattle.std.specs.List.{list_any};
 ghost use Rattle.gl_segments.specs.Clocks.{is_before};
 ghost use Rattle.gl_filters.specs.Picked.{edges_of_table};
 ghost use Rattle.gl_trims.specs.Trims.{is_beside, IsFirstStuck, IsTrimmed, others};
 ghost use Rattle.gl_index.specs.declared.sides.Side.{Side};
 ghost use Rattle.gl_edges.specs.declared.edge.Edge.{Edge};
-ghost use Rattle.gl_trims.specs.bodies.Trimming.{IsFlagged, IsStart, IsHint, AreHints, AreBothHints, HasBesideAt, TellsStuck, KeepPlaced, AreSettled, AreFlagsOf, AreAwake, AreTaken, IsWoken, places_of, watched_at};
+ghost use Rattle.gl_trims.specs.bodies.Trimming.{IsFlagged, IsStart, IsHint, IsPlaced, AreHints, AreBothHints, HasBesideAt, TellsStuck, KeepPlaced, AreSettled, AreFlagsOf, AreAwake, AreTaken, IsWoken, places_of, watched_at};
 ghost use Rattle.gl_trims.specs.bodies.Waiting.{waits, AreEarlier};
 ghost use Rattle.gl_index.specs.Indexes.{AreChained};
 ghost use Rattle.gl_index.specs.Sides.{opposite};
@@ -30,12 +31,17 @@ pub struct Trimmed {
     pub removed: Vec<usize>,
 }
 
-// For each edge a place before which no edge is left that may come beside it on one side.
+// For each edge that was looked at a place before which no edge is left that may come beside it on one side.
+//
+// A place is looked for only when its edge is looked at, and a leader only where there is a follower: an edge
+// without one goes. By then the edges before it may be gone, with which it needn't be compared.
 #[derive(Drop)]
 pub(crate) struct Hints {
+    // which threads use a lock
+    pub(crate) users: Users,
     // leads through the edges that share a lock
     pub(crate) chain: Chain,
-    // for each position its place, where there is one
+    // for each position its place, where one was found
     pub(crate) places: Vec<Option<usize>>,
     // for each place that is left the positions of which it is the place
     pub(crate) watchers: Watchers,
@@ -46,6 +52,7 @@ impl Hints {
     fn put(&mut self, i: usize, place: Option<usize>) -> Result<(), Memory>
         requires here { i < vec_len self.old.places }
         requires there { IfSome place (λ p. p < length self.old.watchers) }
+        ensures users { OnOk result (self.new.users ≡ self.old.users) }
         ensures chain { OnOk result (self.new.chain ≡ self.old.chain) }
         ensures places { OnOk result (self.new.places.items ≡ set self.old.places.items i place) }
         ensures watchers { OnOk result
@@ -64,6 +71,18 @@ impl Hints {
 pub(crate) struct Sides {
     pub(crate) followers: Hints,
     pub(crate) leaders: Hints,
+}
+
+// Whether the edge at a position has a place, and the one there is left.
+fn is_placed(gone: &[bool], places: &[Option<usize>], i: usize) -> bool
+    requires here { i < length places.now }
+    requires within { (p : ℕ) → slice_get places.now i ≡ Some (Some p) → p < length gone.now }
+    ensures { Decides result (IsPlaced gone.now places.now i) }
+{
+    let Some(place) = places[i] else {
+        return false;
+    };
+    !gone[place]
 }
 
 // What is trimmed.
@@ -121,87 +140,67 @@ impl Trimming<'_> {
         None
     }
 
-    // The first place of an edge that isn't gone and may come beside the one at a position. There is none
-    // where only edges of its own thread have their lock.
-    fn first_beside(
-        &self,
-        gone: &[bool],
-        users: &Users,
-        chain: &Chain,
-        side: Side,
-        i: usize,
-    ) -> Option<usize>
+    // Before any edge was looked at.
+    fn hints(&self, alloc: Global, side: Side) -> Result<Hints, Memory>
+        ensures { IfOk result
+            (λ hints. (gone : List Bool) → AreHints (is_before self.now.order.now) self.now.mode
+            (edges_of_table self.now.table.now) gone side hints) }
+    {
+        let towards = side.opposite();
+        Ok(Hints {
+            users: Users::of_kept(alloc, self.table, towards, &[])?,
+            chain: Chain::of(alloc, self.table, towards)?,
+            places: vec![in alloc; None; self.table.len()]?,
+            watchers: Watchers::none(alloc, self.table.len())?,
+        })
+    }
+
+    // The hints on both sides.
+    fn both_hints(&self, alloc: Global) -> Result<Sides, Memory>
+        ensures { IfOk result
+            (λ sides. (gone : List Bool) → AreBothHints (is_before self.now.order.now) self.now.mode
+            (edges_of_table self.now.table.now) gone sides) }
+    {
+        let followers = self.hints(alloc, Side::Follower)?;
+        let leaders = self.hints(alloc, Side::Leader)?;
+        Ok(Sides { followers, leaders })
+    }
+
+    // Where to begin to look for an edge that may come beside the one at a position. There is none where only
+    // edges of its own thread have their lock.
+    fn start(&self, hints: &Hints, side: Side, i: usize) -> Option<usize>
+        requires here { i < length self.now.table.now }
+        requires users { AreUsers (opposite side) (edges_of_table self.now.table.now) []
+            (length self.now.table.now) hints.now.users }
+        requires chain { AreChained (opposite side)
+            (edges_of_table self.now.table.now) 0 hints.now.chain }
+        ensures { (gone : List Bool) → IsStart (is_before self.now.order.now) self.now.mode
+            (edges_of_table self.now.table.now) gone side i result }
+    {
+        let edge = &self.table[i].0;
+        let lock = side.lock_of(edge);
+        if hints.users.has_only(lock, edge.thread) {
+            return None;
+        }
+        hints.chain.begin(lock)
+    }
+
+    // The first place of an edge that isn't gone and may come beside the one at a position. Where that has a place,
+    // none before it does.
+    fn find(&self, gone: &[bool], hints: &Hints, side: Side, i: usize) -> Option<usize>
         requires here { i < length self.now.table.now }
         requires flags { length gone.now ≡ length self.now.table.now }
-        requires users { AreUsers (opposite side) (edges_of_table self.now.table.now) []
-            (length self.now.table.now) users.now }
-        requires chain { AreChained (opposite side)
-            (edges_of_table self.now.table.now) 0 chain.now }
+        requires hints { AreHints (is_before self.now.order.now) self.now.mode
+            (edges_of_table self.now.table.now) gone.now side hints.now }
         ensures hint { IsHint (is_before self.now.order.now) self.now.mode
             (edges_of_table self.now.table.now) gone.now side i result }
         ensures left { IfSome result (λ place. slice_get gone.now place ≡ Some false) }
     {
-        let edge = &self.table[i].0;
-        let lock = side.lock_of(edge);
-        if users.has_only(lock, edge.thread) {
-            return None;
-        }
-        let first = chain.begin(lock);
-        self.next_beside(gone, chain, side, i, first)
-    }
-
-    // Notes where an edge is that may come beside the one at a position, which has no place yet.
-    fn find(
-        &self,
-        gone: &[bool],
-        users: &Users,
-        hints: &mut Hints,
-        side: Side,
-        i: usize,
-    ) -> Result<(), Memory>
-        requires here { i < length self.now.table.now }
-        requires users { AreUsers (opposite side) (edges_of_table self.now.table.now) []
-            (length self.now.table.now) users.now }
-        requires flags { length gone.now ≡ length self.now.table.now }
-        requires hints { AreHints (is_before self.now.order.now) self.now.mode
-            (edges_of_table self.now.table.now) gone.now side i hints.old }
-        ensures { OnOk result
-            (AreHints (is_before self.now.order.now) self.now.mode
-            (edges_of_table self.now.table.now) gone.now side (i + 1) hints.new) }
-    {
-        let place = self.first_beside(gone, users, &hints.chain, side, i);
-        hints.put(i, place)
-    }
-
-    // For each edge the first place of one that may come beside it.
-    fn hints(&self, alloc: Global, gone: &[bool], side: Side) -> Result<Hints, Memory>
-        requires flags { length gone.now ≡ length self.now.table.now }
-        ensures { IfOk result
-            (λ hints. AreHints (is_before self.now.order.now) self.now.mode
-            (edges_of_table self.now.table.now) gone.now side (length self.now.table.now) hints) }
-    {
-        let mut hints = Hints {
-            chain: Chain::of(alloc, self.table, side.opposite())?,
-            places: vec![in alloc; None; self.table.len()]?,
-            watchers: Watchers::none(alloc, self.table.len())?,
+        let Some(place) = hints.places[i] else {
+            let first = self.start(hints, side, i);
+            return self.next_beside(gone, &hints.chain, side, i, first);
         };
-        let users = Users::of_kept(alloc, self.table, side.opposite(), &[])?;
-        for i in 0..self.table.len() {
-            self.find(gone, &users, &mut hints, side, i)?;
-        }
-        Ok(hints)
-    }
-
-    // The hints on both sides.
-    fn both_hints(&self, alloc: Global, gone: &[bool]) -> Result<Sides, Memory>
-        requires flags { length gone.now ≡ length self.now.table.now }
-        ensures { IfOk result
-            (λ sides. AreBothHints (is_before self.now.order.now) self.now.mode
-            (edges_of_table self.now.table.now) gone.now (length self.now.table.now) sides) }
-    {
-        let followers = self.hints(alloc, gone, Side::Follower)?;
-        let leaders = self.hints(alloc, gone, Side::Leader)?;
-        Ok(Sides { followers, leaders })
+        self.next_beside(gone, &hints.chain, side, i, Some(place))
     }
 
     // Whether an edge is left that may come beside the one at a position. Then one is its place.
@@ -215,28 +214,22 @@ impl Trimming<'_> {
         requires here { i < length self.now.table.now }
         requires flags { length gone.now ≡ length self.now.table.now }
         requires hints { AreHints (is_before self.now.order.now) self.now.mode
-            (edges_of_table self.now.table.now) gone.now side
-            (length self.now.table.now) hints.old }
+            (edges_of_table self.now.table.now) gone.now side hints.old }
         ensures hints { OnOk result
             (AreHints (is_before self.now.order.now) self.now.mode
-            (edges_of_table self.now.table.now) gone.now side
-            (length self.now.table.now) hints.new) }
+            (edges_of_table self.now.table.now) gone.now side hints.new) }
         ensures kept { OnOk result
             (KeepPlaced gone.now hints.old.places.items hints.new.places.items) }
         ensures tells { IfOk result
             (λ has. HasBesideAt (is_before self.now.order.now) self.now.mode
             (edges_of_table self.now.table.now) gone.now side i hints.new.places.items has) }
     {
-        let Some(place) = hints.places[i] else {
-            return Ok(false);
-        };
-        if !gone[place] {
+        if is_placed(gone, &hints.places, i) {
             return Ok(true);
         }
-        let from = hints.chain.after(place);
-        let next = self.next_beside(gone, &hints.chain, side, i, from);
-        hints.put(i, next)?;
-        Ok(next.is_some())
+        let place = self.find(gone, hints, side, i);
+        hints.put(i, place)?;
+        Ok(place.is_some())
     }
 
     // Whether the edge at a position is left, and no follower of it, or no leader.
@@ -244,10 +237,10 @@ impl Trimming<'_> {
         requires here { i < length self.now.table.now }
         requires flags { length gone.now ≡ length self.now.table.now }
         requires hints { AreBothHints (is_before self.now.order.now) self.now.mode
-            (edges_of_table self.now.table.now) gone.now (length self.now.table.now) sides.old }
+            (edges_of_table self.now.table.now) gone.now sides.old }
         ensures hints { OnOk result
             (AreBothHints (is_before self.now.order.now) self.now.mode
-            (edges_of_table self.now.table.now) gone.now (length self.now.table.now) sides.new) }
+            (edges_of_table self.now.table.now) gone.now sides.new) }
         ensures kept { OnOk result
             ((side : Side)
             → KeepPlaced gone.now (places_of side sides.old) (places_of side sides.new)) }
@@ -274,11 +267,11 @@ impl Trimming<'_> {
     ) -> Result<Option<usize>, Memory>
         requires flags { length gone.now ≡ length self.now.table.now }
         requires hints { AreBothHints (is_before self.now.order.now) self.now.mode
-            (edges_of_table self.now.table.now) gone.now (length self.now.table.now) sides.old }
+            (edges_of_table self.now.table.now) gone.now sides.old }
         requires awake { AreAwake gone.now (length self.now.table.now) sides.old waiting.old }
         ensures hints { OnOk result
             (AreBothHints (is_before self.now.order.now) self.now.mode
-            (edges_of_table self.now.table.now) gone.now (length self.now.table.now) sides.new) }
+            (edges_of_table self.now.table.now) gone.now sides.new) }
         ensures awake { OnOk result
             (AreAwake gone.now (length self.now.table.now) sides.new waiting.new) }
         ensures found { IfOk result
@@ -332,7 +325,7 @@ impl Trimming<'_> {
             (edges_of_table self.now.table.now) trimmed.kept.items trimmed.removed.items) }
     {
         let mut gone = vec![in alloc; false; self.table.len()]?;
-        let mut sides = self.both_hints(alloc, &gone)?;
+        let mut sides = self.both_hints(alloc)?;
         let mut waiting = Waiting::all(alloc);
         let mut removed = Vec::new(alloc);
         while let Some(i) = self.first_stuck(&gone, &mut sides, &mut waiting)? {
@@ -398,9 +391,10 @@ fn left_of(alloc: Global, gone: &[bool]) -> Result<Vec<usize>, Memory>
 /// mode, or that edge may follow none, the first such edge goes. What stays is kept: each of these
 /// edges has a follower and a leader among them, and each edge of a cycle is one of them.
 ///
-/// Each edge is compared at most once with each edge that holds the lock which it wants, and with
-/// each that wants the lock which it holds. As an edge goes, only those are looked at again that had
-/// it as their follower or their leader.
+/// Each edge is compared at most once with each edge that holds the lock which it wants, and, where
+/// one of these may follow it, with each that wants the lock which it holds; with none that went
+/// before. As an edge goes, only those are looked at again that had it as their follower or their
+/// leader.
 ///
 /// Err where memory was refused.
 pub fn trim(alloc: Global, edges: &EdgeList, order: &Order, mode: Mode) -> Result<Trimmed, Memory>

@@ -1,4 +1,4 @@
--- What trimming knows as it goes: flags of the edges that are gone, and for each edge where one stands that may come beside it.
+-- What trimming knows as it goes: flags of the edges that are gone, and for each edge that was looked at where one stands that may come beside it.
 use Rattle.std.specs.Prelude.{◌≡◌, ℕ, ◌<◌, ◌≤◌, Bool, true, false, List, [], ◌∷◌, ◌++◌, length, set, get_or, slice_get, unwrap_or, Option, Some, None, IfSome, Contains, ◌==◌}
 use Rattle.std.specs.List.{list_any}
 use Rattle.gl_event.specs.declared.events.Segment.{Segment}
@@ -6,6 +6,7 @@ use Rattle.gl_edges.specs.declared.edge.Edge.{Edge}
 use Rattle.gl_filters.specs.declared.query.Mode.{Mode}
 use Rattle.gl_index.specs.Indexes.{AreChained}
 use Rattle.gl_index.specs.Sides.{opposite, lock_towards}
+use Rattle.gl_index.specs.Users.{AreUsers}
 use Rattle.gl_trims.specs.Trims.{is_beside, HasBeside, IsStuck, IsTrimOrder}
 use Rattle.gl_trims.specs.bodies.Waiting.{waits, AreEarlier}
 use Rattle.gl_trims.specs.declared.trims.Hints.{Hints}
@@ -30,6 +31,7 @@ watched_at (Some place) watcher watchers = set watchers place (get_or watchers p
 
 -- nobody watches this place any more
 pub record IsWoken (place : ℕ) (old new : Hints) : Type 0 where
+  pub users : new.users ≡ old.users
   pub chain : new.chain ≡ old.chain
   pub places : new.places.items ≡ old.places.items
   pub watchers : new.watchers ≡ set old.watchers place []
@@ -73,13 +75,14 @@ module _ (before : Segment → Segment → Bool) (mode : Mode) (edges : List Edg
       pub passed : NoneBeside i (unwrap_or place (length edges))
       pub fits : IfSome place (λ p. (p < length edges) × ((e f : Edge) → slice_get edges i ≡ Some e → slice_get edges p ≡ Some f → is_beside before mode side e f ≡ true))
 
-    -- each of the first n edges has one, and watches it as long as it is left
-    pub record AreHints (n : ℕ) (hints : Hints) : Type 0 where
+    -- where an edge has a place it is one, and the edge watches it as long as it is left
+    pub record AreHints (hints : Hints) : Type 0 where
       pub long : length hints.places.items ≡ length edges
       pub as_long : length hints.watchers ≡ length edges
+      pub users : AreUsers (opposite side) edges [] (length edges) hints.users
       pub chain : AreChained (opposite side) edges 0 hints.chain
-      pub each : (i : ℕ) (place : Option ℕ) → i < n → slice_get hints.places.items i ≡ Some place → IsHint i place
-      pub watched : (i p : ℕ) → i < n → slice_get hints.places.items i ≡ Some (Some p) → slice_get gone p ≡ Some false → Contains (get_or hints.watchers p []) i
+      pub each : (i p : ℕ) → slice_get hints.places.items i ≡ Some (Some p) → IsHint i (Some p)
+      pub watched : (i p : ℕ) → slice_get hints.places.items i ≡ Some (Some p) → slice_get gone p ≡ Some false → Contains (get_or hints.watchers p []) i
 
     -- whether an edge is left that may come beside the edge at i
     pub record HasBesideAt (i : ℕ) (places : List (Option ℕ)) (has : Bool) : Type 0 where
@@ -87,9 +90,9 @@ module _ (before : Segment → Segment → Bool) (mode : Mode) (edges : List Edg
       pub none : has ≡ false → (e : Edge) → slice_get edges i ≡ Some e → ¬ HasBeside before mode edges (IsFlagged gone) side e
 
   -- on both sides
-  pub record AreBothHints (n : ℕ) (sides : Sides) : Type 0 where
-    pub followers : AreHints Follower n sides.followers
-    pub leaders : AreHints Leader n sides.leaders
+  pub record AreBothHints (sides : Sides) : Type 0 where
+    pub followers : AreHints Follower sides.followers
+    pub leaders : AreHints Leader sides.leaders
 
   -- whether the edge at i is stuck
   pub record TellsStuck (sides : Sides) (i : ℕ) (stuck : Bool) : Type 0 where
@@ -103,6 +106,6 @@ module _ (before : Segment → Segment → Bool) (mode : Mode) (edges : List Edg
 -- what is known where these of the edges were taken away
 pub record AreTaken (before : Segment → Segment → Bool) (mode : Mode) (edges : List Edge) (size : ℕ) (gone : List Bool) (sides : Sides) (waiting : Waiting) (removed : List ℕ) : Type 0 where
   pub flags : AreFlagsOf (length edges) gone removed
-  pub hints : AreBothHints before mode edges gone size sides
+  pub hints : AreBothHints before mode edges gone sides
   pub awake : AreAwake gone size sides waiting
   pub in_order : IsTrimOrder before mode edges removed

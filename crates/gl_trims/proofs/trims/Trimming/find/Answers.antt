@@ -1,14 +1,19 @@
-use Rattle.std.proofs.Common.{◌+◌, arith}
+use Rattle.std.proofs.Common.{Some, sym, ap, ◌∙◌, arith}
 use Rattle.std.proofs.lemmas.List.{length-map}
+use Rattle.std.proofs.lemmas.Option.{slice_get-get_or}
 use Rattle.gl_segments.specs.Clocks.{is_before}
 use Rattle.gl_filters.specs.Picked.{edges_of_table}
-use Rattle.gl_trims.proofs.Beside.{hints_put, on_ok_three}
+use Rattle.gl_trims.proofs.Beside.{start_again}
 use Rattle.gl_trims.proofs.trims.Trimming.find.Goals as goal
 
-pub returns : goal.returns
-returns c =
+-- it goes on at the place
+pub next_beside-requires-2-clause-start : goal.next_beside-requires-2-clause-start
+next_beside-requires-2-clause-start c =
     let s = c.args.self.now in
-    let edges = edges_of_table s.table.now in
-    on_ok_three c.put.result c.put.ensures.chain c.put.ensures.places c.put.ensures.watchers (λ chain places watchers.
-    hints_put (is_before s.order.now) s.mode edges c.args.gone.now c.args.side c.args.i (c.args.i + 1) c.args.i c.first_beside-place.result c.args.hints.now c.put.new.self c.requires.hints
-    (omega (arith, c.requires.here, length-map s.table.now (λ pair. pair.0))) c.first_beside-place.ensures.hint chain places watchers (λ j early other. omega arith))
+    let places = c.args.hints.now.places.items in
+    let at = slice_get-get_or places c.args.i c.index.result.now (omega (arith, c.requires.here, c.requires.hints.long, length-map s.table.now (λ pair. pair.0))) ∙ ap Some (sym c.index.ensures) in
+    start_again (is_before s.order.now) s.mode (edges_of_table s.table.now) c.args.gone.now c.args.side c.args.i c.in-Some.place (c.requires.hints.each c.args.i c.in-Some.place (at ∙ ap Some c.in-Some.is))
+
+-- it begins with the first that has the lock
+pub next_beside-requires-clause-start : goal.next_beside-requires-clause-start
+next_beside-requires-clause-start c = c.start-first.ensures c.args.gone.now

@@ -8,7 +8,7 @@ use Rattle.gl_trims.proofs.trims.Trimming.first_stuck.Given as goal
 -- what doesn't wait has a follower and a leader
 abbrev pub invariant-loop-i : goal.invariant-loop-i
 invariant-loop-i l = record {
-  hints : AreBothHints (is_before l.self.order.now) l.self.mode (edges_of_table l.self.table.now) l.gone (length l.self.table.now) l.sides;
+  hints : AreBothHints (is_before l.self.order.now) l.self.mode (edges_of_table l.self.table.now) l.gone l.sides;
   awake : AreAwake l.gone (length l.self.table.now) l.sides l.waiting;
 }
 

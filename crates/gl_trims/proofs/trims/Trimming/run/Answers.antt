@@ -17,19 +17,19 @@ loop-removed-init c =
     let none = c.new-removed.ensures.items in
     record {
       flags = subst (AreFlagsOf (length edges) gone) (sym none) (flags_none (length edges) gone (length s.table.now) (sym (length-map s.table.now (λ pair. pair.0))) (c.in_ok-gone.ensures.items_if_clones_equal (λ y is. is)));
-      hints = rw c.deref.ensures.value at c.in_ok-sides.ensures;
+      hints = c.in_ok-sides.ensures _;
       awake = awake_all gone (length s.table.now) _ c.all-waiting.result c.all-waiting.ensures.waits c.all-waiting.ensures.earlier c.all-waiting.ensures.next;
       in_order = subst (IsTrimOrder before s.mode edges) (sym none) (order_none before s.mode edges);
     }
 
 -- the first that is stuck goes
 pub take_away-requires-clause-first : goal.take_away-requires-clause-first
-take_away-requires-clause-first c = rw c.deref-in-loop-removed.ensures.value at (rw c.in-Some.is at c.in_ok-i.ensures.found)
+take_away-requires-clause-first c = rw c.deref.ensures.value at (rw c.in-Some.is at c.in_ok-i.ensures.found)
 
 pub take_away-requires-clause-taken : goal.take_away-requires-clause-taken
 take_away-requires-clause-taken c =
     let had = c.loop-removed.invariant in
-    let is = c.deref-in-loop-removed.ensures.value in
+    let is = c.deref.ensures.value in
     record {
       flags = had.flags;
       hints = rw is at c.in_ok-i.ensures.hints;
@@ -43,7 +43,7 @@ loop-removed-smaller c =
     let s = c.args.self.now in
     let edges = edges_of_table s.table.now in
     let gone = c.loop-removed.gone.items in
-    let first : IsFirstStuck (is_before s.order.now) s.mode edges (IsFlagged gone) c.in-Some.i = rw c.deref-in-loop-removed.ensures.value at (rw c.in-Some.is at c.in_ok-i.ensures.found) in
+    let first : IsFirstStuck (is_before s.order.now) s.mode edges (IsFlagged gone) c.in-Some.i = rw c.deref.ensures.value at (rw c.in-Some.is at c.in_ok-i.ensures.found) in
     subst (λ flags. left flags < left gone) (sym c.in_ok-take_away.ensures.flag) (fewer gone c.in-Some.i (was_left (is_before s.order.now) s.mode edges gone c.loop-removed.removed.items c.loop-removed.invariant.flags c.in-Some.i first.0))
 
 pub loop-removed-preserved : goal.loop-removed-preserved
@@ -58,7 +58,7 @@ returns c =
     let gone = c.loop-removed.gone.items in
     let had = c.loop-removed.invariant in
     let all : AreSettled before s.mode edges gone (length edges) =
-    subst (AreSettled before s.mode edges gone) (sym (length-map s.table.now (λ pair. pair.0))) (rw c.deref-in-loop-removed.ensures.value at (rw c.in_default.is at c.in_ok-i.ensures.found)) in
+    subst (AreSettled before s.mode edges gone) (sym (length-map s.table.now (λ pair. pair.0))) (rw c.deref.ensures.value at (rw c.in_default.is at c.in_ok-i.ensures.found)) in
     record {
       in_order = had.in_order;
       done = done_at_end before s.mode edges gone c.loop-removed.removed.items had.flags all;

@@ -39,7 +39,7 @@ returns-clause-taken c =
     let within = slice_get_within edges i first.0.edge first.0.stands in
     record {
       flags = subst (AreFlagsOf (length edges) (set gone i true)) (sym c.in_ok-push.ensures.items) (flags_more (length edges) gone c.args.removed.now.items i within had.flags);
-      hints = both_gone before s.mode edges gone size c.args.sides.now c.wake.new.sides i had.flags.long within had.hints c.in_ok-wake.ensures.followers c.in_ok-wake.ensures.leaders;
+      hints = both_gone before s.mode edges gone c.args.sides.now c.wake.new.sides i had.flags.long within had.hints c.in_ok-wake.ensures.followers c.in_ok-wake.ensures.leaders;
       awake = awake_gone before s.mode edges gone size c.args.sides.now c.wake.new.sides i c.args.waiting.now c.wake.new.waiting had.flags.long same (omega (arith, within, same)) had.hints
           c.in_ok-wake.ensures.followers c.in_ok-wake.ensures.leaders c.in_ok-wake.ensures.waiting c.in_ok-wake.ensures.earlier c.in_ok-wake.ensures.next had.awake;
       in_order = subst (IsTrimOrder before s.mode edges) (sym c.in_ok-push.ensures.items) (order_more before s.mode edges gone c.args.removed.now.items had.flags i had.in_order first);
