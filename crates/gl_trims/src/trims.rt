@@ -76,7 +76,8 @@ pub(crate) struct Sides {
 // Whether the edge at a position has a place, and the one there is left.
 fn is_placed(gone: &[bool], places: &[Option<usize>], i: usize) -> bool
     requires here { i < length places.now }
-    requires within { (p : ℕ) → slice_get places.now i ≡ Some (Some p) → p < length gone.now }
+    requires within { (p : ℕ) → slice_get places.now i ≡ Some (Some p)
+        → p < length gone.now }
     ensures { Decides result (IsPlaced gone.now places.now i) }
 {
     let Some(place) = places[i] else {
@@ -143,7 +144,8 @@ impl Trimming<'_> {
     // Before any edge was looked at.
     fn hints(&self, alloc: Global, side: Side) -> Result<Hints, Memory>
         ensures { IfOk result
-            (λ hints. (gone : List Bool) → AreHints (is_before self.now.order.now) self.now.mode
+            (λ hints. (gone : List Bool)
+            → AreHints (is_before self.now.order.now) self.now.mode
             (edges_of_table self.now.table.now) gone side hints) }
     {
         let towards = side.opposite();
@@ -158,7 +160,8 @@ impl Trimming<'_> {
     // The hints on both sides.
     fn both_hints(&self, alloc: Global) -> Result<Sides, Memory>
         ensures { IfOk result
-            (λ sides. (gone : List Bool) → AreBothHints (is_before self.now.order.now) self.now.mode
+            (λ sides. (gone : List Bool)
+            → AreBothHints (is_before self.now.order.now) self.now.mode
             (edges_of_table self.now.table.now) gone sides) }
     {
         let followers = self.hints(alloc, Side::Follower)?;
