@@ -2,14 +2,16 @@
 //! read.
 ghost use Rattle.std.specs.Prelude.{◌≡◌, ◌≤◌, ◌^◌, false};
 ghost use Rattle.gl_io.specs.Positions.{untold};
-ghost use Rattle.gl_options.specs.Sessions.{CanRun};
+ghost use Rattle.gl_commands.specs.Ready.{AreReady};
+ghost use Rattle.gl_options.specs.Sessions.{AreOfSession, CanRun};
 
 use super::asks::{Ask, command_of};
 use super::texts::{Text, made};
 use crate::cut::Cut;
 use gl_commands::{Ended, Reading, check_input, live, predict, predict_findings, replay, stats};
+use gl_filters::Query;
 use gl_io::{Failed, FromStd, Sink, Source};
-use gl_options::Command;
+use gl_options::{Command, Form, LiveOptions};
 use gl_std::Seed;
 use std::process::Abort;
 use std::sync::Wait;
@@ -51,8 +53,82 @@ pub(super) struct Case {
     pub(super) printed: &'static [u8],
 }
 
-// How the command ends over a reader and a writer. Nothing is told of it: what is asked then stands among few
-// facts, and the prover takes it quickly.
+// How `predict` ends, of which nothing is told: what is asked then stands among few facts, and the prover takes it
+// quickly. So it is with the others.
+fn run_predict<R: AllocGlobal + Threads + Sync, I: Source, O: Sink>(
+    rt: &R,
+    input: &mut I,
+    output: &mut O,
+    reading: &Reading,
+    query: &Query,
+    form: Form,
+) -> Ended
+    requires ready { AreReady reading.now.turns (I.failed input.old) (O.failed output.old) }
+{
+    predict(rt, input, output, reading, query, form)
+}
+
+fn run_findings<R: AllocGlobal + Threads + Sync, I: Source, O: Sink>(
+    rt: &R,
+    input: &mut I,
+    output: &mut O,
+    reading: &Reading,
+    query: &Query,
+    form: Form,
+) -> Ended
+    requires ready { AreReady reading.now.turns (I.failed input.old) (O.failed output.old) }
+{
+    predict_findings(rt, input, output, reading, query, form)
+}
+
+fn run_live<R: AllocGlobal + Threads + Wait + Sync, I: Source, O: Sink>(
+    rt: &R,
+    input: &mut I,
+    output: &mut O,
+    reading: &Reading,
+    options: &LiveOptions,
+) -> Ended
+    requires ready { AreReady reading.now.turns (I.failed input.old) (O.failed output.old) }
+    requires session { AreOfSession options.now }
+{
+    live(rt, input, output, reading, options)
+}
+
+fn run_stats<R: AllocGlobal + Threads + Sync, I: Source, O: Sink>(
+    rt: &R,
+    input: &mut I,
+    output: &mut O,
+    reading: &Reading,
+    query: &Query,
+) -> Ended
+    requires ready { AreReady reading.now.turns (I.failed input.old) (O.failed output.old) }
+{
+    stats(rt, input, output, reading, query)
+}
+
+fn run_replay<R: AllocGlobal + Threads + Sync, I: Source, O: Sink>(
+    rt: &R,
+    input: &mut I,
+    output: &mut O,
+    reading: &Reading,
+) -> Ended
+    requires ready { AreReady reading.now.turns (I.failed input.old) (O.failed output.old) }
+{
+    replay(rt, input, output, reading)
+}
+
+fn run_check<R: AllocGlobal + Threads + Sync, I: Source, O: Sink>(
+    rt: &R,
+    input: &mut I,
+    output: &mut O,
+    reading: &Reading,
+) -> Ended
+    requires ready { AreReady reading.now.turns (I.failed input.old) (O.failed output.old) }
+{
+    check_input(rt, input, output, reading)
+}
+
+// How the command ends over a reader and a writer.
 pub(super) fn run<R: AllocGlobal + Threads + Wait + Sync, I: Source, O: Sink>(
     rt: &R,
     command: &Command,
@@ -71,14 +147,16 @@ pub(super) fn run<R: AllocGlobal + Threads + Wait + Sync, I: Source, O: Sink>(
         jobs: command.jobs(),
     };
     match command {
-        Command::Predict { query, form, .. } => predict(rt, input, output, &reading, query, *form),
+        Command::Predict { query, form, .. } => run_predict(
+            rt, input, output, &reading, query, *form,
+        ),
         Command::Findings { query, form, .. } => {
-            predict_findings(rt, input, output, &reading, query, *form)
+            run_findings(rt, input, output, &reading, query, *form)
         }
-        Command::Live(options) => live(rt, input, output, &reading, options),
-        Command::Stats { query, .. } => stats(rt, input, output, &reading, query),
-        Command::Replay { .. } => replay(rt, input, output, &reading),
-        Command::Check { .. } => check_input(rt, input, output, &reading),
+        Command::Live(options) => run_live(rt, input, output, &reading, options),
+        Command::Stats { query, .. } => run_stats(rt, input, output, &reading, query),
+        Command::Replay { .. } => run_replay(rt, input, output, &reading),
+        Command::Check { .. } => run_check(rt, input, output, &reading),
     }
 }
 
