@@ -25,7 +25,7 @@ _goodlock() {
         live) _goodlock_words "$query --json --findings --recorders --shards --ring --stream --threads --jobs" ;;
         stats) _goodlock_words "$query --jobs" ;;
         replay) _goodlock_words "--jobs --help" ;;
-        check) _goodlock_words "--help" ;;
+        check) _goodlock_words "--jobs --help" ;;
     esac
 }
 

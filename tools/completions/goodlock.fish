@@ -18,7 +18,7 @@ complete -c goodlock -n '__fish_seen_subcommand_from live' -x -l shards -d 'Work
 complete -c goodlock -n '__fish_seen_subcommand_from live' -x -l ring -d 'Notes that a lane holds'
 complete -c goodlock -n '__fish_seen_subcommand_from live' -l stream -d 'Record each event as it is read'
 complete -c goodlock -n '__fish_seen_subcommand_from live' -x -l threads -d 'Threads that a trace may name'
-complete -c goodlock -n '__fish_seen_subcommand_from predict live stats replay' -x -l jobs -d 'Threads that read the trace'
+complete -c goodlock -n '__fish_seen_subcommand_from predict live stats replay check' -x -l jobs -d 'Threads that read the trace'
 
 complete -c goodlock-record -r -s o -d 'The trace or report'
 complete -c goodlock-record -x -l frames -d 'Callers that a place has'
