@@ -44,6 +44,21 @@ struct Cutters {
     cuts: bool,
 }
 
+impl Cutters {
+    // Of so many threads one judges, and the others cut.
+    fn beside_judge(alloc: Global, seed: Seed, jobs: usize) -> Cutters
+        requires { 2 ≤ jobs }
+        ensures { 0 < result.threads }
+    {
+        Cutters {
+            alloc,
+            seed,
+            threads: jobs.min(MOST) - 1,
+            cuts: true,
+        }
+    }
+}
+
 // Cuts pieces into lines.
 fn cut_all<R: Threads + Sync>(rt: &R, cutters: Cutters, pieces: &mut [Piece])
     requires threads { 0 < cutters.threads }
@@ -271,12 +286,7 @@ pub fn read_source_parallel<T: Threads + Sync, R: Source>(
     if jobs < LEAST {
         return read_source(alloc, input, turns, limits, seed);
     }
-    let cutters = Cutters {
-        alloc,
-        seed,
-        threads: jobs.min(MOST) - 1,
-        cuts: true,
-    };
+    let cutters = Cutters::beside_judge(alloc, seed, jobs);
     // the one judges what the other has read
     let mut reader = LineReader::new(alloc, limits, turns, seed)?;
     let mut judge = LineReader::new(alloc, limits, turns, seed)?;
