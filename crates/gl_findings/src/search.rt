@@ -2,6 +2,7 @@
 ghost use Rattle.std.specs.Prelude.{◌≡◌, ◌↔◌, ◌<◌, ◌+◌, ℕ, List, length, map, take, IfOk, IfSome, IsTrue};
 ghost use Rattle.gl_segments.specs.Clocks.{is_before};
 ghost use Rattle.gl_findings.specs.Findings.{findings};
+ghost use Rattle.gl_findings.specs.bodies.Told.{AreGrounds};
 
 use crate::finder::Finder;
 use crate::grounds::Grounds;
@@ -37,8 +38,44 @@ fn listed(findings: Vec<Vec<usize>>, max: usize) -> Found
     }
 }
 
-// The findings that are listed, where a search among the edges that lie on loops finds them in a few steps for
-// each edge. None where it doesn't.
+// How many steps the first search has.
+fn steps_of(edges: &EdgeList) -> usize {
+    edges
+        .entries()
+        .len()
+        .saturating_mul(STEPS_OF_EDGE)
+        .max(STEPS)
+}
+
+// The findings that are listed, where a search that is told this finds them in a few steps for each edge. None
+// where it doesn't.
+fn found_within(
+    alloc: Global,
+    edges: &EdgeList,
+    order: &Order,
+    query: &Query,
+    grounds: &Grounds,
+) -> Result<Option<Found>, Memory>
+    requires { AreGrounds (is_before order.now) query.now.mode query.now.len edges.now grounds.now }
+    ensures cycles { IfOk result
+        (λ soon. IfSome soon
+        (λ found. found.cycles
+        ≡ take query.now.max
+        (findings (is_before order.now) query.now.mode query.now.len edges.now))) }
+    ensures more { IfOk result
+        (λ soon. IfSome soon
+        (λ found. IsTrue found.more ↔
+        (query.now.max < length
+        (findings (is_before order.now) query.now.mode query.now.len edges.now)))) }
+{
+    let finder = Finder::of(alloc, edges, order, query, grounds, true)?;
+    match finder.findings_within(alloc, steps_of(edges))? {
+        Some(findings) => Ok(Some(listed(findings, query.max() as usize))),
+        None => Ok(None),
+    }
+}
+
+// The same, where a search among the edges that lie on loops finds them so.
 fn found_soon(
     alloc: Global,
     edges: &EdgeList,
@@ -58,16 +95,54 @@ fn found_soon(
 {
     let kept = edges_on_loops(alloc, edges.entries())?;
     let grounds = Grounds::of(alloc, edges, kept)?;
-    let finder = Finder::of(alloc, edges, order, query, &grounds, true)?;
-    let steps = edges
-        .entries()
-        .len()
-        .saturating_mul(STEPS_OF_EDGE)
-        .max(STEPS);
-    match finder.findings_within(alloc, steps)? {
-        Some(findings) => Ok(Some(listed(findings, query.max() as usize))),
-        None => Ok(None),
-    }
+    found_within(alloc, edges, order, query, &grounds)
+}
+
+// The findings that a search lists that is told this.
+fn first_found(
+    alloc: Global,
+    edges: &EdgeList,
+    order: &Order,
+    query: &Query,
+    grounds: &Grounds,
+) -> Result<Found, Memory>
+    requires { AreGrounds (is_before order.now) query.now.mode query.now.len edges.now grounds.now }
+    ensures cycles { IfOk result
+        (λ found. found.cycles
+        ≡ take query.now.max
+        (findings (is_before order.now) query.now.mode query.now.len edges.now)) }
+    ensures more { IfOk result
+        (λ found. IsTrue found.more ↔
+        (query.now.max < length
+        (findings (is_before order.now) query.now.mode query.now.len edges.now))) }
+{
+    let finder = Finder::of(alloc, edges, order, query, grounds, false)?;
+    let found = finder.first_findings(alloc)?;
+    Ok(listed(found, query.max() as usize))
+}
+
+// The same, on several threads.
+fn first_found_parallel(
+    rt: &(impl Threads + Sync),
+    alloc: Global,
+    edges: &EdgeList,
+    order: &Order,
+    query: &Query,
+    grounds: &Grounds,
+) -> Result<Found, Memory>
+    requires { AreGrounds (is_before order.now) query.now.mode query.now.len edges.now grounds.now }
+    ensures cycles { IfOk result
+        (λ found. found.cycles
+        ≡ take query.now.max
+        (findings (is_before order.now) query.now.mode query.now.len edges.now)) }
+    ensures more { IfOk result
+        (λ found. IsTrue found.more ↔
+        (query.now.max < length
+        (findings (is_before order.now) query.now.mode query.now.len edges.now))) }
+{
+    let finder = Finder::of(alloc, edges, order, query, grounds, false)?;
+    let found = first_findings(rt, alloc, &finder)?;
+    Ok(listed(found, query.max() as usize))
 }
 
 /// The first findings of a query over these edges, in the order of their signatures, each shown by the
@@ -106,9 +181,7 @@ pub fn findings(
     }
     let kept = edges_sought(alloc, edges, order, query)?;
     let grounds = Grounds::of(alloc, edges, kept)?;
-    let finder = Finder::of(alloc, edges, order, query, &grounds, false)?;
-    let found = finder.first_findings(alloc)?;
-    Ok(listed(found, query.max() as usize))
+    first_found(alloc, edges, order, query, &grounds)
 }
 
 /// The same as [`findings`], on several threads.
@@ -135,7 +208,5 @@ pub fn findings_parallel(
     }
     let kept = edges_sought_parallel(rt, alloc, edges, order, query)?;
     let grounds = Grounds::of(alloc, edges, kept)?;
-    let finder = Finder::of(alloc, edges, order, query, &grounds, false)?;
-    let found = first_findings(rt, alloc, &finder)?;
-    Ok(listed(found, query.max() as usize))
+    first_found_parallel(rt, alloc, edges, order, query, &grounds)
 }

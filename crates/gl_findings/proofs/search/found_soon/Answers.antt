@@ -6,8 +6,8 @@ use Rattle.gl_pruning.proofs.Off.{loops_keep}
 use Rattle.gl_findings.proofs.search.found_soon.Goals as goal
 
 -- what lies on no loop is in no cycle
-pub of-requires-2 : goal.of-requires-2
-of-requires-2 c =
+pub found_within-requires : goal.found_within-requires
+found_within-requires c =
     let before = is_before c.args.order.now in
     let query = c.args.query.now in
     let loops = subst (λ table. KeepsLoops (edges_of_table table) c.in_ok-kept.kept.items) c.entries.ensures.pairs c.in_ok-kept.ensures in
