@@ -2,7 +2,18 @@ use Rattle.std.proofs.Common.{◌<◌, length, ap, ◌∙◌, arith}
 use Rattle.std.proofs.lemmas.List.{length-map}
 use Rattle.gl_findings.specs.Findings.{class_of}
 use Rattle.gl_findings.proofs.ClassNumbers.{class_below, counts_more}
+use Rattle.std.proofs.lemmas.Result.{err_from_is_err_and}
 use Rattle.gl_findings.proofs.counts.counts_by_edge.Goals as goal
+
+pub returns-in_err-counts : goal.returns-in_err-counts
+returns-in_err-counts c =
+    let p = err_from_is_err_and c.from_residual.result c.from_residual.ensures.1 in
+    rw p.1 tt
+
+pub returns-in_err-push : goal.returns-in_err-push
+returns-in_err-push c =
+    let p = err_from_is_err_and c.from_residual-in_err-push.result c.from_residual-in_err-push.ensures.1 in
+    rw p.1 tt
 
 pub counts_at-requires-clause-threads : goal.counts_at-requires-clause-threads
 counts_at-requires-clause-threads c =

@@ -1,11 +1,36 @@
-use Rattle.std.proofs.Common.{take, get_or, ◌∙◌, arith}
+use Rattle.std.proofs.Common.{length, take, get_or, ap, subst, ◌∙◌, arith}
 use Rattle.std.specs.HashSet.{contains}
-use Rattle.std.proofs.lemmas.List.{length-take-le}
+use Rattle.std.proofs.lemmas.List.{length-map, length-take-le, take_all}
+use Rattle.gl_findings.specs.Findings.{class_of}
 use Rattle.gl_findings.specs.bodies.Classing.{are_places}
-use Rattle.gl_findings.specs.bodies.Tallies.{noted_by, threads_of}
+use Rattle.gl_findings.specs.bodies.Tallies.{AreCounted, noted_by, threads_of}
 use Rattle.gl_findings.proofs.ClassNumbers.{class_below, few_noted, thread_noted}
 use Rattle.gl_findings.proofs.Tallied.{tally_few}
+use Rattle.std.proofs.lemmas.Result.{err_from_is_err_and}
 use Rattle.gl_findings.proofs.counts.threads_by_class.Goals as goal
+
+pub returns-in_err-counts-clause-long : goal.returns-in_err-counts-clause-long
+returns-in_err-counts-clause-long c =
+    let p = err_from_is_err_and c.from_residual.result c.from_residual.ensures.1 in
+    rw p.1 tt
+
+pub returns-in_err-counts-clause-counted : goal.returns-in_err-counts-clause-counted
+returns-in_err-counts-clause-counted c =
+    let p = err_from_is_err_and c.from_residual.result c.from_residual.ensures.1 in
+    rw p.1 tt
+
+pub returns-in_err-note-clause-long : goal.returns-in_err-note-clause-long
+returns-in_err-note-clause-long c =
+    let p = err_from_is_err_and c.from_residual-in_err-note.result c.from_residual-in_err-note.ensures.1 in
+    rw p.1 tt
+
+pub returns-in_err-note-clause-counted : goal.returns-in_err-note-clause-counted
+returns-in_err-note-clause-counted c =
+    let p = err_from_is_err_and c.from_residual-in_err-note.result c.from_residual-in_err-note.ensures.1 in
+    rw p.1 tt
+
+pub bounds-classes-i : goal.bounds-classes-i
+bounds-classes-i c = omega (arith, c.loop-i-test.true, ap length c.requires, length-map c.args.table.now (class_of c.args.table.now))
 
 pub note-requires-clause-there : goal.note-requires-clause-there
 note-requires-clause-there c = omega (arith, c.loop-i.invariant.long, class_below c.args.table.now c.args.classes.now c.requires c.loop-i.i c.loop-i-test.true)
@@ -26,3 +51,11 @@ loop-i-preserved c =
       tally = thread_noted table c.args.classes.now c.requires c.loop-i.i c.loop-i-test.true (contains are_places c.note.new.seen) c.note.new.counts.items c.index-table-i.result _ c.number.ensures
           (c.in_ok-note.ensures.tally (noted_by threads_of table (take c.loop-i.i table)) c.loop-i.invariant.tally);
     }
+
+pub returns-clause-long : goal.returns-clause-long
+returns-clause-long c = c.loop-i.invariant.long
+
+pub returns-clause-counted : goal.returns-clause-counted
+returns-clause-counted c =
+    let table = c.args.table.now in
+    subst (λ pairs. AreCounted (noted_by threads_of table pairs) c.loop-i.counts.items) (take_all c.loop-i.i table (omega (arith, c.loop-i-test.false))) c.loop-i.invariant.tally.counted

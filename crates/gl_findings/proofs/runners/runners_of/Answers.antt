@@ -7,7 +7,13 @@ use Rattle.gl_filters.specs.Picked.{edges_of_table}
 use Rattle.gl_pruning.proofs.ByKinds.{edge_is}
 use Rattle.gl_findings.specs.bodies.Running.{IsRunBy}
 use Rattle.gl_findings.proofs.RunnerSteps.{runners_more, runners_of_all}
+use Rattle.std.proofs.lemmas.Result.{err_from_is_err_and}
 use Rattle.gl_findings.proofs.runners.runners_of.Goals as goal
+
+pub returns-in_err-runners : goal.returns-in_err-runners
+returns-in_err-runners c =
+    let p = err_from_is_err_and c.from_residual.result c.from_residual.ensures.1 in
+    rw p.1 tt
 
 -- an edge that is left out runs nothing
 pub loop-i-preserved-then-not-kept-i : goal.loop-i-preserved-then-not-kept-i
