@@ -2,6 +2,7 @@
 ghost use Rattle.std.specs.Prelude.{◌≡◌, [], IfOk, IfSome};
 ghost use Rattle.gl_lane.specs.Rule.{IsPlaced};
 
+use super::expect;
 use gl_event::{Body, Event, LocId, LockId, MAX_RING, Memory, Note, ThreadId};
 use gl_lane::{Finished, LaneIn, LaneOut, lane};
 use std::alloc::Global;
@@ -180,11 +181,7 @@ fn expect_answers(rt: &impl Abort, recorder: &mut LaneIn, collector: &mut LaneOu
     ensures collector { collector.new.lane ≡ collector.old.lane }
 {
     for (at, call) in case.calls.iter().enumerate() {
-        assert!(rt;
-            answers(recorder, collector, call),
-            "{}: call {at}",
-            case.name
-        );
+        expect(rt, answers(recorder, collector, call), case.name, at);
     }
 }
 
