@@ -12,6 +12,7 @@ use gl_worked::ops::Op::{Acq, Fork, Racq, Rel, Tryacq};
 use lists::Lists::{self, Parts, ThousandTurns, Told};
 use lists::{NEST, made};
 use std::alloc::Global;
+use std::process::Abort;
 
 mod lists;
 
@@ -19,7 +20,7 @@ mod lists;
 // held lock and the wanted one; the first and the last segment; the guards' locks; and the place, the held
 // lock's location and the wanted one's.
 #[derive(Clone, Copy)]
-struct Want(LockMode, [u32; 3], (u32, u32), &'static [u32], [u32; 3]);
+struct Want(LockMode, [u32; 3], [u32; 2], &'static [u32], [u32; 3]);
 
 // What is asked of the edges of lists, and the answer.
 #[derive(Clone, Copy)]
@@ -52,7 +53,8 @@ struct Case {
 
 const X: LockMode = LockMode::Exclusive;
 
-const CASES: &[Case] = &[
+// What edges lists have.
+const EDGES: &[Case] = &[
     // Two threads take two locks in opposite orders.
     Case {
         name: "opposite_order",
@@ -61,8 +63,8 @@ const CASES: &[Case] = &[
             &[Acq(1, 5), Acq(0, 6)],
         ]),
         asks: &[Edges(&[
-            Want(X, [0, 0, 1], (0, 0), &[0], [1, 1, 2]),
-            Want(X, [1, 1, 0], (0, 0), &[1], [1, 5, 6]),
+            Want(X, [0, 0, 1], [0, 0], &[0], [1, 1, 2]),
+            Want(X, [1, 1, 0], [0, 0], &[1], [1, 5, 6]),
         ])],
     },
     // Both threads hold lock 0 while they take locks 1 and 2 in opposite orders.
@@ -80,12 +82,12 @@ const CASES: &[Case] = &[
             &[Acq(0, 7), Acq(2, 8), Acq(1, 9)],
         ]),
         asks: &[Edges(&[
-            Want(X, [0, 0, 1], (0, 0), &[0], [1, 1, 2]),
-            Want(X, [0, 0, 2], (0, 0), &[0, 1], [2, 1, 3]),
-            Want(X, [0, 1, 2], (0, 0), &[0, 1], [2, 2, 3]),
-            Want(X, [1, 0, 1], (0, 0), &[0, 2], [2, 7, 9]),
-            Want(X, [1, 0, 2], (0, 0), &[0], [1, 7, 8]),
-            Want(X, [1, 2, 1], (0, 0), &[0, 2], [2, 8, 9]),
+            Want(X, [0, 0, 1], [0, 0], &[0], [1, 1, 2]),
+            Want(X, [0, 0, 2], [0, 0], &[0, 1], [2, 1, 3]),
+            Want(X, [0, 1, 2], [0, 0], &[0, 1], [2, 2, 3]),
+            Want(X, [1, 0, 1], [0, 0], &[0, 2], [2, 7, 9]),
+            Want(X, [1, 0, 2], [0, 0], &[0], [1, 7, 8]),
+            Want(X, [1, 2, 1], [0, 0], &[0, 2], [2, 8, 9]),
         ])],
     },
     // A fork closes a segment while a lock is held.
@@ -93,8 +95,8 @@ const CASES: &[Case] = &[
         name: "fork_while_holding",
         lists: Told(&[&[Acq(0, 1), Fork(1, 2), Acq(1, 3)], &[Acq(1, 4), Acq(0, 5)]]),
         asks: &[Edges(&[
-            Want(X, [0, 0, 1], (0, 1), &[0], [2, 1, 3]),
-            Want(X, [1, 1, 0], (0, 0), &[1], [1, 4, 5]),
+            Want(X, [0, 0, 1], [0, 1], &[0], [2, 1, 3]),
+            Want(X, [1, 1, 0], [0, 0], &[1], [1, 4, 5]),
         ])],
     },
     // A lock that is acquired twice and released once is still held, and was opened by the first acquire.
@@ -105,10 +107,10 @@ const CASES: &[Case] = &[
             &[Acq(2, 6), Acq(0, 7)],
         ]),
         asks: &[Edges(&[
-            Want(X, [0, 0, 1], (0, 0), &[0], [2, 1, 3]),
-            Want(X, [0, 0, 2], (0, 0), &[0, 1], [4, 1, 5]),
-            Want(X, [0, 1, 2], (0, 0), &[0, 1], [4, 3, 5]),
-            Want(X, [1, 2, 0], (0, 0), &[2], [1, 6, 7]),
+            Want(X, [0, 0, 1], [0, 0], &[0], [2, 1, 3]),
+            Want(X, [0, 0, 2], [0, 0], &[0, 1], [4, 1, 5]),
+            Want(X, [0, 1, 2], [0, 0], &[0, 1], [4, 3, 5]),
+            Want(X, [1, 2, 0], [0, 0], &[2], [1, 6, 7]),
         ])],
     },
     // Locks that are not released in the opposite order of their acquires.
@@ -116,8 +118,8 @@ const CASES: &[Case] = &[
         name: "crossed_releases",
         lists: Told(&[&[Acq(0, 1), Acq(1, 2), Rel(0, 3), Acq(2, 4)]]),
         asks: &[Edges(&[
-            Want(X, [0, 0, 1], (0, 0), &[0], [1, 1, 2]),
-            Want(X, [0, 1, 2], (0, 0), &[1], [3, 2, 4]),
+            Want(X, [0, 0, 1], [0, 0], &[0], [1, 1, 2]),
+            Want(X, [0, 1, 2], [0, 0], &[1], [3, 2, 4]),
         ])],
     },
     // The mode of a held lock is that of its outermost acquire, and edges of shared locks come after those
@@ -136,8 +138,8 @@ const CASES: &[Case] = &[
             Acq(1, 9),
         ]]),
         asks: &[Edges(&[
-            Want(X, [0, 0, 1], (0, 0), &[0], [8, 7, 9]),
-            Want(LockMode::Shared, [0, 0, 1], (0, 0), &[0], [2, 1, 3]),
+            Want(X, [0, 0, 1], [0, 0], &[0], [8, 7, 9]),
+            Want(LockMode::Shared, [0, 0, 1], [0, 0], &[0], [2, 1, 3]),
         ])],
     },
     // A lock that is tried is held and a guard, but never wanted.
@@ -145,10 +147,23 @@ const CASES: &[Case] = &[
         name: "tried_locks",
         lists: Told(&[&[Acq(0, 1), Tryacq(1, 2), Acq(2, 3)]]),
         asks: &[Edges(&[
-            Want(X, [0, 0, 2], (0, 0), &[0, 1], [2, 1, 3]),
-            Want(X, [0, 1, 2], (0, 0), &[0, 1], [2, 2, 3]),
+            Want(X, [0, 0, 2], [0, 0], &[0, 1], [2, 1, 3]),
+            Want(X, [0, 1, 2], [0, 0], &[0, 1], [2, 2, 3]),
         ])],
     },
+    // An edge that a thread makes a thousand times keeps its first sample.
+    Case {
+        name: "least_sample",
+        lists: ThousandTurns(&[&[], &[Acq(1, 4_001), Acq(0, 4_002)]]),
+        asks: &[Edges(&[
+            Want(X, [0, 0, 1], [0, 0], &[0], [1, 1, 2]),
+            Want(X, [1, 1, 0], [0, 0], &[1], [1, 4_001, 4_002]),
+        ])],
+    },
+];
+
+// How many they have, event by event too, and what numbers their guard sets have.
+const COUNTS: &[Case] = &[
     // Locks that are not released in the opposite order of their acquires, event by event.
     Case {
         name: "tracker_steps",
@@ -156,8 +171,8 @@ const CASES: &[Case] = &[
         asks: &[Stepped(
             2,
             &[
-                Want(X, [0, 0, 1], (0, 0), &[0], [1, 1, 2]),
-                Want(X, [0, 1, 2], (0, 0), &[1], [3, 2, 4]),
+                Want(X, [0, 0, 1], [0, 0], &[0], [1, 1, 2]),
+                Want(X, [0, 1, 2], [0, 0], &[1], [3, 2, 4]),
             ],
         )],
     },
@@ -208,15 +223,6 @@ const CASES: &[Case] = &[
         ]]),
         asks: &[CountTo(4, 5)],
     },
-    // An edge that a thread makes a thousand times keeps its first sample.
-    Case {
-        name: "least_sample",
-        lists: ThousandTurns(&[&[], &[Acq(1, 4_001), Acq(0, 4_002)]]),
-        asks: &[Edges(&[
-            Want(X, [0, 0, 1], (0, 0), &[0], [1, 1, 2]),
-            Want(X, [1, 1, 0], (0, 0), &[1], [1, 4_001, 4_002]),
-        ])],
-    },
     // Lock 1 is taken inside lock 0 again and again, and then, at place 10,000, lock 3 inside the locks 0 and
     // 2: a step there makes its edges as a first one does.
     Case {
@@ -229,8 +235,8 @@ const CASES: &[Case] = &[
         asks: &[Stepped(
             5_002,
             &[
-                Want(X, [0, 0, 3], (0, 0), &[0, 2], [10_000, 1, 5]),
-                Want(X, [0, 2, 3], (0, 0), &[0, 2], [10_000, 4, 5]),
+                Want(X, [0, 0, 3], [0, 0], &[0, 2], [10_000, 1, 5]),
+                Want(X, [0, 2, 3], [0, 0], &[0, 2], [10_000, 4, 5]),
             ],
         )],
     },
@@ -281,7 +287,7 @@ impl Wanted<(Edge, Sample)> for Want {
         edge.held_mode == self.0
             && edge.wanted_mode == X
             && numbers_of(edge) == self.1
-            && (edge.first, edge.second) == self.2
+            && [edge.first, edge.second] == self.2
             && are_locks(edge.guards.as_slice(), self.3, self.0)
             && at_of(sample) == self.4
     }
@@ -408,12 +414,24 @@ fn is_answered(alloc: Global, lists: Lists, ask: &Ask) -> bool {
     }
 }
 
+// Each that is asked is answered as it is wanted.
+fn expect_answers(rt: &impl Abort, alloc: Global, case: &Case) {
+    for (at, ask) in case.asks.iter().enumerate() {
+        expect(rt, is_answered(alloc, case.lists, ask), case.name, at);
+    }
+}
+
 #[test]
 fn edges_of_lists(rt: HostRuntime) {
-    for case in CASES {
-        for (at, ask) in case.asks.iter().enumerate() {
-            expect(&rt, is_answered(rt.alloc(), case.lists, ask), case.name, at);
-        }
+    for case in EDGES {
+        expect_answers(&rt, rt.alloc(), case);
+    }
+}
+
+#[test]
+fn counts_of_edges(rt: HostRuntime) {
+    for case in COUNTS {
+        expect_answers(&rt, rt.alloc(), case);
     }
 }
 
@@ -421,17 +439,32 @@ fn edges_of_lists(rt: HostRuntime) {
 fn guards_of(alloc: Global, locks: &[(u32, LockMode)]) -> Option<Vec<Guard>> {
     let mut guards = Vec::new(alloc);
     for (lock, mode) in locks {
-        guards.push(guard(*lock, *mode)).ok()?;
+        if guards.push(guard(*lock, *mode)).is_err() {
+            return None;
+        }
     }
     Some(guards)
 }
 
+impl Wanted<Guard> for (u32, LockMode) {
+    fn is(&self, found: &Guard) -> bool {
+        *found == guard(self.0, self.1)
+    }
+}
+
+// Whether the set of these locks has those.
+fn has_guards(alloc: Global, locks: &[(u32, LockMode)], wants: &[(u32, LockMode)]) -> bool {
+    match guards_of(alloc, locks) {
+        Some(guards) => are_wanted(Guards::new(guards).into_vec().as_slice(), wants),
+        None => false,
+    }
+}
+
+const S: LockMode = LockMode::Shared;
+
 // A set of locks has each of them once in each mode, ascending, exclusive before shared.
 #[test]
 fn guards_of_locks(rt: HostRuntime) {
-    let shared = LockMode::Shared;
-    let locks = [(3, shared), (1, X), (3, X), (3, shared)];
-    let guards = guards_of(rt.alloc(), &locks).expect(&rt, "guards");
-    let wanted = [guard(1, X), guard(3, X), guard(3, shared)];
-    assert!(rt; Guards::new(guards).into_vec().as_slice() == wanted.as_slice());
+    let locks = &[(3, S), (1, X), (3, X), (3, S)];
+    assert!(rt; has_guards(rt.alloc(), locks, &[(1, X), (3, X), (3, S)]));
 }

@@ -61,20 +61,18 @@ fn are_same_queries(one: For, other: For) -> bool {
     }
 }
 
+// Each mode asks more than the one before.
+fn modes_ascend() -> bool {
+    Mode::Basic < Mode::Guarded && Mode::Guarded < Mode::Full && Mode::Basic != Mode::Full
+}
+
 #[test]
 fn queries_differ(rt: HostRuntime) {
+    expect(&rt, modes_ascend(), "three modes", 0);
     for (at, (asked, wanted)) in SAME_QUERIES.iter().enumerate() {
         let are_same = are_same_queries(FIRST_QUERY, *asked);
         expect(&rt, are_same == *wanted, "two queries", at);
     }
-}
-
-// Each mode asks more than the one before.
-#[test]
-fn modes_ascend(rt: HostRuntime) {
-    assert!(rt;
-        Mode::Basic < Mode::Guarded && Mode::Guarded < Mode::Full && Mode::Basic != Mode::Full
-    );
 }
 
 // A verdict, as constants tell it.
@@ -268,13 +266,17 @@ fn two_edges(known: &Known, i: usize, j: usize) -> Option<(&Edge, &Edge)> {
 }
 
 fn follows(known: &Known, mode: Mode, i: usize, j: usize) -> Option<bool> {
-    let (one, other) = two_edges(known, i, j)?;
-    Some(compatible(mode, &known.order, one, other))
+    match two_edges(known, i, j) {
+        Some((one, other)) => Some(compatible(mode, &known.order, one, other)),
+        None => None,
+    }
 }
 
 fn goes(known: &Known, mode: Mode, i: usize, j: usize) -> Option<bool> {
-    let (one, other) = two_edges(known, i, j)?;
-    Some(goes_with(mode, &known.order, one, other))
+    match two_edges(known, i, j) {
+        Some((one, other)) => Some(goes_with(mode, &known.order, one, other)),
+        None => None,
+    }
 }
 
 // The same, by the numbers of their guard sets.

@@ -7,6 +7,7 @@ use fakes::{After, Full, Gives, Stops};
 use gl_io::{Failed, FromStd, Source, WriteFault, read_whole, write_out};
 use std::alloc::Global;
 use std::io::Cursor;
+use std::io::ErrorKind::{Interrupted, Other};
 use std::process::Abort;
 
 mod fakes;
@@ -56,7 +57,7 @@ fn giving(text: &[u8], after: After) -> Gives {
     }
 }
 
-// Whether a read after that of one byte fails, by a single call.
+// A read that fails isn't tried again. Whether a read after that of one byte fails, by a single call.
 fn fails_at_once(after: After) -> bool {
     let mut input = FromStd::new(giving(&[7], after));
     let mut buffer = [0u8; 4];
@@ -66,7 +67,7 @@ fn fails_at_once(after: After) -> bool {
         && input.into_inner().calls == 2
 }
 
-// Whether it isn't in gathering either, where two reads give a byte each and the third one fails.
+// Whether it isn't tried again in gathering either, where two reads give a byte each and the third one fails.
 fn fails_by_three(alloc: Global, after: After) -> bool {
     calls_to_read(alloc, giving(&[0, 0], after), 100, &[0, 0], false) == Some(3)
 }
@@ -88,7 +89,7 @@ fn is_cut(alloc: Global, count: usize) -> bool {
         && is_read(alloc, giving(front, After::End), turns, front, false)
         && is_read(
             alloc,
-            giving(front, After::Failure),
+            giving(front, After::Fails(Other)),
             turns + 1,
             front,
             false,
@@ -132,15 +133,15 @@ fn holds_front(alloc: Global, room: usize, full: Full) -> bool {
 
 // Whether the writer has room for the whole report.
 fn holds_whole(alloc: Global, room: usize) -> bool {
-    let (answer, output) = written(alloc, room, Full::Failure);
+    let (answer, output) = written(alloc, room, Full::Fails(Other));
     answer == Ok(()) && output.held.as_slice() == REPORT
 }
 
 // Whether so it is however a full writer answers.
 fn stops_at(alloc: Global, room: usize) -> bool {
     holds_front(alloc, room, Full::TakesNone)
-        && holds_front(alloc, room, Full::Failure)
-        && holds_front(alloc, room, Full::Interruption)
+        && holds_front(alloc, room, Full::Fails(Other))
+        && holds_front(alloc, room, Full::Fails(Interrupted))
 }
 
 // Whether a writer with room for five bytes, which takes pieces, fails after these.
@@ -216,8 +217,11 @@ const LAWS: &[(&str, Law)] = &[
     ("gathers_within_one_turn", Gathers(1, REPORT, false)),
     ("gathers_within_two_turns", Gathers(2, REPORT, true)),
     ("gathers_within_turns", Gathers(100, REPORT, true)),
-    ("reader_fails_once", FailsOnce(After::Failure)),
-    ("reader_interrupted_once", FailsOnce(After::Interruption)),
+    ("reader_fails_once", FailsOnce(After::Fails(Other))),
+    (
+        "reader_interrupted_once",
+        FailsOnce(After::Fails(Interrupted)),
+    ),
     ("reader_stops", ReaderStops),
     ("endless_reader", Endless),
     ("writer_stops", WriterStops),

@@ -130,24 +130,51 @@ const CASES: &[Case] = &[
     },
 ];
 
-// The list of thread 0, which forks the threads from 1 to this one and then joins them in order.
-fn main_list(alloc: Global, last: u32) -> Option<Vec<Event>> {
-    let mut list = Vec::new(alloc);
+// One list without events.
+const ONE_EMPTY: &[&[Op]] = &[&[]];
+
+// Puts events at the end of the list, of thread 0: it forks the threads from 1 to this one and then joins them in
+// order.
+fn add_forks(list: &mut Vec<Event>, last: u32) -> bool {
     for thread in 1..=last {
-        list.push(event_of(Fork(thread, thread))).ok()?;
+        if list.push(event_of(Fork(thread, thread))).is_err() {
+            return false;
+        }
     }
     for thread in 1..=last {
-        list.push(event_of(Join(thread, thread))).ok()?;
+        if list.push(event_of(Join(thread, thread))).is_err() {
+            return false;
+        }
     }
-    Some(list)
+    true
 }
 
-// That list, and one of each of these threads.
+// Puts these events at the end of the first list.
+fn first_forks(lists: &mut [Vec<Event>], last: u32) -> bool {
+    match lists.first_mut() {
+        Some(first) => add_forks(first, last),
+        None => false,
+    }
+}
+
+// Puts a list at the end of the lists, of one of these threads.
+fn add_forked(alloc: Global, lists: &mut Vec<Vec<Event>>, thread: u32) -> bool {
+    match events_of(alloc, &[Acq(thread, 400)]) {
+        Some(list) => lists.push(list).is_ok(),
+        None => false,
+    }
+}
+
+// The list of thread 0, and one of each of these threads.
 fn many_forks(alloc: Global, last: u32) -> Option<Vec<Vec<Event>>> {
-    let mut lists = Vec::new(alloc);
-    lists.push(main_list(alloc, last)?).ok()?;
+    let mut lists = lists_of(alloc, ONE_EMPTY)?;
+    if !first_forks(&mut lists, last) {
+        return None;
+    }
     for thread in 1..=last {
-        lists.push(events_of(alloc, &[Acq(thread, 400)])?).ok()?;
+        if !add_forked(alloc, &mut lists, thread) {
+            return None;
+        }
     }
     Some(lists)
 }

@@ -322,14 +322,22 @@ fn feeds(rt: HostRuntime) {
     }
 }
 
+// Whether the edge is handed back, with its sample.
+fn is_back(answer: Result<(), (Edge, Sample)>, same: &Edge) -> bool {
+    match answer {
+        Ok(()) => false,
+        Err((edge, sample)) => edge == *same && sample == at(7),
+    }
+}
+
 // Whether a sender whose worker is gone gets its edge back, and no `Sent`.
-fn gets_back<R: Wait>(rt: &R, outlet: Outlet, edge: Edge, same: Edge) -> bool {
+fn gets_back<R: Wait>(rt: &R, outlet: Outlet, edge: Edge, same: &Edge) -> bool {
     let mut outlet = outlet;
-    outlet.send(rt, edge, at(7)) == Err((same, at(7))) && outlet.end(rt).err() == Some(Gone)
+    is_back(outlet.send(rt, edge, at(7)), same) && outlet.end(rt).err() == Some(Gone)
 }
 
 // Whether it does with these edges, of which the first is sent.
-fn is_lone(rt: &impl Wait, alloc: Global, edge: Edge, same: Edge) -> bool {
+fn is_lone(rt: &impl Wait, alloc: Global, edge: Edge, same: &Edge) -> bool {
     match feed(alloc, 2) {
         Ok((outlet, inlet)) => {
             drop(inlet);
@@ -343,5 +351,5 @@ fn is_lone(rt: &impl Wait, alloc: Global, edge: Edge, same: Edge) -> bool {
 fn inlet_dropped(rt: HostRuntime) {
     let lone = edge(rt.alloc(), (0, 1, 2)).ok().expect(&rt, "an edge");
     let same = edge(rt.alloc(), (0, 1, 2)).ok().expect(&rt, "an edge");
-    assert!(rt; is_lone(&rt, rt.alloc(), lone, same));
+    assert!(rt; is_lone(&rt, rt.alloc(), lone, &same));
 }
