@@ -1,5 +1,5 @@
 //! Sessions that have run, and are settled with their receipts or with others.
-ghost use Rattle.std.specs.Prelude.{◌≡◌, List, IfSome};
+ghost use Rattle.std.specs.Prelude.{◌≡◌, true, List, IfSome};
 ghost use Rattle.gl_engine.specs.Gathering.{Gathering, AreOurs};
 ghost use Rattle.gl_engine.specs.Recording.{Closed};
 ghost use Rattle.gl_engine.specs.Settling.{IsSettleFault};
@@ -50,47 +50,36 @@ impl Drop for Session {
     }
 }
 
+// The ends of the workers, where these are there. They are dropped where they aren't.
+fn kept(alloc: Global, inlets: Vec<Inlet>, served: bool) -> Vec<Inlet>
+    ensures { served ≡ true → result.items ≡ inlets.items }
+{
+    if served { inlets } else { Vec::new(alloc) }
+}
+
 /// A session of this number, with a thread for each list, that has recorded it and closed, run with so
-/// many workers, 1 to 16, whose feeds have room for all that is sent.
+/// many workers, 1 to 16, whose feeds have room for all that is sent, or who are gone before it runs.
 pub fn session_of<R: Wait>(
     rt: &R,
     alloc: Global,
     number: u64,
     lists: &[&[Op]],
     workers: u32,
+    served: bool,
 ) -> Option<Session> {
     if workers == 0 || workers > MAX_SHARDS {
         return None;
     }
     let (receipts, collector) = closed(alloc, number, lists)?;
     let (outlets, inlets) = feeds(alloc, workers)?;
+    let inlets = kept(alloc, inlets, served);
     Some(Session {
         number,
         gathered: collector.run(rt, outlets),
         receipts,
         aside: Vec::new(alloc),
         inlets,
-        served: true,
-    })
-}
-
-/// A session of this number, run with one worker that is gone.
-pub fn session_unserved<R: Wait>(
-    rt: &R,
-    alloc: Global,
-    number: u64,
-    lists: &[&[Op]],
-) -> Option<Session> {
-    let (receipts, collector) = closed(alloc, number, lists)?;
-    let (outlets, inlets) = feeds(alloc, 1)?;
-    drop(inlets);
-    Some(Session {
-        number,
-        gathered: collector.run(rt, outlets),
-        receipts,
-        aside: Vec::new(alloc),
-        inlets: Vec::new(alloc),
-        served: false,
+        served,
     })
 }
 
