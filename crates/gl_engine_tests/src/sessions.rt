@@ -83,10 +83,15 @@ pub fn session_of<R: Wait>(
     })
 }
 
+// A thread without events.
+const NOTHING: &[&[Op]] = &[&[]];
+
 /// A receipt of a session of this number, of one thread without events.
 pub fn receipt_of(alloc: Global, number: u64) -> Option<Receipt> {
-    let (mut receipts, _) = closed(alloc, number, &[&[]])?;
-    receipts.pop()
+    match closed(alloc, number, NOTHING) {
+        Some((mut receipts, _)) => receipts.pop(),
+        None => None,
+    }
 }
 
 // Why it isn't settled, and what was gathered, where that is handed back.
@@ -113,6 +118,14 @@ fn refused(gathered: Gathered, receipts: &mut [Receipt]) -> Option<(Why, Option<
     match gathered.settle(receipts) {
         Ok(_) => None,
         Err(fault) => why_of(fault),
+    }
+}
+
+// Both, where there are tables.
+fn both(settled: Settled, tables: Option<Vec<Table>>) -> Option<(Settled, Vec<Table>)> {
+    match tables {
+        Some(tables) => Some((settled, tables)),
+        None => None,
     }
 }
 
@@ -232,8 +245,9 @@ impl Session {
         if !served {
             return None;
         }
-        let (settled, sent) = gathered.settle(receipts.as_mut_slice()).ok()?;
-        let tables = tables_of(rt, alloc, sent, inlets)?;
-        Some((settled, tables))
+        match gathered.settle(receipts.as_mut_slice()) {
+            Ok((settled, sent)) => both(settled, tables_of(rt, alloc, sent, inlets)),
+            Err(_) => None,
+        }
     }
 }
