@@ -1,5 +1,5 @@
 //! Feeds between a collector and its workers, and what the workers make of them.
-ghost use Rattle.std.specs.Prelude.{◌≡◌, ◌≤◌, ℕ, [], Some, length, map, slice_get, IfSome};
+ghost use Rattle.std.specs.Prelude.{◌≡◌, ◌≤◌, ℕ, true, [], Some, length, map, slice_get, IfSome};
 ghost use Rattle.gl_shards.specs.Feeds.{AllSent, Receiving, Sending};
 
 use gl_shards::{Inlet, Open, Outlet, Sent, Table, feed, serve};
@@ -36,6 +36,33 @@ fn table_of<R: Wait>(rt: &R, alloc: Global, inlet: Inlet, sent: Sent) -> Option<
     serve(rt, alloc, inlet, 0, &Open).settle(sent).ok()
 }
 
+// Adds the table. Whether there is one.
+fn add(tables: &mut Vec<Table>, table: Option<Table>) -> bool {
+    match table {
+        Some(table) => tables.push(table).is_ok(),
+        None => false,
+    }
+}
+
+// Adds the table of the last worker. Whether it could.
+fn add_last<R: Wait>(
+    rt: &R,
+    alloc: Global,
+    sent: &mut Vec<Sent>,
+    inlets: &mut Vec<Inlet>,
+    tables: &mut Vec<Table>,
+) -> bool
+    requires one_feed { map (λ (s : AllSent). s.feed) sent.old.items
+        ≡ map (λ (i : Receiving). i.feed) inlets.old.items }
+    ensures one_feed { result ≡ true → map (λ (s : AllSent). s.feed) sent.new.items
+        ≡ map (λ (i : Receiving). i.feed) inlets.new.items }
+{
+    match (sent.pop(), inlets.pop()) {
+        (Some(last), Some(inlet)) => add(tables, table_of(rt, alloc, inlet, last)),
+        _ => false,
+    }
+}
+
 /// The workers' tables, which they make now, from what their feeds hold.
 pub fn tables_of<R: Wait>(
     rt: &R,
@@ -49,10 +76,9 @@ pub fn tables_of<R: Wait>(
     let (mut sent, mut inlets) = (sent, inlets);
     let mut tables = Vec::new(alloc);
     for _ in 0..inlets.len() {
-        let (Some(last), Some(inlet)) = (sent.pop(), inlets.pop()) else {
+        if !add_last(rt, alloc, &mut sent, &mut inlets, &mut tables) {
             return None;
-        };
-        tables.push(table_of(rt, alloc, inlet, last)?).ok()?;
+        }
     }
     tables.as_mut_slice().reverse();
     Some(tables)

@@ -1,5 +1,5 @@
 //! Sessions that have run, and are settled with their receipts or with others.
-ghost use Rattle.std.specs.Prelude.{◌≡◌, List, IfSome};
+ghost use Rattle.std.specs.Prelude.{◌≡◌, true, List, IfSome};
 ghost use Rattle.gl_engine.specs.Gathering.{Gathering, AreOurs};
 ghost use Rattle.gl_engine.specs.Recording.{Closed};
 ghost use Rattle.gl_engine.specs.Settling.{IsSettleFault};
@@ -50,54 +50,48 @@ impl Drop for Session {
     }
 }
 
+// The ends of the workers, where these are there. They are dropped where they aren't.
+fn kept(alloc: Global, inlets: Vec<Inlet>, served: bool) -> Vec<Inlet>
+    ensures { served ≡ true → result.items ≡ inlets.items }
+{
+    if served { inlets } else { Vec::new(alloc) }
+}
+
 /// A session of this number, with a thread for each list, that has recorded it and closed, run with so
-/// many workers, 1 to 16, whose feeds have room for all that is sent.
+/// many workers, 1 to 16, whose feeds have room for all that is sent, or who are gone before it runs.
 pub fn session_of<R: Wait>(
     rt: &R,
     alloc: Global,
     number: u64,
     lists: &[&[Op]],
     workers: u32,
+    served: bool,
 ) -> Option<Session> {
     if workers == 0 || workers > MAX_SHARDS {
         return None;
     }
     let (receipts, collector) = closed(alloc, number, lists)?;
     let (outlets, inlets) = feeds(alloc, workers)?;
+    let inlets = kept(alloc, inlets, served);
     Some(Session {
         number,
         gathered: collector.run(rt, outlets),
         receipts,
         aside: Vec::new(alloc),
         inlets,
-        served: true,
+        served,
     })
 }
 
-/// A session of this number, run with one worker that is gone.
-pub fn session_unserved<R: Wait>(
-    rt: &R,
-    alloc: Global,
-    number: u64,
-    lists: &[&[Op]],
-) -> Option<Session> {
-    let (receipts, collector) = closed(alloc, number, lists)?;
-    let (outlets, inlets) = feeds(alloc, 1)?;
-    drop(inlets);
-    Some(Session {
-        number,
-        gathered: collector.run(rt, outlets),
-        receipts,
-        aside: Vec::new(alloc),
-        inlets: Vec::new(alloc),
-        served: false,
-    })
-}
+// A thread without events.
+const NOTHING: &[&[Op]] = &[&[]];
 
 /// A receipt of a session of this number, of one thread without events.
 pub fn receipt_of(alloc: Global, number: u64) -> Option<Receipt> {
-    let (mut receipts, _) = closed(alloc, number, &[&[]])?;
-    receipts.pop()
+    match closed(alloc, number, NOTHING) {
+        Some((mut receipts, _)) => receipts.pop(),
+        None => None,
+    }
 }
 
 // Why it isn't settled, and what was gathered, where that is handed back.
@@ -124,6 +118,14 @@ fn refused(gathered: Gathered, receipts: &mut [Receipt]) -> Option<(Why, Option<
     match gathered.settle(receipts) {
         Ok(_) => None,
         Err(fault) => why_of(fault),
+    }
+}
+
+// Both, where there are tables.
+fn both(settled: Settled, tables: Option<Vec<Table>>) -> Option<(Settled, Vec<Table>)> {
+    match tables {
+        Some(tables) => Some((settled, tables)),
+        None => None,
     }
 }
 
@@ -243,8 +245,9 @@ impl Session {
         if !served {
             return None;
         }
-        let (settled, sent) = gathered.settle(receipts.as_mut_slice()).ok()?;
-        let tables = tables_of(rt, alloc, sent, inlets)?;
-        Some((settled, tables))
+        match gathered.settle(receipts.as_mut_slice()) {
+            Ok((settled, sent)) => both(settled, tables_of(rt, alloc, sent, inlets)),
+            Err(_) => None,
+        }
     }
 }

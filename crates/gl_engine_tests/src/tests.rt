@@ -2,134 +2,17 @@
 mod settling;
 
 use crate::asking::{Asked, opened};
+use gl_cycles::{Report, ReportFault};
 use gl_engine::{CloseFault, Pulled, Receipt, RecordFault, Recorder};
 use gl_event::{Event, Limits, Refusal};
 use gl_filters::{Mode, Query};
 use gl_worked::ops::Op::{self, Acq, Fork, Join, Rel};
-use gl_worked::ops::event_of;
+use gl_worked::ops::{event_of, events_of};
 use std::alloc::Global;
 use std::process::Abort;
 use std::sync::Wait;
 use std::thread;
 use std::thread::Threads;
-
-// The recorder answers this. Nothing is told of it, so that what is known doesn't grow with each call of a
-// long test; so it is with the next one.
-fn expect_record(
-    rt: &impl Abort,
-    recorder: &mut Recorder,
-    event: Event,
-    want: Result<u32, RecordFault>,
-) {
-    assert_eq!(rt; recorder.record(event), want);
-}
-
-// The collector answers this for the first thread.
-fn expect_pull(rt: &impl Abort, collector: &mut Asked, want: Pulled) {
-    assert_eq!(rt; collector.pull(0), Some(Ok(want)));
-}
-
-// Whether these are the first thread's collected events, and so many notes were collected in all.
-fn has_collected(collector: &Asked, events: &[Event], notes: usize) -> bool {
-    collector.log(0) == Some(events) && collector.notes() == notes
-}
-
-// The recorders and the collector of a session with these limits of threads and room.
-fn session(alloc: Global, threads: u32, ring: u32) -> Option<(Vec<Recorder>, Asked)> {
-    opened(alloc, &Limits::new(threads, ring, 100, 100).ok()?)
-}
-
-// The recorder and the collector of a session of one thread.
-fn session_of_one(alloc: Global, ring: u32) -> Option<(Recorder, Asked)> {
-    let (mut recorders, collector) = session(alloc, 1, ring)?;
-    Some((recorders.pop()?, collector))
-}
-
-// The recorder that is handed back by a full lane.
-fn handed_back(answer: Result<Receipt, CloseFault>) -> Option<Recorder> {
-    match answer {
-        Err(CloseFault::Full(recorder)) => Some(recorder),
-        _ => None,
-    }
-}
-
-// The session and the number of events of the receipt.
-fn counts_of(answer: Result<Receipt, CloseFault>) -> Option<(u64, u32)> {
-    match answer {
-        Ok(receipt) => Some((receipt.session(), receipt.taken())),
-        Err(_) => None,
-    }
-}
-
-// How many events the recorder had taken that the collector didn't confirm.
-fn unconfirmed(answer: &Result<Receipt, CloseFault>) -> Option<u32> {
-    match answer {
-        Err(CloseFault::Unconfirmed { taken, .. }) => Some(*taken),
-        _ => None,
-    }
-}
-
-// The last recorder records the events one after the other, and is dropped. Whether each was taken.
-fn last_records(recorders: &mut Vec<Recorder>, events: &[Op]) -> bool {
-    let Some(mut recorder) = recorders.pop() else {
-        return false;
-    };
-    for event in events {
-        if recorder.record(event_of(*event)).is_err() {
-            return false;
-        }
-    }
-    recorder.taken() as usize == events.len()
-}
-
-// The last two threads take two locks in opposite orders.
-fn opposite_recorded(recorders: &mut Vec<Recorder>) -> bool {
-    last_records(recorders, &[Acq(1, 3), Acq(0, 4)])
-        && last_records(recorders, &[Acq(0, 1), Acq(1, 2)])
-}
-
-// The first thread joins the second one before it forks the third one.
-fn forks_recorded(recorders: &mut Vec<Recorder>) -> bool {
-    last_records(recorders, &[Fork(1, 5), Join(1, 6), Fork(2, 7)])
-}
-
-// Whether the thread's next notes are its first events, so many of them.
-fn pulls_first(collector: &mut Asked, thread: u32, events: u32) -> bool {
-    for place in 0..events {
-        if collector.pull(thread) != Some(Ok(Pulled::Event { place })) {
-            return false;
-        }
-    }
-    true
-}
-
-// How many cycles are reported of what was collected so far, and whether there are more.
-fn cycles_so_far(collector: &Asked) -> Option<(usize, bool)> {
-    let query = Query::new(Mode::Full, 4, 1_000).ok()?;
-    let report = collector.report_so_far(&query).ok()?;
-    Some((report.found.cycles.as_slice().len(), report.found.more))
-}
-
-// A lane of one note: each event, and the end mark, waits for the one before it to be pulled.
-#[test]
-fn ring_of_one(rt: HostRuntime) {
-    let (mut recorder, mut collector) = session_of_one(rt.alloc(), 1).expect(&rt, "a session");
-    expect_record(&rt, &mut recorder, event_of(Acq(0, 0)), Ok(0));
-    expect_record(
-        &rt,
-        &mut recorder,
-        event_of(Acq(1, 1)),
-        Err(RecordFault::Full(event_of(Acq(1, 1)))),
-    );
-    let mut recorder = handed_back(recorder.close()).expect(&rt, "a full lane");
-    expect_pull(&rt, &mut collector, Pulled::Event { place: 0 });
-    expect_record(&rt, &mut recorder, event_of(Acq(1, 1)), Ok(1));
-    expect_pull(&rt, &mut collector, Pulled::Event { place: 1 });
-    assert_eq!(rt; counts_of(recorder.close()), Some((7, 2)));
-    expect_pull(&rt, &mut collector, Pulled::Ended { count: 2 });
-    expect_pull(&rt, &mut collector, Pulled::Empty);
-    assert!(rt; has_collected(&collector, &[event_of(Acq(0, 0)), event_of(Acq(1, 1))], 3));
-}
 
 // What a recorder answers to an event.
 #[derive(Clone, Copy)]
@@ -142,36 +25,127 @@ enum Answer {
     Full,
 }
 
-// A session of one thread with so much room: what its recorder answers to these events, and how many it has taken
-// then.
+// What is done with a session, by the last of its recorders that are left, and what is answered.
+#[derive(Clone, Copy)]
+enum Step {
+    // the recorder answers so to the event, and has taken so many then
+    Record(Op, Answer, u32),
+    // the recorder is dropped
+    DropRecorder,
+    // the recorder isn't closed, since the lane is full, and handed back
+    CloseFull,
+    // the recorder leaves a receipt of this session and so many events
+    Close(u64, u32),
+    // the recorder closes, and the collector didn't confirm so many events that were taken
+    CloseUnconfirmed(u32),
+    // the collector is dropped
+    DropCollector,
+    // the next note of the thread of this number
+    Pull(u32, Pulled),
+    // the first thread's collected events, and how many notes were collected in all
+    Collected(&'static [Op], usize),
+    // how many cycles are reported of what was collected so far, and whether there are more
+    Report(usize, bool),
+}
+
+// A session of so many threads, with so much room in each lane, and what is done with it.
 #[derive(Clone, Copy)]
 struct Case {
     name: &'static str,
+    threads: u32,
     ring: u32,
-    events: &'static [(Op, Answer, u32)],
+    steps: &'static [Step],
 }
 
 const CASES: &[Case] = &[
+    // A lane of one note: each event, and the end mark, waits for the one before it to be pulled.
+    Case {
+        name: "ring_of_one",
+        threads: 1,
+        ring: 1,
+        steps: &[
+            Step::Record(Acq(0, 0), Answer::Taken(0), 1),
+            Step::Record(Acq(1, 1), Answer::Full, 1),
+            Step::CloseFull,
+            Step::Pull(0, Pulled::Event { place: 0 }),
+            Step::Record(Acq(1, 1), Answer::Taken(1), 2),
+            Step::Pull(0, Pulled::Event { place: 1 }),
+            Step::Close(7, 2),
+            Step::Pull(0, Pulled::Ended { count: 2 }),
+            Step::Pull(0, Pulled::Empty),
+            Step::Collected(&[Acq(0, 0), Acq(1, 1)], 3),
+        ],
+    },
     // A release of a lock that isn't held leaves the recorder as it was.
     Case {
         name: "stray_release",
+        threads: 1,
         ring: 8,
-        events: &[
-            (Rel(0, 1), Answer::NotHeld, 0),
-            (Acq(1, 2), Answer::Taken(0), 1),
+        steps: &[
+            Step::Record(Rel(0, 1), Answer::NotHeld, 0),
+            Step::Record(Acq(1, 2), Answer::Taken(0), 1),
         ],
     },
     // What can't come next is refused also where the lane is full.
     Case {
         name: "refused_before_full",
+        threads: 1,
         ring: 1,
-        events: &[
-            (Acq(0, 1), Answer::Taken(0), 1),
-            (Rel(1, 2), Answer::NotHeld, 1),
-            (Rel(0, 3), Answer::Full, 1),
+        steps: &[
+            Step::Record(Acq(0, 1), Answer::Taken(0), 1),
+            Step::Record(Rel(1, 2), Answer::NotHeld, 1),
+            Step::Record(Rel(0, 3), Answer::Full, 1),
+        ],
+    },
+    // Nobody is left to collect.
+    Case {
+        name: "nobody_left_to_collect",
+        threads: 1,
+        ring: 8,
+        steps: &[
+            Step::DropCollector,
+            Step::Record(Acq(0, 1), Answer::Taken(0), 1),
+            Step::CloseUnconfirmed(1),
+        ],
+    },
+    // Two threads take two locks in opposite orders. That the first one was joined before the second one
+    // was forked is collected later: the cycle of an earlier report is dropped then.
+    Case {
+        name: "report_so_far_drops",
+        threads: 3,
+        ring: 8,
+        steps: &[
+            Step::Record(Acq(1, 3), Answer::Taken(0), 1),
+            Step::Record(Acq(0, 4), Answer::Taken(1), 2),
+            Step::DropRecorder,
+            Step::Record(Acq(0, 1), Answer::Taken(0), 1),
+            Step::Record(Acq(1, 2), Answer::Taken(1), 2),
+            Step::DropRecorder,
+            Step::Pull(1, Pulled::Event { place: 0 }),
+            Step::Pull(1, Pulled::Event { place: 1 }),
+            Step::Pull(2, Pulled::Event { place: 0 }),
+            Step::Pull(2, Pulled::Event { place: 1 }),
+            Step::Report(1, false),
+            Step::Record(Fork(1, 5), Answer::Taken(0), 1),
+            Step::Record(Join(1, 6), Answer::Taken(1), 2),
+            Step::Record(Fork(2, 7), Answer::Taken(2), 3),
+            Step::DropRecorder,
+            Step::Pull(0, Pulled::Event { place: 0 }),
+            Step::Pull(0, Pulled::Event { place: 1 }),
+            Step::Pull(0, Pulled::Event { place: 2 }),
+            Step::Report(0, false),
         ],
     },
 ];
+
+// The recorders and the collector of a session with these limits. Nothing is told of it, so that little is
+// known where it is looked at; so it is with what follows.
+fn session(alloc: Global, threads: u32, ring: u32, events: u32) -> Option<(Vec<Recorder>, Asked)> {
+    match Limits::new(threads, ring, events, 100) {
+        Ok(limits) => opened(alloc, &limits),
+        Err(_) => None,
+    }
+}
 
 // The answer to the event.
 fn answer_of(event: &Event, answer: Answer) -> Result<u32, RecordFault> {
@@ -193,43 +167,162 @@ fn answers(
     answer == *wanted && recorder.taken() == taken
 }
 
-fn answers_all(recorder: &mut Recorder, events: &[(Op, Answer, u32)]) -> bool {
-    for (op, answer, taken) in events {
-        let event = event_of(*op);
-        let wanted = answer_of(&event, *answer);
-        if !answers(recorder, &event, &wanted, *taken) {
+// Whether the last recorder answers so to the event, and has taken so many then.
+fn last_answers(recorders: &mut Vec<Recorder>, op: Op, answer: Answer, taken: u32) -> bool {
+    let event = event_of(op);
+    let wanted = answer_of(&event, answer);
+    match recorders.last_mut() {
+        Some(recorder) => answers(recorder, &event, &wanted, taken),
+        None => false,
+    }
+}
+
+// What the last recorder answers where it closes.
+fn last_closes(recorders: &mut Vec<Recorder>) -> Option<Result<Receipt, CloseFault>> {
+    match recorders.pop() {
+        Some(recorder) => Some(recorder.close()),
+        None => None,
+    }
+}
+
+// Whether the lane was full. The recorder is handed back then.
+fn is_full(recorders: &mut Vec<Recorder>, answer: Option<Result<Receipt, CloseFault>>) -> bool {
+    match answer {
+        Some(Err(CloseFault::Full(recorder))) => recorders.push(recorder).is_ok(),
+        _ => false,
+    }
+}
+
+// Whether it is a receipt of this session and so many events.
+fn is_closed(answer: Option<Result<Receipt, CloseFault>>, session: u64, taken: u32) -> bool {
+    match answer {
+        Some(Ok(receipt)) => receipt.session() == session && receipt.taken() == taken,
+        _ => false,
+    }
+}
+
+// Whether so many events had been taken that the collector didn't confirm.
+fn is_unconfirmed(answer: Option<Result<Receipt, CloseFault>>, wanted: u32) -> bool {
+    match answer {
+        Some(Err(CloseFault::Unconfirmed { taken, .. })) => taken == wanted,
+        _ => false,
+    }
+}
+
+// Drops the last recorder. Whether there was one.
+fn last_dropped(recorders: &mut Vec<Recorder>) -> bool {
+    recorders.pop().is_some()
+}
+
+// Drops the collector. Whether there was one.
+fn dropped(collector: &mut Option<Asked>) -> bool {
+    collector.take().is_some()
+}
+
+// Whether this is the thread's next note.
+fn pulls(collector: &mut Option<Asked>, thread: u32, wanted: Pulled) -> bool {
+    match collector {
+        Some(asked) => asked.pull(thread) == Some(Ok(wanted)),
+        None => false,
+    }
+}
+
+// Whether these are the first thread's collected events, and so many notes were collected in all.
+fn has_collected(collector: &Asked, events: &[Event], notes: usize) -> bool {
+    collector.log(0) == Some(events) && collector.notes() == notes
+}
+
+// Whether these are the first thread's collected events, as constants tell them, and so many notes were collected in
+// all.
+fn collected(collector: &Option<Asked>, alloc: Global, ops: &[Op], notes: usize) -> bool {
+    match (collector, events_of(alloc, ops)) {
+        (Some(asked), Some(events)) => has_collected(asked, events.as_slice(), notes),
+        _ => false,
+    }
+}
+
+// How many cycles are in the report, and whether there are more.
+fn cycles_in(report: Result<Report, ReportFault>) -> Option<(usize, bool)> {
+    match report {
+        Ok(report) => Some((report.found.cycles.as_slice().len(), report.found.more)),
+        Err(_) => None,
+    }
+}
+
+// How many cycles are reported of what was collected so far, and whether there are more.
+fn cycles_so_far(collector: &Asked) -> Option<(usize, bool)> {
+    match Query::new(Mode::Full, 4, 1_000) {
+        Ok(query) => cycles_in(collector.report_so_far(&query)),
+        Err(_) => None,
+    }
+}
+
+// Whether so many cycles are reported of what was collected so far, and more.
+fn reports(collector: &Option<Asked>, cycles: usize, more: bool) -> bool {
+    match collector {
+        Some(asked) => cycles_so_far(asked) == Some((cycles, more)),
+        None => false,
+    }
+}
+
+// Whether the step is answered so.
+fn is_answered(
+    recorders: &mut Vec<Recorder>,
+    collector: &mut Option<Asked>,
+    alloc: Global,
+    step: Step,
+) -> bool {
+    match step {
+        Step::Record(op, answer, taken) => last_answers(recorders, op, answer, taken),
+        Step::DropRecorder => last_dropped(recorders),
+        Step::CloseFull => {
+            let answer = last_closes(recorders);
+            is_full(recorders, answer)
+        }
+        Step::Close(session, taken) => is_closed(last_closes(recorders), session, taken),
+        Step::CloseUnconfirmed(taken) => is_unconfirmed(last_closes(recorders), taken),
+        Step::DropCollector => dropped(collector),
+        Step::Pull(thread, wanted) => pulls(collector, thread, wanted),
+        Step::Collected(ops, notes) => collected(collector, alloc, ops, notes),
+        Step::Report(cycles, more) => reports(collector, cycles, more),
+    }
+}
+
+// Whether each step is answered so.
+fn are_answered(
+    recorders: &mut Vec<Recorder>,
+    collector: &mut Option<Asked>,
+    alloc: Global,
+    steps: &[Step],
+) -> bool {
+    for step in steps {
+        if !is_answered(recorders, collector, alloc, *step) {
             return false;
         }
     }
     true
 }
 
-#[test]
-fn answers_of_recorders(rt: HostRuntime) {
-    for case in CASES {
-        let (mut recorder, _) = session_of_one(rt.alloc(), case.ring).expect(&rt, case.name);
-        assert!(rt; answers_all(&mut recorder, case.events), "{}", case.name);
+// Whether the session is made and each step answered so.
+fn passes(alloc: Global, case: &Case) -> bool {
+    match session(alloc, case.threads, case.ring, 100) {
+        Some((mut recorders, collector)) => {
+            let mut collector = Some(collector);
+            are_answered(&mut recorders, &mut collector, alloc, case.steps)
+        }
+        None => false,
     }
 }
 
-#[test]
-fn nobody_left_to_collect(rt: HostRuntime) {
-    let (mut recorder, collector) = session_of_one(rt.alloc(), 8).expect(&rt, "a session");
-    drop(collector);
-    expect_record(&rt, &mut recorder, event_of(Acq(0, 1)), Ok(0));
-    assert_eq!(rt; unconfirmed(&recorder.close()), Some(1));
+fn expect<R: Abort + AllocGlobal>(rt: &R, case: &Case) {
+    assert!(rt; passes(rt.alloc(), case), "{}", case.name);
 }
 
-// Two threads take two locks in opposite orders. That the first one was joined before the second one
-// was forked is collected later: the cycle of an earlier report is dropped then.
 #[test]
-fn report_so_far_drops(rt: HostRuntime) {
-    let (mut recorders, mut collector) = session(rt.alloc(), 3, 8).expect(&rt, "a session");
-    assert!(rt; opposite_recorded(&mut recorders));
-    assert!(rt; pulls_first(&mut collector, 1, 2) && pulls_first(&mut collector, 2, 2));
-    assert!(rt; cycles_so_far(&collector) == Some((1, false)));
-    assert!(rt; forks_recorded(&mut recorders) && pulls_first(&mut collector, 0, 3));
-    assert!(rt; cycles_so_far(&collector) == Some((0, false)));
+fn sessions_stepped(rt: HostRuntime) {
+    for case in CASES {
+        expect(&rt, case);
+    }
 }
 
 // How often a thread tries a call again, at most.
@@ -315,26 +408,59 @@ fn has_all(log: &[Event]) -> bool {
     place == EVENTS
 }
 
-// The recorder and the collector of a session with a lane of one note and room for all events.
-fn session_of_many(alloc: Global) -> Option<(Recorder, Asked)> {
-    let (mut recorders, collector) = opened(alloc, &Limits::new(1, 1, EVENTS, 100).ok()?)?;
-    Some((recorders.pop()?, collector))
+// The recorder and the collector of a session of one thread.
+fn only(session: Option<(Vec<Recorder>, Asked)>) -> Option<(Recorder, Asked)> {
+    match session {
+        Some((mut recorders, collector)) => match recorders.pop() {
+            Some(recorder) => Some((recorder, collector)),
+            None => None,
+        },
+        None => None,
+    }
 }
 
-// Two running threads, with a lane of one note between them.
+// How many events one running thread records, and whether another one collects all in their order.
+fn recorded_and_pulled<R: Threads + Sync>(
+    rt: &R,
+    recorder: Recorder,
+    collector: &mut Asked,
+) -> (Option<u32>, bool) {
+    thread::join(
+        rt,
+        move || taken_by(record_all(recorder)),
+        || pull_all(collector),
+    )
+}
+
+// How many events the receipt is of.
+fn taken_by(receipt: Option<Receipt>) -> Option<u32> {
+    match receipt {
+        Some(receipt) => Some(receipt.taken()),
+        None => None,
+    }
+}
+
+// Whether the thread's log has the events in their order, and no more.
+fn has_log(collector: &Asked) -> bool {
+    match collector.log(0) {
+        Some(log) => has_all(log),
+        None => false,
+    }
+}
+
+fn expect_all<R: Abort + Threads + Sync>(rt: &R, recorder: Recorder, collector: Asked) {
+    let mut collector = collector;
+    let (taken, in_order) = recorded_and_pulled(rt, recorder, &mut collector);
+    assert!(rt; taken == Some(EVENTS), "every event was recorded");
+    assert!(rt; in_order);
+    assert!(rt; has_log(&collector));
+}
+
+// Two running threads, with a lane of one note between them, and room for all events.
 #[test]
 fn ten_thousand_events(rt: HostRuntime) {
-    let (recorder, mut collector) = session_of_many(rt.alloc()).expect(&rt, "a session");
-    let (receipt, in_order) = thread::join(
-        &rt,
-        move || record_all(recorder),
-        || pull_all(&mut collector),
-    );
-    let receipt = receipt.expect(&rt, "every event was recorded");
-    assert_eq!(rt; receipt.taken(), EVENTS);
-    assert!(rt; in_order);
-    let log = collector.log(0).expect(&rt, "the thread's log");
-    assert!(rt; has_all(log));
+    let (recorder, collector) = only(session(rt.alloc(), 1, 1, EVENTS)).expect(&rt, "a session");
+    expect_all(&rt, recorder, collector);
 }
 
 // Records the events, waiting for room, and closes.
@@ -375,18 +501,43 @@ fn pull_both(collector: &mut Asked) -> bool {
     pulls_to_end(collector, 1) && pulls_to_end(collector, 0)
 }
 
+// Two running threads record with the last two recorders. Whether both did.
+fn both_record<R: Threads + Wait + Sync>(rt: &R, recorders: Vec<Recorder>) -> bool {
+    let mut recorders = recorders;
+    match (recorders.pop(), recorders.pop()) {
+        (Some(second), Some(first)) => record_opposite(rt, first, second),
+        _ => false,
+    }
+}
+
+// Whether both threads recorded, and all was collected.
+fn recorded_and_collected<R: Threads + Wait + Sync>(
+    rt: &R,
+    recorders: Vec<Recorder>,
+    collector: &mut Asked,
+) -> (bool, bool) {
+    thread::join(
+        rt,
+        move || both_record(rt, recorders),
+        || pull_both(collector),
+    )
+}
+
+fn expect_opposite<R: Abort + Threads + Wait + Sync>(
+    rt: &R,
+    recorders: Vec<Recorder>,
+    collector: Asked,
+) {
+    let mut collector = collector;
+    let (recorded, collected) = recorded_and_collected(rt, recorders, &mut collector);
+    assert!(rt; recorded && collected);
+    assert!(rt; cycles_so_far(&collector) == Some((1, false)));
+}
+
 // A whole session: two running threads that take two locks in opposite orders, while a third one
 // collects what they record and then reports it.
 #[test]
 fn opposite_order(rt: HostRuntime) {
-    let (mut recorders, mut collector) = session(rt.alloc(), 2, 1).expect(&rt, "a session");
-    let second = recorders.pop().expect(&rt, "a recorder");
-    let first = recorders.pop().expect(&rt, "a recorder");
-    let (recorded, collected) = thread::join(
-        &rt,
-        move || record_opposite(&rt, first, second),
-        || pull_both(&mut collector),
-    );
-    assert!(rt; recorded && collected);
-    assert_eq!(rt; cycles_so_far(&collector), Some((1, false)));
+    let (recorders, collector) = session(rt.alloc(), 2, 1, 100).expect(&rt, "a session");
+    expect_opposite(&rt, recorders, collector);
 }

@@ -2,7 +2,8 @@
 mod alone;
 
 use crate::closing::Why;
-use crate::sessions::{Session, receipt_of, session_of, session_unserved};
+use crate::sessions::{Session, receipt_of, session_of};
+use gl_cycles::{Report, ReportFault};
 use gl_engine::Settled;
 use gl_filters::{Mode, Query};
 use gl_shards::Table;
@@ -146,8 +147,8 @@ const CASES: &[Case] = &[
 // The session, of number 7.
 fn made<R: Wait>(rt: &R, alloc: Global, case: &Case) -> Option<Session> {
     match case.workers {
-        Workers::There(workers) => session_of(rt, alloc, 7, case.lists, workers),
-        Workers::Gone => session_unserved(rt, alloc, 7, case.lists),
+        Workers::There(workers) => session_of(rt, alloc, 7, case.lists, workers, true),
+        Workers::Gone => session_of(rt, alloc, 7, case.lists, 1, false),
     }
 }
 
@@ -176,21 +177,35 @@ fn stepped_through(session: Session, alloc: Global, steps: &[Step]) -> Option<Se
     Some(session)
 }
 
+// How many edges and cycles are in the report. None where there are more cycles.
+fn counts_in(report: Result<Report, ReportFault>) -> Option<(usize, usize)> {
+    match report {
+        Ok(report) => edges_and_cycles(&report),
+        Err(_) => None,
+    }
+}
+
+fn edges_and_cycles(report: &Report) -> Option<(usize, usize)> {
+    if report.found.more {
+        None
+    } else {
+        Some((
+            report.edges.entries().len(),
+            report.found.cycles.as_slice().len(),
+        ))
+    }
+}
+
 // How many edges and cycles are reported over these tables. None where there are more cycles.
 fn counts_over<R: Threads + Sync>(
     rt: &R,
     settled: &Settled,
     tables: Vec<Table>,
 ) -> Option<(usize, usize)> {
-    let query = Query::new(Mode::Full, 4, 1_000).ok()?;
-    let report = settled.report(rt, tables, &query).ok()?;
-    if report.found.more {
-        return None;
+    match Query::new(Mode::Full, 4, 1_000) {
+        Ok(query) => counts_in(settled.report(rt, tables, &query)),
+        Err(_) => None,
     }
-    Some((
-        report.edges.entries().len(),
-        report.found.cycles.as_slice().len(),
-    ))
 }
 
 // So many tables without edges.

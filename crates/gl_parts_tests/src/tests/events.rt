@@ -1,4 +1,5 @@
 //! Limits and held locks at their bounds.
+use super::expect;
 use gl_event::{BadLimits, Held, HeldFault, Limits, LocId, LockId, LockMode, MAX_DEPTH, NotHeld};
 use std::process::Abort;
 
@@ -29,8 +30,8 @@ fn limits_of(numbers: [u32; 4]) -> Result<[u32; 4], BadLimits> {
 
 #[test]
 fn limits_at_their_bounds(rt: HostRuntime) {
-    for (numbers, wanted) in LIMITS {
-        assert!(rt; limits_of(*numbers) == *wanted, "{numbers:?}");
+    for (at, (numbers, wanted)) in LIMITS.iter().enumerate() {
+        expect(&rt, limits_of(*numbers) == *wanted, "limits", at);
     }
 }
 
@@ -139,16 +140,16 @@ fn answers(held: &mut Held, call: &Call) -> bool {
 }
 
 // The held locks answer each call as it is wanted.
-fn expect(rt: &impl Abort, name: &str, calls: &[Call]) {
+fn expect_answers(rt: &impl Abort, name: &str, calls: &[Call]) {
     let mut held = Held::new();
     for (at, call) in calls.iter().enumerate() {
-        assert!(rt; answers(&mut held, call), "{name}: call {at}");
+        expect(rt, answers(&mut held, call), name, at);
     }
 }
 
 #[test]
 fn held_locks_answer(rt: HostRuntime) {
     for (name, calls) in CASES {
-        expect(&rt, name, calls);
+        expect_answers(&rt, name, calls);
     }
 }

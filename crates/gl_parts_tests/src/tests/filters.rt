@@ -1,4 +1,7 @@
 //! Queries, and what edges go on from each other in a cycle.
+ghost use Rattle.gl_edges.specs.Numbered.{guards_in, AreNumbered};
+
+use super::expect;
 use gl_edges::{Edge, GuardSets};
 use gl_event::LockId;
 use gl_filters::{
@@ -8,7 +11,6 @@ use gl_filters::{
 use gl_worked::known::{Known, known_in};
 use gl_worked::ops::Op::{self, Acq, Fork, Join};
 use std::alloc::Global;
-use std::process::Abort;
 
 // What a query is for: its mode, and its most edges and most cycles.
 type For = (Mode, u32, u32);
@@ -34,8 +36,8 @@ fn query_of(asked: For) -> Result<For, BadQuery> {
 
 #[test]
 fn queries(rt: HostRuntime) {
-    for (asked, wanted) in QUERIES {
-        assert!(rt; query_of(*asked) == *wanted, "{asked:?}");
+    for (at, (asked, wanted)) in QUERIES.iter().enumerate() {
+        expect(&rt, query_of(*asked) == *wanted, "a query", at);
     }
 }
 
@@ -59,22 +61,18 @@ fn are_same_queries(one: For, other: For) -> bool {
     }
 }
 
-#[test]
-fn queries_differ(rt: HostRuntime) {
-    for (asked, wanted) in SAME_QUERIES {
-        assert!(rt;
-            are_same_queries(FIRST_QUERY, *asked) == *wanted,
-            "{asked:?}"
-        );
-    }
+// Each mode asks more than the one before.
+fn modes_ascend() -> bool {
+    Mode::Basic < Mode::Guarded && Mode::Guarded < Mode::Full && Mode::Basic != Mode::Full
 }
 
-// Each mode asks more than the one before.
 #[test]
-fn modes_ascend(rt: HostRuntime) {
-    assert!(rt;
-        Mode::Basic < Mode::Guarded && Mode::Guarded < Mode::Full && Mode::Basic != Mode::Full
-    );
+fn queries_differ(rt: HostRuntime) {
+    expect(&rt, modes_ascend(), "three modes", 0);
+    for (at, (asked, wanted)) in SAME_QUERIES.iter().enumerate() {
+        let are_same = are_same_queries(FIRST_QUERY, *asked);
+        expect(&rt, are_same == *wanted, "two queries", at);
+    }
 }
 
 // A verdict, as constants tell it.
@@ -122,7 +120,8 @@ const VERDICTS: &[(Says, Says, bool)] = &[
 #[test]
 fn verdicts_differ(rt: HostRuntime) {
     for (at, (one, other, wanted)) in VERDICTS.iter().enumerate() {
-        assert!(rt; (verdict(*one) == verdict(*other)) == *wanted, "row {at}");
+        let are_same = verdict(*one) == verdict(*other);
+        expect(&rt, are_same == *wanted, "two verdicts", at);
     }
 }
 
@@ -267,22 +266,35 @@ fn two_edges(known: &Known, i: usize, j: usize) -> Option<(&Edge, &Edge)> {
 }
 
 fn follows(known: &Known, mode: Mode, i: usize, j: usize) -> Option<bool> {
-    let (one, other) = two_edges(known, i, j)?;
-    Some(compatible(mode, &known.order, one, other))
+    match two_edges(known, i, j) {
+        Some((one, other)) => Some(compatible(mode, &known.order, one, other)),
+        None => None,
+    }
 }
 
 fn goes(known: &Known, mode: Mode, i: usize, j: usize) -> Option<bool> {
-    let (one, other) = two_edges(known, i, j)?;
-    Some(goes_with(mode, &known.order, one, other))
+    match two_edges(known, i, j) {
+        Some((one, other)) => Some(goes_with(mode, &known.order, one, other)),
+        None => None,
+    }
 }
 
-fn follows_by_number(alloc: Global, known: &Known, mode: Mode, i: usize, j: usize) -> Option<bool> {
+// The same, by the numbers of their guard sets.
+fn follows_in(known: &Known, sets: &GuardSets, mode: Mode, i: usize, j: usize) -> Option<bool>
+    requires { AreNumbered (guards_in known.now.edges) sets.now }
+{
     let count = known.edges.entries().len();
     if i >= count || j >= count {
         return None;
     }
-    let sets = GuardSets::of(alloc, &known.edges).ok()?;
-    Some(compatible_at(mode, &known.order, &known.edges, &sets, i, j))
+    Some(compatible_at(mode, &known.order, &known.edges, sets, i, j))
+}
+
+fn follows_by_number(alloc: Global, known: &Known, mode: Mode, i: usize, j: usize) -> Option<bool> {
+    match GuardSets::of(alloc, &known.edges) {
+        Ok(sets) => follows_in(known, &sets, mode, i, j),
+        Err(_) => None,
+    }
 }
 
 fn verdict_on(known: &Known, mode: Mode, len: u32, cycle: &[usize]) -> Option<Verdict> {
@@ -309,17 +321,19 @@ fn answers(alloc: Global, known: &Known, ask: &Ask) -> bool {
     }
 }
 
-// Each that is asked is answered as it is wanted.
-fn expect(rt: &impl Abort, alloc: Global, known: &Known, case: &Case) {
-    for (at, ask) in case.asks.iter().enumerate() {
-        assert!(rt; answers(alloc, known, ask), "{}: {at}", case.name);
+// Whether the lists have edges and an order, and it is answered so.
+fn is_answered(alloc: Global, lists: &[&[Op]], ask: &Ask) -> bool {
+    match known_in(alloc, lists) {
+        Some(known) => answers(alloc, &known, ask),
+        None => false,
     }
 }
 
 #[test]
 fn edges_by_position(rt: HostRuntime) {
     for case in CASES {
-        let known = known_in(rt.alloc(), case.lists).expect(&rt, case.name);
-        expect(&rt, rt.alloc(), &known, case);
+        for (at, ask) in case.asks.iter().enumerate() {
+            expect(&rt, is_answered(rt.alloc(), case.lists, ask), case.name, at);
+        }
     }
 }

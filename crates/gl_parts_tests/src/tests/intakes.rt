@@ -1,4 +1,6 @@
 //! What an intake answers, note by note.
+use super::wanted::Wanted;
+use super::{are_wanted, expect};
 use crate::collecting::{Collecting, intake_of};
 use gl_event::{Event, Refusal, ThreadId};
 use gl_intake::{Accepted, Refused};
@@ -175,28 +177,16 @@ fn has_log(log: Option<&[Event]>, wanted: &[Op]) -> bool {
     }
 }
 
-fn are_logs(logs: &[Vec<Event>], wanted: &[&[Op]]) -> bool {
-    if logs.len() != wanted.len() {
-        return false;
+impl Wanted<Vec<Event>> for &[Op] {
+    fn is(&self, found: &Vec<Event>) -> bool {
+        are_events(found, self)
     }
-    for (log, want) in logs.iter().zip(wanted) {
-        if !are_events(log, want) {
-            return false;
-        }
-    }
-    true
 }
 
-fn have_sizes(logs: &[Vec<Event>], wanted: &[usize]) -> bool {
-    if logs.len() != wanted.len() {
-        return false;
+impl Wanted<Vec<Event>> for usize {
+    fn is(&self, found: &Vec<Event>) -> bool {
+        found.len() == *self
     }
-    for (log, want) in logs.iter().zip(wanted) {
-        if log.len() != *want {
-            return false;
-        }
-    }
-    true
 }
 
 // Whether the call is answered so.
@@ -210,24 +200,29 @@ fn answers(intake: &mut Collecting, call: &Call) -> bool {
         HasEnded(thread, wanted) => intake.intake().ended(ThreadId::new(thread)) == wanted,
         AllEnded(wanted) => intake.intake().all_ended() == wanted,
         Log(thread, ops) => has_log(intake.log(thread), ops),
-        Logs(logs) => are_logs(intake.intake().logs(), logs),
-        LogSizes(sizes) => have_sizes(intake.intake().logs(), sizes),
+        Logs(logs) => are_wanted(intake.intake().logs(), logs),
+        LogSizes(sizes) => are_wanted(intake.intake().logs(), sizes),
     }
 }
 
 // The intake answers each call as it is wanted.
-fn expect(rt: &impl Abort, name: &str, intake: &mut Collecting, calls: &[Call]) {
+fn expect_answers(rt: &impl Abort, name: &str, intake: &mut Collecting, calls: &[Call]) {
     for (at, call) in calls.iter().enumerate() {
-        assert!(rt; answers(intake, call), "{name}: call {at}");
+        expect(rt, answers(intake, call), name, at);
     }
+}
+
+// So does an intake of the case.
+fn expect_case(rt: &impl Abort, intake: Option<Collecting>, case: &Case) {
+    let mut intake = intake.expect(rt, case.name);
+    expect_answers(rt, case.name, &mut intake, case.first);
+    expect_answers(rt, case.name, &mut intake, case.calls);
 }
 
 #[test]
 fn intakes_answer(rt: HostRuntime) {
     for case in CASES {
         let intake = intake_of(rt.alloc(), case.threads, case.events);
-        let mut intake = intake.expect(&rt, case.name);
-        expect(&rt, case.name, &mut intake, case.first);
-        expect(&rt, case.name, &mut intake, case.calls);
+        expect_case(&rt, intake, case);
     }
 }

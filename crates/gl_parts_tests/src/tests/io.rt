@@ -1,11 +1,14 @@
 //! Readers and writers that stop, and what reading and writing them gives.
 ghost use Rattle.std.specs.Prelude.{◌≡◌, false};
 
+use super::expect;
 use crate::narrow::Narrow;
 use fakes::{After, Full, Gives, Stops};
 use gl_io::{Failed, FromStd, Source, WriteFault, read_whole, write_out};
 use std::alloc::Global;
 use std::io::Cursor;
+use std::io::ErrorKind::{Interrupted, Other};
+use std::process::Abort;
 
 mod fakes;
 
@@ -24,27 +27,10 @@ fn reads<R: Source>(alloc: Global, input: &mut R, turns: u64, want: &[u8], is_wh
     }
 }
 
-// Turns, and the text of the report that they give, which is whole or isn't: the second read meets the end.
-const TURNS: &[(u64, &[u8], bool)] = &[
-    (0, b"", false),
-    (1, REPORT, false),
-    (2, REPORT, true),
-    (100, REPORT, true),
-];
-
+// Whether so many turns give this text of the report, which is whole or isn't.
 fn is_gathered(alloc: Global, turns: u64, want: &[u8], is_whole: bool) -> bool {
     let mut input = FromStd::new(REPORT);
     reads(alloc, &mut input, turns, want, is_whole)
-}
-
-#[test]
-fn gathers_within_turns(rt: HostRuntime) {
-    for (turns, want, is_whole) in TURNS {
-        assert!(rt;
-            is_gathered(rt.alloc(), *turns, want, *is_whole),
-            "in {turns} turns"
-        );
-    }
 }
 
 // How many calls it takes where so many turns give this text of a reader, which is whole or isn't.
@@ -71,7 +57,7 @@ fn giving(text: &[u8], after: After) -> Gives {
     }
 }
 
-// Whether a read after that of one byte fails, by a single call.
+// A read that fails isn't tried again. Whether a read after that of one byte fails, by a single call.
 fn fails_at_once(after: After) -> bool {
     let mut input = FromStd::new(giving(&[7], after));
     let mut buffer = [0u8; 4];
@@ -81,14 +67,9 @@ fn fails_at_once(after: After) -> bool {
         && input.into_inner().calls == 2
 }
 
-// A read that fails isn't tried again: neither the read itself, nor in gathering, where two reads give a byte each
-// and the third one fails.
-#[test]
-fn reader_fails_once(rt: HostRuntime) {
-    for after in [After::Failure, After::Interruption] {
-        let calls = calls_to_read(rt.alloc(), giving(&[0, 0], after), 100, &[0, 0], false);
-        assert!(rt; fails_at_once(after) && calls == Some(3));
-    }
+// Whether it isn't tried again in gathering either, where two reads give a byte each and the third one fails.
+fn fails_by_three(alloc: Global, after: After) -> bool {
+    calls_to_read(alloc, giving(&[0, 0], after), 100, &[0, 0], false) == Some(3)
 }
 
 // Whether so many turns give this text of the reader, which is whole or isn't.
@@ -108,19 +89,12 @@ fn is_cut(alloc: Global, count: usize) -> bool {
         && is_read(alloc, giving(front, After::End), turns, front, false)
         && is_read(
             alloc,
-            giving(front, After::Failure),
+            giving(front, After::Fails(Other)),
             turns + 1,
             front,
             false,
         )
         && is_read(alloc, giving(REPORT, After::Byte(0)), turns, front, false)
-}
-
-#[test]
-fn reader_stops(rt: HostRuntime) {
-    for count in 0..REPORT.len() {
-        assert!(rt; is_cut(rt.alloc(), count), "after {count}");
-    }
 }
 
 // Whether there are as many bytes as turns, where the byte comes for ever.
@@ -131,13 +105,6 @@ fn is_endless(alloc: Global, turns: usize) -> bool {
             is_read(alloc, gives, turns as u64, &bytes, false)
         }
         Err(_) => false,
-    }
-}
-
-#[test]
-fn endless_reader(rt: HostRuntime) {
-    for turns in 0..100 {
-        assert!(rt; is_endless(rt.alloc(), turns), "in {turns} turns");
     }
 }
 
@@ -166,23 +133,15 @@ fn holds_front(alloc: Global, room: usize, full: Full) -> bool {
 
 // Whether the writer has room for the whole report.
 fn holds_whole(alloc: Global, room: usize) -> bool {
-    let (answer, output) = written(alloc, room, Full::Failure);
+    let (answer, output) = written(alloc, room, Full::Fails(Other));
     answer == Ok(()) && output.held.as_slice() == REPORT
 }
 
 // Whether so it is however a full writer answers.
 fn stops_at(alloc: Global, room: usize) -> bool {
     holds_front(alloc, room, Full::TakesNone)
-        && holds_front(alloc, room, Full::Failure)
-        && holds_front(alloc, room, Full::Interruption)
-}
-
-#[test]
-fn writer_stops(rt: HostRuntime) {
-    for room in 0..REPORT.len() {
-        assert!(rt; stops_at(rt.alloc(), room), "room for {room}");
-    }
-    assert!(rt; holds_whole(rt.alloc(), REPORT.len()) && holds_whole(rt.alloc(), 1_000));
+        && holds_front(alloc, room, Full::Fails(Other))
+        && holds_front(alloc, room, Full::Fails(Interrupted))
 }
 
 // Whether a writer with room for five bytes, which takes pieces, fails after these.
@@ -200,13 +159,6 @@ fn fails_at_five(alloc: Global, piece: usize) -> bool {
     answer == Err(WriteFault { written: 5 })
         && output.held.as_slice() == b"cycle".as_slice()
         && output.is_failed
-}
-
-#[test]
-fn writer_fails(rt: HostRuntime) {
-    for piece in [1, 3, 100] {
-        assert!(rt; fails_at_five(rt.alloc(), piece), "in pieces of {piece}");
-    }
 }
 
 // Whether a reader of std gives the report by one call, and is at its end then.
@@ -232,7 +184,92 @@ fn fills_by_std() -> bool {
         && output.into_inner().into_inner() == *b"cycle"
 }
 
+// What is so of readers and writers.
+#[derive(Clone, Copy)]
+enum Law {
+    // so many turns give this text of the report, which is whole or isn't: the second read meets the end
+    Gathers(u64, &'static [u8], bool),
+    // a read that fails isn't tried again
+    FailsOnce(After),
+    // a reader that stops after any count of the report's bytes gives these
+    ReaderStops,
+    // a byte that comes for ever comes as often as there are turns, up to 99
+    Endless,
+    // a writer that stops after any count of the report's bytes holds these
+    WriterStops,
+    // a writer with so much room has room for the whole report
+    HoldsWhole(usize),
+    // a writer with room for five bytes, which takes pieces of this many, fails after five
+    FailsAtFive(usize),
+    // a reader of std, a writer of std, and one that is full after five bytes
+    StdReads,
+    StdWrites,
+    StdFills,
+}
+
+use Law::{
+    Endless, FailsAtFive, FailsOnce, Gathers, HoldsWhole, ReaderStops, StdFills, StdReads,
+    StdWrites, WriterStops,
+};
+
+const LAWS: &[(&str, Law)] = &[
+    ("gathers_within_no_turns", Gathers(0, b"", false)),
+    ("gathers_within_one_turn", Gathers(1, REPORT, false)),
+    ("gathers_within_two_turns", Gathers(2, REPORT, true)),
+    ("gathers_within_turns", Gathers(100, REPORT, true)),
+    ("reader_fails_once", FailsOnce(After::Fails(Other))),
+    (
+        "reader_interrupted_once",
+        FailsOnce(After::Fails(Interrupted)),
+    ),
+    ("reader_stops", ReaderStops),
+    ("endless_reader", Endless),
+    ("writer_stops", WriterStops),
+    ("writer_as_long_as_report", HoldsWhole(REPORT.len())),
+    ("writer_longer_than_report", HoldsWhole(1_000)),
+    ("writer_fails_by_bytes", FailsAtFive(1)),
+    ("writer_fails_by_threes", FailsAtFive(3)),
+    ("writer_fails_at_once", FailsAtFive(100)),
+    ("std_reader", StdReads),
+    ("std_writer", StdWrites),
+    ("std_writer_full", StdFills),
+];
+
+// How many counts it is so of.
+fn counts(law: Law) -> usize {
+    match law {
+        ReaderStops | WriterStops => REPORT.len(),
+        Endless => 100,
+        _ => 1,
+    }
+}
+
+// Whether it is so, of this count where it is of several.
+fn is_so(alloc: Global, law: Law, count: usize) -> bool {
+    match law {
+        Gathers(turns, want, is_whole) => is_gathered(alloc, turns, want, is_whole),
+        FailsOnce(after) => fails_at_once(after) && fails_by_three(alloc, after),
+        ReaderStops => is_cut(alloc, count),
+        Endless => is_endless(alloc, count),
+        WriterStops => stops_at(alloc, count),
+        HoldsWhole(room) => holds_whole(alloc, room),
+        FailsAtFive(piece) => fails_at_five(alloc, piece),
+        StdReads => reads_by_std(),
+        StdWrites => writes_by_std(alloc),
+        StdFills => fills_by_std(),
+    }
+}
+
+// It is so of each count.
+fn expect_each(rt: &impl Abort, alloc: Global, name: &str, law: Law) {
+    for count in 0..counts(law) {
+        expect(rt, is_so(alloc, law, count), name, count);
+    }
+}
+
 #[test]
-fn std_reader_and_writer(rt: HostRuntime) {
-    assert!(rt; reads_by_std() && writes_by_std(rt.alloc()) && fills_by_std());
+fn readers_and_writers(rt: HostRuntime) {
+    for (name, law) in LAWS {
+        expect_each(&rt, rt.alloc(), name, *law);
+    }
 }

@@ -2,6 +2,7 @@
 ghost use Rattle.std.specs.Prelude.{◌≡◌, [], IfOk, IfSome};
 ghost use Rattle.gl_lane.specs.Rule.{IsPlaced};
 
+use super::expect;
 use gl_event::{Body, Event, LocId, LockId, MAX_RING, Memory, Note, ThreadId};
 use gl_lane::{Finished, LaneIn, LaneOut, lane};
 use std::alloc::Global;
@@ -116,24 +117,54 @@ fn note_of(told: Told) -> Note
     }
 }
 
-// Whether so many events are pushed.
+// How often a thread tries a push or a pop again, at most.
+const TRIES: u32 = 10_000_000;
+
+// Pushes the note as soon as there is room, and answers whether there was.
+fn push_soon(recorder: &mut LaneIn, note: &Note) -> bool
+    requires placed { IsPlaced note.now }
+    ensures lane { recorder.new.lane ≡ recorder.old.lane }
+{
+    for _ in 0..TRIES {
+        if recorder.push(*note).is_ok() {
+            return true;
+        }
+        thread::yield_now();
+    }
+    false
+}
+
+// Pops the next note as soon as there is one.
+fn pop_soon(collector: &mut LaneOut) -> Option<Note>
+    ensures lane { collector.new.lane ≡ collector.old.lane }
+{
+    for _ in 0..TRIES {
+        if let Some(note) = collector.pop() {
+            return Some(note);
+        }
+        thread::yield_now();
+    }
+    None
+}
+
+// Whether so many events are pushed, each as soon as there is room.
 fn pushes(recorder: &mut LaneIn, count: u32) -> bool
     ensures lane { recorder.new.lane ≡ recorder.old.lane }
 {
     for place in 0..count {
-        if recorder.push(event_at(place)).is_err() {
+        if !push_soon(recorder, &event_at(place)) {
             return false;
         }
     }
     true
 }
 
-// Whether so many events are popped.
+// Whether so many events are popped, each as soon as there is one.
 fn pops(collector: &mut LaneOut, count: u32) -> bool
     ensures lane { collector.new.lane ≡ collector.old.lane }
 {
     for place in 0..count {
-        if collector.pop() != Some(event_at(place)) {
+        if pop_soon(collector) != Some(event_at(place)) {
             return false;
         }
     }
@@ -180,11 +211,7 @@ fn expect_answers(rt: &impl Abort, recorder: &mut LaneIn, collector: &mut LaneOu
     ensures collector { collector.new.lane ≡ collector.old.lane }
 {
     for (at, call) in case.calls.iter().enumerate() {
-        assert!(rt;
-            answers(recorder, collector, call),
-            "{}: call {at}",
-            case.name
-        );
+        expect(rt, answers(recorder, collector, call), case.name, at);
     }
 }
 
@@ -270,50 +297,15 @@ fn nobody_left_to_collect(rt: HostRuntime) {
     assert!(rt; leaves_nothing(recorder));
 }
 
-// How often a thread tries a push or a pop again, at most.
-const TRIES: u32 = 10_000_000;
-
 // How many events one thread pushes and another one pops.
 const EVENTS: u32 = 10_000;
-
-// Pushes the note as soon as there is room, and answers whether there was.
-fn push_soon(recorder: &mut LaneIn, note: &Note) -> bool
-    requires placed { IsPlaced note.now }
-    ensures lane { recorder.new.lane ≡ recorder.old.lane }
-{
-    for _ in 0..TRIES {
-        if recorder.push(*note).is_ok() {
-            return true;
-        }
-        thread::yield_now();
-    }
-    false
-}
-
-// Pops the next note as soon as there is one.
-fn pop_soon(collector: &mut LaneOut) -> Option<Note>
-    ensures lane { collector.new.lane ≡ collector.old.lane }
-{
-    for _ in 0..TRIES {
-        if let Some(note) = collector.pop() {
-            return Some(note);
-        }
-        thread::yield_now();
-    }
-    None
-}
 
 // Pushes the events and the end mark.
 fn push_all(recorder: LaneIn) -> Option<Finished>
     ensures lane { IfSome result (λ finished. finished.lane ≡ recorder.lane) }
 {
     let mut recorder = recorder;
-    for place in 0..EVENTS {
-        if !push_soon(&mut recorder, &event_at(place)) {
-            return None;
-        }
-    }
-    if !push_soon(&mut recorder, &end_of(EVENTS)) {
+    if !pushes(&mut recorder, EVENTS) || !push_soon(&mut recorder, &end_of(EVENTS)) {
         return None;
     }
     recorder.finish()
@@ -324,13 +316,8 @@ fn pop_all(collector: LaneOut) -> (LaneOut, bool)
     ensures lane { result.0.lane ≡ collector.lane }
 {
     let mut collector = collector;
-    for place in 0..EVENTS {
-        if pop_soon(&mut collector) != Some(event_at(place)) {
-            return (collector, false);
-        }
-    }
-    let has_ended = pop_soon(&mut collector) == Some(end_of(EVENTS));
-    (collector, has_ended)
+    let in_order = pops(&mut collector, EVENTS) && pop_soon(&mut collector) == Some(end_of(EVENTS));
+    (collector, in_order)
 }
 
 #[test]

@@ -1,4 +1,5 @@
 //! What recorders answer at their limits.
+use super::expect;
 use gl_event::{Limits, MAX_DEPTH, Note, ThreadId};
 use gl_recorder::{Refusal, Taker};
 use gl_worked::notes::Told::{Ended, Happened};
@@ -177,9 +178,9 @@ fn taker(thread: u32, threads: u32, events: u32) -> Option<Taker> {
 }
 
 // The recorder answers each call as it is wanted.
-fn expect(rt: &impl Abort, taker: &mut Taker, case: &Case) {
+fn expect_answers(rt: &impl Abort, taker: &mut Taker, case: &Case) {
     for (at, call) in case.calls.iter().enumerate() {
-        assert!(rt; answers(taker, call), "{}: call {at}", case.name);
+        expect(rt, answers(taker, call), case.name, at);
     }
 }
 
@@ -187,6 +188,6 @@ fn expect(rt: &impl Abort, taker: &mut Taker, case: &Case) {
 fn recorders_answer(rt: HostRuntime) {
     for case in CASES {
         let mut taker = taker(case.thread, case.threads, case.events).expect(&rt, case.name);
-        expect(&rt, &mut taker, case);
+        expect_answers(&rt, &mut taker, case);
     }
 }

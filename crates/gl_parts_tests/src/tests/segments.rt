@@ -1,11 +1,12 @@
 //! The order of the segments of lists of events.
+use super::wanted::Wanted;
+use super::{are_wanted, expect};
 use gl_event::{Event, Segment, ThreadId};
 use gl_segments::{Order, OrderFault};
 use gl_worked::known::order_of;
 use gl_worked::ops::Op::{self, Acq, Fork, Join, Rel};
 use gl_worked::ops::{event_of, events_of, lists_of};
 use std::alloc::Global;
-use std::process::Abort;
 
 // A segment, as constants tell it: its thread and its index.
 type At = (u32, u32);
@@ -129,24 +130,51 @@ const CASES: &[Case] = &[
     },
 ];
 
-// The list of thread 0, which forks the threads from 1 to this one and then joins them in order.
-fn main_list(alloc: Global, last: u32) -> Option<Vec<Event>> {
-    let mut list = Vec::new(alloc);
+// One list without events.
+const ONE_EMPTY: &[&[Op]] = &[&[]];
+
+// Puts events at the end of the list, of thread 0: it forks the threads from 1 to this one and then joins them in
+// order.
+fn add_forks(list: &mut Vec<Event>, last: u32) -> bool {
     for thread in 1..=last {
-        list.push(event_of(Fork(thread, thread))).ok()?;
+        if list.push(event_of(Fork(thread, thread))).is_err() {
+            return false;
+        }
     }
     for thread in 1..=last {
-        list.push(event_of(Join(thread, thread))).ok()?;
+        if list.push(event_of(Join(thread, thread))).is_err() {
+            return false;
+        }
     }
-    Some(list)
+    true
 }
 
-// That list, and one of each of these threads.
+// Puts these events at the end of the first list.
+fn first_forks(lists: &mut [Vec<Event>], last: u32) -> bool {
+    match lists.first_mut() {
+        Some(first) => add_forks(first, last),
+        None => false,
+    }
+}
+
+// Puts a list at the end of the lists, of one of these threads.
+fn add_forked(alloc: Global, lists: &mut Vec<Vec<Event>>, thread: u32) -> bool {
+    match events_of(alloc, &[Acq(thread, 400)]) {
+        Some(list) => lists.push(list).is_ok(),
+        None => false,
+    }
+}
+
+// The list of thread 0, and one of each of these threads.
 fn many_forks(alloc: Global, last: u32) -> Option<Vec<Vec<Event>>> {
-    let mut lists = Vec::new(alloc);
-    lists.push(main_list(alloc, last)?).ok()?;
+    let mut lists = lists_of(alloc, ONE_EMPTY)?;
+    if !first_forks(&mut lists, last) {
+        return None;
+    }
     for thread in 1..=last {
-        lists.push(events_of(alloc, &[Acq(thread, 400)])?).ok()?;
+        if !add_forked(alloc, &mut lists, thread) {
+            return None;
+        }
     }
     Some(lists)
 }
@@ -171,17 +199,18 @@ fn segment(at: At) -> Segment {
     }
 }
 
+impl Wanted<Segment> for At {
+    fn is(&self, found: &Segment) -> bool {
+        *found == segment(*self)
+    }
+}
+
 // Whether there is a first one of the wanted segments, it was found, and the ring is these.
 fn is_ring(at: Segment, ring: &[Segment], wanted: &[At]) -> bool {
-    if wanted.is_empty() || at != segment(wanted[0]) || ring.len() != wanted.len() {
-        return false;
+    match wanted.first() {
+        Some(first) => first.is(&at) && are_wanted(ring, wanted),
+        None => false,
     }
-    for (found, want) in ring.iter().zip(wanted) {
-        if *found != segment(*want) {
-            return false;
-        }
-    }
-    true
 }
 
 // Whether one of the threads from 1 to the last one is before this one.
@@ -220,17 +249,19 @@ fn answers(order: &Result<Order, OrderFault>, ask: &Ask) -> bool {
     }
 }
 
-// Each that is asked is answered as it is wanted.
-fn expect(rt: &impl Abort, order: &Result<Order, OrderFault>, case: &Case) {
-    for (at, ask) in case.asks.iter().enumerate() {
-        assert!(rt; answers(order, ask), "{}: {at}", case.name);
+// Whether the lists are lawful, and it is answered so of them.
+fn is_answered(alloc: Global, lists: Lists, ask: &Ask) -> bool {
+    match ordered(alloc, lists) {
+        Some(order) => answers(&order, ask),
+        None => false,
     }
 }
 
 #[test]
 fn orders(rt: HostRuntime) {
     for case in CASES {
-        let order = ordered(rt.alloc(), case.lists).expect(&rt, case.name);
-        expect(&rt, &order, case);
+        for (at, ask) in case.asks.iter().enumerate() {
+            expect(&rt, is_answered(rt.alloc(), case.lists, ask), case.name, at);
+        }
     }
 }

@@ -1,9 +1,10 @@
 //! Tables of edges, the shards that keep them, and tables that are taken together.
+use super::wanted::Wanted;
+use super::{are_wanted, expect};
 use gl_edges::{Edge, Guard, Guards, Sample};
 use gl_event::{LocId, LockId, LockMode, Memory, ThreadId};
 use gl_shards::{MAX_SHARDS, Table, merge, shard_of};
 use std::alloc::Global;
-use std::process::Abort;
 
 mod feeds;
 
@@ -96,23 +97,31 @@ fn has_samples(alloc: Global, table: &Table, samples: &[(Told, Option<u32>)]) ->
     true
 }
 
-// The table has so many edges and these samples.
-fn expect(rt: &impl Abort, alloc: Global, table: &Table, case: &Case) {
-    assert!(rt;
-        table.len() == case.count && has_samples(alloc, table, case.samples),
-        "{}",
-        case.name
-    );
+// Whether the table has so many edges and these samples.
+fn is_kept(alloc: Global, table: &Table, case: &Case) -> bool {
+    table.len() == case.count && has_samples(alloc, table, case.samples)
 }
 
-// So it is with a table, and with a copy of it.
+// Whether so it is with the table, and with a copy of it.
+fn is_kept_twice(alloc: Global, table: &Table, case: &Case) -> bool {
+    match table.copy(alloc) {
+        Ok(copy) => is_kept(alloc, table, case) && is_kept(alloc, &copy, case),
+        Err(_) => false,
+    }
+}
+
+// Whether the edges make such a table.
+fn is_table(alloc: Global, case: &Case) -> bool {
+    match table_of(alloc, case.rows) {
+        Ok(table) => is_kept_twice(alloc, &table, case),
+        Err(_) => false,
+    }
+}
+
 #[test]
 fn tables(rt: HostRuntime) {
-    for case in CASES {
-        let table = table_of(rt.alloc(), case.rows).ok().expect(&rt, case.name);
-        expect(&rt, rt.alloc(), &table, case);
-        let copy = table.copy(rt.alloc()).ok().expect(&rt, case.name);
-        expect(&rt, rt.alloc(), &copy, case);
+    for (at, case) in CASES.iter().enumerate() {
+        expect(&rt, is_table(rt.alloc(), case), case.name, at);
     }
 }
 
@@ -138,11 +147,9 @@ fn shard(alloc: Global, told: Told, shards: u32) -> Option<u32> {
 #[test]
 fn shards(rt: HostRuntime) {
     assert!(rt; MAX_SHARDS == 16);
-    for (told, shards, wanted) in SHARDS {
-        assert!(rt;
-            shard(rt.alloc(), *told, *shards) == Some(*wanted),
-            "{told:?}"
-        );
+    for (at, (told, shards, wanted)) in SHARDS.iter().enumerate() {
+        let found = shard(rt.alloc(), *told, *shards);
+        expect(&rt, found == Some(*wanted), "a shard", at);
     }
 }
 
@@ -180,33 +187,32 @@ fn tables_of(alloc: Global, tables: &[&[(Told, u32)]]) -> Result<Vec<Table>, Mem
     Ok(made)
 }
 
-// Whether the edges are from these held locks, each with its place.
-fn are_as_wanted(pairs: &[(Edge, Sample)], wants: &[(u32, u32)]) -> bool {
-    if pairs.len() != wants.len() {
-        return false;
+// Whether the edge is from this held lock, with its place.
+impl Wanted<(Edge, Sample)> for (u32, u32) {
+    fn is(&self, found: &(Edge, Sample)) -> bool {
+        found.0.held == LockId::new(self.0) && found.1.place == self.1
     }
-    for (pair, want) in pairs.iter().zip(wants) {
-        if pair.0.held != LockId::new(want.0) || pair.1.place != want.1 {
-            return false;
-        }
-    }
-    true
 }
 
 // Whether the tables make these edges.
 fn make(alloc: Global, tables: Vec<Table>, wants: &[(u32, u32)]) -> bool {
     match merge(alloc, tables) {
-        Ok(list) => are_as_wanted(list.entries(), wants),
+        Ok(list) => are_wanted(list.entries(), wants),
+        Err(_) => false,
+    }
+}
+
+// Whether they do, where they have these edges.
+fn is_merged(alloc: Global, case: &Merge) -> bool {
+    match tables_of(alloc, case.tables) {
+        Ok(tables) => make(alloc, tables, case.wants),
         Err(_) => false,
     }
 }
 
 #[test]
 fn merges(rt: HostRuntime) {
-    for case in MERGES {
-        let tables = tables_of(rt.alloc(), case.tables)
-            .ok()
-            .expect(&rt, case.name);
-        assert!(rt; make(rt.alloc(), tables, case.wants), "{}", case.name);
+    for (at, case) in MERGES.iter().enumerate() {
+        expect(&rt, is_merged(rt.alloc(), case), case.name, at);
     }
 }

@@ -1,11 +1,12 @@
 //! Sessions of two threads that take two locks in opposite orders, settled on one thread.
-use super::OPPOSITE;
+use super::{OPPOSITE, counts_in};
 use crate::alone::{Unrun, unrun_of};
 use crate::closing::Why;
 use crate::sessions::receipt_of;
 use gl_engine::Settled;
 use gl_filters::{Mode, Query};
 use std::alloc::Global;
+use std::process::Abort;
 
 // What is done with a session.
 #[derive(Clone, Copy)]
@@ -87,25 +88,24 @@ fn settled(alloc: Global, steps: &[Step]) -> Option<Settled> {
 
 // How many edges and cycles are reported. None where there are more cycles.
 fn counts(settled: &Settled) -> Option<(usize, usize)> {
-    let query = Query::new(Mode::Full, 4, 1_000).ok()?;
-    let report = settled.report_alone(&query).ok()?;
-    if report.found.more {
-        return None;
+    match Query::new(Mode::Full, 4, 1_000) {
+        Ok(query) => counts_in(settled.report_alone(&query)),
+        Err(_) => None,
     }
-    Some((
-        report.edges.entries().len(),
-        report.found.cycles.as_slice().len(),
-    ))
+}
+
+fn expect<R: Abort + AllocGlobal>(rt: &R, case: &Case) {
+    let lists = settled(rt.alloc(), case.steps).expect(rt, case.name);
+    assert!(rt;
+        counts(&lists) == Some((case.edges, case.cycles)),
+        "{}",
+        case.name
+    );
 }
 
 #[test]
 fn settled_alone(rt: HostRuntime) {
     for case in CASES {
-        let lists = settled(rt.alloc(), case.steps).expect(&rt, case.name);
-        assert!(rt;
-            counts(&lists) == Some((case.edges, case.cycles)),
-            "{}",
-            case.name
-        );
+        expect(&rt, case);
     }
 }

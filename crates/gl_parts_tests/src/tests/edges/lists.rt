@@ -1,7 +1,7 @@
 //! Lists of events, as constants tell them.
 use gl_event::Event;
 use gl_worked::ops::Op::{self, Acq, Rel};
-use gl_worked::ops::{event_of, events_of, lists_of};
+use gl_worked::ops::{event_of, lists_of};
 use std::alloc::Global;
 
 #[derive(Clone, Copy)]
@@ -9,7 +9,7 @@ pub(super) enum Lists {
     Told(&'static [&'static [Op]]),
     // one list of these parts, each so many times
     Parts(&'static [(&'static [Op], usize)]),
-    // in the first one lock 1 is taken inside lock 0, a thousand times, and the others follow
+    // at the end of the first one lock 1 is taken inside lock 0, a thousand times
     ThousandTurns(&'static [&'static [Op]]),
 }
 
@@ -27,24 +27,8 @@ pub(super) const NEST: &[Op] = &[
     Rel(4, 2),
 ];
 
-// The lists. None where memory was refused.
-pub(super) fn made(alloc: Global, lists: Lists) -> Option<Vec<Vec<Event>>> {
-    match lists {
-        Lists::Told(lists) => lists_of(alloc, lists),
-        Lists::Parts(parts) => followed(alloc, repeated(alloc, parts)?, &[]),
-        Lists::ThousandTurns(others) => followed(alloc, thousand_turns(alloc)?, others),
-    }
-}
-
-// Lists of which the first is this one and the others have these events.
-fn followed(alloc: Global, first: Vec<Event>, others: &[&[Op]]) -> Option<Vec<Vec<Event>>> {
-    let mut lists = Vec::new(alloc);
-    lists.push(first).ok()?;
-    for other in others {
-        lists.push(events_of(alloc, other)?).ok()?;
-    }
-    Some(lists)
-}
+// One list without events.
+const ONE_EMPTY: &[&[Op]] = &[&[]];
 
 // Puts these events at the end, so many times.
 fn add(list: &mut Vec<Event>, ops: &[Op], times: usize) -> bool {
@@ -58,20 +42,18 @@ fn add(list: &mut Vec<Event>, ops: &[Op], times: usize) -> bool {
     true
 }
 
-// The events of these parts, each so many times.
-fn repeated(alloc: Global, parts: &[(&[Op], usize)]) -> Option<Vec<Event>> {
-    let mut list = Vec::new(alloc);
+// Puts these parts at the end, each so many times.
+fn add_parts(list: &mut Vec<Event>, parts: &[(&[Op], usize)]) -> bool {
     for (ops, times) in parts {
-        if !add(&mut list, ops, *times) {
-            return None;
+        if !add(list, ops, *times) {
+            return false;
         }
     }
-    Some(list)
+    true
 }
 
-// Lock 1 taken inside lock 0, a thousand times.
-fn thousand_turns(alloc: Global) -> Option<Vec<Event>> {
-    let mut list = Vec::new(alloc);
+// Puts at the end that lock 1 is taken inside lock 0, a thousand times.
+fn add_turns(list: &mut Vec<Event>) -> bool {
     for turn in 0..1_000 {
         let loc = 4 * turn;
         let ops = [
@@ -80,9 +62,39 @@ fn thousand_turns(alloc: Global) -> Option<Vec<Event>> {
             Rel(1, loc + 3),
             Rel(0, loc + 4),
         ];
-        if !add(&mut list, &ops, 1) {
-            return None;
+        if !add(list, &ops, 1) {
+            return false;
         }
     }
-    Some(list)
+    true
+}
+
+// Puts what the constant doesn't tell one by one at the end of the list.
+fn ends(list: &mut Vec<Event>, lists: Lists) -> bool {
+    match lists {
+        Lists::Told(_) => true,
+        Lists::Parts(parts) => add_parts(list, parts),
+        Lists::ThousandTurns(_) => add_turns(list),
+    }
+}
+
+// Puts it at the end of the first one.
+fn first_ends(made: &mut [Vec<Event>], lists: Lists) -> bool {
+    match made.first_mut() {
+        Some(first) => ends(first, lists),
+        None => false,
+    }
+}
+
+// The lists. None where memory was refused.
+pub(super) fn made(alloc: Global, lists: Lists) -> Option<Vec<Vec<Event>>> {
+    let told = match lists {
+        Lists::Told(told) | Lists::ThousandTurns(told) => told,
+        Lists::Parts(_) => ONE_EMPTY,
+    };
+    let mut made = lists_of(alloc, told)?;
+    if !first_ends(&mut made, lists) {
+        return None;
+    }
+    Some(made)
 }

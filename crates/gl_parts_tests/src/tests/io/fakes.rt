@@ -5,8 +5,7 @@ use std::io::{self, ErrorKind};
 #[derive(Clone, Copy)]
 pub(super) enum After {
     End,
-    Failure,
-    Interruption,
+    Fails(ErrorKind),
     Byte(u8),
 }
 
@@ -38,8 +37,7 @@ impl io::Read for Gives<'_> {
         }
         match self.after {
             After::End => Ok(0),
-            After::Failure => Err(self.failure(ErrorKind::Other)),
-            After::Interruption => Err(self.failure(ErrorKind::Interrupted)),
+            After::Fails(kind) => Err(self.failure(kind)),
             After::Byte(byte) => {
                 buffer[0] = byte;
                 Ok(1)
@@ -52,8 +50,7 @@ impl io::Read for Gives<'_> {
 #[derive(Clone, Copy)]
 pub(super) enum Full {
     TakesNone,
-    Failure,
-    Interruption,
+    Fails(ErrorKind),
 }
 
 // A writer that takes one byte a call until it is full, and counts its calls.
@@ -83,8 +80,7 @@ impl io::Write for Stops {
         }
         match self.full {
             Full::TakesNone => Ok(0),
-            Full::Failure => Err(self.failure(ErrorKind::Other)),
-            Full::Interruption => Err(self.failure(ErrorKind::Interrupted)),
+            Full::Fails(kind) => Err(self.failure(kind)),
         }
     }
 

@@ -1,6 +1,7 @@
 //! Edges through feeds, in one thread and in several.
 ghost use Rattle.std.specs.Prelude.{◌≡◌, IfOk, IfSome};
 
+use super::super::expect;
 use super::{at, edge, sample_of};
 use gl_edges::{Edge, Sample};
 use gl_event::{MAX_RING, Memory};
@@ -300,36 +301,55 @@ fn is_used<R: Threads + Wait + Sync>(
     }
 }
 
+// Whether the gate added up what is wanted, where it isn't the open one.
+fn is_summed(counter: &Counter, case: &Case) -> bool {
+    match case.sums {
+        Some(sums) => counter.has(sums),
+        None => true,
+    }
+}
+
+// Whether a feed is used so, and its gate added up what is wanted.
+fn is_right<R: Threads + Wait + Sync>(rt: &R, alloc: Global, case: &Case) -> bool {
+    let counter = Counter::new();
+    is_used(rt, alloc, case, &counter) && is_summed(&counter, case)
+}
+
 #[test]
 fn feeds(rt: HostRuntime) {
-    for case in CASES {
-        let counter = Counter::new();
-        assert!(rt; is_used(&rt, rt.alloc(), case, &counter), "{}", case.name);
-        assert!(rt;
-            case.sums.is_none_or(|sums| counter.has(sums)),
-            "{}: sums",
-            case.name
-        );
+    for (at, case) in CASES.iter().enumerate() {
+        expect(&rt, is_right(&rt, rt.alloc(), case), case.name, at);
+    }
+}
+
+// Whether the edge is handed back, with its sample.
+fn is_back(answer: Result<(), (Edge, Sample)>, same: &Edge) -> bool {
+    match answer {
+        Ok(()) => false,
+        Err((edge, sample)) => edge == *same && sample == at(7),
     }
 }
 
 // Whether a sender whose worker is gone gets its edge back, and no `Sent`.
-fn gets_back<R: Wait>(rt: &R, outlet: Outlet, edge: Edge, same: Edge) -> bool {
+fn gets_back<R: Wait>(rt: &R, outlet: Outlet, edge: Edge, same: &Edge) -> bool {
     let mut outlet = outlet;
-    outlet.send(rt, edge, at(7)) == Err((same, at(7))) && outlet.end(rt).err() == Some(Gone)
+    is_back(outlet.send(rt, edge, at(7)), same) && outlet.end(rt).err() == Some(Gone)
 }
 
-// The sender's end of a feed whose worker is gone.
-fn lone_outlet(alloc: Global) -> Result<Outlet, Memory> {
-    let (outlet, inlet) = feed(alloc, 2)?;
-    drop(inlet);
-    Ok(outlet)
+// Whether it does with these edges, of which the first is sent.
+fn is_lone(rt: &impl Wait, alloc: Global, edge: Edge, same: &Edge) -> bool {
+    match feed(alloc, 2) {
+        Ok((outlet, inlet)) => {
+            drop(inlet);
+            gets_back(rt, outlet, edge, same)
+        }
+        Err(_) => false,
+    }
 }
 
 #[test]
 fn inlet_dropped(rt: HostRuntime) {
-    let outlet = lone_outlet(rt.alloc()).ok().expect(&rt, "a feed");
     let lone = edge(rt.alloc(), (0, 1, 2)).ok().expect(&rt, "an edge");
     let same = edge(rt.alloc(), (0, 1, 2)).ok().expect(&rt, "an edge");
-    assert!(rt; gets_back(&rt, outlet, lone, same));
+    assert!(rt; is_lone(&rt, rt.alloc(), lone, &same));
 }

@@ -3,6 +3,7 @@ ghost use Rattle.std.specs.Prelude.{◌≡◌, IfSome};
 
 use super::super::{Told, at, edge, make};
 use super::{Course, send_all};
+use gl_edges::{Edge, Sample};
 use gl_shards::{Gate, Inlet, Sent, Served, Table, feed, serve};
 use std::alloc::Global;
 use std::sync::Wait;
@@ -62,16 +63,34 @@ impl Gate for Meeting {
     }
 }
 
-// What was left by a sender of one edge and the end mark, and the worker's end.
-fn one_sent<R: Wait>(rt: &R, alloc: Global, told: Told, place: u32) -> Option<(Sent, Inlet)>
+// One edge, at this place.
+fn lone_pair(alloc: Global, told: Told, place: u32) -> Option<Vec<(Edge, Sample)>> {
+    let mut pairs = Vec::new(alloc);
+    let lone = edge(alloc, told).ok()?;
+    match pairs.push((lone, at(place))) {
+        Ok(()) => Some(pairs),
+        Err(_) => None,
+    }
+}
+
+// What was left by a sender of these edges and the end mark, and the worker's end.
+fn sent<R: Wait>(rt: &R, alloc: Global, pairs: Vec<(Edge, Sample)>) -> Option<(Sent, Inlet)>
     ensures { IfSome result (λ it. it.1.feed ≡ it.0.feed) }
 {
-    let lone = edge(alloc, told).ok()?;
-    let pairs = vec![in alloc; (lone, at(place))].ok()?;
     let (outlet, inlet) = feed(alloc, 2).ok()?;
     match send_all(rt, outlet, pairs, Course::Ended) {
         Ok(Some(sent)) => Some((sent, inlet)),
         _ => None,
+    }
+}
+
+// The same of one edge.
+fn one_sent<R: Wait>(rt: &R, alloc: Global, told: Told, place: u32) -> Option<(Sent, Inlet)>
+    ensures { IfSome result (λ it. it.1.feed ≡ it.0.feed) }
+{
+    match lone_pair(alloc, told, place) {
+        Some(pairs) => sent(rt, alloc, pairs),
+        None => None,
     }
 }
 
@@ -97,15 +116,13 @@ fn work_at_once<R: Threads + Wait + Sync>(
     )
 }
 
-// The tables of two workers, each of which gets one edge and the end mark.
-fn met<R: Threads + Wait + Sync>(rt: &R, alloc: Global, gate: &Meeting) -> Option<(Table, Table)> {
-    let (one, first) = one_sent(rt, alloc, (0, 2, 3), 4)?;
-    let (two, second) = one_sent(rt, alloc, (1, 3, 2), 5)?;
-    let (first, second) = work_at_once(rt, alloc, first, second, gate);
-    match (first.settle(one), second.settle(two)) {
-        (Ok(first), Ok(second)) => Some((first, second)),
-        _ => None,
+// The two tables.
+fn both(alloc: Global, first: Table, second: Table) -> Option<Vec<Table>> {
+    let mut tables = Vec::new(alloc);
+    if tables.push(first).is_err() || tables.push(second).is_err() {
+        return None;
     }
+    Some(tables)
 }
 
 // Whether each of the two tables has one edge, and the two make the list of both.
@@ -113,9 +130,38 @@ fn are_one_each(alloc: Global, first: Table, second: Table) -> bool {
     if first.len() != 1 || second.len() != 1 {
         return false;
     }
-    match vec![in alloc; first, second] {
-        Ok(tables) => make(alloc, tables, &[(2, 4), (3, 5)]),
-        Err(_) => false,
+    match both(alloc, first, second) {
+        Some(tables) => make(alloc, tables, &[(2, 4), (3, 5)]),
+        None => false,
+    }
+}
+
+// Whether the two workers settle to such tables.
+fn settle<R: Threads + Wait + Sync>(
+    rt: &R,
+    alloc: Global,
+    one: (Sent, Inlet),
+    two: (Sent, Inlet),
+    gate: &Meeting,
+) -> bool
+    requires one { one.1.feed ≡ one.0.feed }
+    requires two { two.1.feed ≡ two.0.feed }
+{
+    let (first, second) = work_at_once(rt, alloc, one.1, two.1, gate);
+    match (first.settle(one.0), second.settle(two.0)) {
+        (Ok(first), Ok(second)) => are_one_each(alloc, first, second),
+        _ => false,
+    }
+}
+
+// Whether they do where each of them gets one edge and the end mark.
+fn meet<R: Threads + Wait + Sync>(rt: &R, alloc: Global, gate: &Meeting) -> bool {
+    let Some(one) = one_sent(rt, alloc, (0, 2, 3), 4) else {
+        return false;
+    };
+    match one_sent(rt, alloc, (1, 3, 2), 5) {
+        Some(two) => settle(rt, alloc, one, two, gate),
+        None => false,
     }
 }
 
@@ -123,6 +169,5 @@ fn are_one_each(alloc: Global, first: Table, second: Table) -> bool {
 #[test]
 fn workers_at_once(rt: HostRuntime) {
     let gate = Meeting::new();
-    let (first, second) = met(&rt, rt.alloc(), &gate).expect(&rt, "two tables");
-    assert!(rt; gate.is_passed_by_both() && are_one_each(rt.alloc(), first, second));
+    assert!(rt; meet(&rt, rt.alloc(), &gate) && gate.is_passed_by_both());
 }
