@@ -223,6 +223,7 @@ impl LineReader {
 
     // What the next line is that LF ends in what is left of the latest read. None where there is
     // none: then what is left is kept as the beginning of a line.
+    #[inline(always)]
     fn take_line(&mut self) -> Result<Option<Judged>, ReadFault>
         requires ready { CanTakeLines self.old }
         requires countable { self.old.judge.line + 1 < 2 ^ 64 }
