@@ -115,9 +115,9 @@ events_lawful limits lists (Some i) each = ⊎_elim (λ at. each i (get_or lists
 -- another thread
 refusal_by_locks : (limits : Bounds) (thread : ℕ) (es : List Event) (operation : Operation) (operand loc : ℕ) → nat_le limits.events (length es) ≡ false → lock_refusal es (event_of operation operand loc) ≡ None → (is_on_thread operation ≡ true → (operand < limits.threads) × (operand ≢ thread)) → refusal limits thread es (event_of operation operand loc) ≡ None
 unfolding refusal
-refusal_by_locks limits thread es (AcquireOf mode) lock loc room locks other = ap (λ v. cond v (Some PlaceFull) (lock_refusal es (Acquire lock mode loc))) room ∙ locks
-refusal_by_locks limits thread es (ReleaseOf mode) lock loc room locks other = ap (λ v. cond v (Some PlaceFull) (lock_refusal es (Release lock mode loc))) room ∙ locks
-refusal_by_locks limits thread es (TryAcquireOf mode) lock loc room locks other = ap (λ v. cond v (Some PlaceFull) (lock_refusal es (TryAcquire lock mode loc))) room ∙ locks
+refusal_by_locks limits thread es (AcquireOf mode) lock loc room locks other = ap (λ v. cond v (Some PlaceFull) (lock_refusal es (Acquire mode lock loc))) room ∙ locks
+refusal_by_locks limits thread es (ReleaseOf mode) lock loc room locks other = ap (λ v. cond v (Some PlaceFull) (lock_refusal es (Release mode lock loc))) room ∙ locks
+refusal_by_locks limits thread es (TryAcquireOf mode) lock loc room locks other = ap (λ v. cond v (Some PlaceFull) (lock_refusal es (TryAcquire mode lock loc))) room ∙ locks
 refusal_by_locks limits thread es ForkOf partner loc room locks other =
     let is = other refl in
     let below : nat_le limits.threads partner ≡ false = let low = is.0 in grind (arith, nat_tests, low) in
@@ -141,9 +141,9 @@ IsNamed-told names ForkOf other loc a b c = (b refl, c)
 IsNamed-told names JoinOf other loc a b c = (b refl, c)
 
 IsNamed-more : (old new : NameLists) → length old.threads ≤ length new.threads → length old.locks ≤ length new.locks → length old.locs ≤ length new.locs → (e : Event) → IsNamed old e → IsNamed new e
-IsNamed-more old new a b c (Acquire lock mode loc) h = (omega (arith, h.0, b), omega (arith, h.1, c))
-IsNamed-more old new a b c (Release lock mode loc) h = (omega (arith, h.0, b), omega (arith, h.1, c))
-IsNamed-more old new a b c (TryAcquire lock mode loc) h = (omega (arith, h.0, b), omega (arith, h.1, c))
+IsNamed-more old new a b c (Acquire mode lock loc) h = (omega (arith, h.0, b), omega (arith, h.1, c))
+IsNamed-more old new a b c (Release mode lock loc) h = (omega (arith, h.0, b), omega (arith, h.1, c))
+IsNamed-more old new a b c (TryAcquire mode lock loc) h = (omega (arith, h.0, b), omega (arith, h.1, c))
 IsNamed-more old new a b c (Fork t loc) h = (omega (arith, h.0, a), omega (arith, h.1, c))
 IsNamed-more old new a b c (Join t loc) h = (omega (arith, h.0, a), omega (arith, h.1, c))
 
