@@ -150,7 +150,8 @@ pub(crate) fn edges_from(
     requires lawful { (index : ℕ) (es : List Event)
         → slice_get (map (λ v. v.items) lists.now) index ≡ Some es
         → IsLawful greatest (first + index) es }
-    ensures { IfOk result (λ l. l ≡ once (edges_made_from first (map (λ v. v.items) lists.now))) }
+    ensures { IfOk result
+        (λ l. l ≡ once (edges_made_from first (map (λ v. v.items) lists.now))) }
 {
     let mut gatherer = Gatherer {
         table: Table::new(alloc),

@@ -1,4 +1,4 @@
--- The lists of threads, dealt out among workers: each has a share of lists that follow one another.
+-- The lists of threads, dealt out: each share has lists that follow one another.
 use Rattle.std.specs.Prelude.{◌≡◌, ℕ, ◌-◌, ◌≤◌, List, [], ◌∷◌, take, drop}
 use Rattle.gl_event.specs.declared.events.Event.{Event}
 use Rattle.gl_edges.specs.Edges.{edges_made_from, once}
