@@ -66,7 +66,8 @@ edges_of_list thread es = edges_below thread es (length es)
 
 -- the edges of lists whose threads are numbered from the first one on, one after the other
 abbrev pub edges_made_from : ℕ → List (List Event) → List (Edge × Sample)
-edges_made_from first lists = flat_map (λ numbered. edges_of_list numbered.0 numbered.1) (enumerate_from first lists)
+edges_made_from first lists =
+    flat_map (λ numbered. edges_of_list numbered.0 numbered.1) (enumerate_from first lists)
 
 -- the edges of all lists, one after the other; a thread's number is the position of its list
 abbrev pub edges_made : List (List Event) → List (Edge × Sample)
