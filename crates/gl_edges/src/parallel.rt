@@ -50,10 +50,12 @@ fn deal(alloc: Global, lists: &[Vec<Event>], enough: usize) -> Result<Vec<Share>
             events = 0;
         }
     }
-    shares.push(Share {
-        from,
-        to: lists.len(),
-    })?;
+    if from < lists.len() {
+        shares.push(Share {
+            from,
+            to: lists.len(),
+        })?;
+    }
     Ok(shares)
 }
 
@@ -104,7 +106,7 @@ fn joined(alloc: Global, pieces: Vec<EdgeList>) -> Result<Vec<(Edge, Sample)>, M
     Ok(pairs)
 }
 
-/// The same as [`edges_of`], by so many threads, or one where there are few events. Each thread goes through
+/// The same as [`edges_of`], by so many threads, or one where there are few events or one list has nearly all. Each thread goes through
 /// lists that follow one another, about as many events as each other one does, since an edge of a lesser
 /// thread is below all edges of a greater one.
 ///
@@ -126,6 +128,9 @@ pub fn edges_of_parallel(
         return edges_of(alloc, lists);
     }
     let shares = deal(alloc, lists, events / threads + 1)?;
+    if shares.len() < 2 {
+        return edges_of(alloc, lists);
+    }
     let pieces = edges_of_each(rt, alloc, lists, shares.as_slice())?;
     let pairs = joined(alloc, pieces)?;
     Ok(EdgeList::from_ascending(pairs))
