@@ -17,7 +17,7 @@ use Rattle.gl_pruning.specs.OffCycles.{IsOffCycles}
 use Rattle.gl_cycles.proofs.Lists.{upto-more, upto-until, take-take_append, take-full}
 use Rattle.gl_cycles.proofs.Blocking.{all_cycles-block, block-zero, block-suc, block-stray, not_led_on, none_after_closed, picked-push}
 use Rattle.gl_filters.proofs.Paths.{is_path_push}
-use Rattle.gl_cycles.proofs.Off.{block-off}
+use Rattle.gl_cycles.proofs.EdgesOffCycles.{block-off}
 use Rattle.gl_index.proofs.Tables.{AreWithin}
 use Rattle.gl_cycles.proofs.Fronts.{held_first, unclosed-push, wanted_after, length-picked}
 use Rattle.gl_index.proofs.Lists.{element_at}
