@@ -283,8 +283,8 @@ impl Searcher<'_> {
         self.grow(alloc, &[root], steps, found)
     }
 
-    // Takes one of the steps. Spent where none is left and the search is bound to them.
-    fn take_step(&self, steps: &mut usize) -> Result<(), Stop>
+    // Spends one of the steps. Err where none is left and the search is bound to them.
+    fn spend_step(&self, steps: &mut usize) -> Result<(), Stop>
         ensures stopped { IfErr result (λ stop. self.now.is_bound ≡ false → stop ≡ Memory) }
     {
         if *steps > 0 {
@@ -392,7 +392,7 @@ impl Searcher<'_> {
             (map (λ cycle. cycle.items) found.old.items)
             (map (λ cycle. cycle.items) found.new.items) result }
     {
-        self.take_step(steps)?;
+        self.spend_step(steps)?;
         if !self.can_join(path, next) {
             return Ok(());
         }
