@@ -1,7 +1,7 @@
 use Rattle.gl_segments.specs.Clocks.{is_before}
 use Rattle.gl_filters.specs.Picked.{edges_of_table}
 use Rattle.gl_pruning.specs.OffCycles.{KeepsCycles}
-use Rattle.gl_pruning.proofs.narrowing.leave_out_by_parts.Given as goal
+use Rattle.gl_pruning.proofs.parallel.leave_out_by_parts.Given as goal
 
 -- so far only edges that are in no cycle are left out
 abbrev pub invariant-loop-i : goal.invariant-loop-i

@@ -5,8 +5,8 @@
 ghost use Rattle.std.specs.Prelude.{◌<◌, length, All, IfOk, OnOk};
 ghost use Rattle.gl_pruning.specs.Sought.{KeepsSought};
 
-use crate::grains::Grain;
 use crate::parts::Part;
+use crate::reasons::{ALL_EFFORT, Reason, count_set, reasons};
 use crate::sought::Sought;
 use gl_event::Memory;
 use rayon::prelude::*;
@@ -23,33 +23,7 @@ const FEW: usize = 1_000;
 // leaves out another one sees the next time.
 const PASSES: usize = 3;
 
-/// What leaves out edges.
-#[derive(Clone, Copy, Debug)]
-pub(crate) enum Reason {
-    // none of a cycle is alike to them
-    Alike(Grain),
-    // they have no way back
-    NoWay,
-}
-
 impl Sought<'_> {
-    /// Leaves out edges of a part.
-    pub(crate) fn leave_out(
-        &self,
-        alloc: Global,
-        reason: Reason,
-        part: Part,
-        kept: &mut Vec<bool>,
-    ) -> Result<(), Memory>
-        requires { KeepsSought self.now kept.old.items }
-        ensures { OnOk result (KeepsSought self.now kept.new.items) }
-    {
-        match reason {
-            Reason::Alike(grain) => self.leave_out_alike(alloc, grain, part, kept),
-            Reason::NoWay => self.narrow(alloc, part, kept),
-        }
-    }
-
     // Which edges stay if some of a part are left out.
     fn kept_by_part(
         &self,
@@ -90,11 +64,6 @@ impl Sought<'_> {
     }
 }
 
-/// How many flags are set.
-pub(crate) fn count_set(flags: &[bool]) -> usize {
-    flags.iter().filter(|&&flag| flag).count()
-}
-
 // Which edges stay by each part.
 fn kept_by_each(
     rt: &(impl Threads + Sync),
@@ -120,8 +89,8 @@ fn kept_by_each(
     found
 }
 
-/// Leaves out edges of all parts, some parts in each thread.
-pub(crate) fn leave_out_by_parts(
+// Leaves out edges of all parts, some parts in each thread.
+fn leave_out_by_parts(
     rt: &(impl Threads + Sync),
     alloc: Global,
     sought: &Sought<'_>,
@@ -143,7 +112,7 @@ pub(crate) fn leave_out_by_parts(
 }
 
 // Leaves out edges that have no way back, as long as there are any and the search for them may go on.
-fn narrow(
+fn leave_out_in_passes(
     rt: &(impl Threads + Sync),
     alloc: Global,
     sought: &Sought<'_>,
@@ -163,8 +132,8 @@ fn narrow(
     Ok(())
 }
 
-/// Leaves out edges for a reason, with so much effort, on several threads.
-pub(crate) fn leave_out_parallel(
+// Leaves out edges for a reason, with so much effort.
+fn leave_out_parallel(
     rt: &(impl Threads + Sync),
     alloc: Global,
     sought: &Sought<'_>,
@@ -177,6 +146,38 @@ pub(crate) fn leave_out_parallel(
 {
     match reason {
         Reason::Alike(_) => leave_out_by_parts(rt, alloc, sought, reason, effort, kept),
-        Reason::NoWay => narrow(rt, alloc, sought, effort, kept),
+        Reason::NoWay => leave_out_in_passes(rt, alloc, sought, effort, kept),
     }
+}
+
+/// The same as [`Sought::leave_out_in_turn`], on several threads, and with each reason once.
+///
+/// Err where memory was refused.
+pub fn leave_out_in_turn_parallel(
+    rt: &(impl Threads + Sync),
+    alloc: Global,
+    sought: &Sought<'_>,
+    effort: usize,
+    kept: &mut Vec<bool>,
+) -> Result<(), Memory>
+    requires kept { KeepsSought sought.now kept.old.items }
+    ensures { OnOk result (KeepsSought sought.now kept.new.items) }
+{
+    for reason in reasons() {
+        leave_out_parallel(rt, alloc, sought, reason, effort, kept)?;
+    }
+    Ok(())
+}
+
+/// The same as [`Sought::kept_edges`], on several threads.
+pub(crate) fn kept_edges_parallel(
+    rt: &(impl Threads + Sync),
+    alloc: Global,
+    sought: &Sought<'_>,
+) -> Result<Vec<bool>, Memory>
+    ensures { IfOk result (λ kept. KeepsSought sought.now kept.items) }
+{
+    let mut kept = sought.kept_at_first(alloc)?;
+    leave_out_in_turn_parallel(rt, alloc, sought, ALL_EFFORT, &mut kept)?;
+    Ok(kept)
 }
