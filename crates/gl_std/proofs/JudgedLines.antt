@@ -22,7 +22,7 @@ use Rattle.gl_std.specs.declared.faults.ReadFault.{ReadFault}
 use Rattle.gl_std.specs.declared.judge.Judged.{Judged}
 use Rattle.gl_std.specs.declared.judge.Judged.TheVariants.{Event as Told, Stray}
 use Rattle.gl_std.specs.declared.names.Found.{Found}
-use Rattle.gl_std.specs.declared.standing.Ruling.{Ruling}
+use Rattle.gl_std.specs.declared.ruling.Ruling.{Ruling}
 use Rattle.gl_std.specs.declared.trace.Trace.{Trace}
 use Rattle.gl_std.proofs.FoundNames.{with_found, length-threads_of, call-found}
 use Rattle.gl_std.proofs.WithinLimits.{found_within}

@@ -29,8 +29,8 @@ use Rattle.gl_std.specs.bodies.Finding.{found_in, with_name, operand_number, eve
 use Rattle.gl_std.specs.declared.faults.StdKind.{StdKind}
 use Rattle.gl_std.specs.declared.faults.ReadFault.{ReadFault}
 use Rattle.gl_std.specs.declared.faults.ReadFault.TheVariants.{Line}
-use Rattle.gl_std.specs.declared.standing.Ruling.{Ruling}
-use Rattle.gl_std.specs.declared.standing.Ruling.TheVariants.{Kept, Stray, Fault}
+use Rattle.gl_std.specs.declared.ruling.Ruling.{Ruling}
+use Rattle.gl_std.specs.declared.ruling.Ruling.TheVariants.{Kept, Stray, Fault}
 use Rattle.gl_std.specs.declared.trace.Trace.{Trace}
 use Rattle.gl_std.proofs.Growth.{Grows-itself, Grows-then, call_grows}
 use Rattle.gl_std.proofs.FoundNames.{with_name-mention, length-with_name, acting, place_of, threads_of, locks_of, with_found, event-found, call-found}

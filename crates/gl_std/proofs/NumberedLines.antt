@@ -20,6 +20,7 @@ use Rattle.gl_std.specs.bodies.States.{HasJudged}
 use Rattle.gl_std.specs.declared.faults.ReadFault.{ReadFault}
 use Rattle.gl_std.specs.declared.judge.Judge.{Judge}
 use Rattle.gl_std.specs.declared.judge.Judged.{Judged}
+use Rattle.gl_std.specs.declared.line.Operation.{Operation as OperationValue}
 use Rattle.gl_std.specs.declared.names.known.Known.{Known}
 use Rattle.gl_std.specs.declared.names.Found.{Found}
 use Rattle.gl_std.specs.declared.said.Said.{Said}
@@ -64,6 +65,25 @@ front_length names later front = let longer = ap length front.1 ∙ length-appen
 
 pub go_on_itself : (names : NameLists) → GoOn names names
 go_on_itself names = record { threads = IsFront-itself names.threads; locks = IsFront-itself names.locks; locs = IsFront-itself names.locs }
+
+-- ---- names that stand where their numbers are
+
+-- so the numbers have names
+pub call_numbered : (names : NameLists) (operation : OperationValue) (thread operand location : ℕ) (t p l : List ℕ)
+    → slice_get names.threads thread ≡ Some t → slice_get (operands (shown_operation operation) names) operand ≡ Some p → slice_get names.locs location ≡ Some l
+    → IsNumbered names (CallSaid operation thread operand location)
+call_numbered names operation thread operand location t p l a b d =
+    (slice_get_within names.threads thread t a, slice_get_within (operands (shown_operation operation) names) operand p b, slice_get_within names.locs location l d)
+
+-- and say the line
+pub call_said : (names : NameLists) (operation : OperationValue) (thread operand location : ℕ) (t p l : List ℕ)
+    → slice_get names.threads thread ≡ Some t → slice_get (operands (shown_operation operation) names) operand ≡ Some p → slice_get names.locs location ≡ Some l
+    → shape_in names (CallSaid operation thread operand location) ≡ Call (shown_operation operation) t p l
+call_said names operation thread operand location t p l a b d =
+    let first = named_of names.threads thread t a in
+    let second = named_of (operands (shown_operation operation) names) operand p b in
+    let third = named_of names.locs location l d in
+    (λ i. Call (shown_operation operation) (first i) (second i) (third i))
 
 -- ---- what was said before names are added
 

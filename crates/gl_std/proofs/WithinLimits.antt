@@ -31,8 +31,8 @@ use Rattle.gl_std.specs.declared.faults.ReadFault.{ReadFault}
 use Rattle.gl_std.specs.declared.faults.ReadFault.TheVariants.{Line}
 use Rattle.gl_std.specs.Line.Operation.{Acquire as AcquireOf, Release as ReleaseOf, TryAcquire as TryAcquireOf, Fork as ForkOf, Join as JoinOf}
 use Rattle.gl_std.specs.declared.names.Found.{Found}
-use Rattle.gl_std.specs.declared.standing.Ruling.{Ruling}
-use Rattle.gl_std.specs.declared.standing.Ruling.TheVariants.{Kept, Stray, Fault}
+use Rattle.gl_std.specs.declared.ruling.Ruling.{Ruling}
+use Rattle.gl_std.specs.declared.ruling.Ruling.TheVariants.{Kept, Stray, Fault}
 use Rattle.gl_std.specs.declared.trace.Trace.{Trace}
 use Rattle.gl_std.proofs.FoundNames.{length-with_name, acting, place_of, threads_of, locks_of, length-threads_of, length-locks_of, with_found, call-found}
 use Rattle.gl_std.proofs.NameBytes.{list_any-absent}

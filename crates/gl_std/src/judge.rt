@@ -8,13 +8,13 @@ ghost use Rattle.gl_std.specs.Trace.{event_of, events_of, with_event, with_list}
 ghost use Rattle.gl_std.specs.bodies.Finding.{ruling_of, with_lists};
 ghost use Rattle.gl_std.specs.bodies.Shown.{shown_operation};
 ghost use Rattle.gl_std.specs.declared.judge.Judged.TheVariants.{Event as Told};
-ghost use Rattle.gl_std.specs.declared.standing.Ruling.TheVariants.{Kept, Stray};
+ghost use Rattle.gl_std.specs.declared.ruling.Ruling.TheVariants.{Kept, Stray};
 
 use crate::faults::{ReadFault, StdKind};
 use crate::line::{Operation, Shape, shape_of};
 use crate::names::{Found, Names};
+use crate::ruling::{Ruling, rule};
 use crate::seed::Seed;
-use crate::standing::{Ruling, rule};
 use gl_event::{Event, Limits, LocId, LockId, ThreadId, ThreadState};
 use std::alloc::{AllocError, Global};
 

@@ -12,7 +12,7 @@ use super::{Judge, Judged, event_of, kept_event, stand};
 use crate::faults::{ReadFault, StdKind};
 use crate::line::Operation;
 use crate::names::Found;
-use crate::standing::Ruling;
+use crate::ruling::Ruling;
 use gl_event::{LocId, ThreadId};
 
 impl Judge {

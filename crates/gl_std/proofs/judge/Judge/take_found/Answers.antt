@@ -4,7 +4,7 @@ use Rattle.gl_std.specs.Trace.{event_of}
 use Rattle.gl_std.specs.bodies.Finding.{event_found, operand_number}
 use Rattle.gl_std.specs.bodies.Shown.{shown_operation}
 use Rattle.gl_std.specs.declared.faults.ReadFault.TheVariants.{Line}
-use Rattle.gl_std.specs.declared.standing.Ruling.TheVariants.{Kept, Stray, Fault}
+use Rattle.gl_std.specs.declared.ruling.Ruling.TheVariants.{Kept, Stray, Fault}
 use Rattle.gl_std.proofs.JudgedLines.{call_judged, call_kept, call_listed, call_known, kept_has, same_fault, stray_has}
 use Rattle.gl_std.proofs.judge.Judge.take_found.Goals as goal
 

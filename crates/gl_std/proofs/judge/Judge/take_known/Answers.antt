@@ -4,7 +4,7 @@ use Rattle.gl_std.specs.bodies.Shown.{shown_operation}
 use Rattle.gl_std.specs.bodies.Telling.{with_judged, IsKnown}
 use Rattle.gl_std.specs.declared.faults.ReadFault.TheVariants.{Line}
 use Rattle.gl_std.specs.declared.names.Found.{Found}
-use Rattle.gl_std.specs.declared.standing.Ruling.TheVariants.{Kept, Stray, Fault}
+use Rattle.gl_std.specs.declared.ruling.Ruling.TheVariants.{Kept, Stray, Fault}
 use Rattle.gl_std.proofs.JudgedLines.{call_judged, call_kept, call_listed, kept_has, known_limit, known_names, same_fault, stray_has}
 use Rattle.gl_std.proofs.judge.Judge.take_known.Goals as goal
 

@@ -5,7 +5,7 @@ ghost use Rattle.gl_event.specs.States.{HasFollowed, StandsAfter};
 ghost use Rattle.gl_event.specs.declared.events.Event.{Event};
 ghost use Rattle.gl_std.specs.bodies.Finding.{ruling_of};
 ghost use Rattle.gl_std.specs.declared.faults.StdKind.{StdKind};
-ghost use Rattle.gl_std.specs.declared.standing.Ruling.TheVariants.{Kept, Stray};
+ghost use Rattle.gl_std.specs.declared.ruling.Ruling.TheVariants.{Kept, Stray};
 
 use crate::faults::StdKind;
 use gl_event::{Event, Refusal, ThreadState};
