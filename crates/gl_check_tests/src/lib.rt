@@ -1,4 +1,5 @@
-//! Worked reports, by the public calls of gl_report and gl_check: what is printed of them, and which are accepted.
+//! Worked examples of gl_cycles and gl_findings, and worked reports: what gl_report prints of them, and which
+//! gl_check accepts. All by public calls.
 //!
 //! They stand in a crate of their own, since a crate is proved once more with its tests. What they share is
 //! the trace of a text, [`traces`]; [`format_1`] prints the reports that format 1 stands for.

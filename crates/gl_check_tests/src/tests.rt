@@ -1,5 +1,6 @@
-//! Reports: what is printed of them, and which are accepted.
+//! Cycles of lists of events, and reports: what is printed of them, and which are accepted.
 mod checks;
+mod cycles;
 mod prints;
 
 // Two threads that acquire two locks in opposite order.

@@ -10,5 +10,5 @@ returns-clause-unread c = λ now.
       turns = 1000;
       start = now;
       as_many = ap (λ (b : Bounds). b.threads) c.in_ok-limits.ensures.kept;
-      tells = c.in_ok-new.ensures.tells now;
+      tells = c.in_ok-items.ensures.tells now;
     }

@@ -1,4 +1,4 @@
-//! Worked examples: lists of events, what is asked of their edges, and the answers.
+//! Lists of events, what is asked of their edges, and the answers.
 use asks::{Ask, answers};
 use gl_worked::known::{Known, known_of};
 use lists::{Lists, made};
