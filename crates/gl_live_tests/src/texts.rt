@@ -16,7 +16,11 @@ pub fn unread_items(alloc: Global, threads: u32) -> Option<Items>
     ensures usable { IfSome result (λ i. CanBeAsked i false) }
     ensures unread { IfSome result (λ i. (now : Position) → IsUnread threads now false i) }
 {
-    let limits = Limits::new(threads, 65_536, 4_000_000_000, 4_000_000_000).ok()?;
-    let items = Items::new(alloc, &limits, 1_000, Seed::fixed()).ok()?;
+    let Ok(limits) = Limits::new(threads, 65_536, 4_000_000_000, 4_000_000_000) else {
+        return None;
+    };
+    let Ok(items) = Items::new(alloc, &limits, 1_000, Seed::fixed()) else {
+        return None;
+    };
     Some(items)
 }

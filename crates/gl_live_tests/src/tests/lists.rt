@@ -1,12 +1,16 @@
 //! Sessions over given lists.
+ghost use Rattle.std.specs.Prelude.{◌≤◌, length};
+ghost use Rattle.gl_event.specs.declared.limits.TheConstants.{MAX_RING};
+ghost use Rattle.gl_shards.specs.declared.shard.TheConstants.{MAX_SHARDS};
+
 use super::meeting::Meeting;
-use super::wanted::{Listed, Wanted, is_wanted};
+use super::wanted::{Listed, TWO_EDGES, Wanted, is_wanted, query_for};
 use gl_cycles::Report;
 use gl_edges::{Edge, Sample};
 use gl_event::{Event, MAX_RING};
-use gl_filters::{Mode, Query};
+use gl_filters::Query;
 use gl_findings::Contents;
-use gl_live::{SessionOptions, live_report, live_report_with};
+use gl_live::{LiveFault, SessionOptions, live_report, live_report_with};
 use gl_shards::{Gate, MAX_SHARDS, Open};
 use gl_worked::ops::Op::{self, Acq, Rel};
 use gl_worked::ops::{event_of, lists_of};
@@ -169,8 +173,52 @@ const FINDINGS: &[Case] = &[
     },
 ];
 
-// The report by a session of so many recorder threads and workers, and notes in a ring, if it has one. Nothing is told
-// of it, so that little is known where it is looked at; so it is with the next one.
+// What `live_report` answers, of which nothing is told: what is asked then stands among few facts, and the prover
+// takes it quickly. So it is with the next one.
+fn run_plain<R: AllocGlobal + Threads + Wait + Sync, G: Gate + Sync>(
+    rt: &R,
+    lists: &[Vec<Event>],
+    options: &SessionOptions,
+    query: &Query,
+    gate: &G,
+) -> Result<Report, LiveFault>
+    requires few { length lists.now ≤ 1024 }
+    requires some_recorder { 1 ≤ options.now.recorders }
+    requires some_shard { 1 ≤ options.now.shards }
+    requires shards_fit { options.now.shards ≤ MAX_SHARDS }
+    requires some_ring { 1 ≤ options.now.ring }
+    requires ring_fits { options.now.ring ≤ MAX_RING }
+{
+    live_report(rt, rt.alloc(), lists, options, query, gate)
+}
+
+// What `live_report_with` answers, by a session of two recorder threads and three workers, with lanes and feeds of
+// one note.
+fn run_with<R: AllocGlobal + Threads + Wait + Sync>(
+    rt: &R,
+    lists: &[Vec<Event>],
+    contents: Contents,
+    query: &Query,
+) -> Result<Report, LiveFault>
+    requires few { length lists.now ≤ 1024 }
+{
+    let options = SessionOptions {
+        recorders: 2,
+        shards: 3,
+        ring: 1,
+    };
+    live_report_with(rt, rt.alloc(), lists, &options, contents, query, &Open)
+}
+
+// The report, if there is one.
+fn report_in(answer: Result<Report, LiveFault>) -> Option<Report> {
+    match answer {
+        Ok(report) => Some(report),
+        Err(_) => None,
+    }
+}
+
+// The report by a session of so many recorder threads and workers, and notes in a ring.
 pub(super) fn reported<R: AllocGlobal + Threads + Wait + Sync, G: Gate + Sync>(
     rt: &R,
     lists: &[Vec<Event>],
@@ -187,17 +235,16 @@ pub(super) fn reported<R: AllocGlobal + Threads + Wait + Sync, G: Gate + Sync>(
     {
         return None;
     }
-    let query = Query::new(Mode::Full, 16, 1_000).ok()?;
+    let query = query_for(1_000)?;
     let options = SessionOptions {
         recorders,
         shards,
         ring,
     };
-    live_report(rt, rt.alloc(), lists, &options, &query, gate).ok()
+    report_in(run_plain(rt, lists, &options, &query, gate))
 }
 
-// The report of the lists with at most so many cycles or findings, by a session of two recorder threads and three
-// workers, with lanes and feeds of one note.
+// The report with these contents, and at most so many cycles or findings.
 fn found<R: AllocGlobal + Threads + Wait + Sync>(
     rt: &R,
     lists: &[Vec<Event>],
@@ -207,13 +254,8 @@ fn found<R: AllocGlobal + Threads + Wait + Sync>(
     if lists.len() > 16 {
         return None;
     }
-    let query = Query::new(Mode::Full, 16, max).ok()?;
-    let options = SessionOptions {
-        recorders: 2,
-        shards: 3,
-        ring: 1,
-    };
-    live_report_with(rt, rt.alloc(), lists, &options, contents, &query, &Open).ok()
+    let query = query_for(max)?;
+    report_in(run_with(rt, lists, contents, &query))
 }
 
 fn report_of<R: AllocGlobal + Threads + Wait + Sync>(
@@ -257,14 +299,6 @@ fn findings_of_lists(rt: HostRuntime) {
         expect(&rt, case);
     }
 }
-
-// Two threads that take two locks in opposite orders.
-const TWO_EDGES: Wanted = Wanted {
-    edges: 2,
-    cycles: Count(1),
-    more: false,
-    trim: None,
-};
 
 // Two workers of a session are both at work at one moment, each on its first edge.
 #[test]

@@ -1,14 +1,18 @@
 //! Sessions over texts, which are recorded as they are read.
-ghost use Rattle.std.specs.Prelude.{◌≡◌, false};
+ghost use Rattle.std.specs.Prelude.{◌≡◌, ◌≤◌, false};
+ghost use Rattle.gl_event.specs.declared.limits.TheConstants.{MAX_RING, MAX_THREADS};
 ghost use Rattle.gl_io.specs.Positions.{untold};
+ghost use Rattle.gl_live.specs.Streamed.{IsUnread};
+ghost use Rattle.gl_shards.specs.declared.shard.TheConstants.{MAX_SHARDS};
+ghost use Rattle.gl_std.specs.Streaming.{CanBeAsked};
 
 use super::lists::reported;
 use super::meeting::Meeting;
-use super::wanted::{Listed, Wanted, is_wanted};
+use super::wanted::{Listed, TWO_EDGES, Wanted, is_wanted, query_for};
 use crate::texts::unread_items;
 use gl_cycles::Report;
 use gl_event::{MAX_RING, MAX_THREADS, Segment, ThreadId};
-use gl_filters::{Mode, Query};
+use gl_filters::Query;
 use gl_findings::Contents;
 use gl_io::FromStd;
 use gl_live::{LiveFault, StreamFault, StreamOptions, stream_report, stream_report_with};
@@ -29,14 +33,6 @@ const OPPOSITE_LISTS: &[&[Op]] = &[
     &[Acq(0, 0), Acq(1, 1), Rel(1, 2), Rel(0, 3)],
     &[Acq(1, 4), Acq(0, 5)],
 ];
-
-// What is wanted of its report.
-const TWO_EDGES: Wanted = Wanted {
-    edges: 2,
-    cycles: Listed::Count(1),
-    more: false,
-    trim: None,
-};
 
 // Two threads join one another.
 const JOIN_LOOP: &[u8] = b"T0|join(T1)|1\nT1|join(T0)|2\n";
@@ -146,8 +142,59 @@ const CASES: &[Case] = &[
     },
 ];
 
+// What `stream_report` answers, of which nothing is told: what is asked then stands among few facts, and the prover
+// takes it quickly. So it is with the next one.
+fn run_plain<R: AllocGlobal + Threads + Wait + Sync, S: Source, G: Gate + Sync>(
+    rt: &R,
+    items: Items,
+    input: &mut S,
+    options: &StreamOptions,
+    query: &Query,
+    gate: &G,
+) -> (Result<Report, StreamFault>, Items)
+    requires usable { CanBeAsked items (S.failed input.old) }
+    requires unread { IsUnread options.now.threads (S.position input.old)
+        (S.failed input.old) items }
+    requires some_thread { 1 ≤ options.now.threads }
+    requires threads_fit { options.now.threads ≤ MAX_THREADS }
+    requires some_shard { 1 ≤ options.now.shards }
+    requires shards_fit { options.now.shards ≤ MAX_SHARDS }
+    requires some_ring { 1 ≤ options.now.ring }
+    requires ring_fits { options.now.ring ≤ MAX_RING }
+{
+    stream_report(rt, rt.alloc(), items, input, options, query, gate)
+}
+
+// What `stream_report_with` answers, for a text that names 64 threads at the most, by three workers and rings of one
+// note.
+fn run_with<R: AllocGlobal + Threads + Wait + Sync, S: Source>(
+    rt: &R,
+    items: Items,
+    input: &mut S,
+    contents: Contents,
+    query: &Query,
+) -> (Result<Report, StreamFault>, Items)
+    requires usable { CanBeAsked items (S.failed input.old) }
+    requires unread { IsUnread 64 (S.position input.old) (S.failed input.old) items }
+{
+    let options = StreamOptions {
+        threads: 64,
+        shards: 3,
+        ring: 1,
+    };
+    stream_report_with(
+        rt,
+        rt.alloc(),
+        items,
+        input,
+        &options,
+        contents,
+        query,
+        &Open,
+    )
+}
+
 // What becomes of the text of a source, and its items, by a session with so many lanes, workers, and notes in a ring.
-// Nothing is told of it, so that little is known where it is looked at; so it is with the next one.
 fn streamed<R: AllocGlobal + Threads + Wait + Sync, S: Source, G: Gate + Sync>(
     rt: &R,
     input: &mut S,
@@ -167,39 +214,25 @@ fn streamed<R: AllocGlobal + Threads + Wait + Sync, S: Source, G: Gate + Sync>(
         return None;
     }
     let items = unread_items(rt.alloc(), threads)?;
-    let query = Query::new(Mode::Full, 16, 1_000).ok()?;
+    let query = query_for(1_000)?;
     let options = StreamOptions {
         threads,
         shards,
         ring,
     };
-    Some(stream_report(rt, rt.alloc(), items, input, &options, &query, gate))
+    Some(run_plain(rt, items, input, &options, &query, gate))
 }
 
-// The same with these contents, of a text that names 64 threads at the most, by three workers and rings of one note.
+// The same with these contents.
 fn streamed_with<R: AllocGlobal + Threads + Wait + Sync>(
     rt: &R,
     text: &[u8],
     contents: Contents,
 ) -> Option<Result<Report, StreamFault>> {
     let items = unread_items(rt.alloc(), 64)?;
-    let query = Query::new(Mode::Full, 16, 1_000).ok()?;
-    let options = StreamOptions {
-        threads: 64,
-        shards: 3,
-        ring: 1,
-    };
+    let query = query_for(1_000)?;
     let mut input = FromStd::new(text);
-    let (result, _items) = stream_report_with(
-        rt,
-        rt.alloc(),
-        items,
-        &mut input,
-        &options,
-        contents,
-        &query,
-        &Open,
-    );
+    let (result, _items) = run_with(rt, items, &mut input, contents, &query);
     Some(result)
 }
 

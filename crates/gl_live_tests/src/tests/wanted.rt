@@ -1,5 +1,14 @@
-//! What is wanted of a report.
+//! What a report is asked with, and what is wanted of it.
 use gl_cycles::{Report, TrimOrder};
+use gl_filters::{Mode, Query};
+
+// The query for so many cycles or findings at most, of at most 16 edges each.
+pub(super) fn query_for(max: u32) -> Option<Query> {
+    match Query::new(Mode::Full, 16, max) {
+        Ok(query) => Some(query),
+        Err(_) => None,
+    }
+}
 
 // Cycles, or how many they are.
 #[derive(Clone, Copy)]
@@ -17,6 +26,14 @@ pub(super) struct Wanted {
     pub(super) more: bool,
     pub(super) trim: Option<bool>,
 }
+
+// Two threads take two locks in opposite orders.
+pub(super) const TWO_EDGES: Wanted = Wanted {
+    edges: 2,
+    cycles: Listed::Count(1),
+    more: false,
+    trim: None,
+};
 
 fn are_these(cycles: &[Vec<usize>], wanted: &[&[usize]]) -> bool {
     if cycles.len() != wanted.len() {
