@@ -59,10 +59,10 @@
  *
  * goodlock_record   a look through the at most 64 locks that the thread holds, and one push into its ring: tens of
  *                   nanoseconds. It never waits, takes no memory and makes no system call.
- * goodlock_pull     the same look, and two lists that grow: some 100 nanoseconds for an event at most. It takes memory
- *                   for what it keeps: 46 bytes for each event, and up to twice that where a list has just grown.
+ * goodlock_pull     the same look, and two lists that grow: some 60 nanoseconds for an event at most. It takes memory
+ *                   for what it keeps: 38 bytes for each event, and up to twice that where a list has just grown.
  *
- * So a session grows as long as it runs. A lane takes 4 KB, and 28 bytes for each note of its ring. bench/library.sh
+ * So a session grows as long as it runs. A lane takes 4 KB, and 24 bytes for each note of its ring. bench/library.sh
  * measures these. What the other calls cost is said of each. */
 #ifndef GOODLOCK_H
 #define GOODLOCK_H

@@ -98,6 +98,19 @@ def threads_that_read(program):
         program.expect(f"{words}: several threads where there are as many processors", (usual > 1) == several)
 
 
+def threads_that_look_for_edges(program):
+    """Each of several threads takes the lists of some threads of the trace, where there are many events and two are asked
+    for. A text as small as this is read by one thread."""
+    events = b"T0|acq(a)|1\nT0|rel(a)|2\nT1|acq(a)|1\nT1|rel(a)|2\n"
+    for words in ("predict", "stats"):
+        got = program.counts(f"{words} --jobs 1", events * 6000)[0]
+        program.expect(f"{words} --jobs 1 starts no thread, not {got}", got == 0)
+        got = program.counts(f"{words} --jobs 2", events * 6000)[0]
+        program.expect(f"{words} --jobs 2 starts threads for 24,000 events of two threads", got > 0)
+        got = program.counts(f"{words} --jobs 2", events * 4000)[0]
+        program.expect(f"{words} --jobs 2 starts no thread for 16,000 events, not {got}", got == 0)
+
+
 def room_of(program, words, few, many, trace=trace_of(2)):
     """The bytes that are asked for more where a number in the words is the greater one."""
     return program.counts(words.format(many), trace)[1] - program.counts(words.format(few), trace)[1]
@@ -132,6 +145,7 @@ def main():
         program = Program(sys.argv[1], folder)
         threads_of_sessions(program)
         threads_that_read(program)
+        threads_that_look_for_edges(program)
         rings_of_sessions(program)
     print(f"{program.passed} passed, {program.failed} failed")
     return 1 if program.failed else 0

@@ -10,12 +10,12 @@ use Rattle.gl_c.specs.declared.codes.TheConstants.{ACQUIRE, ACQUIRE_SHARED, RELE
 -- the event of this kind, on this lock or thread, at this place
 abbrev pub event_of : ℕ → ℕ → ℕ → Option Event
 event_of kind operand place =
-    if kind == ACQUIRE then Some (Acquire operand Exclusive place)
-    else (if kind == ACQUIRE_SHARED then Some (Acquire operand Shared place)
-    else (if kind == RELEASE then Some (Release operand Exclusive place)
-    else (if kind == RELEASE_SHARED then Some (Release operand Shared place)
-    else (if kind == TRY_ACQUIRE then Some (TryAcquire operand Exclusive place)
-    else (if kind == TRY_ACQUIRE_SHARED then Some (TryAcquire operand Shared place)
+    if kind == ACQUIRE then Some (Acquire Exclusive operand place)
+    else (if kind == ACQUIRE_SHARED then Some (Acquire Shared operand place)
+    else (if kind == RELEASE then Some (Release Exclusive operand place)
+    else (if kind == RELEASE_SHARED then Some (Release Shared operand place)
+    else (if kind == TRY_ACQUIRE then Some (TryAcquire Exclusive operand place)
+    else (if kind == TRY_ACQUIRE_SHARED then Some (TryAcquire Shared operand place)
     else (if kind == FORK then Some (Fork operand place)
     else (if kind == JOIN then Some (Join operand place)
     else None)))))))

@@ -19,7 +19,7 @@ ghost use Rattle.gl_commands.specs.bodies.Stops.{IfRefused, IsFaultIn, IsLoopOf,
 use crate::ended::{Ended, Outcome};
 use crate::refusal_lines::{fault_line, inconsistent_line};
 use gl_cycles::Report;
-use gl_edges::edges_of;
+use gl_edges::edges_of_parallel;
 use gl_event::Memory;
 use gl_filters::Query;
 use gl_findings::{Contents, Listing, report_with_parallel};
@@ -138,7 +138,7 @@ pub(crate) fn contents_for(listing: Listing, form: Form) -> Contents
     }
 }
 
-// The report of a trace whose segments have this order.
+// The report of a trace whose segments have this order. So many threads look for its edges.
 fn report_by(
     rt: &(impl Threads + Sync),
     alloc: Global,
@@ -146,13 +146,14 @@ fn report_by(
     order: &Order,
     contents: Contents,
     query: &Query,
+    threads: usize,
 ) -> Result<Report, Memory>
     requires { IsTraceOver greatest trace.now }
     ensures { IfOk result
         (λ r. r
         ≡ report_with contents query.now (is_before order.now) (edges trace.now.lists)) }
 {
-    let edges = edges_of(alloc, trace.lists.as_slice())?;
+    let edges = edges_of_parallel(rt, alloc, trace.lists.as_slice(), threads)?;
     report_with_parallel(rt, alloc, contents, edges, order, query)
 }
 
@@ -163,13 +164,14 @@ fn report_or_line(
     trace: &Trace,
     contents: Contents,
     query: &Query,
+    threads: usize,
 ) -> Result<Report, Ended>
     requires { IsTraceOver greatest trace.now }
     ensures report { IfOk result (λ r. IsReportOf contents query.now (Ok trace.now) trace.now r) }
     ensures refused { IfErr result (λ ended. IfRefused ended (IsLoopOf trace.now)) }
 {
     let order = order_or_line(alloc, trace)?;
-    let report = report_by(rt, alloc, trace, &order, contents, query)?;
+    let report = report_by(rt, alloc, trace, &order, contents, query, threads)?;
     Ok(report)
 }
 
@@ -180,6 +182,7 @@ fn trace_and_report(
     read: Result<Trace, ReadFault>,
     contents: Contents,
     query: &Query,
+    threads: usize,
 ) -> Result<Reported, Ended>
     requires { IfOk read (IsTraceOver greatest) }
     ensures report { IfOk result (λ r. IsReportOf contents query.now read r.trace r.report) }
@@ -187,7 +190,7 @@ fn trace_and_report(
     ensures refused { IfErr result (λ ended. IfRefused ended (SaysWhyNoReport read)) }
 {
     let trace = trace_or_line(alloc, read)?;
-    match report_or_line(rt, alloc, &trace, contents, query) {
+    match report_or_line(rt, alloc, &trace, contents, query, threads) {
         Ok(report) => Ok(Reported { trace, report }),
         Err(ended) => {
             drop(trace);
@@ -233,6 +236,7 @@ pub(crate) fn predicted(
     listing: Listing,
     query: &Query,
     form: Form,
+    threads: usize,
 ) -> Result<Printed, Ended>
     requires { IfOk read (IsTraceOver greatest) }
     ensures printed { IfOk result
@@ -244,7 +248,7 @@ pub(crate) fn predicted(
         → IsAnswer (prediction listing query.now form) text (Refusal line))) }
 {
     let contents = contents_for(listing, form);
-    let Reported { trace, report } = trace_and_report(rt, alloc, read, contents, query)?;
+    let Reported { trace, report } = trace_and_report(rt, alloc, read, contents, query, threads)?;
     let answer = printed_in(alloc, listing, form, &trace.names, &report);
     drop(report);
     drop(trace);
@@ -273,6 +277,7 @@ pub(crate) fn counted(
     alloc: Global,
     read: Result<Trace, ReadFault>,
     query: &Query,
+    threads: usize,
 ) -> Result<Printed, Ended>
     requires { IfOk read (IsTraceOver greatest) }
     ensures printed { IfOk result
@@ -283,7 +288,8 @@ pub(crate) fn counted(
         (λ line. (text : List ℕ) → trace_of greatest text ≡ read
         → IsAnswer (counts query.now) text (Refusal line))) }
 {
-    let Reported { trace, report } = trace_and_report(rt, alloc, read, Contents::Cycles, query)?;
+    let contents = Contents::Cycles;
+    let Reported { trace, report } = trace_and_report(rt, alloc, read, contents, query, threads)?;
     let answer = printed_counts(alloc, &trace, &report);
     drop(report);
     drop(trace);

@@ -132,7 +132,13 @@ fn predict_listing<R: AllocGlobal + Threads + Sync, I: Source, O: Sink>(
 {
     let alloc = rt.alloc();
     match hear(rt, alloc, input, reading) {
-        Ok(read) => end(output, predicted(rt, alloc, read, listing, query, form)),
+        Ok(read) => {
+            let threads = reading.threads(rt);
+            end(
+                output,
+                predicted(rt, alloc, read, listing, query, form, threads),
+            )
+        }
         Err(ended) => ended,
     }
 }
@@ -252,7 +258,10 @@ pub fn stats<R: AllocGlobal + Threads + Sync, I: Source, O: Sink>(
 {
     let alloc = rt.alloc();
     match hear(rt, alloc, input, reading) {
-        Ok(read) => end(output, counted(rt, alloc, read, query)),
+        Ok(read) => {
+            let threads = reading.threads(rt);
+            end(output, counted(rt, alloc, read, query, threads))
+        }
         Err(ended) => ended,
     }
 }

@@ -1,4 +1,4 @@
-//! Worked runs of gl_commands, by its public calls.
+//! Worked runs of gl_commands, and worked command lines of gl_options, by their public calls.
 //!
 //! They stand in a crate of their own, since a crate is proved once more with its tests. What they share is
 //! a text that can't be read to its end, [`Cut`](cut::Cut).

@@ -17,7 +17,7 @@ use Rattle.gl_pruning.specs.OffCycles.{IsOffCycles}
 use Rattle.gl_cycles.proofs.Lists.{upto-more, upto-until, take-take_append, take-full}
 use Rattle.gl_cycles.proofs.Blocking.{all_cycles-block, block-zero, block-suc, block-stray, not_led_on, none_after_closed, picked-push}
 use Rattle.gl_filters.proofs.Paths.{is_path_push}
-use Rattle.gl_cycles.proofs.Off.{block-off}
+use Rattle.gl_cycles.proofs.EdgesOffCycles.{block-off}
 use Rattle.gl_index.proofs.Tables.{AreWithin}
 use Rattle.gl_cycles.proofs.Fronts.{held_first, unclosed-push, wanted_after, length-picked}
 use Rattle.gl_index.proofs.Lists.{element_at}
@@ -27,7 +27,7 @@ length-first n xs = let l = length-take n xs in omega arith
 
 module _ (before : Segment → Segment → Bool) (mode : Mode) (edges : List Edge) (n : ℕ) (front : List ℕ) (cap : ℕ) where
   -- what was found before the next edge with this key
-  pub record HasGrown {K : Type 0} (key : Edge → K) (k : K) (old now : List (List ℕ)) (next : Option ℕ) : Type 0 where
+  pub record HasGrownTo {K : Type 0} (key : Edge → K) (k : K) (old now : List (List ℕ)) (next : Option ℕ) : Type 0 where
     pub reaches : unwrap_or next (length edges) ≤ length edges
     pub holds : IfSome next (λ i. (i < length edges) × ((e : Edge) → slice_get edges i ≡ Some e → key e ≡ k))
     pub grown : now ≡ take cap (old ++ blocks_below before mode edges n front (unwrap_or next (length edges)))
@@ -54,7 +54,7 @@ module _ (before : Segment → Segment → Bool) (mode : Mode) (edges : List Edg
           | inr left_out ↦ out i here.0 here.1 left_out
         ])
 
-    pub grow_begin : (old : List (List ℕ)) (next : Option ℕ) → length old ≤ cap → IsNextWith key edges kept k 0 next → HasGrown key k old old next
+    pub grow_begin : (old : List (List ℕ)) (next : Option ℕ) → length old ≤ cap → IsNextWith key edges kept k 0 next → HasGrownTo key k old old next
     grow_begin old next room is =
         record {
           reaches = is.within;
@@ -62,8 +62,8 @@ module _ (before : Segment → Segment → Bool) (mode : Mode) (edges : List Edg
           grown = sym (ap (λ l. take cap (old ++ l)) (skipped_blocks 0 next is) ∙ ap (take cap) (append-nil old) ∙ take_all cap old room);
         }
 
-    pub grow_step : (old now more : List (List ℕ)) (i : ℕ) (next : Option ℕ) → HasGrown key k old now (Some i) → more ≡ take cap (now ++ block before mode edges n (front ++ i ∷ []))
-        → IsNextWith key edges kept k (i + 1) next → HasGrown key k old more next
+    pub grow_step : (old now more : List (List ℕ)) (i : ℕ) (next : Option ℕ) → HasGrownTo key k old now (Some i) → more ≡ take cap (now ++ block before mode edges n (front ++ i ∷ []))
+        → IsNextWith key edges kept k (i + 1) next → HasGrownTo key k old more next
     grow_step old now more i next had grown is =
         let f = λ (j : ℕ). block before mode edges n (front ++ j ∷ []) in
         record {
@@ -87,7 +87,7 @@ module _ (before : Segment → Segment → Bool) (mode : Mode) (edges : List Edg
   unfolding is_cycle
   not_cycle unclosed = and_right _ _ (and_right _ _ unclosed)
 
-  pub grow_end : {K : Type 0} (key : Edge → K) (k : K) (old now : List (List ℕ)) → HasGrown key k old now None → leads_back (picked edges front) ≡ false → now ≡ take cap (old ++ block before mode edges (suc n) front)
+  pub grow_end : {K : Type 0} (key : Edge → K) (k : K) (old now : List (List ℕ)) → HasGrownTo key k old now None → leads_back (picked edges front) ≡ false → now ≡ take cap (old ++ block before mode edges (suc n) front)
   grow_end key k old now had unclosed =
       had.grown ∙ ap (λ l. take cap (old ++ l)) (sym (block-suc before mode edges n front ∙ ap (λ b. cond b (front ∷ []) [] ++ blocks_below before mode edges n front (length edges)) (not_cycle unclosed)))
 
@@ -152,7 +152,7 @@ module _ (before : Segment → Segment → Bool) (mode : Mode) (edges : List Edg
 
 -- no more than the cap was found
 pub grown_room : {K : Type 0} (before : Segment → Segment → Bool) (mode : Mode) (edges : List Edge) (n : ℕ) (front : List ℕ) (cap : ℕ) (key : Edge → K) (k : K) (old now : List (List ℕ)) (next : Option ℕ)
-    → HasGrown before mode edges n front cap key k old now next → length now ≤ cap
+    → HasGrownTo before mode edges n front cap key k old now next → length now ≤ cap
 grown_room before mode edges n front cap key k old now next had =
     let first = length-first cap (old ++ blocks_below before mode edges n front (unwrap_or next (length edges))) in
     omega (arith, ap length had.grown)

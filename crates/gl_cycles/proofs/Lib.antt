@@ -4,11 +4,11 @@ pub mod Fronts
 pub mod Growing
 pub mod Ascending
 pub mod Members
-pub mod ByEdges
+pub mod OrderByEdges
 pub mod Uniqueness
 pub mod Level
-pub mod Off
-pub mod Whole
-pub mod Staged
+pub mod EdgesOffCycles
+pub mod WholeTrims
+pub mod RootByRoot
 pub mod Surviving
 pub mod Joining

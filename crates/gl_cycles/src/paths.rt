@@ -1,14 +1,13 @@
 //! Paths of edges that lead on from each other, grown from each edge.
-ghost use Rattle.std.specs.Prelude.{◌≡◌, ◌+◌, ◌-◌, ◌<◌, ◌≤◌, [], ◌∷◌, ◌++◌, true, false, Some, length, map, take, slice_get, nat_le, if◌then◌else◌, IfOk, IfErr, IfSome, OnOk, All};
+ghost use Rattle.std.specs.Prelude.{◌≡◌, ◌+◌, ◌<◌, ◌≤◌, [], ◌∷◌, ◌++◌, true, false, Some, length, map, take, slice_get, nat_le, if◌then◌else◌, IfOk, IfErr, IfSome, OnOk, All};
 ghost use Rattle.gl_pruning.specs.declared.lengths.TheConstants.{PATH};
 ghost use Rattle.gl_segments.specs.Clocks.{is_before};
 ghost use Rattle.std.specs.List.{list_all};
 ghost use Rattle.gl_filters.specs.Test.{can_follow, goes_with, leads_back, is_path};
 ghost use Rattle.gl_filters.specs.Picked.{edges_of_table, picked};
 ghost use Rattle.gl_cycles.specs.AllCycles.{all_cycles};
-ghost use Rattle.gl_cycles.specs.bodies.Blocks.{block};
 ghost use Rattle.gl_pruning.specs.Sought.{KeepsSought};
-ghost use Rattle.gl_cycles.specs.bodies.Searching.{IsReady, HasFound, first_from, sought_by};
+ghost use Rattle.gl_cycles.specs.bodies.Searching.{IsReady, HasFound, HasGrown, all_from, first_from, sought_by};
 ghost use Rattle.gl_filters.specs.declared.steps.Stop.TheVariants.{Memory};
 ghost use Rattle.gl_edges.specs.declared.edge.Edge.{Edge};
 
@@ -253,9 +252,7 @@ impl Searcher<'_> {
         ensures { OnOk result
             (map (λ cycle. cycle.items) found.new.items
             ≡ take self.now.cap
-            (map (λ cycle. cycle.items) found.old.items ++ block
-            (is_before self.now.order.now) self.now.mode (edges_of_table self.now.table.now)
-            (self.now.len - 1) (root ∷ []))) }
+            (map (λ cycle. cycle.items) found.old.items ++ all_from self.now (root ∷ []))) }
     {
         let mut steps = 0;
         match self.grow_from(alloc, root, &mut steps, found) {
@@ -277,13 +274,8 @@ impl Searcher<'_> {
         requires there { root < length self.now.table.now }
         requires ready { IsReady self.now }
         requires room { length found.old.items ≤ self.now.cap }
-        ensures grown { OnOk result
-            (map (λ cycle. cycle.items) found.new.items
-            ≡ take self.now.cap
-            (map (λ cycle. cycle.items) found.old.items ++ block
-            (is_before self.now.order.now) self.now.mode (edges_of_table self.now.table.now)
-            (self.now.len - 1) (root ∷ []))) }
-        ensures stopped { IfErr result (λ stop. self.now.is_bound ≡ false → stop ≡ Memory) }
+        ensures { HasGrown self.now (root ∷ []) (map (λ cycle. cycle.items) found.old.items)
+            (map (λ cycle. cycle.items) found.new.items) result }
     {
         if !self.kept[root] {
             return Ok(());
@@ -291,8 +283,8 @@ impl Searcher<'_> {
         self.grow(alloc, &[root], steps, found)
     }
 
-    // Takes one of the steps. Spent where none is left and the search is bound to them.
-    fn take_step(&self, steps: &mut usize) -> Result<(), Stop>
+    // Spends one of the steps. Err where none is left and the search is bound to them.
+    fn spend_step(&self, steps: &mut usize) -> Result<(), Stop>
         ensures stopped { IfErr result (λ stop. self.now.is_bound ≡ false → stop ≡ Memory) }
     {
         if *steps > 0 {
@@ -321,13 +313,8 @@ impl Searcher<'_> {
             (picked (edges_of_table self.now.table.now) path.now) ≡ true }
         requires ready { IsReady self.now }
         requires room { length found.old.items ≤ self.now.cap }
-        ensures grown { OnOk result
-            (map (λ cycle. cycle.items) found.new.items
-            ≡ take self.now.cap
-            (map (λ cycle. cycle.items) found.old.items ++ block
-            (is_before self.now.order.now) self.now.mode (edges_of_table self.now.table.now)
-            (self.now.len - length path.now) path.now)) }
-        ensures stopped { IfErr result (λ stop. self.now.is_bound ≡ false → stop ≡ Memory) }
+        ensures { HasGrown self.now path.now (map (λ cycle. cycle.items) found.old.items)
+            (map (λ cycle. cycle.items) found.new.items) result }
     {
         if found.len() >= self.cap {
             return Ok(());
@@ -369,13 +356,8 @@ impl Searcher<'_> {
             ≡ false }
         requires ready { IsReady self.now }
         requires room { length found.old.items ≤ self.now.cap }
-        ensures grown { OnOk result
-            (map (λ cycle. cycle.items) found.new.items
-            ≡ take self.now.cap
-            (map (λ cycle. cycle.items) found.old.items ++ block
-            (is_before self.now.order.now) self.now.mode (edges_of_table self.now.table.now)
-            (self.now.len - length path.now) path.now)) }
-        ensures stopped { IfErr result (λ stop. self.now.is_bound ≡ false → stop ≡ Memory) }
+        ensures { HasGrown self.now path.now (map (λ cycle. cycle.items) found.old.items)
+            (map (λ cycle. cycle.items) found.new.items) result }
     {
         let first = path[0];
         let last = path[path.len() - 1];
@@ -406,15 +388,11 @@ impl Searcher<'_> {
             (picked (edges_of_table self.now.table.now) path.now) ≡ true }
         requires ready { IsReady self.now }
         requires room { length found.old.items ≤ self.now.cap }
-        ensures grown { OnOk result
-            (map (λ cycle. cycle.items) found.new.items
-            ≡ take self.now.cap
-            (map (λ cycle. cycle.items) found.old.items ++ block
-            (is_before self.now.order.now) self.now.mode (edges_of_table self.now.table.now)
-            (self.now.len - length path.now - 1) (path.now ++ next ∷ []))) }
-        ensures stopped { IfErr result (λ stop. self.now.is_bound ≡ false → stop ≡ Memory) }
+        ensures { HasGrown self.now (path.now ++ next ∷ [])
+            (map (λ cycle. cycle.items) found.old.items)
+            (map (λ cycle. cycle.items) found.new.items) result }
     {
-        self.take_step(steps)?;
+        self.spend_step(steps)?;
         if !self.can_join(path, next) {
             return Ok(());
         }

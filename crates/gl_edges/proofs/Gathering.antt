@@ -18,7 +18,7 @@ use Rattle.gl_event.specs.declared.held.HeldEntry.{HeldEntry}
 use Rattle.gl_event.proofs.HeldLemmas.{entry_of-lock}
 use Rattle.gl_edges.proofs.Holding.{guards_are}
 use Rattle.gl_edges.specs.Guards.{guards_of}
-use Rattle.gl_edges.specs.Edges.{once, pair_at, edges_wanting, edges_after, edges_at, edges_below, edges_of_list, edges_made}
+use Rattle.gl_edges.specs.Edges.{once, pair_at, edges_wanting, edges_after, edges_at, edges_below, edges_of_list, edges_made_from}
 use Rattle.gl_edges.specs.bodies.Tables.{IsTableOf}
 use Rattle.gl_edges.specs.Tracking.{Follows, IsNextFor}
 use Rattle.gl_edges.specs.bodies.Gatherers.{pair_for}
@@ -210,14 +210,11 @@ enumerate_push n (y ∷ xs) x =
     ∙ ap (λ k. (n, y) ∷ (enumerate_from (n + 1) xs ++ (k, x) ∷ [])) (omega arith)
 
 -- the edges of one more list
-edges_made_push : (lists : List (List Event)) (es : List Event) → edges_made (lists ++ es ∷ []) ≡ edges_made lists ++ edges_of_list (length lists) es
-edges_made_push lists es =
-    ap (flat_map (λ numbered. edges_of_list numbered.0 numbered.1)) (enumerate_push 0 lists es)
-    ∙ flat_map-append (λ numbered. edges_of_list numbered.0 numbered.1) (enumerate_from 0 lists) ((0 + length lists, es) ∷ [])
-    ∙ ap (λ xs. edges_made lists ++ xs) (append-nil (edges_of_list (0 + length lists) es) ∙ ap (λ n. edges_of_list n es) from_zero)
-  where
-    from_zero : 0 + length lists ≡ length lists
-    from_zero = omega arith
+edges_made_push : (first : ℕ) (lists : List (List Event)) (es : List Event) → edges_made_from first (lists ++ es ∷ []) ≡ edges_made_from first lists ++ edges_of_list (first + length lists) es
+edges_made_push first lists es =
+    ap (flat_map (λ numbered. edges_of_list numbered.0 numbered.1)) (enumerate_push first lists es)
+    ∙ flat_map-append (λ numbered. edges_of_list numbered.0 numbered.1) (enumerate_from first lists) ((first + length lists, es) ∷ [])
+    ∙ ap (λ xs. edges_made_from first lists ++ xs) (append-nil (edges_of_list (first + length lists) es))
 
 module _ {X : Type 0} (items : X → List Event) (xs : List X) (i : ℕ) (x : X) (within : i < length xs) (item : x ≡ get_or xs i x) where
   -- the list at its number
@@ -225,13 +222,13 @@ module _ {X : Type 0} (items : X → List Event) (xs : List X) (i : ℕ) (x : X)
   list_at = slice_get-map items xs i ∙ ap (option_map items) (slice_get_read xs (length xs) i x refl within item)
 
   -- the table then has the edges of one list more
-  pub table_lists : (known : List (Edge × Sample)) (thread : ℕ) (es : List Event) → thread ≡ i → es ≡ items x
-      → IsTableOf known (edges_made (map items (take i xs)) ++ edges_of_list thread es) → IsTableOf known (edges_made (map items (take (i + 1) xs)))
-  table_lists known thread es number list is =
+  pub table_lists : (first : ℕ) (known : List (Edge × Sample)) (thread : ℕ) (es : List Event) → thread ≡ first + i → es ≡ items x
+      → IsTableOf known (edges_made_from first (map items (take i xs)) ++ edges_of_list thread es) → IsTableOf known (edges_made_from first (map items (take (i + 1) xs)))
+  table_lists first known thread es number list is =
       table_same known _ _
-      ((λ j. edges_made (map items (take i xs)) ++ edges_of_list ((number ∙ sym long) j) ((list ∙ ap items item) j))
-      ∙ sym (edges_made_push (map items (take i xs)) (items (get_or xs i x)))
-      ∙ ap edges_made (sym (map_more items xs i x within)))
+      ((λ j. edges_made_from first (map items (take i xs)) ++ edges_of_list ((number ∙ ap (λ n. first + n) (sym long)) j) ((list ∙ ap items item) j))
+      ∙ sym (edges_made_push first (map items (take i xs)) (items (get_or xs i x)))
+      ∙ ap (edges_made_from first) (sym (map_more items xs i x within)))
       is
     where
       long : length (map items (take i xs)) ≡ i

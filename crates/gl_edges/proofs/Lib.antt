@@ -10,6 +10,7 @@ pub mod Filling
 pub mod Holding
 pub mod Following
 pub mod Gathering
+pub mod Apart
 pub mod Fronts
 pub mod Ways
 pub mod Remembering

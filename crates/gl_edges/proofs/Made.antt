@@ -49,19 +49,19 @@ wanting_has thread es wanted mode loc pair p =
 -- ---- the edges at a place
 
 -- an event that makes a pair is an acquire
-pub after_from : (thread : ℕ) (es : List Event) (e : Event) (pair : Edge × Sample) → Contains (edges_after thread es e) pair → (wanted : ℕ) × (mode : LockMode) × (loc : ℕ) × (e ≡ Acquire wanted mode loc) × IsPairOf thread es wanted mode loc pair
-after_from thread es (Acquire wanted mode loc) pair at = (wanted, mode, loc, refl, wanting_from thread es wanted mode loc pair at)
-after_from thread es (Release lock mode loc) pair at = absurd (contains_none pair at)
-after_from thread es (TryAcquire lock mode loc) pair at = absurd (contains_none pair at)
+pub after_from : (thread : ℕ) (es : List Event) (e : Event) (pair : Edge × Sample) → Contains (edges_after thread es e) pair → (wanted : ℕ) × (mode : LockMode) × (loc : ℕ) × (e ≡ Acquire mode wanted loc) × IsPairOf thread es wanted mode loc pair
+after_from thread es (Acquire mode wanted loc) pair at = (wanted, mode, loc, refl, wanting_from thread es wanted mode loc pair at)
+after_from thread es (Release mode lock loc) pair at = absurd (contains_none pair at)
+after_from thread es (TryAcquire mode lock loc) pair at = absurd (contains_none pair at)
 after_from thread es (Fork other loc) pair at = absurd (contains_none pair at)
 after_from thread es (Join other loc) pair at = absurd (contains_none pair at)
 
 -- each pair at a place is that of an acquire there
 pub at_from : (thread : ℕ) (es : List Event) (place : ℕ) (pair : Edge × Sample) → Contains (edges_at thread es place) pair
-    → (wanted : ℕ) × (mode : LockMode) × (loc : ℕ) × (slice_get es place ≡ Some (Acquire wanted mode loc)) × IsPairOf thread (take place es) wanted mode loc pair
+    → (wanted : ℕ) × (mode : LockMode) × (loc : ℕ) × (slice_get es place ≡ Some (Acquire mode wanted loc)) × IsPairOf thread (take place es) wanted mode loc pair
 unfolding edges_at
 at_from thread es place pair at =
-    elim (slice_get es place) as (λ o. slice_get es place ≡ o → Contains (option_map_or (edges_after thread (take place es)) o []) pair → (wanted : ℕ) × (mode : LockMode) × (loc : ℕ) × (slice_get es place ≡ Some (Acquire wanted mode loc)) × IsPairOf thread (take place es) wanted mode loc pair) [
+    elim (slice_get es place) as (λ o. slice_get es place ≡ o → Contains (option_map_or (edges_after thread (take place es)) o []) pair → (wanted : ℕ) × (mode : LockMode) × (loc : ℕ) × (slice_get es place ≡ Some (Acquire mode wanted loc)) × IsPairOf thread (take place es) wanted mode loc pair) [
       | None ↦ λ is there. absurd (contains_none pair there)
       | Some e ↦ λ is there.
           let (wanted, mode, loc, acquires, made) = after_from thread (take place es) e pair there in
@@ -69,7 +69,7 @@ at_from thread es place pair at =
     ] refl at
 
 -- and the pairs of an acquire stand at its place
-pub at_has : (thread : ℕ) (es : List Event) (place wanted : ℕ) (mode : LockMode) (loc : ℕ) (pair : Edge × Sample) → slice_get es place ≡ Some (Acquire wanted mode loc) → IsPairOf thread (take place es) wanted mode loc pair
+pub at_has : (thread : ℕ) (es : List Event) (place wanted : ℕ) (mode : LockMode) (loc : ℕ) (pair : Edge × Sample) → slice_get es place ≡ Some (Acquire mode wanted loc) → IsPairOf thread (take place es) wanted mode loc pair
     → Contains (edges_at thread es place) pair
 unfolding edges_at
 at_has thread es place wanted mode loc pair is made =
@@ -116,7 +116,7 @@ pub record IsPairAt (lists : List (List Event)) (pair : Edge × Sample) : Type 0
   -- the location of its acquire
   pub loc : ℕ
   -- the event there
-  pub acquires : slice_get es place ≡ Some (Acquire wanted mode loc)
+  pub acquires : slice_get es place ≡ Some (Acquire mode wanted loc)
   -- the pair is one of that acquire
   pub made : IsPairOf thread (take place es) wanted mode loc pair
 
@@ -133,7 +133,7 @@ made_from lists pair at =
 -- each pair that is made at a place is one of the lists
 pub made_has : (lists : List (List Event)) (pair : Edge × Sample) → IsPairAt lists pair → Contains (edges_made lists) pair
 made_has lists pair p =
-    let within = slice_get_within p.es p.place (Acquire p.wanted p.mode p.loc) p.acquires in
+    let within = slice_get_within p.es p.place (Acquire p.mode p.wanted p.loc) p.acquires in
     let at_it = at_has p.thread p.es p.place p.wanted p.mode p.loc pair p.acquires p.made in
     let of_list = contains_flat_map (edges_at p.thread p.es) p.place pair (range_with_len 0 (length p.es)) (contains_range 0 (length p.es) p.place (omega arith) (omega arith)) at_it in
     let number : 0 + p.thread ≡ p.thread = omega arith in

@@ -74,7 +74,7 @@ loc_is es place lock deep =
     let same : slice_get es q ≡ slice_get (take place es) q =
     ap (λ xs. slice_get xs q) (sym (take-append-drop place es)) ∙ slice_get_before (take place es) (drop place es) q within in
     ap (option_map location) same
-    ∙ some_or (slice_get (take place es) q) (get_or (take place es) q (Release 0 Exclusive 0)) (slice_get-get_or (take place es) q (Release 0 Exclusive 0) within)
+    ∙ some_or (slice_get (take place es) q) (get_or (take place es) q (Release Exclusive 0 0)) (slice_get-get_or (take place es) q (Release Exclusive 0 0) within)
     ∙ ap Some (sym (loc_of (take place es) lock))
 
 -- ---- a pair at a place, in the words of the events
@@ -90,7 +90,7 @@ record IsMadeAt (es : List Event) (place : ℕ) (pair : Edge × Sample) : Type 0
   wanted_at : option_map location (slice_get es place) ≡ Some pair.1.wanted_loc
 
 -- the pairs of an acquire are made there
-made_of : (thread : ℕ) (es : List Event) (place wanted : ℕ) (mode : LockMode) (loc lock : ℕ) → slice_get es place ≡ Some (Acquire wanted mode loc) → depth (take place es) wanted ≡ 0 → 0 < depth (take place es) lock
+made_of : (thread : ℕ) (es : List Event) (place wanted : ℕ) (mode : LockMode) (loc lock : ℕ) → slice_get es place ≡ Some (Acquire mode wanted loc) → depth (take place es) wanted ≡ 0 → 0 < depth (take place es) lock
     → IsMadeAt es place (pair_at thread (take place es) wanted mode loc lock)
 made_of thread es place wanted mode loc lock acquires free deep = record {
   made = record {
@@ -103,7 +103,7 @@ made_of thread es place wanted mode loc lock acquires free deep = record {
     acquired_in = refl;
     guarded = refl;
   };
-  at = length-take-le place es (let w = slice_get_within es place (Acquire wanted mode loc) acquires in omega arith);
+  at = length-take-le place es (let w = slice_get_within es place (Acquire mode wanted loc) acquires in omega arith);
   held_at = loc_is es place lock deep;
   wanted_at = ap (option_map location) acquires;
 }
@@ -208,7 +208,7 @@ same_list lists thread es fs p q = same_some fs es (slice_get lists thread) q p
 
 -- the sample of an edge that is made at a place has that place
 sample_place : (es : List Event) (place : ℕ) (edge : Edge) (made : Makes es place edge) → (sample_at es place edge made).place ≡ place
-sample_place es place edge made = length-take-le place es (let w = slice_get_within es place (Acquire edge.wanted edge.wanted_mode made.loc) made.wants in omega arith)
+sample_place es place edge made = length-take-le place es (let w = slice_get_within es place (Acquire edge.wanted_mode edge.wanted made.loc) made.wants in omega arith)
 
 -- a sample of the list is where the edge is made first
 pub made_first : (lists : List (List Event)) (edge : Edge) (sample : Sample) → Contains (edges lists) (edge, sample) → IsMadeFirst lists edge sample

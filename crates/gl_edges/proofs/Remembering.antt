@@ -143,10 +143,10 @@ gathers_acquire thread es tracker tracked wanted mode loc pairs gatherer free is
     (append_among pairs _ _ (pairs_all thread es tracker tracked wanted mode loc)) is))
 
 -- an event that wants no lock makes no edges
-pub no_edges : (thread : ℕ) (es : List Event) (event : Event) → ((lock : ℕ) (mode : LockMode) (loc : ℕ) → event ≡ Acquire lock mode loc → ⊥) → edges_after thread es event ≡ []
-no_edges thread es (Acquire lock mode loc) none = absurd (none lock mode loc refl)
-no_edges thread es (Release lock mode loc) none = refl
-no_edges thread es (TryAcquire lock mode loc) none = refl
+pub no_edges : (thread : ℕ) (es : List Event) (event : Event) → ((mode : LockMode) (lock : ℕ) (loc : ℕ) → event ≡ Acquire mode lock loc → ⊥) → edges_after thread es event ≡ []
+no_edges thread es (Acquire mode lock loc) none = absurd (none mode lock loc refl)
+no_edges thread es (Release mode lock loc) none = refl
+no_edges thread es (TryAcquire mode lock loc) none = refl
 no_edges thread es (Fork other loc) none = refl
 no_edges thread es (Join other loc) none = refl
 

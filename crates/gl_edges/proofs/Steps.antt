@@ -181,9 +181,9 @@ wanting_ascends thread es wanted mode loc =
 
 -- those of any event do
 pub after_ascends : (thread : ℕ) (es : List Event) (e : Event) → AreAscending (edges_after thread es e)
-after_ascends thread es (Acquire lock mode loc) = wanting_ascends thread es lock mode loc
-after_ascends thread es (Release lock mode loc) = nothing_ascends
-after_ascends thread es (TryAcquire lock mode loc) = nothing_ascends
+after_ascends thread es (Acquire mode lock loc) = wanting_ascends thread es lock mode loc
+after_ascends thread es (Release mode lock loc) = nothing_ascends
+after_ascends thread es (TryAcquire mode lock loc) = nothing_ascends
 after_ascends thread es (Fork other loc) = nothing_ascends
 after_ascends thread es (Join other loc) = nothing_ascends
 

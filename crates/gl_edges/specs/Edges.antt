@@ -64,9 +64,14 @@ edges_below thread es n = flat_map (edges_at thread es) (range_with_len 0 n)
 abbrev pub edges_of_list : ℕ → List Event → List (Edge × Sample)
 edges_of_list thread es = edges_below thread es (length es)
 
+-- the edges of lists whose threads are numbered from the first one on, one after the other
+abbrev pub edges_made_from : ℕ → List (List Event) → List (Edge × Sample)
+edges_made_from first lists =
+    flat_map (λ numbered. edges_of_list numbered.0 numbered.1) (enumerate_from first lists)
+
 -- the edges of all lists, one after the other; a thread's number is the position of its list
 abbrev pub edges_made : List (List Event) → List (Edge × Sample)
-edges_made lists = flat_map (λ numbered. edges_of_list numbered.0 numbered.1) (enumerate_from 0 lists)
+edges_made lists = edges_made_from 0 lists
 
 -- the lesser of two samples
 abbrev pub lesser : Sample → Sample → Sample

@@ -13,7 +13,7 @@ pub record Makes (es : List Event) (place : ℕ) (edge : Edge) : Type 0 where
   -- where in the source the acquire stands
   pub loc : ℕ
   -- the thread acquires the wanted lock there, in the wanted mode, and could have waited for it
-  pub wants : slice_get es place ≡ Some (Acquire edge.wanted edge.wanted_mode loc)
+  pub wants : slice_get es place ≡ Some (Acquire edge.wanted_mode edge.wanted loc)
   -- and didn't hold it
   pub outermost : depth (take place es) edge.wanted ≡ 0
   -- it holds the held lock

@@ -3,4 +3,5 @@ pub mod Clashing
 pub mod Gatherers
 pub mod Numberers
 pub mod Seen
+pub mod Sharing
 pub mod Tables

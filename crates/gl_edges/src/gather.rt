@@ -4,7 +4,7 @@ ghost use Rattle.gl_event.specs.Bounds.{greatest};
 ghost use Rattle.gl_event.specs.Events.{depth};
 ghost use Rattle.gl_event.specs.Lawful.{IsLawful};
 ghost use Rattle.gl_event.specs.declared.events.Event.{Event};
-ghost use Rattle.gl_edges.specs.Edges.{edges_wanting, edges_after, edges_of_list, edges};
+ghost use Rattle.gl_edges.specs.Edges.{edges_wanting, edges_after, edges_of_list, edges_made_from, once, edges};
 ghost use Rattle.gl_edges.specs.bodies.Gatherers.{Gathers, pair_for};
 ghost use Rattle.gl_edges.specs.bodies.Tables.{IsTableOf};
 ghost use Rattle.gl_edges.specs.Tracking.{Follows, IsNextFor};
@@ -139,18 +139,19 @@ impl Gatherer {
     }
 }
 
-/// The edges of these lists: each once, ascending, with its least sample. A thread's number is the
-/// position of its list.
-///
-/// It takes a step for each event and for each lock held at an acquire, and where no such acquire that
-/// the thread made before is found, a look-up among the edges for each of these locks. It takes memory
-/// as there are edges.
-pub fn edges_of(alloc: Global, lists: &[Vec<Event>]) -> Result<EdgeList, Memory>
-    requires few { length lists.now ≤ 1024 }
-    requires lawful { (thread : ℕ) (es : List Event)
-        → slice_get (map (λ v. v.items) lists.now) thread ≡ Some es
-        → IsLawful greatest thread es }
-    ensures { IfOk result (λ l. l ≡ edges (map (λ v. v.items) lists.now)) }
+/// The edges of these lists, whose threads are numbered from the first one on: each once, ascending, with
+/// its least sample.
+pub(crate) fn edges_from(
+    alloc: Global,
+    first: u32,
+    lists: &[Vec<Event>],
+) -> Result<EdgeList, Memory>
+    requires few { first + length lists.now ≤ 1024 }
+    requires lawful { (index : ℕ) (es : List Event)
+        → slice_get (map (λ v. v.items) lists.now) index ≡ Some es
+        → IsLawful greatest (first + index) es }
+    ensures { IfOk result
+        (λ l. l ≡ once (edges_made_from first (map (λ v. v.items) lists.now))) }
 {
     let mut gatherer = Gatherer {
         table: Table::new(alloc),
@@ -166,8 +167,25 @@ pub fn edges_of(alloc: Global, lists: &[Vec<Event>]) -> Result<EdgeList, Memory>
         },
         seen: Seen::new(alloc),
     };
-    for (number, list) in lists.iter().enumerate() {
-        gatherer.take_list(alloc, ThreadId::new(number as u32), list.as_slice())?;
+    for (index, list) in lists.iter().enumerate() {
+        let thread = ThreadId::new(first + index as u32);
+        gatherer.take_list(alloc, thread, list.as_slice())?;
     }
     gatherer.table.into_list(alloc)
+}
+
+/// The edges of these lists: each once, ascending, with its least sample. A thread's number is the
+/// position of its list.
+///
+/// It takes a step for each event and for each lock held at an acquire, and where no such acquire that
+/// the thread made before is found, a look-up among the edges for each of these locks. It takes memory
+/// as there are edges.
+pub fn edges_of(alloc: Global, lists: &[Vec<Event>]) -> Result<EdgeList, Memory>
+    requires few { length lists.now ≤ 1024 }
+    requires lawful { (thread : ℕ) (es : List Event)
+        → slice_get (map (λ v. v.items) lists.now) thread ≡ Some es
+        → IsLawful greatest thread es }
+    ensures { IfOk result (λ l. l ≡ edges (map (λ v. v.items) lists.now)) }
+{
+    edges_from(alloc, 0, lists)
 }

@@ -24,6 +24,7 @@ mod guards;
 mod laws;
 mod list;
 mod numberer;
+mod parallel;
 mod seen;
 mod table;
 mod tracker;
@@ -38,5 +39,6 @@ pub use laws::{
     samples_are_ordered_by_their_fields,
 };
 pub use list::EdgeList;
+pub use parallel::edges_of_parallel;
 pub use table::Table;
 pub use tracker::{Tracker, next_edges};

@@ -35,8 +35,8 @@ use Rattle.gl_engine.specs.Keeping.{AreNotesOf, pulling_of}
 use Rattle.gl_engine.specs.Recording.{Closed, recorded_whole}
 use Rattle.gl_engine.specs.Settling.{AreListsOf, IsMemoryOrGone, IsSettled, told}
 use Rattle.gl_engine.specs.bodies.Whole.{lane_of, IsCollected, IsConfirmed, IsWhole}
-use Rattle.gl_engine.specs.declared.faults.RunFault.{RunFault}
-use Rattle.gl_engine.specs.declared.faults.RunFault.TheVariants as kept
+use Rattle.gl_engine.specs.declared.gathered.RunFault.{RunFault}
+use Rattle.gl_engine.specs.declared.gathered.RunFault.TheVariants as kept
 use Rattle.gl_engine.specs.declared.lane_input.LaneInput.{LaneInput}
 use Rattle.gl_engine.proofs.Dealt.{numbered_at, dealt_edges}
 use Rattle.gl_engine.proofs.Handing.{prefix_on, handed_seen}

@@ -4,19 +4,22 @@ use Rattle.std.specs.Prelude.{OnOk, IfErr}
 use Rattle.std.specs.List.{filter, position_from}
 use Rattle.std.proofs.lemmas.List.{append-nil, length-map, map-append}
 use Rattle.std.proofs.lemmas.List.Elements.{filter-append}
+use Rattle.std.proofs.lemmas.Option.{slice_get_within}
 use Rattle.std.proofs.lemmas.Simd.{map-map}
 use Rattle.gl_event.specs.Bounds.{Bounds}
 use Rattle.gl_edges.specs.declared.edge.Edge.{Edge}
 use Rattle.gl_edges.specs.declared.edge.Sample.{Sample}
-use Rattle.gl_intake.specs.Stream.{has_ended, AreInOrder}
+use Rattle.gl_intake.specs.Stream.{has_ended, AreInOrder, IsRefusal}
+use Rattle.gl_intake.specs.declared.notes.Refused.{Refused}
 use Rattle.gl_shards.specs.Feeds.{AllSent, FeedId, Sending}
 use Rattle.gl_world.proofs.Lists.{same_some}
 use Rattle.gl_engine.specs.Dealing.{dealt, made_by}
-use Rattle.gl_engine.specs.Gathering.{Gathering, AreEnded, IsFoundGone, IsStoppedAt}
-use Rattle.gl_engine.specs.bodies.Breaking.{first_of, HasStopped, IsBlamed}
+use Rattle.gl_engine.specs.Collecting.{as_of}
+use Rattle.gl_engine.specs.Gathering.{Gathering, AreEnded, IsFoundBroken, IsFoundGone, IsStoppedAt}
+use Rattle.gl_engine.specs.bodies.Breaking.{first_of, HasStopped, IsBlamed, IsBroken}
 use Rattle.gl_engine.specs.bodies.Whole.{KeepsUp}
-use Rattle.gl_engine.specs.declared.faults.RunFault.{RunFault}
-use Rattle.gl_engine.specs.declared.faults.RunFault.TheVariants as kept
+use Rattle.gl_engine.specs.declared.gathered.RunFault.{RunFault}
+use Rattle.gl_engine.specs.declared.gathered.RunFault.TheVariants as kept
 use Rattle.gl_engine.specs.declared.lane_input.LaneInput.{LaneInput}
 use Rattle.gl_engine.proofs.Running.{as_long}
 
@@ -164,3 +167,20 @@ module _ (g : Gathering) (inputs : List LaneInput) (given outlets : List Sending
         ended = subst (λ k. AreEnded (map (λ o. o.feed) given) (dealt (length given) (made_by g.stream)) g.sent (Some k)) its
             (ended_with (made_by g.stream) (Some first) (keeps.shipped ∙ ap (λ n. dealt n (made_by g.stream)) many) ended);
       })
+
+-- ---- how a run found a lane broken
+
+module _ (g : Gathering) (inputs : List LaneInput) (count : length inputs ≡ g.limits.threads) (thread : ℕ) (why : Refused) where
+  broken_at : (limits : Bounds) → limits ≡ g.limits → IsBroken limits inputs g.stream thread why → IsFoundBroken g thread why
+  broken_at limits same broken = record {
+    known = (let there = slice_get_within inputs thread broken.came.input broken.came.here in omega (arith, there, count));
+    note = as_of thread broken.note;
+    whose = refl;
+    refused = subst (λ (b : Bounds). IsRefusal b g.stream (as_of thread broken.note) why) same broken.refused;
+  }
+
+  pub found_broken : (IsGone : ℕ → Type 0) (limits : Bounds) → limits ≡ g.limits → (gathered : Result (Unit {0}) RunFault) (gone : Option ℕ) → IfErr gathered (IsBlamed IsGone limits inputs g.stream)
+      → first_of gathered gone ≡ Some (kept.Broken thread why) → IsFoundBroken g thread why
+  found_broken IsGone limits same (Err fault) gone blamed is = broken_at limits same (subst (IsBlamed IsGone limits inputs g.stream) (same_some fault (kept.Broken thread why) is) blamed)
+  found_broken IsGone limits same (Ok done) None blamed is = absurd (let e : None ≡ Some (kept.Broken thread why) = is in cc)
+  found_broken IsGone limits same (Ok done) (Some first) blamed is = absurd (let e : Some (kept.Gone first) ≡ Some (kept.Broken thread why) = is in cc)

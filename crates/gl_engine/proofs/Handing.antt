@@ -11,8 +11,8 @@ use Rattle.gl_edges.specs.declared.edge.Sample.{Sample}
 use Rattle.gl_lane.specs.Lanes.{Popping}
 use Rattle.gl_world.proofs.Lists.{same_some, get_at, get_set_same, get_set_other}
 use Rattle.gl_engine.specs.bodies.Breaking.{handed, HandOver, HasStopped, IsBlamed, IsGoneAt}
-use Rattle.gl_engine.specs.declared.faults.RunFault.{RunFault}
-use Rattle.gl_engine.specs.declared.faults.RunFault.TheVariants.{Memory, Gone, Broken}
+use Rattle.gl_engine.specs.declared.gathered.RunFault.{RunFault}
+use Rattle.gl_engine.specs.declared.gathered.RunFault.TheVariants.{Memory, Gone, Broken}
 use Rattle.gl_engine.specs.declared.lane_input.LaneInput.{LaneInput}
 
 pub prefix_same : {X : Type 0} (xs : List X) → IsPrefix xs xs

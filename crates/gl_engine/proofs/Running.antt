@@ -24,8 +24,8 @@ use Rattle.gl_engine.specs.Dealing.{dealt, made_by}
 use Rattle.gl_engine.specs.Keeping.{BreaksForCause, IsCollector, pulling_of}
 use Rattle.gl_engine.specs.bodies.Whole.{lane_of, HasMoved, KeepsUp, IsWhole, IsGathered}
 use Rattle.std.proofs.lemmas.Simd.{map-map}
-use Rattle.gl_engine.specs.declared.faults.RunFault.{RunFault}
-use Rattle.gl_engine.specs.declared.faults.RunFault.TheVariants as kept
+use Rattle.gl_engine.specs.declared.gathered.RunFault.{RunFault}
+use Rattle.gl_engine.specs.declared.gathered.RunFault.TheVariants as kept
 use Rattle.gl_engine.specs.declared.pulled.Pulled.{Pulled}
 use Rattle.gl_engine.specs.declared.pulled.Pulled.TheVariants.{Empty, Event as Answered, Ended as Closing}
 use Rattle.gl_engine.specs.declared.pulled.PullFault.{PullFault}

@@ -4,10 +4,12 @@ use Rattle.std.specs.Prelude.{slice_get, IfOk, OnOk, OnErr}
 use Rattle.std.proofs.Math.Seq.{take-append_seam, map-set_same}
 use Rattle.std.proofs.lemmas.Bool.{cases_eq}
 use Rattle.std.specs.Option.{option_map}
-use Rattle.std.proofs.lemmas.List.{length-set, map-append, map-set, get_or-map}
+use Rattle.std.proofs.lemmas.List.{append-nil, length-set, map-append, map-set, get_or-map}
 use Rattle.std.proofs.lemmas.Option.{slice_get-map}
 use Rattle.gl_event.specs.Bounds.{Bounds}
 use Rattle.gl_event.specs.declared.events.Event.{Event}
+use Rattle.gl_event.specs.declared.events.Event.TheVariants.{Acquire}
+use Rattle.gl_event.specs.declared.events.LockMode.{LockMode}
 use Rattle.gl_event.specs.declared.notes.Note.{Note}
 use Rattle.gl_event.specs.declared.notes.Body.{Body}
 use Rattle.gl_event.specs.declared.notes.Body.TheVariants.{Happened, Ended}
@@ -15,6 +17,7 @@ use Rattle.gl_event.proofs.Depths.{slice_get_last}
 use Rattle.gl_edges.specs.declared.edge.Edge.{Edge}
 use Rattle.gl_edges.specs.declared.edge.Sample.{Sample}
 use Rattle.gl_edges.specs.Edges.{edges_after}
+use Rattle.gl_edges.proofs.Remembering.{no_edges}
 use Rattle.gl_edges.proofs.Steps.{newest}
 use Rattle.gl_intake.specs.Stream.{accepted_as, events_of, note_refusal, AreInOrder, IsNext}
 use Rattle.gl_intake.proofs.Next.{next_of_none}
@@ -108,6 +111,16 @@ pub due_if : {E : Type 0} (thread : ℕ) (es : List Event) (e : Event) (result :
     → IfOk result (λ edges. edges.items ≡ edges_due thread (es ++ e ∷ []) (length es) (Happened e))
 due_if thread es e (Ok edges) made = made ∙ sym (newest thread es e)
 due_if thread es e (Err why) made = tt
+
+-- an event that wants no lock makes none
+pub due_of_none : (thread : ℕ) (es : List Event) (e : Event) → ((mode : LockMode) (lock loc : ℕ) → e ≡ Acquire mode lock loc → ⊥) → edges_due thread (es ++ e ∷ []) (length es) (Happened e) ≡ []
+due_of_none thread es e none = newest thread es e ∙ no_edges thread es e none
+
+-- nor does what tells nothing of edges, once it was accepted
+pub grown_by_none : (limits : Bounds) (stream : List Note) (note : Note) (made : List (Edge × Sample)) → note_refusal limits stream note ≡ None
+    → edges_due note.thread (with_body (events_of note.thread stream) note.body) (length (events_of note.thread stream)) note.body ≡ [] → made ≡ made ++ edges_of_next stream note
+grown_by_none limits stream note made allowed none =
+    sym (append-nil made) ∙ ap (λ pairs. made ++ pairs) (sym none ∙ due_is limits stream note (next_of_none limits stream note allowed))
 
 never_empty : (place : ℕ) (body : Body) → Empty ≢ pulled_of (accepted_as place body)
 never_empty place (Happened e) is = cc

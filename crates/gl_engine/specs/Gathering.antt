@@ -5,14 +5,15 @@ use Rattle.gl_event.specs.Bounds.{Bounds}
 use Rattle.gl_event.specs.declared.notes.Note.{Note}
 use Rattle.gl_edges.specs.declared.edge.Edge.{Edge}
 use Rattle.gl_edges.specs.declared.edge.Sample.{Sample}
-use Rattle.gl_intake.specs.Stream.{has_ended, AreInOrder}
+use Rattle.gl_intake.specs.Stream.{has_ended, AreInOrder, IsRefusal}
+use Rattle.gl_intake.specs.declared.notes.Refused.{Refused}
 use Rattle.gl_lane.specs.Lanes.{LaneId}
 use Rattle.gl_shards.specs.Feeds.{AllSent, FeedId, Sending}
 use Rattle.gl_shards.specs.Shards.{shard_of}
 use Rattle.gl_engine.specs.Dealing.{dealt, made_by}
 use Rattle.gl_engine.specs.Receipts.{AreOfRecorders}
 use Rattle.gl_engine.specs.Recording.{Closed}
-use Rattle.gl_engine.specs.declared.faults.RunFault.{RunFault}
+use Rattle.gl_engine.specs.declared.gathered.RunFault.{RunFault}
 
 -- a collector that has run: its session and limits, the threads' lanes in the order of thread numbers, the notes collected, the feeds whose
 -- edges were all sent, in the order of shards, and what went wrong, if something did
@@ -63,3 +64,12 @@ pub record IsGoneEnding (outlets : List Sending) (g : Gathering) (shard : ℕ) :
 -- the run through these outlets found the shard's worker gone, at the edge that it could not ship, or else at the end of the feed
 abbrev pub IsFoundGone : List Sending → Gathering → ℕ → Type 0
 IsFoundGone outlets g shard = IsGoneShipping outlets g shard ⊎ IsGoneEnding outlets g shard
+
+-- ---- a lane that broke
+
+-- after all that was collected came a note of this known thread that may not come next, for this reason
+pub record IsFoundBroken (g : Gathering) (thread : ℕ) (why : Refused) : Type 0 where
+  pub known : thread < g.limits.threads
+  pub note : Note
+  pub whose : note.thread ≡ thread
+  pub refused : IsRefusal g.limits g.stream note why

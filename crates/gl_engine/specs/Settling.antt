@@ -10,8 +10,8 @@ use Rattle.gl_engine.specs.Collecting.{Collecting}
 use Rattle.gl_engine.specs.Gathering.{Gathering}
 use Rattle.gl_engine.specs.Receipts.{has_receipt, AreOwnBelow, IsFirstStrange, IsFirstMissing, AreComplete}
 use Rattle.gl_engine.specs.Recording.{Closed, recorded_whole}
-use Rattle.gl_engine.specs.declared.faults.RunFault.{RunFault}
-use Rattle.gl_engine.specs.declared.faults.RunFault.TheVariants as kept
+use Rattle.gl_engine.specs.declared.gathered.RunFault.{RunFault}
+use Rattle.gl_engine.specs.declared.gathered.RunFault.TheVariants as kept
 use Rattle.gl_engine.specs.declared.faults.SettleFault.{SettleFault}
 use Rattle.gl_engine.specs.declared.faults.SettleFault.TheVariants as fault
 use Rattle.gl_engine.specs.declared.faults.UnsettledFault.{UnsettledFault}

@@ -5,17 +5,17 @@ ghost use Rattle.std.specs.Vec.{vec_len, vec_capacity};
 ghost use Rattle.gl_edges.specs.declared.edge.Edge.{Edge};
 ghost use Rattle.gl_edges.specs.declared.edge.Sample.{Sample};
 ghost use Rattle.gl_intake.specs.Stream.{has_ended, AreInOrder};
+ghost use Rattle.gl_intake.specs.declared.notes.Refused.{Refused};
 ghost use Rattle.gl_shards.specs.Feeds.{FeedId, Sending};
 ghost use Rattle.gl_shards.specs.declared.shard.TheConstants.{MAX_SHARDS};
 ghost use Rattle.gl_engine.specs.bodies.Breaking.{first_of};
 ghost use Rattle.gl_engine.specs.Dealing.{dealt, made_by};
-ghost use Rattle.gl_engine.specs.Gathering.{AreEnded, IsFoundGone};
-ghost use Rattle.gl_engine.specs.declared.faults.RunFault.TheVariants as kept;
+ghost use Rattle.gl_engine.specs.Gathering.{AreEnded, IsFoundBroken, IsFoundGone};
+ghost use Rattle.gl_engine.specs.declared.gathered.RunFault.TheVariants as kept;
 
 use crate::collector::Collector;
 use crate::discarding::discard_all;
-use crate::faults::RunFault;
-use crate::gathered::Gathered;
+use crate::gathered::{Gathered, RunFault};
 use crate::preallocated::keep;
 use crate::pull_and_ship::collect_all;
 use crate::replay::made_by_notes;
@@ -105,7 +105,8 @@ impl Collector {
     /// At the first thing that goes wrong, it ships no more, goes on popping and throws away until every end
     /// mark came, and still ends the outlets: no recorder and no worker waits for ever. A worker that is gone
     /// is found so by the first edge that can't be shipped, or, where all were, as the outlets are ended: then
-    /// it is the first such one. The feeds whose workers are there are kept in either case.
+    /// it is the first such one. The feeds whose workers are there are kept in either case. A lane breaks at a
+    /// note that may not come next after all that was collected.
     ///
     /// It waits for the recorders and for the workers: it returns only if every recorder closes, and as
     /// long as a worker's feed is full it waits for that. It looks at the lanes in turn, up to 64 notes of each,
@@ -131,6 +132,8 @@ impl Collector {
             ≡ dealt (length outlets.items) (made_by result.stream) }
         ensures gone { (shard : ℕ) → result.fault ≡ Some (kept.Gone shard)
             → IsFoundGone outlets.items result shard }
+        ensures broken { (thread : ℕ) (why : Refused)
+            → result.fault ≡ Some (kept.Broken thread why) → IsFoundBroken result thread why }
     {
         let Ok(sent) = Vec::with_capacity(self.alloc, outlets.len()) else {
             return self.run_unkept(rt, outlets);
@@ -170,6 +173,8 @@ impl Collector {
             ≡ dealt (length outlets.items) (made_by result.stream) }
         ensures gone { (shard : ℕ) → result.fault ≡ Some (kept.Gone shard)
             → IsFoundGone outlets.items result shard }
+        ensures broken { (thread : ℕ) (why : Refused)
+            → result.fault ≡ Some (kept.Broken thread why) → IsFoundBroken result thread why }
     {
         let Collector {
             alloc,

@@ -13,7 +13,7 @@ use std::thread;
 
 // What came off a lane.
 #[derive(Clone, Copy)]
-enum Thrown {
+enum Discarded {
     Nothing,
     Event,
     Ended,
@@ -27,16 +27,16 @@ struct Round {
 }
 
 // Pops a note off the lane, if there is one.
-fn throw_one(lane: &mut LaneOut) -> Thrown
+fn discard_one(lane: &mut LaneOut) -> Discarded
     ensures lane { lane.new.lane ≡ lane.old.lane }
     ensures handed { IsPrefix (handed lane.old) (handed lane.new) }
 {
     let Some(note) = lane.pop() else {
-        return Thrown::Nothing;
+        return Discarded::Nothing;
     };
     match note.body {
-        Body::Happened(_) => Thrown::Event,
-        Body::Ended { .. } => Thrown::Ended,
+        Body::Happened(_) => Discarded::Event,
+        Body::Ended { .. } => Discarded::Ended,
     }
 }
 
@@ -46,13 +46,13 @@ fn discard_at(inputs: &mut Vec<LaneInput>, index: usize, round: Round) -> Round
     ensures lanes { map lane_of inputs.new.items ≡ map lane_of inputs.old.items }
     ensures handed { HandOver inputs.old.items inputs.new.items }
 {
-    match throw_one(&mut inputs[index].lane) {
-        Thrown::Nothing => round,
-        Thrown::Event => Round {
+    match discard_one(&mut inputs[index].lane) {
+        Discarded::Nothing => round,
+        Discarded::Event => Round {
             left: round.left,
             moved: true,
         },
-        Thrown::Ended => Round {
+        Discarded::Ended => Round {
             left: round.left.saturating_sub(1),
             moved: true,
         },

@@ -1,20 +1,8 @@
-//! What can go wrong in a run, and why nothing is settled.
+//! Why nothing is settled.
 use crate::collector::Collector;
 use crate::gathered::Gathered;
 use gl_event::ThreadId;
 use gl_intake::Refused;
-
-/// What went wrong first in a run.
-#[derive(Clone, Copy, Debug, PartialEq, Eq)]
-pub enum RunFault {
-    /// There was no memory for a note, for its edges or for the list of feeds.
-    Memory,
-    /// The worker's end of this shard's feed was dropped: the next edge made is this shard's and could not
-    /// be sent, or all were, and its feed is the first that could not be ended.
-    Gone { shard: u32 },
-    /// A note of the thread's lane may not come next, for this reason.
-    Broken { thread: ThreadId, refused: Refused },
-}
 
 /// Why nothing is settled.
 #[derive(Drop)]

@@ -1,11 +1,25 @@
-//! What a collector leaves behind that has run.
-use crate::faults::RunFault;
+//! What a collector leaves behind that has run, and what went wrong in the run.
 use crate::lane_input::LaneInput;
-use gl_event::Limits;
-use gl_intake::Intake;
+use gl_event::{Limits, ThreadId};
+use gl_intake::{Intake, Refused};
 use gl_shards::Sent;
 use std::alloc::Global;
 use std::marker::Model;
+
+/// What went wrong first in a run: nothing was collected or shipped after it.
+///
+/// [`Collector::run`](crate::Collector::run) says so of `Gone`, by the edges that were shipped, and of
+/// `Broken`, by the notes that were collected. Memory may be refused at any time.
+#[derive(Clone, Copy, Debug, PartialEq, Eq)]
+pub enum RunFault {
+    /// There was no memory for a note, for its edges or for the list of feeds.
+    Memory,
+    /// The worker's end of this shard's feed was dropped: the next edge made is this shard's and could not
+    /// be sent, or all were, and its feed is the first that could not be ended.
+    Gone { shard: u32 },
+    /// A note of the thread's lane may not come next after those that were collected, for this reason.
+    Broken { thread: ThreadId, refused: Refused },
+}
 
 /// A collector that has run: every thread's end mark came, and every feed was ended.
 ///

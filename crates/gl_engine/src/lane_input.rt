@@ -1,5 +1,5 @@
 //! What a collector keeps of one thread, and what a pull does with it.
-ghost use Rattle.std.specs.Prelude.{◌≡◌, ◌<◌, ◌≤◌, None, ℕ, List, [], ◌∷◌, ◌++◌, length, IfOk, IfErr, IfSome, OnOk, OnErr};
+ghost use Rattle.std.specs.Prelude.{◌≡◌, ◌<◌, ◌≤◌, None, ℕ, List, [], ◌∷◌, ◌++◌, length, IsTrue, IfOk, IfErr, IfSome, OnOk, OnErr};
 ghost use mathlib.Core.List.{IsPrefix};
 ghost use Rattle.gl_event.specs.Bounds.{Bounds};
 ghost use Rattle.gl_event.specs.States.{StandsAfter};
@@ -15,7 +15,7 @@ ghost use Rattle.gl_engine.specs.bodies.Fronts.{IsFront};
 
 use crate::pulled::{PullFault, Pulled};
 use gl_edges::{Edge, Sample, next_edges};
-use gl_event::{Body, Memory, Note, ThreadId, ThreadState};
+use gl_event::{Body, Event, Memory, Note, ThreadId, ThreadState};
 use gl_intake::{Accepted, Intake, Refused};
 use gl_lane::LaneOut;
 use std::alloc::Global;
@@ -55,6 +55,20 @@ fn due(
     }
 }
 
+// Whether what the body tells makes no edge, whatever its thread holds: it wants no lock.
+fn makes_none(body: &Body) -> bool
+    ensures { IsTrue result → (thread : ℕ) (es : List Event)
+        → edges_due thread (with_body es body.now) (length es) body.now ≡ [] }
+{
+    let Body::Happened(event) = *body else {
+        return true;
+    };
+    let Event::Acquire { .. } = event else {
+        return true;
+    };
+    false
+}
+
 // Makes every growth that the note wants, where it may come next: room for it in the intake, and its
 // edges among those made.
 fn prepare(
@@ -81,7 +95,7 @@ fn prepare(
 }
 
 /// Accepts the note, where it may come next, once every growth that it wants was made: room for it in the
-/// intake, and its edges among those made.
+/// intake, and its edges among those made. One that makes none is offered at once.
 pub fn accept_with_edges(
     alloc: Global,
     intake: &mut Intake,
@@ -95,6 +109,9 @@ pub fn accept_with_edges(
     ensures unchanged { OnErr result (made.new.items ≡ made.old.items) }
     ensures limits { intake.new.limits ≡ intake.old.limits }
 {
+    if makes_none(&note.body) {
+        return intake.offer(*note);
+    }
     prepare(alloc, intake, made, note)?;
     Ok(intake.accept(note))
 }

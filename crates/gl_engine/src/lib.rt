@@ -58,8 +58,8 @@ mod settled;
 mod settlement;
 
 pub use collector::Collector;
-pub use faults::{RunFault, SettleFault, UnsettledFault};
-pub use gathered::Gathered;
+pub use faults::{SettleFault, UnsettledFault};
+pub use gathered::{Gathered, RunFault};
 pub use laws::{running_calls_are_steps, unpulled_is_unchanged};
 pub use pulled::{PullFault, Pulled};
 pub use receipt::Receipt;

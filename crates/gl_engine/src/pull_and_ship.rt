@@ -12,7 +12,7 @@ ghost use Rattle.gl_engine.specs.Keeping.{IsCollector};
 ghost use Rattle.gl_engine.specs.bodies.Whole.{GoesOn, HasMoved, KeepsUp, PullsOn};
 
 use crate::discarding::discard_all;
-use crate::faults::RunFault;
+use crate::gathered::RunFault;
 use crate::lane_input::LaneInput;
 use crate::pulled::{PullFault, Pulled};
 use gl_edges::{Edge, Sample};

@@ -8,8 +8,8 @@ ghost use Rattle.gl_engine.specs.Settling as settling;
 ghost use Rattle.gl_engine.specs.Settling.{AreListsOf, HaveEndedBelow, IsFirstUnended, IsMemoryOrGone, IsSettleFault, IsSettled, IsUnsettledFault};
 
 use crate::collector::Collector;
-use crate::faults::{RunFault, SettleFault, UnsettledFault};
-use crate::gathered::Gathered;
+use crate::faults::{SettleFault, UnsettledFault};
+use crate::gathered::{Gathered, RunFault};
 use crate::receipt::Receipt;
 use crate::receipts::{confirm_all, first_missing, first_strange};
 use crate::settled::Settled;

@@ -172,6 +172,13 @@ impl Unrun {
             collector,
             mut receipts,
         } = self;
-        collector.settle(receipts.as_mut_slice()).ok()
+        match collector.settle(receipts.as_mut_slice()) {
+            Ok(settled) => Some(settled),
+            // taken apart: letting go of the fault as a whole takes the prover as long as a dozen tests
+            Err(fault) => {
+                drop(why_of(fault));
+                None
+            }
+        }
     }
 }

@@ -1,5 +1,5 @@
 //! Threads that record their lists and close.
-ghost use Rattle.std.specs.Prelude.{◌≡◌, length, map, IfSome};
+ghost use Rattle.std.specs.Prelude.{◌≡◌, [], ◌∷◌, ◌++◌, length, map, IfSome};
 ghost use Rattle.gl_engine_tests.specs.Sessions.{left_by, owner_of, AreOursOf};
 
 use gl_engine::{Collector, Receipt, Recorder, open};
@@ -17,7 +17,23 @@ fn close_one(recorder: Recorder, events: &[Op]) -> Option<Receipt>
             return None;
         };
     }
-    recorder.close().ok()
+    match recorder.close() {
+        Ok(receipt) => Some(receipt),
+        Err(_) => None,
+    }
+}
+
+// Records the next list, closes, and keeps the receipt.
+fn close_next(receipts: &mut Vec<Receipt>, recorder: Recorder, lists: &[&[Op]]) -> Option<()>
+    ensures { IfSome result (λ _. map left_by receipts.new.items
+        ≡ map left_by receipts.old.items ++ owner_of recorder ∷ []) }
+{
+    let events = lists.get(receipts.len())?;
+    let receipt = close_one(recorder, *events)?;
+    match receipts.push(receipt) {
+        Ok(()) => Some(()),
+        Err(_) => None,
+    }
 }
 
 // Each recorder records its list and closes.
@@ -27,11 +43,7 @@ fn close_all(alloc: Global, recorders: Vec<Recorder>, lists: &[&[Op]]) -> Option
 {
     let mut receipts = Vec::new(alloc);
     for recorder in recorders {
-        let events = lists.get(receipts.len())?;
-        let receipt = close_one(recorder, *events)?;
-        let Ok(()) = receipts.push(receipt) else {
-            return None;
-        };
+        close_next(&mut receipts, recorder, lists)?;
     }
     Some(receipts)
 }

@@ -21,12 +21,12 @@ refused_by : (es : List Event) (lock : ℕ) (mode : LockMode) → acquire_refusa
 unfolding acquire_refusal
 refused_by es lock mode = refl
 
-release_refusal : (es : List Event) (lock : ℕ) (mode : LockMode) (loc : ℕ) → lock_refusal es (Release lock mode loc) ≡ cond (eqb (depth es lock) 0) (Some Unheld) None
+release_refusal : (es : List Event) (lock : ℕ) (mode : LockMode) (loc : ℕ) → lock_refusal es (Release mode lock loc) ≡ cond (eqb (depth es lock) 0) (Some Unheld) None
 unfolding lock_refusal
 release_refusal es lock mode loc = refl
 
 -- a lock that is held may be released
-allowed_release : (es : List Event) (lock : ℕ) (mode : LockMode) (loc : ℕ) → 0 < depth es lock → lock_refusal es (Release lock mode loc) ≡ None
+allowed_release : (es : List Event) (lock : ℕ) (mode : LockMode) (loc : ℕ) → 0 < depth es lock → lock_refusal es (Release mode lock loc) ≡ None
 allowed_release es lock mode loc some = let not_zero = ne_eqb (depth es lock) 0 (λ e. omega arith) in rw (release_refusal es lock mode loc, not_zero)
 
 module _ (es : List Event) (lock : ℕ) (mode : LockMode) (loc place seg : ℕ) (new : List HeldEntry) where
@@ -141,9 +141,9 @@ answers_closed es entries stands i h at lock same once =
     record {
       accepted = (λ _. omega arith, λ _. refl);
       outermost = (λ _. omega arith, λ _. refl);
-      stands = λ mode loc. stands_remove es entries stands (Release lock mode loc) (allowed_release es lock mode loc (omega arith)) i h at
-          (λ k other. rw (depth_after es (Release lock mode loc) k stands.lawful, ne_eqb lock k (λ e. other (sym e ∙ sym same))) (omega arith))
-          (rw (depth_after es (Release lock mode loc) h.lock stands.lawful, eq-eqb lock h.lock (sym same)) (omega arith));
+      stands = λ mode loc. stands_remove es entries stands (Release mode lock loc) (allowed_release es lock mode loc (omega arith)) i h at
+          (λ k other. rw (depth_after es (Release mode lock loc) k stands.lawful, ne_eqb lock k (λ e. other (sym e ∙ sym same))) (omega arith))
+          (rw (depth_after es (Release mode lock loc) h.lock stands.lawful, eq-eqb lock h.lock (sym same)) (omega arith));
     }
 
 -- the lock is held more than once, and stays held
@@ -156,10 +156,10 @@ answers_shallower es entries stands i h at lock same more =
     record {
       accepted = (λ _. omega arith, λ _. refl);
       outermost = (λ e. absurd (false≢true e), λ e. absurd (omega arith));
-      stands = λ mode loc. stands_set es entries stands (Release lock mode loc) (allowed_release es lock mode loc (omega arith)) i h at
-          (λ k other. rw (depth_after es (Release lock mode loc) k stands.lawful, ne_eqb lock k (λ e. other (sym e ∙ sym same))) (omega arith))
+      stands = λ mode loc. stands_set es entries stands (Release mode lock loc) (allowed_release es lock mode loc (omega arith)) i h at
+          (λ k other. rw (depth_after es (Release mode lock loc) k stands.lawful, ne_eqb lock k (λ e. other (sym e ∙ sym same))) (omega arith))
           (h.depth - 1)
-          (rw (depth_after es (Release lock mode loc) h.lock stands.lawful, eq-eqb lock h.lock (sym same)) (omega arith))
+          (rw (depth_after es (Release mode lock loc) h.lock stands.lawful, eq-eqb lock h.lock (sym same)) (omega arith))
           (omega arith);
     }
 

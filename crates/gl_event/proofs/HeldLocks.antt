@@ -26,9 +26,9 @@ one_more false c n same = same ∙ ap (ltb 0) (omega arith)
 -- a lock is among those that the events acquire where it was acquired at least once
 acquired_any : (es : List Event) (lock : ℕ) → list_any (λ l. eqb l lock) (filter_map acquired_lock es) ≡ ltb 0 (count_by (acquires lock) es)
 acquired_any [] lock = refl
-acquired_any (Acquire l mode loc ∷ es) lock = rw sum_by-cons (one_more (eqb l lock) _ _ (acquired_any es lock))
-acquired_any (TryAcquire l mode loc ∷ es) lock = rw sum_by-cons (one_more (eqb l lock) _ _ (acquired_any es lock))
-acquired_any (Release l mode loc ∷ es) lock = rw sum_by-cons (acquired_any es lock ∙ ap (ltb 0) (omega arith))
+acquired_any (Acquire mode l loc ∷ es) lock = rw sum_by-cons (one_more (eqb l lock) _ _ (acquired_any es lock))
+acquired_any (TryAcquire mode l loc ∷ es) lock = rw sum_by-cons (one_more (eqb l lock) _ _ (acquired_any es lock))
+acquired_any (Release mode l loc ∷ es) lock = rw sum_by-cons (acquired_any es lock ∙ ap (ltb 0) (omega arith))
 acquired_any (Fork t loc ∷ es) lock = rw sum_by-cons (acquired_any es lock ∙ ap (ltb 0) (omega arith))
 acquired_any (Join t loc ∷ es) lock = rw sum_by-cons (acquired_any es lock ∙ ap (ltb 0) (omega arith))
 

@@ -97,31 +97,31 @@ module _ (lock : ℕ) (mode : LockMode) where
 
   -- what acquires releases nothing
   pub releases-of : (e : Event) → acquired_lock e ≡ Some lock → (k : ℕ) → releases k e ≡ false
-  releases-of (Acquire l m loc) is k = refl
-  releases-of (Release l m loc) is k = absurd (cc)
-  releases-of (TryAcquire l m loc) is k = refl
+  releases-of (Acquire m l loc) is k = refl
+  releases-of (Release m l loc) is k = absurd (cc)
+  releases-of (TryAcquire m l loc) is k = refl
   releases-of (Fork t loc) is k = refl
   releases-of (Join t loc) is k = refl
 
   -- what acquires closes no segment
   pub closes-of : (e : Event) → acquired_lock e ≡ Some lock → closes e ≡ false
-  closes-of (Acquire l m loc) is = refl
-  closes-of (Release l m loc) is = refl
-  closes-of (TryAcquire l m loc) is = refl
+  closes-of (Acquire m l loc) is = refl
+  closes-of (Release m l loc) is = refl
+  closes-of (TryAcquire m l loc) is = refl
   closes-of (Fork t loc) is = absurd (cc)
   closes-of (Join t loc) is = absurd (cc)
 
   -- both kinds are refused alike
   pub lock_refusal-of : (es : List Event) (e : Event) → IsAcquireOf lock mode e → lock_refusal es e ≡ acquire_refusal es lock mode
   unfolding lock_refusal
-  lock_refusal-of es (Acquire l m loc) is = let s = is.same_lock in let t = is.same_mode in cc
-  lock_refusal-of es (Release l m loc) is = let s = is.same_lock in absurd (cc)
-  lock_refusal-of es (TryAcquire l m loc) is = let s = is.same_lock in let t = is.same_mode in cc
+  lock_refusal-of es (Acquire m l loc) is = let s = is.same_lock in let t = is.same_mode in cc
+  lock_refusal-of es (Release m l loc) is = let s = is.same_lock in absurd (cc)
+  lock_refusal-of es (TryAcquire m l loc) is = let s = is.same_lock in let t = is.same_mode in cc
   lock_refusal-of es (Fork t loc) is = let s = is.same_lock in absurd (cc)
   lock_refusal-of es (Join t loc) is = let s = is.same_lock in absurd (cc)
 
 -- a lawful release is of a lock of positive depth
-release_of_held : (es : List Event) (lock : ℕ) (mode : LockMode) (loc : ℕ) → lock_refusal es (Release lock mode loc) ≡ None → 0 < depth es lock
+release_of_held : (es : List Event) (lock : ℕ) (mode : LockMode) (loc : ℕ) → lock_refusal es (Release mode lock loc) ≡ None → 0 < depth es lock
 unfolding lock_refusal
 release_of_held es lock mode loc h = grind arith
 
@@ -136,9 +136,9 @@ depth_there es l lock held same = let e : l ≡ lock = eqb-true l lock same in r
 -- one more lawful event doesn't make the releases of a lock more than its acquires
 releases_push : (es : List Event) (e : Event) (lock : ℕ) → count_by (releases lock) es ≤ count_by (acquires lock) es → lock_refusal es e ≡ None → count_by (releases lock) (es ++ e ∷ []) ≤ count_by (acquires lock) (es ++ e ∷ [])
 unfolding depth
-releases_push es (Acquire l mode loc) lock before allowed = rw (count_by_push (releases lock) es, count_by_push (acquires lock) es) (omega arith)
-releases_push es (TryAcquire l mode loc) lock before allowed = rw (count_by_push (releases lock) es, count_by_push (acquires lock) es) (omega arith)
-releases_push es (Release l mode loc) lock before allowed =
+releases_push es (Acquire mode l loc) lock before allowed = rw (count_by_push (releases lock) es, count_by_push (acquires lock) es) (omega arith)
+releases_push es (TryAcquire mode l loc) lock before allowed = rw (count_by_push (releases lock) es, count_by_push (acquires lock) es) (omega arith)
+releases_push es (Release mode l loc) lock before allowed =
     let held = release_of_held es l mode loc allowed in
     rw (count_by_push (releases lock) es, count_by_push (acquires lock) es)
     (release_step (eqb l lock) _ _ before (λ same. depth_there es l lock held same))

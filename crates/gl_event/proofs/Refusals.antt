@@ -58,21 +58,21 @@ module _ (es : List Event) (entries : List HeldEntry) (stands : StandsFor es ent
     deeper below same = rw (by_entry, lt-leb 1000000 h.depth below, same)
 
 -- a lock that is held may be released
-pub held_released : (es : List Event) (lock loc : ℕ) (mode : LockMode) → 0 < depth es lock → None ≡ lock_refusal es (Release lock mode loc)
+pub held_released : (es : List Event) (lock loc : ℕ) (mode : LockMode) → 0 < depth es lock → None ≡ lock_refusal es (Release mode lock loc)
 unfolding lock_refusal
 held_released es lock loc mode some = let not_zero = ne_eqb (depth es lock) 0 (λ e. omega arith) in rw not_zero
 
 -- a lock that isn't held may not be released
-pub unheld_released : (es : List Event) (lock loc : ℕ) (mode : LockMode) → (0 < depth es lock → ⊥) → Some NotHeld ≡ lock_refusal es (Release lock mode loc)
+pub unheld_released : (es : List Event) (lock loc : ℕ) (mode : LockMode) → (0 < depth es lock → ⊥) → Some NotHeld ≡ lock_refusal es (Release mode lock loc)
 unfolding lock_refusal
 unheld_released es lock loc mode none = let is_zero = eq-eqb (depth es lock) 0 (omega arith) in rw is_zero
 
-release_by_depth : (es : List Event) (lock : ℕ) (mode : LockMode) (loc : ℕ) → lock_refusal es (Release lock mode loc) ≡ cond (eqb (depth es lock) 0) (Some NotHeld) None
+release_by_depth : (es : List Event) (lock : ℕ) (mode : LockMode) (loc : ℕ) → lock_refusal es (Release mode lock loc) ≡ cond (eqb (depth es lock) 0) (Some NotHeld) None
 unfolding lock_refusal
 release_by_depth es lock mode loc = refl
 
 -- a release is refused where it errs
-pub refused_release : (es : List Event) (lock : ℕ) (mode : LockMode) (loc : ℕ) (e : NotLocked) → IsOk {T = Bool} (Err e) ↔ (0 < depth es lock) → lock_refusal es (Release lock mode loc) ≡ Some NotHeld
+pub refused_release : (es : List Event) (lock : ℕ) (mode : LockMode) (loc : ℕ) (e : NotLocked) → IsOk {T = Bool} (Err e) ↔ (0 < depth es lock) → lock_refusal es (Release mode lock loc) ≡ Some NotHeld
 refused_release es lock mode loc e h =
     let none : eqb (depth es lock) 0 ≡ true = by (depth es lock) refl in
     release_by_depth es lock mode loc ∙ ap (λ v. cond v (Some NotHeld) None) none
@@ -82,7 +82,7 @@ refused_release es lock mode loc e h =
     by (suc n) is = absurd (false≢true (h.1 (omega arith)))
 
 -- and allowed where it doesn't
-pub allowed_release : (es : List Event) (lock : ℕ) (mode : LockMode) (loc : ℕ) (b : Bool) → IsOk {E = NotLocked} (Ok b) ↔ (0 < depth es lock) → lock_refusal es (Release lock mode loc) ≡ None
+pub allowed_release : (es : List Event) (lock : ℕ) (mode : LockMode) (loc : ℕ) (b : Bool) → IsOk {E = NotLocked} (Ok b) ↔ (0 < depth es lock) → lock_refusal es (Release mode lock loc) ≡ None
 allowed_release es lock mode loc b h =
     let some : 0 < depth es lock = h.0 refl in
     let test : eqb (depth es lock) 0 ≡ false = grind (arith, nat_tests, some) in

@@ -37,17 +37,17 @@ segment_closed es e n h is = omega (arith, segment_push es e ∙ ap (λ b. segme
 -- no lock refuses a fork or a join
 pub closing_allowed : (es : List Event) (e : Event) → closes e ≡ true → lock_refusal es e ≡ None
 unfolding lock_refusal
-closing_allowed es (Acquire lock mode loc) h = absurd (false≢true h)
-closing_allowed es (Release lock mode loc) h = absurd (false≢true h)
-closing_allowed es (TryAcquire lock mode loc) h = absurd (false≢true h)
+closing_allowed es (Acquire mode lock loc) h = absurd (false≢true h)
+closing_allowed es (Release mode lock loc) h = absurd (false≢true h)
+closing_allowed es (TryAcquire mode lock loc) h = absurd (false≢true h)
 closing_allowed es (Fork thread loc) h = refl
 closing_allowed es (Join thread loc) h = refl
 
 -- and none is held or let go by it
 pub stands_after_closing : (es : List Event) (entries : List HeldEntry) (e : Event) → closes e ≡ true → StandsFor es entries → StandsFor (es ++ e ∷ []) entries
-stands_after_closing es entries (Acquire lock mode loc) h stands = absurd (false≢true h)
-stands_after_closing es entries (Release lock mode loc) h stands = absurd (false≢true h)
-stands_after_closing es entries (TryAcquire lock mode loc) h stands = absurd (false≢true h)
+stands_after_closing es entries (Acquire mode lock loc) h stands = absurd (false≢true h)
+stands_after_closing es entries (Release mode lock loc) h stands = absurd (false≢true h)
+stands_after_closing es entries (TryAcquire mode lock loc) h stands = absurd (false≢true h)
 stands_after_closing es entries (Fork thread loc) h stands = stands_after_fork es entries stands thread loc
 stands_after_closing es entries (Join thread loc) h stands = stands_after_join es entries stands thread loc
 

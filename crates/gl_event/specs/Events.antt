@@ -14,25 +14,25 @@ use Rattle.gl_event.specs.declared.held.HeldEntry.{HeldEntry}
 
 -- the lock that the event acquires, whether or not it could have waited for it
 abbrev pub acquired_lock : Event → Option ℕ
-acquired_lock (Acquire l mode loc) = Some l
-acquired_lock (Release l mode loc) = None
-acquired_lock (TryAcquire l mode loc) = Some l
+acquired_lock (Acquire mode l loc) = Some l
+acquired_lock (Release mode l loc) = None
+acquired_lock (TryAcquire mode l loc) = Some l
 acquired_lock (Fork t loc) = None
 acquired_lock (Join t loc) = None
 
 -- the lock that the event wants: the one that it waits for as long as another thread keeps it
 abbrev pub wanted_lock : Event → Option ℕ
-wanted_lock (Acquire l mode loc) = Some l
-wanted_lock (Release l mode loc) = None
-wanted_lock (TryAcquire l mode loc) = None
+wanted_lock (Acquire mode l loc) = Some l
+wanted_lock (Release mode l loc) = None
+wanted_lock (TryAcquire mode l loc) = None
 wanted_lock (Fork t loc) = None
 wanted_lock (Join t loc) = None
 
 -- the mode in which the event acquires or releases
 abbrev pub lock_mode : Event → LockMode
-lock_mode (Acquire l mode loc) = mode
-lock_mode (Release l mode loc) = mode
-lock_mode (TryAcquire l mode loc) = mode
+lock_mode (Acquire mode l loc) = mode
+lock_mode (Release mode l loc) = mode
+lock_mode (TryAcquire mode l loc) = mode
 lock_mode (Fork t loc) = Exclusive
 lock_mode (Join t loc) = Exclusive
 
@@ -42,33 +42,33 @@ acquires lock e = option_map_or (λ l. l == lock) (acquired_lock e) false
 
 -- the event releases this lock
 abbrev pub releases : ℕ → Event → Bool
-releases lock (Acquire l mode loc) = false
-releases lock (Release l mode loc) = l == lock
-releases lock (TryAcquire l mode loc) = false
+releases lock (Acquire mode l loc) = false
+releases lock (Release mode l loc) = l == lock
+releases lock (TryAcquire mode l loc) = false
 releases lock (Fork t loc) = false
 releases lock (Join t loc) = false
 
 -- the event closes a segment: it is a fork or a join
 abbrev pub closes : Event → Bool
-closes (Acquire l mode loc) = false
-closes (Release l mode loc) = false
-closes (TryAcquire l mode loc) = false
+closes (Acquire mode l loc) = false
+closes (Release mode l loc) = false
+closes (TryAcquire mode l loc) = false
 closes (Fork t loc) = true
 closes (Join t loc) = true
 
 -- where in the source the event stands
 abbrev pub location : Event → ℕ
-location (Acquire l mode loc) = loc
-location (Release l mode loc) = loc
-location (TryAcquire l mode loc) = loc
+location (Acquire mode l loc) = loc
+location (Release mode l loc) = loc
+location (TryAcquire mode l loc) = loc
 location (Fork t loc) = loc
 location (Join t loc) = loc
 
 -- the thread that the event forks or joins
 abbrev pub partner : Event → Option ℕ
-partner (Acquire l mode loc) = None
-partner (Release l mode loc) = None
-partner (TryAcquire l mode loc) = None
+partner (Acquire mode l loc) = None
+partner (Release mode l loc) = None
+partner (TryAcquire mode l loc) = None
 partner (Fork t loc) = Some t
 partner (Join t loc) = Some t
 

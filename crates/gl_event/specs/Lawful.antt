@@ -26,9 +26,9 @@ acquire_refusal es lock mode =
 
 -- why these locks don't let the event come next
 unfoldable pub lock_refusal : List Event → Event → Option Refusal
-lock_refusal es (Acquire lock mode loc) = acquire_refusal es lock mode
-lock_refusal es (TryAcquire lock mode loc) = acquire_refusal es lock mode
-lock_refusal es (Release lock mode loc) = if depth es lock == 0 then Some NotHeld else None
+lock_refusal es (Acquire mode lock loc) = acquire_refusal es lock mode
+lock_refusal es (TryAcquire mode lock loc) = acquire_refusal es lock mode
+lock_refusal es (Release mode lock loc) = if depth es lock == 0 then Some NotHeld else None
 lock_refusal es (Fork thread loc) = None
 lock_refusal es (Join thread loc) = None
 

@@ -65,4 +65,4 @@ pub record AnswersRelease (es : List Event) (lock : ℕ) (new : List HeldEntry) 
   -- `true` says that the lock is no longer held
   pub outermost : IfOk answer (λ b. IsTrue b ↔ (depth es lock ≡ 1))
   -- what is held after the release, wherever it stands
-  pub stands : OnOk answer ((mode : LockMode) (loc : ℕ) → StandsFor (es ++ Release lock mode loc ∷ []) new)
+  pub stands : OnOk answer ((mode : LockMode) (loc : ℕ) → StandsFor (es ++ Release mode lock loc ∷ []) new)

@@ -13,7 +13,7 @@ use Rattle.gl_event.specs.declared.held.HeldEntry.{HeldEntry}
 -- the event does this to its thread
 abbrev pub HasEffect : Event → Effect → Type 0
 HasEffect e (Acquires lock mode loc) = IsAcquireOf lock mode e × (loc ≡ location e)
-HasEffect e (Releases lock) = e ≡ Release lock (lock_mode e) (location e)
+HasEffect e (Releases lock) = e ≡ Release (lock_mode e) lock (location e)
 HasEffect e (Closes other) = (closes e ≡ true) × (partner e ≡ Some other)
 
 -- what is known of a thread's events: what it holds after them, how many there are, and how many of them closed a segment

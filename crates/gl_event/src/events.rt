@@ -10,6 +10,7 @@ use std::cmp::Ordering;
 /// How a lock is held: by one thread alone, or by readers together. The two are ordered as they
 /// stand here.
 #[derive(Clone, Copy, Debug, Hash, Default)]
+#[repr(u8)]
 pub enum LockMode {
     /// No other thread holds the lock meanwhile.
     #[default]
@@ -94,27 +95,29 @@ impl LockMode {
     }
 }
 
-/// One event of a thread, with its location in the source.
+/// One event of a thread, with its location in the source. It takes 12 bytes: a mode stands beside
+/// the byte that tells the kind of event.
 #[derive(Clone, Copy, Debug, PartialEq, Eq, PartialOrd, Ord, Hash)]
+#[repr(u8)]
 pub enum Event {
     /// The thread acquires the lock, and waits for it where it has to. A lock that the thread holds
     /// already is acquired once more, and stays held in the mode of its outermost acquire.
     Acquire {
-        lock: LockId,
         mode: LockMode,
+        lock: LockId,
         loc: LocId,
     },
     /// The thread releases the lock once, in whichever mode it holds it.
     Release {
-        lock: LockId,
         mode: LockMode,
+        lock: LockId,
         loc: LocId,
     },
     /// The thread acquires the lock by an attempt that could not have waited for ever, as
     /// `trylock`. It holds the lock like any other, but can't be in a deadlock there.
     TryAcquire {
-        lock: LockId,
         mode: LockMode,
+        lock: LockId,
         loc: LocId,
     },
     /// The thread starts another thread.

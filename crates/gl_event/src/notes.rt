@@ -4,6 +4,7 @@ use crate::ids::ThreadId;
 
 /// What a thread's recorder tells: an event of the thread, or that it has ended.
 #[derive(Clone, Copy, Debug, PartialEq, Eq, Hash)]
+#[repr(u8)]
 pub enum Body {
     /// The thread's next event.
     Happened(Event),

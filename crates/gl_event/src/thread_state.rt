@@ -79,7 +79,7 @@ fn acquire_refusal(held: &Held, lock: LockId, mode: LockMode) -> Option<Refusal>
 // Why the lock can't be released.
 fn release_refusal(held: &Held, lock: LockId) -> Option<Refusal>
     ensures { (es : List Event) → StandsFor es held.now → (mode : LockMode) (loc : ℕ)
-        → result ≡ lock_refusal es (Release lock mode loc) }
+        → result ≡ lock_refusal es (Release mode lock loc) }
 {
     if held.holds(lock) {
         return None;
@@ -204,7 +204,7 @@ impl ThreadState {
     // `take`, for a release of this lock.
     fn release(&mut self, event: Event, lock: LockId) -> Result<(), Refusal>
         requires fits { self.old.events + 1 < 2 ^ 32 }
-        requires releases { event ≡ Release lock (lock_mode event) (location event) }
+        requires releases { event ≡ Release (lock_mode event) lock (location event) }
         ensures refused { IfErr result
             (λ r. (es : List Event) → StandsAfter es self.old
             → lock_refusal es event ≡ Some r) }

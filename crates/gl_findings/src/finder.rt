@@ -18,7 +18,6 @@ use gl_walks::{Ground, Purpose, Walker};
 use std::alloc::{AllocError, Global};
 
 /// What a search looks at, and when it has enough.
-#[derive(Drop)]
 pub(crate) struct Finder<'a> {
     pub(crate) table: &'a [(Edge, Sample)],
     pub(crate) order: &'a Order,
@@ -35,6 +34,23 @@ pub(crate) struct Finder<'a> {
     pub(crate) len: usize,
     // how many findings are looked for: one more than are listed
     pub(crate) cap: usize,
+}
+
+// Written out, so that it is proved once: a derived drop is proved again wherever one is let go.
+impl Drop for Finder<'_> {
+    fn drop(self) {
+        let Finder {
+            table,
+            order,
+            mode,
+            cycles,
+            fronts,
+            next,
+            runners,
+            len,
+            cap,
+        } = self;
+    }
 }
 
 impl<'a> Finder<'a> {

@@ -14,7 +14,6 @@ use gl_event::Memory;
 use std::alloc::Global;
 
 /// What a search is told of the edges.
-#[derive(Drop)]
 pub(crate) struct Grounds {
     // the class of each
     pub(crate) classes: Vec<usize>,
@@ -26,6 +25,19 @@ pub(crate) struct Grounds {
     pub(crate) next: Vec<usize>,
     // and which thread runs it, where one alone does
     pub(crate) runners: Vec<Runner>,
+}
+
+// Written out, so that it is proved once: a derived drop is proved again wherever one is let go.
+impl Drop for Grounds {
+    fn drop(self) {
+        let Grounds {
+            classes,
+            kept,
+            models,
+            next,
+            runners,
+        } = self;
+    }
 }
 
 impl Grounds {

@@ -15,7 +15,7 @@ use std::collections::HashMap;
 
 // What alike edges of one class have in common: an edge's class, locks and modes, and the number of
 // its guard set.
-#[derive(Clone, Copy, Debug, PartialEq, Eq, Hash)]
+#[derive(Clone, Copy, PartialEq, Eq, Hash)]
 struct Kind {
     class: usize,
     held: LockId,

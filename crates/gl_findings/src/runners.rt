@@ -12,7 +12,7 @@ use gl_event::{Memory, ThreadId};
 use std::alloc::Global;
 
 /// Of which threads the edges of a class are.
-#[derive(Clone, Copy, Debug)]
+#[derive(Clone, Copy)]
 pub(crate) enum Runner {
     /// There is no edge.
     Nobody,

@@ -9,6 +9,8 @@
 //!
 //! What an index says is said of every list of edges that it is the index of: the next position with a
 //! key, with no edge between that has this key and is kept.
+//!
+//! docs/GLOSSARY.md has its words beside those of the field.
 #![tactic(auto)]
 
 mod chains;

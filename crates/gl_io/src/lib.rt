@@ -24,4 +24,4 @@ mod whole;
 pub use from_std::FromStd;
 pub use sink::{Sink, WriteFault, write_out};
 pub use source::{CHUNK, Failed, Source};
-pub use whole::{Gathered, read_whole};
+pub use whole::{SourceText, read_whole};

@@ -8,9 +8,9 @@ ghost use Rattle.gl_io.specs.bodies.Turns.{TurnDid};
 use crate::source::{CHUNK, Failed, Source};
 use std::alloc::{AllocError, Global};
 
-/// What was read of a source: its bytes, and whether they are all that it had.
+/// The text that was read of a source, and whether it is all that the source had.
 #[derive(Debug, Drop)]
-pub struct Gathered {
+pub struct SourceText {
     /// The bytes that the reads gave, in order.
     pub text: Vec<u8>,
     /// A read met the end.
@@ -69,7 +69,7 @@ pub fn read_whole<R: Source>(
     alloc: Global,
     input: &mut R,
     turns: u64,
-) -> Result<Gathered, AllocError>
+) -> Result<SourceText, AllocError>
     requires not_failed { R.failed input.old ≡ false }
     requires few_turns { turns ≤ 2 ^ 40 }
     ensures read { IfOk result
@@ -83,20 +83,20 @@ pub fn read_whole<R: Source>(
         match take_turn(input, buffer.as_mut_slice(), &mut text)? {
             Turn::Gave => {}
             Turn::End => {
-                return Ok(Gathered {
+                return Ok(SourceText {
                     text,
                     is_whole: true,
                 });
             }
             Turn::Broke => {
-                return Ok(Gathered {
+                return Ok(SourceText {
                     text,
                     is_whole: false,
                 });
             }
         }
     }
-    Ok(Gathered {
+    Ok(SourceText {
         text,
         is_whole: false,
     })

@@ -1,15 +1,12 @@
 //! The report of a session over given lists.
-ghost use Rattle.std.specs.Prelude.{◌≡◌, ◌≤◌, ◌+◌, ℕ, [], List, Some, None, length, map, slice_get, IfOk, IfErr, OnOk};
+ghost use Rattle.std.specs.Prelude.{◌≡◌, ◌≤◌, ◌+◌, [], List, None, length, map, IfOk, IfErr, OnOk};
 ghost use Rattle.std.specs.List.{All};
 ghost use Rattle.std.specs.Vec.{vec_len, vec_capacity};
-ghost use Rattle.gl_event.specs.Bounds.{greatest};
-ghost use Rattle.gl_event.specs.Lawful.{IsLawful};
 ghost use Rattle.gl_event.specs.declared.events.Event.{Event};
 ghost use Rattle.gl_event.specs.declared.limits.TheConstants.{MAX_RING};
 ghost use Rattle.gl_segments.specs.Orders.{lists_of};
 ghost use Rattle.gl_cycles.specs.Reports.{IsGoodlockReport};
 ghost use Rattle.gl_edges.specs.Edges.{edges, once};
-ghost use Rattle.gl_intake.specs.Stream.{logs_of};
 ghost use Rattle.gl_shards.specs.declared.shard.TheConstants.{MAX_SHARDS};
 ghost use Rattle.gl_shards.specs.Feeds.{AllSent};
 ghost use Rattle.gl_engine.specs.Recording.{Closed};

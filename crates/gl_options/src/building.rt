@@ -1,11 +1,50 @@
 //! Options and commands of the command line, step by step. A step over a command that isn't there, since memory was
 //! refused, leaves it so.
-ghost use Rattle.std.specs.Prelude.{◌≡◌, false, IfOk};
+ghost use Rattle.std.specs.Prelude.{◌≡◌, false, Some, IfOk};
 ghost use Rattle.clap.specs.Words.{App, Rule, app_of, rule_of, with_rule, with_subcommand};
 ghost use Rattle.clap.specs.declared.builder.command.Command.TheViews.{out-Command as fields_of};
+ghost use Rattle.clap.specs.declared.builder.value_parser.ValueParser.TheVariants.{Signed};
+ghost use Rattle.gl_options.specs.Options.{flag_rule, option_rule};
 
-use clap::Arg;
+use clap::builder::ValueParser;
+use clap::{Arg, ArgAction};
 use std::alloc::{AllocError, Global};
+
+/// An option that takes a whole number from the least to the greatest: its name, what help calls the number, which
+/// one it is by default, and what help says of it.
+pub(crate) fn number_option<'a>(
+    alloc: Global,
+    name: &'a str,
+    value: &'a str,
+    least: i64,
+    greatest: i64,
+    default: &'a str,
+    help: &'a str,
+) -> Arg<'a>
+    ensures rule { rule_of result
+        ≡ record (option_rule name.entry.now default.entry.now) {
+          parser = Some (Signed least greatest);
+        } }
+    ensures local { result.global ≡ false }
+{
+    Arg::new(alloc, name)
+        .long(name)
+        .value_name(value)
+        .value_parser(ValueParser::signed(least, greatest))
+        .default_value(default)
+        .help(help)
+}
+
+/// An option that takes no value: its name, and what help says of it.
+pub(crate) fn flag_option<'a>(alloc: Global, name: &'a str, help: &'a str) -> Arg<'a>
+    ensures rule { rule_of result ≡ flag_rule name.entry.now }
+    ensures local { result.global ≡ false }
+{
+    Arg::new(alloc, name)
+        .long(name)
+        .action(ArgAction::SetTrue)
+        .help(help)
+}
 
 /// The command with one more option.
 pub(crate) fn with_option<'a>(

@@ -4,11 +4,11 @@ ghost use Rattle.clap.specs.Words.{app_of, found_of, rows_of, rule_of};
 ghost use Rattle.clap.specs.declared.builder.command.Command.TheViews.{out-Command as fields_of};
 ghost use Rattle.gl_options.specs.Options.{live, session_app, recorders_rule, shards_rule, ring_rule, stream_rule, threads_rule, IsCommand};
 
-use crate::building::{described, with_option};
+use crate::building::{flag_option, number_option, with_option};
 use crate::form::Form;
-use crate::jobs::{jobs_in, jobs_option};
+use crate::jobs::{jobs_in, reading};
 use crate::options::{Command, flag_in, form_in, number_in, query_in, report_command};
-use clap::{Arg, ArgAction, ArgMatches, value_parser};
+use clap::{Arg, ArgMatches};
 use gl_filters::Query;
 use std::alloc::{AllocError, Global};
 
@@ -45,12 +45,15 @@ fn recorders_option<'a>(alloc: Global) -> Arg<'a>
     ensures rule { rule_of result ≡ recorders_rule }
     ensures local { result.global ≡ false }
 {
-    Arg::new(alloc, "recorders")
-        .long("recorders")
-        .value_name("THREADS")
-        .value_parser(value_parser!(u32).range(1..=16))
-        .default_value("4")
-        .help("How many threads record at once, 1 to 16")
+    number_option(
+        alloc,
+        "recorders",
+        "THREADS",
+        1,
+        16,
+        "4",
+        "How many threads record at once, 1 to 16",
+    )
 }
 
 // The number of shards.
@@ -58,12 +61,15 @@ fn shards_option<'a>(alloc: Global) -> Arg<'a>
     ensures rule { rule_of result ≡ shards_rule }
     ensures local { result.global ≡ false }
 {
-    Arg::new(alloc, "shards")
-        .long("shards")
-        .value_name("WORKERS")
-        .value_parser(value_parser!(u32).range(1..=16))
-        .default_value("4")
-        .help("How many workers keep edges, by the lock that is held, 1 to 16")
+    number_option(
+        alloc,
+        "shards",
+        "WORKERS",
+        1,
+        16,
+        "4",
+        "How many workers keep edges, by the lock that is held, 1 to 16",
+    )
 }
 
 // The capacity of rings.
@@ -71,14 +77,15 @@ fn ring_option<'a>(alloc: Global) -> Arg<'a>
     ensures rule { rule_of result ≡ ring_rule }
     ensures local { result.global ≡ false }
 {
-    Arg::new(alloc, "ring")
-        .long("ring")
-        .value_name("NOTES")
-        .value_parser(value_parser!(u32).range(1..=65_536))
-        .default_value("256")
-        .help(
-            "How many events wait in each thread's ring, and edges before each worker, 1 to 65536",
-        )
+    number_option(
+        alloc,
+        "ring",
+        "NOTES",
+        1,
+        65_536,
+        "256",
+        "How many events wait in each thread's ring, and edges before each worker, 1 to 65536",
+    )
 }
 
 // Whether the trace is recorded as it is read.
@@ -86,12 +93,11 @@ fn stream_option<'a>(alloc: Global) -> Arg<'a>
     ensures rule { rule_of result ≡ stream_rule }
     ensures local { result.global ≡ false }
 {
-    Arg::new(alloc, "stream")
-        .long("stream")
-        .action(ArgAction::SetTrue)
-        .help(
-            "Records each event as it is read, while the input is still coming: --recorders doesn't count then",
-        )
+    flag_option(
+        alloc,
+        "stream",
+        "Records each event as it is read, while the input is still coming: --recorders doesn't count then",
+    )
 }
 
 // The limit of threads.
@@ -99,12 +105,15 @@ fn threads_option<'a>(alloc: Global) -> Arg<'a>
     ensures rule { rule_of result ≡ threads_rule }
     ensures local { result.global ≡ false }
 {
-    Arg::new(alloc, "threads")
-        .long("threads")
-        .value_name("THREADS")
-        .value_parser(value_parser!(u32).range(1..=1_024))
-        .default_value("64")
-        .help("How many threads a trace may name with --stream, 1 to 1024")
+    number_option(
+        alloc,
+        "threads",
+        "THREADS",
+        1,
+        1_024,
+        "64",
+        "How many threads a trace may name with --stream, 1 to 1024",
+    )
 }
 
 // A command that reports by a session of these recorder threads, workers and rings.
@@ -123,14 +132,13 @@ pub(crate) fn live_command<'a>(alloc: Global) -> Result<clap::Command<'a>, Alloc
     ensures shape { IfOk result (λ c. app_of c ≡ live) }
     ensures local { IfOk result (λ c. (fields_of c).has_globals ≡ false) }
 {
-    let command = described(
-        session_command(alloc),
+    let command = with_option(session_command(alloc), stream_option(alloc));
+    reading(
+        alloc,
+        with_option(command, threads_option(alloc)),
         "Reads a trace from standard input, records it again in running threads and prints the deadlocks that it predicts",
         "Examples:\n  goodlock live < trace.std\n  goodlock live --recorders 2 --shards 3 --ring 1 --json < trace.std\n  some-recorder | goodlock live --stream --threads 256",
-    );
-    let command = with_option(command, stream_option(alloc));
-    let command = with_option(command, threads_option(alloc));
-    with_option(command, jobs_option(alloc))
+    )
 }
 
 /// The command that these values of its options ask for.

@@ -7,12 +7,12 @@ ghost use Rattle.gl_filters.specs.Asked.{Asked};
 ghost use Rattle.gl_options.specs.Options.{goodlock, program, predict, live, stats, replay, check, query_app, report_app, mode_rule, len_rule, max_rule, json_rule, findings_rule};
 ghost use Rattle.gl_options.specs.Options.{Asks, AsksIn, IsCommand, IsEntered, IsFlagIn, IsFormIn, IsNumberAt, IsNumberIn, IsUsageFor, IsUsageOf, NamesModes, jobs_of, mode_named};
 
-use crate::building::{described, with_command, with_option};
+use crate::building::{flag_option, number_option, with_command, with_option};
 use crate::form::Form;
-use crate::jobs::{jobs_in, jobs_option};
+use crate::jobs::{jobs_in, reading};
 use crate::live_options::{LiveOptions, live_command, live_in};
 use clap::error::ErrorKind;
-use clap::{Arg, ArgAction, ArgMatches, Error, value_parser};
+use clap::{Arg, ArgMatches, Error};
 use gl_filters::{Mode, Query};
 use std::alloc::{AllocError, Global};
 use std::convert::AsStr;
@@ -94,12 +94,15 @@ fn len_option<'a>(alloc: Global) -> Arg<'a>
     ensures rule { rule_of result ≡ len_rule }
     ensures local { result.global ≡ false }
 {
-    Arg::new(alloc, "len")
-        .long("len")
-        .value_name("EDGES")
-        .value_parser(value_parser!(u32).range(2..=16))
-        .default_value("4")
-        .help("The most edges that a cycle may have, 2 to 16")
+    number_option(
+        alloc,
+        "len",
+        "EDGES",
+        2,
+        16,
+        "4",
+        "The most edges that a cycle may have, 2 to 16",
+    )
 }
 
 // The greatest number of cycles.
@@ -107,12 +110,15 @@ fn max_option<'a>(alloc: Global) -> Arg<'a>
     ensures rule { rule_of result ≡ max_rule }
     ensures local { result.global ≡ false }
 {
-    Arg::new(alloc, "max")
-        .long("max")
-        .value_name("CYCLES")
-        .value_parser(value_parser!(u32).range(1..=100_000))
-        .default_value("1000")
-        .help("The most cycles that are listed, 1 to 100000")
+    number_option(
+        alloc,
+        "max",
+        "CYCLES",
+        1,
+        100_000,
+        "1000",
+        "The most cycles that are listed, 1 to 100000",
+    )
 }
 
 // The form of the report.
@@ -120,10 +126,11 @@ fn json_option<'a>(alloc: Global) -> Arg<'a>
     ensures rule { rule_of result ≡ json_rule }
     ensures local { result.global ≡ false }
 {
-    Arg::new(alloc, "json")
-        .long("json")
-        .action(ArgAction::SetTrue)
-        .help("Prints the report as JSON, one object on a line")
+    flag_option(
+        alloc,
+        "json",
+        "Prints the report as JSON, one object on a line",
+    )
 }
 
 // Whether findings are listed, in place of cycles.
@@ -131,10 +138,11 @@ fn findings_option<'a>(alloc: Global) -> Arg<'a>
     ensures rule { rule_of result ≡ findings_rule }
     ensures local { result.global ≡ false }
 {
-    Arg::new(alloc, "findings")
-        .long("findings")
-        .action(ArgAction::SetTrue)
-        .help("Lists each finding once: cycles made at the same places are one")
+    flag_option(
+        alloc,
+        "findings",
+        "Lists each finding once: cycles made at the same places are one",
+    )
 }
 
 // A command of this name with the options of a query.
@@ -166,12 +174,12 @@ fn predict_command<'a>(alloc: Global) -> Result<clap::Command<'a>, AllocError>
     ensures shape { IfOk result (λ c. app_of c ≡ predict) }
     ensures local { IfOk result (λ c. (fields_of c).has_globals ≡ false) }
 {
-    let command = described(
+    reading(
+        alloc,
         report_command(alloc, "predict"),
         "Reads a trace from standard input and prints the deadlocks that it predicts",
         "Examples:\n  goodlock predict < trace.std\n  goodlock predict --mode guarded --len 3 --json < trace.std",
-    );
-    with_option(command, jobs_option(alloc))
+    )
 }
 
 // The command that counts.
@@ -179,12 +187,12 @@ fn stats_command<'a>(alloc: Global) -> Result<clap::Command<'a>, AllocError>
     ensures shape { IfOk result (λ c. app_of c ≡ stats) }
     ensures local { IfOk result (λ c. (fields_of c).has_globals ≡ false) }
 {
-    let command = described(
+    reading(
+        alloc,
         query_command(alloc, "stats"),
         "Reads a trace from standard input and counts its events, names, segments, edges and cycles",
         "Examples:\n  goodlock stats < trace.std\n  goodlock stats --mode basic --max 100000 < trace.std",
-    );
-    with_option(command, jobs_option(alloc))
+    )
 }
 
 // The command that writes the trace.
@@ -192,12 +200,12 @@ fn replay_command<'a>(alloc: Global) -> Result<clap::Command<'a>, AllocError>
     ensures shape { IfOk result (λ c. app_of c ≡ replay) }
     ensures local { IfOk result (λ c. (fields_of c).has_globals ≡ false) }
 {
-    let command = described(
+    reading(
+        alloc,
         Ok(clap::Command::new(alloc, "replay")),
         "Reads a trace from standard input and prints its events again, thread by thread, each as a line",
         "Examples:\n  goodlock replay < trace.std\n  goodlock replay < trace.std | goodlock predict",
-    );
-    with_option(command, jobs_option(alloc))
+    )
 }
 
 // The command that checks a report.
@@ -205,12 +213,12 @@ fn check_command<'a>(alloc: Global) -> Result<clap::Command<'a>, AllocError>
     ensures shape { IfOk result (λ c. app_of c ≡ check) }
     ensures local { IfOk result (λ c. (fields_of c).has_globals ≡ false) }
 {
-    let command = described(
+    reading(
+        alloc,
         Ok(clap::Command::new(alloc, "check")),
         "Reads a JSON report, which is one line, and then its trace from standard input, and says whether the report is true",
         "Examples:\n  cat report.json trace.std | goodlock check\n  (goodlock predict --json < trace.std; cat trace.std) | goodlock check",
-    );
-    with_option(command, jobs_option(alloc))
+    )
 }
 
 // The program without its commands.

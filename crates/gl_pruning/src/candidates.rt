@@ -4,7 +4,7 @@ ghost use Rattle.gl_segments.specs.Clocks.{is_before};
 ghost use Rattle.gl_filters.specs.Picked.{edges_of_table};
 ghost use Rattle.gl_pruning.specs.OffCycles.{KeepsCycles};
 
-use crate::reasons::kept_edges_parallel;
+use crate::parallel::kept_edges_parallel;
 use crate::sought::Sought;
 use gl_edges::EdgeList;
 use gl_event::Memory;

@@ -149,7 +149,7 @@ impl Sought<'_> {
 
     /// Leaves out edges of a part that have no way back, as long as there are any and the search for
     /// them may go on.
-    pub(crate) fn narrow(
+    pub(crate) fn leave_out_without_way(
         &self,
         alloc: Global,
         part: Part,

@@ -9,18 +9,25 @@ ghost use Rattle.gl_pruning.specs.Sought.{KeepsSought};
 
 use crate::grains::Grain;
 use crate::loops::edges_on_loops;
-use crate::narrowing::{Reason, count_set, leave_out_parallel};
 use crate::parts::Part;
 use crate::sought::Sought;
 use gl_event::Memory;
 use std::alloc::Global;
-use std::thread::Threads;
 
 /// All the effort that a reason makes at most.
 pub const ALL_EFFORT: usize = usize::MAX;
 
-// Why edges are left out, in this order.
-fn reasons() -> [Reason; 4] {
+/// Why edges are left out.
+#[derive(Clone, Copy, Debug)]
+pub(crate) enum Reason {
+    // none of a cycle is alike to them
+    Alike(Grain),
+    // they have no way back
+    NoWay,
+}
+
+/// The reasons, in their order.
+pub(crate) fn reasons() -> [Reason; 4] {
     [
         Reason::Alike(Grain::ByKind),
         Reason::NoWay,
@@ -90,6 +97,23 @@ impl Sought<'_> {
         self.leave_out(alloc, reason, part, kept)
     }
 
+    /// Leaves out edges of a part for a reason.
+    pub(crate) fn leave_out(
+        &self,
+        alloc: Global,
+        reason: Reason,
+        part: Part,
+        kept: &mut Vec<bool>,
+    ) -> Result<(), Memory>
+        requires { KeepsSought self.now kept.old.items }
+        ensures { OnOk result (KeepsSought self.now kept.new.items) }
+    {
+        match reason {
+            Reason::Alike(grain) => self.leave_out_alike(alloc, grain, part, kept),
+            Reason::NoWay => self.leave_out_without_way(alloc, part, kept),
+        }
+    }
+
     /// Which edges may be in a cycle, as far as all reasons tell: for each a flag.
     pub(crate) fn kept_edges(&self, alloc: Global) -> Result<Vec<bool>, Memory>
         ensures { IfOk result (λ kept. KeepsSought self.now kept.items) }
@@ -100,34 +124,7 @@ impl Sought<'_> {
     }
 }
 
-/// The same as [`Sought::leave_out_in_turn`], on several threads, and with each reason once.
-///
-/// Err where memory was refused.
-pub fn leave_out_in_turn_parallel(
-    rt: &(impl Threads + Sync),
-    alloc: Global,
-    sought: &Sought<'_>,
-    effort: usize,
-    kept: &mut Vec<bool>,
-) -> Result<(), Memory>
-    requires kept { KeepsSought sought.now kept.old.items }
-    ensures { OnOk result (KeepsSought sought.now kept.new.items) }
-{
-    for reason in reasons() {
-        leave_out_parallel(rt, alloc, sought, reason, effort, kept)?;
-    }
-    Ok(())
-}
-
-/// The same as [`Sought::kept_edges`], on several threads.
-pub(crate) fn kept_edges_parallel(
-    rt: &(impl Threads + Sync),
-    alloc: Global,
-    sought: &Sought<'_>,
-) -> Result<Vec<bool>, Memory>
-    ensures { IfOk result (λ kept. KeepsSought sought.now kept.items) }
-{
-    let mut kept = sought.kept_at_first(alloc)?;
-    leave_out_in_turn_parallel(rt, alloc, sought, ALL_EFFORT, &mut kept)?;
-    Ok(kept)
+/// How many flags are set.
+pub(crate) fn count_set(flags: &[bool]) -> usize {
+    flags.iter().filter(|&&flag| flag).count()
 }

@@ -11,9 +11,9 @@ use Rattle.gl_recorder.specs.Taking.{partner_refusal}
 
 -- an event that acquires a lock is on no thread
 pub alone_of : (e : Event) (lock : ℕ) → acquired_lock e ≡ Some lock → partner e ≡ None
-alone_of (Acquire l mode loc) lock is = refl
-alone_of (Release l mode loc) lock is = absurd (cc)
-alone_of (TryAcquire l mode loc) lock is = refl
+alone_of (Acquire mode l loc) lock is = refl
+alone_of (Release mode l loc) lock is = absurd (cc)
+alone_of (TryAcquire mode l loc) lock is = refl
 alone_of (Fork t loc) lock is = absurd (cc)
 alone_of (Join t loc) lock is = absurd (cc)
 
@@ -25,9 +25,9 @@ module _ (limits : Bounds) (thread : ℕ) (es : List Event) (room : length es < 
 
   pub by_partner : (e : Event) (other : ℕ) → closes e ≡ true → partner e ≡ Some other → refusal limits thread es e ≡ partner_refusal limits thread other
   unfolding refusal lock_refusal
-  by_partner (Acquire l mode loc) other closing is = absurd (false≢true closing)
-  by_partner (Release l mode loc) other closing is = absurd (false≢true closing)
-  by_partner (TryAcquire l mode loc) other closing is = absurd (false≢true closing)
+  by_partner (Acquire mode l loc) other closing is = absurd (false≢true closing)
+  by_partner (Release mode l loc) other closing is = absurd (false≢true closing)
+  by_partner (TryAcquire mode l loc) other closing is = absurd (false≢true closing)
   by_partner (Fork t loc) other closing is = let same : t ≡ other = cc in rw (lt-leb limits.events (length es) room, same)
   by_partner (Join t loc) other closing is = let same : t ≡ other = cc in rw (lt-leb limits.events (length es) room, same)
 

@@ -192,9 +192,9 @@ module _ (names new : NameLists) (differ : AllPairs (λ a b. a ≢ b) names.lock
   Same = IsSame names.locks new.locks
 
   renumbered : (e : Event) → has_names names e ≡ true → AreIn new (told names e) → Renumbered Same e (again e)
-  renumbered (Acquire lock mode place) has are = acquire lock _ mode place _ (same_lock names.locks new.locks lock (left_of _ _ has) are.0)
-  renumbered (Release lock mode place) has are = release lock _ mode place _ (same_lock names.locks new.locks lock (left_of _ _ has) are.0)
-  renumbered (TryAcquire lock mode place) has are = try_acquire lock _ mode place _ (same_lock names.locks new.locks lock (left_of _ _ has) are.0)
+  renumbered (Acquire mode lock place) has are = acquire lock _ mode place _ (same_lock names.locks new.locks lock (left_of _ _ has) are.0)
+  renumbered (Release mode lock place) has are = release lock _ mode place _ (same_lock names.locks new.locks lock (left_of _ _ has) are.0)
+  renumbered (TryAcquire mode lock place) has are = try_acquire lock _ mode place _ (same_lock names.locks new.locks lock (left_of _ _ has) are.0)
   renumbered (Fork thread place) has are = fork thread thread place _
   renumbered (Join thread place) has are = join thread thread place _
 
@@ -203,9 +203,9 @@ module _ (names new : NameLists) (differ : AllPairs (λ a b. a ≢ b) names.lock
   all_renumbered (e ∷ es) has are = (renumbered e (left_of _ _ has) are.0, all_renumbered es (right_of _ _ has) are.1)
 
   same_partner : (e : Event) → partner (again e) ≡ partner e
-  same_partner (Acquire lock mode place) = refl
-  same_partner (Release lock mode place) = refl
-  same_partner (TryAcquire lock mode place) = refl
+  same_partner (Acquire mode lock place) = refl
+  same_partner (Release mode lock place) = refl
+  same_partner (TryAcquire mode lock place) = refl
   same_partner (Fork thread place) = refl
   same_partner (Join thread place) = refl
 

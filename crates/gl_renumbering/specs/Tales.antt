@@ -20,17 +20,17 @@ pub data Tale : Type 0 where
 
 -- the tale of an event: each number of a lock or of a place gives way to its name
 abbrev pub told : NameLists → Event → Tale
-told names (Acquire lock mode place) = Acquires (name_at names.locks lock) mode (name_at names.locs place)
-told names (Release lock mode place) = Releases (name_at names.locks lock) mode (name_at names.locs place)
-told names (TryAcquire lock mode place) = TryAcquires (name_at names.locks lock) mode (name_at names.locs place)
+told names (Acquire mode lock place) = Acquires (name_at names.locks lock) mode (name_at names.locs place)
+told names (Release mode lock place) = Releases (name_at names.locks lock) mode (name_at names.locs place)
+told names (TryAcquire mode lock place) = TryAcquires (name_at names.locks lock) mode (name_at names.locs place)
 told names (Fork thread place) = Forks thread (name_at names.locs place)
 told names (Join thread place) = Joins thread (name_at names.locs place)
 
 -- the event of a tale: each name of a lock or of a place gives way to its number
 abbrev pub event_by : NameLists → Tale → Event
-event_by names (Acquires lock mode place) = Acquire (number_of names.locks lock) mode (number_of names.locs place)
-event_by names (Releases lock mode place) = Release (number_of names.locks lock) mode (number_of names.locs place)
-event_by names (TryAcquires lock mode place) = TryAcquire (number_of names.locks lock) mode (number_of names.locs place)
+event_by names (Acquires lock mode place) = Acquire mode (number_of names.locks lock) (number_of names.locs place)
+event_by names (Releases lock mode place) = Release mode (number_of names.locks lock) (number_of names.locs place)
+event_by names (TryAcquires lock mode place) = TryAcquire mode (number_of names.locks lock) (number_of names.locs place)
 event_by names (Forks thread place) = Fork thread (number_of names.locs place)
 event_by names (Joins thread place) = Join thread (number_of names.locs place)
 
@@ -72,9 +72,9 @@ is_named names number = nat_lt number (length names)
 
 -- the lock and the place of the event have names
 abbrev pub has_names : NameLists → Event → Bool
-has_names names (Acquire lock mode place) = is_named names.locks lock && is_named names.locs place
-has_names names (Release lock mode place) = is_named names.locks lock && is_named names.locs place
-has_names names (TryAcquire lock mode place) = is_named names.locks lock && is_named names.locs place
+has_names names (Acquire mode lock place) = is_named names.locks lock && is_named names.locs place
+has_names names (Release mode lock place) = is_named names.locks lock && is_named names.locs place
+has_names names (TryAcquire mode lock place) = is_named names.locks lock && is_named names.locs place
 has_names names (Fork thread place) = is_named names.locs place
 has_names names (Join thread place) = is_named names.locs place
 

@@ -5,7 +5,7 @@ use Rattle.std.specs.List.Sorted.{IsPartitionedBy, IsPartitionPoint}
 use Rattle.std.proofs.lemmas.Bool.{cases_lt}
 use Rattle.std.proofs.lemmas.Bool.Decides.{nat_tests}
 use Rattle.std.proofs.lemmas.List.{take_more, take_all}
-use Rattle.gl_segments.specs.declared.history.Growth.{Growth}
+use Rattle.gl_segments.specs.declared.growths.Growth.{Growth}
 use Rattle.gl_segments.specs.bodies.Histories.{is_past, is_up_to, count_at, IsAtMost, AreOrdered}
 use Rattle.gl_segments.proofs.Noting.{count_this, count_other, count_none}
 

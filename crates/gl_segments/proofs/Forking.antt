@@ -26,9 +26,9 @@ pub record AddsBelow (old new : List Spawn) (from : ℕ) (es : List Event) (n : 
 
 -- the thread that a fork starts
 started : Event → ℕ
-started (Acquire lock mode loc) = 0
-started (Release lock mode loc) = 0
-started (TryAcquire lock mode loc) = 0
+started (Acquire mode lock loc) = 0
+started (Release mode lock loc) = 0
+started (TryAcquire mode lock loc) = 0
 started (Fork thread loc) = thread
 started (Join thread loc) = 0
 

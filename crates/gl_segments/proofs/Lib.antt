@@ -13,5 +13,6 @@ pub mod Tabulating
 pub mod Noting
 pub mod Sorting
 pub mod Bisecting
+pub mod Shortening
 pub mod Along
 pub mod Unpacking

@@ -7,7 +7,7 @@ use Rattle.std.proofs.lemmas.Option.{same_Some, slice_get_within}
 use Rattle.std.proofs.lemmas.Grind.{get_or-set_at}
 use Rattle.std.proofs.lemmas.List.Elements.{filter-append, All-nil, All-head, All-tail, All-push, All-weaker}
 use Rattle.std.proofs.lemmas.List.Sorted.{IsNonDecreasingBy-push}
-use Rattle.gl_segments.specs.declared.history.Growth.{Growth}
+use Rattle.gl_segments.specs.declared.growths.Growth.{Growth}
 use Rattle.gl_segments.specs.declared.search.Link.{Link}
 use Rattle.gl_segments.specs.bodies.Search.{GrowsBy}
 use Rattle.gl_segments.proofs.Clocking.{none_counted}

@@ -7,7 +7,7 @@ use Rattle.std.proofs.lemmas.Bool.{cases_eq}
 use Rattle.std.proofs.lemmas.Bool.Decides.{nat_tests}
 use Rattle.std.proofs.lemmas.List.Elements.{filter_agree}
 use Rattle.std.proofs.lemmas.List.Sorted.{ties_still_rise, IsNonDecreasingBy-from_sort}
-use Rattle.gl_segments.specs.declared.history.Growth.{Growth}
+use Rattle.gl_segments.specs.declared.growths.Growth.{Growth}
 use Rattle.gl_segments.specs.bodies.Histories.{is_past, last_count, count_at, count_along, clocks_along, tabulated, AreOrdered, Tells}
 use Rattle.gl_segments.proofs.Tabulating.{tabulated_is}
 

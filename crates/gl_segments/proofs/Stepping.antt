@@ -114,9 +114,9 @@ joined_join lists thread loc a (Some cs) at h =
 
 -- the same, whichever the event
 joined_cases : (lists : List (List Event)) (e : Event) (a : Segment) → Contains (joined_last (cuts_of lists) e) a → IsJoined lists e a
-joined_cases lists (Acquire lock mode loc) a h = absurd (contains_nil a h)
-joined_cases lists (Release lock mode loc) a h = absurd (contains_nil a h)
-joined_cases lists (TryAcquire lock mode loc) a h = absurd (contains_nil a h)
+joined_cases lists (Acquire mode lock loc) a h = absurd (contains_nil a h)
+joined_cases lists (Release mode lock loc) a h = absurd (contains_nil a h)
+joined_cases lists (TryAcquire mode lock loc) a h = absurd (contains_nil a h)
 joined_cases lists (Fork thread loc) a h = absurd (contains_nil a h)
 joined_cases lists (Join thread loc) a h = joined_join lists thread loc a (slice_get (cuts_of lists) thread) refl h
 

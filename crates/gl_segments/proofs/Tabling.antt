@@ -114,8 +114,8 @@ joined_none vecs thread loc past =
 
 -- an event that is no join
 pub joined_other : (cuts : List (List Event)) (e : Event) → ((thread loc : ℕ) → e ≡ Join thread loc → ⊥) → joined_last cuts e ≡ []
-joined_other cuts (Acquire lock mode loc) other = refl
-joined_other cuts (Release lock mode loc) other = refl
-joined_other cuts (TryAcquire lock mode loc) other = refl
+joined_other cuts (Acquire mode lock loc) other = refl
+joined_other cuts (Release mode lock loc) other = refl
+joined_other cuts (TryAcquire mode lock loc) other = refl
 joined_other cuts (Fork thread loc) other = refl
 joined_other cuts (Join thread loc) other = absurd (other thread loc refl)

@@ -2,6 +2,7 @@
 pub mod Ends
 pub mod Forked
 pub mod Fronts
+pub mod Growths
 pub mod Histories
 pub mod Packing
 pub mod Rows

@@ -5,25 +5,15 @@
 //! how many segments of which thread are before.
 ghost use Rattle.std.specs.Prelude.{◌≡◌, ℕ, ◌+◌, ◌<◌, ◌≤◌, ◌^◌, List, [], ◌∷◌, ◌++◌, length, slice_index, slice_index_or, slice_set, IfOk, OnOk};
 ghost use Rattle.std.specs.List.Sorted.{IsNonDecreasingBy};
-ghost use Rattle.gl_segments.specs.bodies.Histories.{count_at, is_up_to, AreOrdered, IsNoted};
+ghost use Rattle.gl_segments.specs.bodies.Histories.{count_at, AreOrdered, IsNoted};
 ghost use Rattle.gl_segments.specs.bodies.Search.{IsAmong, GrowsBy};
 
 use crate::clock::Clock;
+use crate::growths::{Growth, Growths};
 use crate::search::Link;
 use gl_event::ThreadId;
 use std::alloc::{AllocError, Global};
 use std::marker::Model;
-
-/// From a segment of a thread on, so many segments of another thread are before its segments.
-#[derive(Clone, Copy, Debug)]
-pub struct Growth {
-    /// The other thread.
-    pub thread: ThreadId,
-    /// The index of the segment.
-    pub from: u32,
-    /// How many segments of the other thread are before it.
-    pub count: u32,
-}
 
 /// The clocks of the segments of one thread.
 #[derive(Drop, Debug)]
@@ -34,7 +24,7 @@ pub struct History {
     /// The first segment's clock, without the zeros at its end.
     first: Vec<u32>,
     /// Where other threads' counts change after that, by thread and then by segment.
-    growths: Vec<Growth>,
+    growths: Growths,
 }
 
 impl Model for History {
@@ -43,9 +33,9 @@ impl Model for History {
 
     ghost Value = { List (List ℕ) };
 
-    ghost view = { λ h. clocks_along h.thread h.segments h.threads h.first.items h.growths.items };
+    ghost view = { λ h. clocks_along h.thread h.segments h.threads h.first.items h.growths };
 
-    ghost invariant = { λ h. AreOrdered h.growths.items };
+    ghost invariant = { λ h. AreOrdered h.growths };
 }
 
 impl History {
@@ -80,22 +70,15 @@ fn count_of(counts: &[u32], thread: ThreadId) -> u32
 
 // How many segments of the thread are before the segment of this index, where so many are before
 // the first segment.
-fn count_in(growths: &[Growth], first: u32, index: u32, thread: ThreadId) -> u32
+fn count_in(growths: &Growths, first: u32, index: u32, thread: ThreadId) -> u32
     requires { AreOrdered growths.now }
     ensures { result ≡ count_at first growths.now index thread }
 {
-    let until = growths.partition_point(
-        |g: &Growth| -> bool
-            ensures { result ≡ is_up_to index thread g.now }
-        {
-            g.thread.number() < thread.number()
-                || (g.thread.number() == thread.number() && g.from <= index)
-        },
-    );
+    let until = growths.up_to(index, thread);
     if until == 0 {
         return first;
     }
-    let last = growths[until - 1];
+    let last = growths.get(until - 1);
     if last.thread.number() == thread.number() {
         return last.count;
     }
@@ -240,7 +223,7 @@ impl Growing {
     }
 
     /// The history that has these clocks.
-    pub fn finish(self) -> Result<History, AllocError>
+    pub fn finish(self, alloc: Global) -> Result<History, AllocError>
         requires rising { IsNonDecreasingBy (λ g. g.from) self.growths.items }
         ensures { IfOk result
             (λ h. (clocks : List (List ℕ)) → IsNoted self clocks → h ≡ clocks) }
@@ -253,7 +236,7 @@ impl Growing {
             mut growths,
         } = self;
         growths.sort_by_key(|g| g.thread.number())?;
-        growths.shrink_to_fit();
+        let growths = Growths::new(alloc, growths)?;
         Ok(History {
             thread,
             segments,

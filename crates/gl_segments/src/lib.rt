@@ -16,6 +16,7 @@
 mod clock;
 mod faults;
 mod forked;
+mod growths;
 mod history;
 mod laws;
 mod order;

@@ -139,5 +139,5 @@ fn history(
         growing.push(alloc, &search.clock, &search.found)?;
         starts.note(alloc, at, &search.clock)?;
     }
-    Ok(growing.finish()?)
+    Ok(growing.finish(alloc)?)
 }

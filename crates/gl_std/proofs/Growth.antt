@@ -13,8 +13,8 @@ use Rattle.gl_std.specs.Trace.{with_event, after_shape, after_line, and_then, re
 use Rattle.gl_std.specs.bodies.Finding.{found_in, with_name, event_found, after_ruling}
 use Rattle.gl_std.specs.declared.faults.ReadFault.{ReadFault}
 use Rattle.gl_std.specs.declared.faults.ReadFault.TheVariants.{Line}
-use Rattle.gl_std.specs.declared.standing.Ruling.{Ruling}
-use Rattle.gl_std.specs.declared.standing.Ruling.TheVariants.{Kept, Stray, Fault}
+use Rattle.gl_std.specs.declared.ruling.Ruling.{Ruling}
+use Rattle.gl_std.specs.declared.ruling.Ruling.TheVariants.{Kept, Stray, Fault}
 use Rattle.gl_std.specs.declared.trace.Trace.{Trace}
 use Rattle.gl_std.proofs.FoundNames.{acting, place_of, threads_of, locks_of, with_found, call-found}
 use Rattle.gl_std.proofs.WithinLimits.{IsTrace, lists_of, same_trace, no_trace, trace_of-append}
@@ -26,7 +26,7 @@ append_nil (x ∷ xs) = ap (λ ys. x ∷ ys) (append_nil xs)
 pub IsFront-itself : {X : Type 0} (xs : List X) → IsFront xs xs
 IsFront-itself xs = ([], sym (append_nil xs))
 
-IsFront-then : {X : Type 0} (xs ys zs : List X) → IsFront xs ys → IsFront ys zs → IsFront xs zs
+pub IsFront-then : {X : Type 0} (xs ys zs : List X) → IsFront xs ys → IsFront ys zs → IsFront xs zs
 IsFront-then xs ys zs a b = (a.0 ++ b.0, b.1 ∙ ap (λ l. l ++ b.0) a.1 ∙ append_assoc xs a.0 b.0)
 
 with_name-front : (names : List (List ℕ)) (number : Option ℕ) (name : List ℕ) → IsFront names (with_name names number name)

@@ -29,8 +29,8 @@ use Rattle.gl_std.specs.bodies.Finding.{found_in, with_name, operand_number, eve
 use Rattle.gl_std.specs.declared.faults.StdKind.{StdKind}
 use Rattle.gl_std.specs.declared.faults.ReadFault.{ReadFault}
 use Rattle.gl_std.specs.declared.faults.ReadFault.TheVariants.{Line}
-use Rattle.gl_std.specs.declared.standing.Ruling.{Ruling}
-use Rattle.gl_std.specs.declared.standing.Ruling.TheVariants.{Kept, Stray, Fault}
+use Rattle.gl_std.specs.declared.ruling.Ruling.{Ruling}
+use Rattle.gl_std.specs.declared.ruling.Ruling.TheVariants.{Kept, Stray, Fault}
 use Rattle.gl_std.specs.declared.trace.Trace.{Trace}
 use Rattle.gl_std.proofs.Growth.{Grows-itself, Grows-then, call_grows}
 use Rattle.gl_std.proofs.FoundNames.{with_name-mention, length-with_name, acting, place_of, threads_of, locks_of, with_found, event-found, call-found}
@@ -138,9 +138,9 @@ acquired_stray es lock mode limit h = acquire_no_stray (eqb (depth es lock) 0) (
 
 dropped_stray : (es : List Event) (e : Event) (limit : Option StdKind) → ruling_of (lock_refusal es e) limit ≡ Stray → is_stray es e ≡ true
 unfolding lock_refusal
-dropped_stray es (Acquire lock mode loc) limit h = absurd (acquired_stray es lock mode limit h)
-dropped_stray es (Release lock mode loc) limit h = release_stray (eqb (depth es lock) 0) limit h
-dropped_stray es (TryAcquire lock mode loc) limit h = absurd (acquired_stray es lock mode limit h)
+dropped_stray es (Acquire mode lock loc) limit h = absurd (acquired_stray es lock mode limit h)
+dropped_stray es (Release mode lock loc) limit h = release_stray (eqb (depth es lock) 0) limit h
+dropped_stray es (TryAcquire mode lock loc) limit h = absurd (acquired_stray es lock mode limit h)
 dropped_stray es (Fork thread loc) limit h = absurd (closing_no_stray limit h)
 dropped_stray es (Join thread loc) limit h = absurd (closing_no_stray limit h)
 
@@ -150,9 +150,9 @@ release_kept false h = refl
 
 allowed_no_stray : (es : List Event) (e : Event) → lock_refusal es e ≡ None → is_stray es e ≡ false
 unfolding lock_refusal
-allowed_no_stray es (Acquire lock mode loc) h = refl
-allowed_no_stray es (Release lock mode loc) h = release_kept (eqb (depth es lock) 0) h
-allowed_no_stray es (TryAcquire lock mode loc) h = refl
+allowed_no_stray es (Acquire mode lock loc) h = refl
+allowed_no_stray es (Release mode lock loc) h = release_kept (eqb (depth es lock) 0) h
+allowed_no_stray es (TryAcquire mode lock loc) h = refl
 allowed_no_stray es (Fork thread loc) h = refl
 allowed_no_stray es (Join thread loc) h = refl
 

@@ -1,6 +1,6 @@
 -- A text that is judged line by line as it comes.
 use Rattle.std.proofs.Common.{◌≡◌, ◌≢◌, ℕ, zero, suc, ◌+◌, ◌-◌, ◌<◌, ◌≤◌, inl, inr, nat_lt, Option, Bool, true, false, ◌&&◌, cond, eqb, List, [], ◌∷◌, ◌++◌, length, Contains, Some, Result, Ok, Err, take, drop, refl, sym, ap, subst, ◌∙◌, append_assoc, length-append, arith}
-use Rattle.std.specs.Prelude.{nat_le, None, IfNone, IfOk, IfSome, OnOk, IsErr}
+use Rattle.std.specs.Prelude.{nat_le, None, IfNone, IfSome, OnOk, IsErr}
 use Rattle.std.specs.Io.KnownBytes.{Consumes, IsAtEnd, Keeps}
 use Rattle.std.proofs.KnownBytes.{Consumes-kept, Consumes-nil, Consumes-trans, Consumes-whole}
 use Rattle.std.proofs.lemmas.Bool.{false≢true}
@@ -18,8 +18,8 @@ use Rattle.gl_std.specs.LineReading as line_reading
 use Rattle.gl_std.specs.LineReading.{HasGiven}
 use Rattle.gl_std.specs.Judging as judging
 use Rattle.gl_std.specs.bodies.States.{left_of, HasJudged, IsAt, IsFit, IsOver, IsSound, Reaches, ReadsOn}
-use Rattle.gl_std.specs.bodies.Telling.{with_judged, IsKnown}
-use Rattle.gl_std.specs.bodies.Judgements.{FailsAs, HasJudgedMore, TellsAs}
+use Rattle.gl_std.specs.bodies.Telling.{with_judged}
+use Rattle.gl_std.specs.bodies.Judgements.{JudgesLine}
 use Rattle.gl_std.specs.bodies.Stepping.{fuel, is_idle, HasBroken, HasFilled, HasFilledBuffer, HasStepped, IsRead, IsStep, OnlyReads, Steps}
 use Rattle.gl_std.specs.bodies.Taking.{EndsLine, HasTakenLine, HasTakenRest, OnlyTakes, TakesLast, TakesLine}
 use Rattle.gl_std.specs.Faults.{lines_fault}
@@ -217,18 +217,17 @@ fault_at limits old end after text told number kind at is faulty =
 
 -- a line that LF ends, in whichever way it was judged
 pub line_ended : (j j2 : Judge) (kept kept2 end raw line : List ℕ) (r : Result Judged ReadFault) → ¬ Contains end LF → take KEPT raw ≡ take KEPT (kept ++ end) → line ≡ without_cr raw
-    → IfOk r (TellsAs j j2 (λ told. after_line j.limits j.line told line)) → IfOk r (HasJudgedMore j j2) → IfOk r (λ judged. IsKnown judged (length j2.names.threads))
-    → FailsAs j (λ told. after_line j.limits j.line told line) r → OnOk r (IsSound j2) → j2.limits ≡ j.limits → OnOk r (j2.line ≡ j.line + 1) → OnOk r (kept2 ≡ []) → EndsLine j kept end j2 kept2 r
-line_ended j j2 kept kept2 end raw line (Ok judged) one same is after has known fails sound limits next empty = record {
-  reaches = λ seen told reaches. reached_line j j2 kept kept2 end raw seen told judged reaches one same (ap (after_line j.limits j.line told) (sym is) ∙ after told reaches.judged) (has told reaches.judged) limits next empty;
-  known = known;
+    → JudgesLine j j2 (λ told. after_line j.limits j.line told line) r → OnOk r (IsSound j2) → OnOk r (j2.line ≡ j.line + 1) → OnOk r (kept2 ≡ []) → EndsLine j kept end j2 kept2 r
+line_ended j j2 kept kept2 end raw line (Ok judged) one same is judges sound next empty = record {
+  reaches = λ seen told reaches. reached_line j j2 kept kept2 end raw seen told judged reaches one same (ap (after_line j.limits j.line told) (sym is) ∙ judges.tells told reaches.judged) (judges.judged told reaches.judged) judges.same_limits next empty;
+  known = judges.known;
   sound = sound;
   empty = empty;
   line = next;
 }
-line_ended j j2 kept kept2 end raw line (Err (Line number kind)) one same is after has known fails sound limits next empty =
-    λ seen told reaches. reached_fault j kept end raw seen told number kind reaches one same (ap (after_line j.limits j.line told) (sym is) ∙ fails number kind refl told reaches.judged)
-line_ended j j2 kept kept2 end raw line (Err Memory) one same is after has known fails sound limits next empty = tt
+line_ended j j2 kept kept2 end raw line (Err (Line number kind)) one same is judges sound next empty =
+    λ seen told reaches. reached_fault j kept end raw seen told number kind reaches one same (ap (after_line j.limits j.line told) (sym is) ∙ judges.fault number kind refl told reaches.judged)
+line_ended j j2 kept kept2 end raw line (Err Memory) one same is judges sound next empty = tt
 
 -- a line that isn't judged is one at fault, or memory was refused
 pub line_faulty : (j j2 : Judge) (kept kept2 end : List ℕ) (r : Result Judged ReadFault) → IsErr r
@@ -514,15 +513,14 @@ begun limits turns start f same line judged none left turn =
 
 -- a last line, in whichever way it was judged
 pub last_taken : (f new : LineReader) (line : List ℕ) (r : Result Judged ReadFault) → f.unfinished.items ≢ [] → line ≡ f.unfinished.items
-    → IfOk r (TellsAs f.judge new.judge (λ told. after_line f.judge.limits f.judge.line told line)) → IfOk r (HasJudgedMore f.judge new.judge)
-    → IfOk r (λ judged. IsKnown judged (length new.judge.names.threads)) → FailsAs f.judge (λ told. after_line f.judge.limits f.judge.line told line) r → TakesLast f new r
-last_taken f new line (Ok judged) some is after has known fails = record {
-  trace = λ text told over. last_over f text line told (Ok (with_judged judged new.judge.names told)) some over is (after told over.judged);
-  has_judged = λ text told over. has told over.judged;
-  known = known;
+    → JudgesLine f.judge new.judge (λ told. after_line f.judge.limits f.judge.line told line) r → TakesLast f new r
+last_taken f new line (Ok judged) some is judges = record {
+  trace = λ text told over. last_over f text line told (Ok (with_judged judged new.judge.names told)) some over is (judges.tells told over.judged);
+  has_judged = λ text told over. judges.judged told over.judged;
+  known = judges.known;
 }
-last_taken f new line (Err (Line number kind)) some is after has known fails = λ text told over. last_over f text line told (Err (Line number kind)) some over is (fails number kind refl told over.judged)
-last_taken f new line (Err Memory) some is after has known fails = tt
+last_taken f new line (Err (Line number kind)) some is judges = λ text told over. last_over f text line told (Err (Line number kind)) some over is (judges.fault number kind refl told over.judged)
+last_taken f new line (Err Memory) some is judges = tt
 
 -- ---- steps in a row
 

@@ -1,6 +1,6 @@
 -- Lines by numbers in place of names.
 use Rattle.std.proofs.Common.{◌≡◌, ℕ, zero, suc, ◌+◌, ◌<◌, ◌≤◌, Bool, true, false, position, List, [], ◌∷◌, ◌++◌, length, map, take, replicate, Option, Some, None, Result, Ok, Err, get_or, refl, sym, ap, subst, ◌∙◌, length-append, add-zero, add-one, cond, inl, inr, arith}
-use Rattle.std.specs.Prelude.{slice_get, slice_set, IfOk}
+use Rattle.std.specs.Prelude.{slice_get, slice_set}
 use Rattle.std.specs.Str.{bytes_eq}
 use Rattle.std.proofs.lemmas.Bool.{cases_eq}
 use Rattle.std.proofs.lemmas.List.{get_or_append_left, get_or-set_same, get_or-set_other, get_or-replicate, length-set, length-replicate}
@@ -14,12 +14,13 @@ use Rattle.gl_std.specs.Line.Shape.{Call}
 use Rattle.gl_std.specs.Names.{NameLists}
 use Rattle.gl_std.specs.Trace.{after_call, after_line, after_shape, and_then, operands, read_from}
 use Rattle.gl_std.specs.bodies.Blocks.{after_shapes, named, shape_in, AreKnown, GoOn, HasTakenShapes, IsKnownOf, IsNumbered, TakesShapes}
-use Rattle.gl_std.specs.bodies.Judgements.{AreApart, FailsAs, TellsAs}
+use Rattle.gl_std.specs.bodies.Judgements.{AreApart, JudgesLine}
 use Rattle.gl_std.specs.bodies.Shown.{shown_operation}
 use Rattle.gl_std.specs.bodies.States.{HasJudged}
 use Rattle.gl_std.specs.declared.faults.ReadFault.{ReadFault}
 use Rattle.gl_std.specs.declared.judge.Judge.{Judge}
 use Rattle.gl_std.specs.declared.judge.Judged.{Judged}
+use Rattle.gl_std.specs.declared.line.Operation.{Operation as OperationValue}
 use Rattle.gl_std.specs.declared.names.known.Known.{Known}
 use Rattle.gl_std.specs.declared.names.Found.{Found}
 use Rattle.gl_std.specs.declared.said.Said.{Said}
@@ -64,6 +65,25 @@ front_length names later front = let longer = ap length front.1 ∙ length-appen
 
 pub go_on_itself : (names : NameLists) → GoOn names names
 go_on_itself names = record { threads = IsFront-itself names.threads; locks = IsFront-itself names.locks; locs = IsFront-itself names.locs }
+
+-- ---- names that stand where their numbers are
+
+-- so the numbers have names
+pub call_numbered : (names : NameLists) (operation : OperationValue) (thread operand location : ℕ) (t p l : List ℕ)
+    → slice_get names.threads thread ≡ Some t → slice_get (operands (shown_operation operation) names) operand ≡ Some p → slice_get names.locs location ≡ Some l
+    → IsNumbered names (CallSaid operation thread operand location)
+call_numbered names operation thread operand location t p l a b d =
+    (slice_get_within names.threads thread t a, slice_get_within (operands (shown_operation operation) names) operand p b, slice_get_within names.locs location l d)
+
+-- and say the line
+pub call_said : (names : NameLists) (operation : OperationValue) (thread operand location : ℕ) (t p l : List ℕ)
+    → slice_get names.threads thread ≡ Some t → slice_get (operands (shown_operation operation) names) operand ≡ Some p → slice_get names.locs location ≡ Some l
+    → shape_in names (CallSaid operation thread operand location) ≡ Call (shown_operation operation) t p l
+call_said names operation thread operand location t p l a b d =
+    let first = named_of names.threads thread t a in
+    let second = named_of (operands (shown_operation operation) names) operand p b in
+    let third = named_of names.locs location l d in
+    (λ i. Call (shown_operation operation) (first i) (second i) (third i))
 
 -- ---- what was said before names are added
 
@@ -245,19 +265,13 @@ grown_names old new told more a b grows =
     subst (λ n. GoOn n new) (sym a) (subst (λ n. GoOn told.names n) (sym b) (record { threads = grows.threads; locks = grows.locks; locs = grows.locs }))
 
 -- names of the same bytes say the same
-pub tells_alike : (old old2 new : Judge) (r : Result Judged ReadFault) (o : Operation) (t t2 p p2 l l2 : List ℕ) → old2 ≡ old → t2 ≡ t → p2 ≡ p → l2 ≡ l → IfOk r (TellsAs old new (λ told. after_call old.limits old.line told o t p l)) → IfOk r (TellsAs old2 new (λ told. after_call old2.limits old2.line told o t2 p2 l2))
-tells_alike old old2 new r o t t2 p p2 l l2 same a b d tells =
-    subst (λ j. IfOk r (TellsAs j new (λ told. after_call j.limits j.line told o t2 p2 l2))) (sym same)
-    (subst (λ n. IfOk r (TellsAs old new (λ told. after_call old.limits old.line told o n p2 l2))) (sym a)
-    (subst (λ n. IfOk r (TellsAs old new (λ told. after_call old.limits old.line told o t n l2))) (sym b)
-    (subst (λ n. IfOk r (TellsAs old new (λ told. after_call old.limits old.line told o t p n))) (sym d) tells)))
-
-pub fails_alike : (old old2 : Judge) (r : Result Judged ReadFault) (o : Operation) (t t2 p p2 l l2 : List ℕ) → old2 ≡ old → t2 ≡ t → p2 ≡ p → l2 ≡ l → FailsAs old (λ told. after_call old.limits old.line told o t p l) r → FailsAs old2 (λ told. after_call old2.limits old2.line told o t2 p2 l2) r
-fails_alike old old2 r o t t2 p p2 l l2 same a b d fails =
-    subst (λ j. FailsAs j (λ told. after_call j.limits j.line told o t2 p2 l2) r) (sym same)
-    (subst (λ n. FailsAs old (λ told. after_call old.limits old.line told o n p2 l2) r) (sym a)
-    (subst (λ n. FailsAs old (λ told. after_call old.limits old.line told o t n l2) r) (sym b)
-    (subst (λ n. FailsAs old (λ told. after_call old.limits old.line told o t p n) r) (sym d) fails)))
+pub judges_alike : (old old2 new : Judge) (r : Result Judged ReadFault) (o : Operation) (t t2 p p2 l l2 : List ℕ) → old2 ≡ old → t2 ≡ t → p2 ≡ p → l2 ≡ l
+    → JudgesLine old new (λ told. after_call old.limits old.line told o t p l) r → JudgesLine old2 new (λ told. after_call old2.limits old2.line told o t2 p2 l2) r
+judges_alike old old2 new r o t t2 p p2 l l2 same a b d judges =
+    subst (λ j. JudgesLine j new (λ told. after_call j.limits j.line told o t2 p2 l2) r) (sym same)
+    (subst (λ n. JudgesLine old new (λ told. after_call old.limits old.line told o n p2 l2) r) (sym a)
+    (subst (λ n. JudgesLine old new (λ told. after_call old.limits old.line told o t n l2) r) (sym b)
+    (subst (λ n. JudgesLine old new (λ told. after_call old.limits old.line told o t p n) r) (sym d) judges)))
 
 -- ---- the lines of a block
 

@@ -1,8 +1,7 @@
 -- Pieces that are read and cut before they are judged.
 use Rattle.std.proofs.Common.{◌≡◌, ℕ, zero, suc, ◌+◌, ◌<◌, ◌≤◌, ◌⊎◌, inl, inr, ◌||◌, ◌&&◌, Bool, true, false, cond, eqb, List, [], ◌∷◌, ◌++◌, length, map, take, drop, Contains, Some, All, Result, Ok, Err, get_or, refl, sym, ap, subst, ◌∙◌, append_assoc, length-append, add-zero, add-one, arith}
-use Rattle.std.specs.Prelude.{IfOk, OnOk}
+use Rattle.std.specs.Prelude.{OnOk}
 use Rattle.std.specs.List.{onto_first}
-use Rattle.std.specs.declared.alloc.AllocError.{AllocError}
 use Rattle.std.specs.Option.{option_map_or}
 use Rattle.std.proofs.lemmas.Bool.{false≢true}
 use Rattle.std.proofs.lemmas.List.{length-drop}
@@ -18,7 +17,7 @@ use Rattle.gl_std.specs.LineReading.{TELLING, HasGiven}
 use Rattle.gl_std.specs.Lines.{LF, CR, begins_with, ended_lines, lines}
 use Rattle.gl_std.specs.Pieces.{IsFaulty, IsTold}
 use Rattle.gl_std.specs.Trace.{and_then, read_from, trace_of}
-use Rattle.gl_std.specs.bodies.Ahead.{bytes_of, text_of, FailsPiece, GivesOn, HasReadOn, IsShort, OnlyJudges, TakesPiece}
+use Rattle.gl_std.specs.bodies.Ahead.{bytes_of, text_of, FailsPiece, GivesOn, HasReadOn, IsShort, OnlyJudges, OnlyReadsAhead, TakesPiece}
 use Rattle.gl_std.specs.bodies.Blocks.{after_shapes, between, FailsShapes, TakesShapes}
 use Rattle.gl_std.specs.bodies.Taking.{HasEndedLine}
 use Rattle.gl_std.specs.bodies.Telling.{with_judged}
@@ -288,9 +287,13 @@ read_on_then now mid later a b c before text after failed failed2 ending one two
     by End gives = λ turns start text given. subst (λ t. HasRead turns start later failed2 t true) (append_assoc text one.gave two.gave) (gives turns start (text ++ one.gave) (one.gives.1 turns start text given))
     by Broke gives = λ turns start text given. subst (λ t. HasRead turns start later failed2 t false) (append_assoc text one.gave two.gave) (gives turns start (text ++ one.gave) (one.gives.1 turns start text given))
 
-pub read_on_then_ok : (now mid later : Position) (a b c : LineReader) (before text after : List ℕ) (failed failed2 : Bool) (r : Result Ending AllocError) → HasReadOn now a before mid failed b text More → IfOk r (HasReadOn mid b text later failed2 c after) → IfOk r (HasReadOn now a before later failed2 c after)
-read_on_then_ok now mid later a b c before text after failed failed2 (Ok ending) one two = read_on_then now mid later a b c before text after failed failed2 ending one two
-read_on_then_ok now mid later a b c before text after failed failed2 (Err fault) one two = tt
+-- and nothing was judged
+pub only_ahead_then : (a b c : LineReader) → OnlyReadsAhead a b → OnlyReadsAhead b c → OnlyReadsAhead a c
+only_ahead_then a b c one two = record {
+  same_judge = two.same_judge ∙ one.same_judge;
+  same_beginning = two.same_beginning ∙ one.same_beginning;
+  same_size = two.same_size ∙ one.same_size;
+}
 
 -- before the first one
 pub read_on_none : (now : Position) (a : LineReader) (text : List ℕ) (failed : Bool) → failed ≡ false → HasReadOn now a text now failed a text More

@@ -31,8 +31,8 @@ use Rattle.gl_std.specs.declared.faults.ReadFault.{ReadFault}
 use Rattle.gl_std.specs.declared.faults.ReadFault.TheVariants.{Line}
 use Rattle.gl_std.specs.Line.Operation.{Acquire as AcquireOf, Release as ReleaseOf, TryAcquire as TryAcquireOf, Fork as ForkOf, Join as JoinOf}
 use Rattle.gl_std.specs.declared.names.Found.{Found}
-use Rattle.gl_std.specs.declared.standing.Ruling.{Ruling}
-use Rattle.gl_std.specs.declared.standing.Ruling.TheVariants.{Kept, Stray, Fault}
+use Rattle.gl_std.specs.declared.ruling.Ruling.{Ruling}
+use Rattle.gl_std.specs.declared.ruling.Ruling.TheVariants.{Kept, Stray, Fault}
 use Rattle.gl_std.specs.declared.trace.Trace.{Trace}
 use Rattle.gl_std.proofs.FoundNames.{length-with_name, acting, place_of, threads_of, locks_of, length-threads_of, length-locks_of, with_found, call-found}
 use Rattle.gl_std.proofs.NameBytes.{list_any-absent}
@@ -115,9 +115,9 @@ events_lawful limits lists (Some i) each = ⊎_elim (λ at. each i (get_or lists
 -- another thread
 refusal_by_locks : (limits : Bounds) (thread : ℕ) (es : List Event) (operation : Operation) (operand loc : ℕ) → nat_le limits.events (length es) ≡ false → lock_refusal es (event_of operation operand loc) ≡ None → (is_on_thread operation ≡ true → (operand < limits.threads) × (operand ≢ thread)) → refusal limits thread es (event_of operation operand loc) ≡ None
 unfolding refusal
-refusal_by_locks limits thread es (AcquireOf mode) lock loc room locks other = ap (λ v. cond v (Some PlaceFull) (lock_refusal es (Acquire lock mode loc))) room ∙ locks
-refusal_by_locks limits thread es (ReleaseOf mode) lock loc room locks other = ap (λ v. cond v (Some PlaceFull) (lock_refusal es (Release lock mode loc))) room ∙ locks
-refusal_by_locks limits thread es (TryAcquireOf mode) lock loc room locks other = ap (λ v. cond v (Some PlaceFull) (lock_refusal es (TryAcquire lock mode loc))) room ∙ locks
+refusal_by_locks limits thread es (AcquireOf mode) lock loc room locks other = ap (λ v. cond v (Some PlaceFull) (lock_refusal es (Acquire mode lock loc))) room ∙ locks
+refusal_by_locks limits thread es (ReleaseOf mode) lock loc room locks other = ap (λ v. cond v (Some PlaceFull) (lock_refusal es (Release mode lock loc))) room ∙ locks
+refusal_by_locks limits thread es (TryAcquireOf mode) lock loc room locks other = ap (λ v. cond v (Some PlaceFull) (lock_refusal es (TryAcquire mode lock loc))) room ∙ locks
 refusal_by_locks limits thread es ForkOf partner loc room locks other =
     let is = other refl in
     let below : nat_le limits.threads partner ≡ false = let low = is.0 in grind (arith, nat_tests, low) in
@@ -141,9 +141,9 @@ IsNamed-told names ForkOf other loc a b c = (b refl, c)
 IsNamed-told names JoinOf other loc a b c = (b refl, c)
 
 IsNamed-more : (old new : NameLists) → length old.threads ≤ length new.threads → length old.locks ≤ length new.locks → length old.locs ≤ length new.locs → (e : Event) → IsNamed old e → IsNamed new e
-IsNamed-more old new a b c (Acquire lock mode loc) h = (omega (arith, h.0, b), omega (arith, h.1, c))
-IsNamed-more old new a b c (Release lock mode loc) h = (omega (arith, h.0, b), omega (arith, h.1, c))
-IsNamed-more old new a b c (TryAcquire lock mode loc) h = (omega (arith, h.0, b), omega (arith, h.1, c))
+IsNamed-more old new a b c (Acquire mode lock loc) h = (omega (arith, h.0, b), omega (arith, h.1, c))
+IsNamed-more old new a b c (Release mode lock loc) h = (omega (arith, h.0, b), omega (arith, h.1, c))
+IsNamed-more old new a b c (TryAcquire mode lock loc) h = (omega (arith, h.0, b), omega (arith, h.1, c))
 IsNamed-more old new a b c (Fork t loc) h = (omega (arith, h.0, a), omega (arith, h.1, c))
 IsNamed-more old new a b c (Join t loc) h = (omega (arith, h.0, a), omega (arith, h.1, c))
 

@@ -72,9 +72,9 @@ pub record IsNumbered (names : NameLists) (line : KeptLine) : Type 0 where
 
 -- the event releases a lock that its thread, with these events so far, doesn't hold
 abbrev pub is_stray : List Event → Event → Bool
-is_stray es (Acquire lock mode loc) = false
-is_stray es (Release lock mode loc) = depth es lock == 0
-is_stray es (TryAcquire lock mode loc) = false
+is_stray es (Acquire mode lock loc) = false
+is_stray es (Release mode lock loc) = depth es lock == 0
+is_stray es (TryAcquire mode lock loc) = false
 is_stray es (Fork thread loc) = false
 is_stray es (Join thread loc) = false
 

@@ -45,9 +45,9 @@ operands operation names = if is_on_thread operation then names.threads else nam
 
 -- the event of an operation on this lock or thread
 abbrev pub event_of : Operation → ℕ → ℕ → Event
-event_of (AcquireOf mode) lock loc = Acquire lock mode loc
-event_of (ReleaseOf mode) lock loc = Release lock mode loc
-event_of (TryAcquireOf mode) lock loc = TryAcquire lock mode loc
+event_of (AcquireOf mode) lock loc = Acquire mode lock loc
+event_of (ReleaseOf mode) lock loc = Release mode lock loc
+event_of (TryAcquireOf mode) lock loc = TryAcquire mode lock loc
 event_of ForkOf other loc = Fork other loc
 event_of JoinOf other loc = Join other loc
 
@@ -143,9 +143,9 @@ trace_of limits text = read_from limits 1 nothing (lines text)
 
 -- whatever the event speaks of has a name
 abbrev pub IsNamed : NameLists → Event → Type 0
-IsNamed names (Acquire lock mode loc) = (lock < length names.locks) × (loc < length names.locs)
-IsNamed names (Release lock mode loc) = (lock < length names.locks) × (loc < length names.locs)
-IsNamed names (TryAcquire lock mode loc) = (lock < length names.locks) × (loc < length names.locs)
+IsNamed names (Acquire mode lock loc) = (lock < length names.locks) × (loc < length names.locs)
+IsNamed names (Release mode lock loc) = (lock < length names.locks) × (loc < length names.locs)
+IsNamed names (TryAcquire mode lock loc) = (lock < length names.locks) × (loc < length names.locs)
 IsNamed names (Fork thread loc) = (thread < length names.threads) × (loc < length names.locs)
 IsNamed names (Join thread loc) = (thread < length names.threads) × (loc < length names.locs)
 

@@ -8,13 +8,13 @@ ghost use Rattle.gl_std.specs.Trace.{event_of, events_of, with_event, with_list}
 ghost use Rattle.gl_std.specs.bodies.Finding.{ruling_of, with_lists};
 ghost use Rattle.gl_std.specs.bodies.Shown.{shown_operation};
 ghost use Rattle.gl_std.specs.declared.judge.Judged.TheVariants.{Event as Told};
-ghost use Rattle.gl_std.specs.declared.standing.Ruling.TheVariants.{Kept, Stray};
+ghost use Rattle.gl_std.specs.declared.ruling.Ruling.TheVariants.{Kept, Stray};
 
 use crate::faults::{ReadFault, StdKind};
 use crate::line::{Operation, Shape, shape_of};
 use crate::names::{Found, Names};
+use crate::ruling::{Ruling, rule};
 use crate::seed::Seed;
-use crate::standing::{Ruling, rule};
 use gl_event::{Event, Limits, LocId, LockId, ThreadId, ThreadState};
 use std::alloc::{AllocError, Global};
 
@@ -55,8 +55,7 @@ impl Judge {
     ghost use Rattle.gl_std.specs.Line.{is_on_itself};
     ghost use Rattle.gl_std.specs.bodies.Counting.{count_of};
     ghost use Rattle.gl_std.specs.bodies.States.{HasJudged, IsSound};
-    ghost use Rattle.gl_std.specs.bodies.Judgements.{AreApart, FailsAs, HasJudgedMore, TellsAs};
-    ghost use Rattle.gl_std.specs.bodies.Telling.{IsKnown};
+    ghost use Rattle.gl_std.specs.bodies.Judgements.{AreApart, JudgesLine};
     ghost use Rattle.gl_std.specs.bodies.Finding.{found_in, limit_found};
     ghost use Rattle.gl_std.specs.bodies.Shown.{shown};
     ghost use Rattle.gl_std.specs.Trace.{after_line, after_shape, after_call, nothing};
@@ -88,15 +87,9 @@ impl Judge {
     pub(crate) fn take(&mut self, line: &[u8]) -> Result<Judged, ReadFault>
         requires sound { IsSound self.old }
         requires countable { self.old.line + 1 < 2 ^ 64 }
-        ensures ok { IfOk result
-            (TellsAs self.old self.new
-            (λ told. after_line self.old.limits self.old.line told line.now)) }
-        ensures judged { IfOk result (HasJudgedMore self.old self.new) }
-        ensures known { IfOk result (λ judged. IsKnown judged (length self.new.names.threads)) }
-        ensures fault { FailsAs self.old
+        ensures judges { JudgesLine self.old self.new
             (λ told. after_line self.old.limits self.old.line told line.now) result }
         ensures sound { OnOk result (IsSound self.new) }
-        ensures limits { self.new.limits ≡ self.old.limits }
         ensures line { OnOk result (self.new.line ≡ self.old.line + 1) }
     {
         let judged = self.take_shape(shape_of(line))?;
@@ -109,14 +102,8 @@ impl Judge {
         requires sound { IsSound self.old }
         requires apart { AreApart (shown shape) }
         requires countable { self.old.line + 1 < 2 ^ 64 }
-        ensures ok { IfOk result
-            (TellsAs self.old self.new
-            (λ told. after_shape self.old.limits self.old.line told (shown shape.entry))) }
-        ensures judged { IfOk result (HasJudgedMore self.old self.new) }
-        ensures known { IfOk result (λ judged. IsKnown judged (length self.new.names.threads)) }
-        ensures fault { FailsAs self.old
+        ensures judges { JudgesLine self.old self.new
             (λ told. after_shape self.old.limits self.old.line told (shown shape.entry)) result }
-        ensures limits { self.new.limits ≡ self.old.limits }
         ensures line { self.new.line ≡ self.old.line }
         ensures few_skipped { self.new.skipped ≤ self.old.skipped + 1 }
         ensures few_stray { self.new.stray ≤ self.old.stray + 1 }
@@ -151,16 +138,9 @@ impl Judge {
         requires sound { IsSound self.old }
         requires apart { is_on_itself (shown_operation operation) thread.now operand.now ≡ false }
         requires countable { self.old.line + 1 < 2 ^ 64 }
-        ensures ok { IfOk result
-            (TellsAs self.old self.new
-            (λ told. after_call self.old.limits self.old.line told
-            (shown_operation operation) thread.now operand.now location.now)) }
-        ensures judged { IfOk result (HasJudgedMore self.old self.new) }
-        ensures known { IfOk result (λ judged. IsKnown judged (length self.new.names.threads)) }
-        ensures fault { FailsAs self.old
+        ensures judges { JudgesLine self.old self.new
             (λ told. after_call self.old.limits self.old.line told
             (shown_operation operation) thread.now operand.now location.now) result }
-        ensures limits { self.new.limits ≡ self.old.limits }
         ensures line { self.new.line ≡ self.old.line }
         ensures few_skipped { self.new.skipped ≡ self.old.skipped }
         ensures few_stray { self.new.stray ≤ self.old.stray + 1 }
@@ -186,16 +166,9 @@ impl Judge {
             ≡ found_in self.old.names
             (shown_operation operation) thread.now operand.now location.now }
         requires countable { self.old.line + 1 < 2 ^ 64 }
-        ensures ok { IfOk result
-            (TellsAs self.old self.new
-            (λ told. after_call self.old.limits self.old.line told
-            (shown_operation operation) thread.now operand.now location.now)) }
-        ensures judged { IfOk result (HasJudgedMore self.old self.new) }
-        ensures known { IfOk result (λ judged. IsKnown judged (length self.new.names.threads)) }
-        ensures fault { FailsAs self.old
+        ensures judges { JudgesLine self.old self.new
             (λ told. after_call self.old.limits self.old.line told
             (shown_operation operation) thread.now operand.now location.now) result }
-        ensures limits { self.new.limits ≡ self.old.limits }
         ensures line { self.new.line ≡ self.old.line }
         ensures few_skipped { self.new.skipped ≡ self.old.skipped }
         ensures few_stray { self.new.stray ≤ self.old.stray + 1 }

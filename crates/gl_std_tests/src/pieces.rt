@@ -1,8 +1,6 @@
 //! Texts that come in pieces.
-ghost use Rattle.std.specs.Prelude.{◌≡◌, ◌≤◌, false, IfOk};
-ghost use Rattle.gl_event.specs.Bounds.{greatest};
+ghost use Rattle.std.specs.Prelude.{◌≡◌, ◌≤◌, false};
 ghost use Rattle.gl_io.specs.Positions.{untold};
-ghost use Rattle.gl_std.specs.Trace.{IsTraceOver};
 
 use gl_event::{Limits, Memory};
 use gl_std::{Failed, Heard, Seed, Source, read_source, read_source_parallel};
@@ -55,11 +53,11 @@ impl Source for Pieces<'_> {
     }
 }
 
-/// What is read of the pieces in at most so many turns, under the greatest limits.
+/// What is read of the pieces in at most so many turns, under the greatest limits. Nothing is told of it, so that
+/// little is known where it is looked at.
 pub fn hear(alloc: Global, input: &mut Pieces<'_>, turns: u64) -> Result<Heard, Memory>
     requires sound { input.old.is_failed ≡ false }
     requires few { turns ≤ 100 }
-    ensures { IfOk result (λ heard. IfOk heard.trace (IsTraceOver greatest)) }
 {
     read_source(alloc, input, turns, &Limits::greatest(), Seed::fixed())
 }
@@ -73,7 +71,6 @@ pub fn hear_in_threads<T: Threads + Sync>(
 ) -> Result<Heard, Memory>
     requires sound { input.old.is_failed ≡ false }
     requires few { turns ≤ 100 }
-    ensures { IfOk result (λ heard. IfOk heard.trace (IsTraceOver greatest)) }
 {
     read_source_parallel(
         rt,

@@ -11,7 +11,7 @@ use Rattle.gl_filters.specs.declared.query.Mode.{Mode}
 use Rattle.gl_index.specs.declared.sides.Side.{Side}
 use Rattle.gl_index.specs.declared.sides.Side.TheVariants.{Follower, Leader}
 use Rattle.gl_trims.specs.Trims.{is_beside, HasBeside, IsStuck, IsFirstStuck}
-use Rattle.gl_trims.specs.bodies.Trimming.{IsFlagged, NoneBeside, IsStart, IsHint, IsPlaced, KeepPlaced, AreHints, AreBothHints, AreAwake, HasBesideAt, TellsStuck, AreSettled, places_of, watched_at}
+use Rattle.gl_trims.specs.bodies.Trimming.{IsFlagged, NoneBeside, IsStart, IsHint, HasHint, KeepHints, AreHints, AreBothHints, AreAwake, HasBesideAt, TellsStuck, AreSettled, hints_of, watched_at}
 use Rattle.gl_trims.specs.bodies.Waiting.{waits}
 use Rattle.gl_trims.specs.declared.waiting.Waiting.{Waiting}
 use Rattle.gl_index.specs.Indexes.{AreChained}
@@ -99,41 +99,41 @@ module _ (before : Segment → Segment → Bool) (mode : Mode) (edges : List Edg
     pub hint_none : (i : ℕ) → IsStart before mode edges gone side i None → IsHint before mode edges gone side i None
     hint_none i start = record { passed = start.passed; fits = tt }
 
-    -- one place put
-    hint_within : (i : ℕ) (place : Option ℕ) (size : ℕ) → size ≡ length edges → IsHint before mode edges gone side i place → IfSome place (λ p. p < size)
+    -- one hint put
+    hint_within : (i : ℕ) (hint : Option ℕ) (size : ℕ) → size ≡ length edges → IsHint before mode edges gone side i hint → IfSome hint (λ p. p < size)
     hint_within i None size same is = tt
     hint_within i (Some p) size same is = omega (arith, is.fits.0)
 
-    pub hints_put : (i : ℕ) (place : Option ℕ) (old new : Hints) → AreHints before mode edges gone side old → i < length edges → IsHint before mode edges gone side i place
-        → new.users ≡ old.users → new.chain ≡ old.chain → new.places.items ≡ set old.places.items i place → new.watchers ≡ watched_at place i old.watchers → AreHints before mode edges gone side new
-    hints_put i place old new had within is users chain places watchers =
-        let in_places : i < length old.places.items = omega (arith, had.long) in
-        let in_watchers = hint_within i place (length old.watchers) had.as_long is in
+    pub hints_put : (i : ℕ) (hint : Option ℕ) (old new : Hints) → AreHints before mode edges gone side old → i < length edges → IsHint before mode edges gone side i hint
+        → new.users ≡ old.users → new.chain ≡ old.chain → new.found.items ≡ set old.found.items i hint → new.watchers ≡ watched_at hint i old.watchers → AreHints before mode edges gone side new
+    hints_put i hint old new had within is users chain found watchers =
+        let in_found : i < length old.found.items = omega (arith, had.long) in
+        let in_watchers = hint_within i hint (length old.watchers) had.as_long is in
         record {
-          long = ap length places ∙ length-set old.places.items i place ∙ had.long;
-          as_long = ap length watchers ∙ length_watched place i old.watchers ∙ had.as_long;
+          long = ap length found ∙ length-set old.found.items i hint ∙ had.long;
+          as_long = ap length watchers ∙ length_watched hint i old.watchers ∙ had.as_long;
           users = subst (AreUsers (opposite side) edges [] (length edges)) (sym users) had.users;
           chain = subst (AreChained (opposite side) edges 0) (sym chain) had.chain;
           each = λ j p at.
-              let there : slice_get (set old.places.items i place) j ≡ Some (Some p) = sym (ap (λ l. slice_get l j) places) ∙ at in
+              let there : slice_get (set old.found.items i hint) j ≡ Some (Some p) = sym (ap (λ l. slice_get l j) found) ∙ at in
               elim (cases_eq j i) [
                 | inl same ↦
-                    let is_hint : place ≡ Some p = same_Some place (Some p) (sym (set_here old.places.items i place in_places) ∙ ap (slice_get (set old.places.items i place)) (sym same) ∙ there) in
+                    let is_hint : hint ≡ Some p = same_Some hint (Some p) (sym (set_here old.found.items i hint in_found) ∙ ap (slice_get (set old.found.items i hint)) (sym same) ∙ there) in
                     subst (λ m. IsHint before mode edges gone side m (Some p)) (sym same) (subst (IsHint before mode edges gone side i) is_hint is)
                 | inr other ↦
-                    let inside = slice_get_within (set old.places.items i place) j (Some p) there in
-                    had.each j p (sym (set_elsewhere old.places.items i j place other (omega (arith, length-set old.places.items i place))) ∙ there)
+                    let inside = slice_get_within (set old.found.items i hint) j (Some p) there in
+                    had.each j p (sym (set_elsewhere old.found.items i j hint other (omega (arith, length-set old.found.items i hint))) ∙ there)
               ];
           watched = λ j p at left.
-              let there : slice_get (set old.places.items i place) j ≡ Some (Some p) = sym (ap (λ l. slice_get l j) places) ∙ at in
+              let there : slice_get (set old.found.items i hint) j ≡ Some (Some p) = sym (ap (λ l. slice_get l j) found) ∙ at in
               subst (λ w. Contains (get_or w p []) j) (sym watchers) (elim (cases_eq j i) [
                 | inl same ↦
-                    let is_place : place ≡ Some p = same_Some place (Some p) (sym (set_here old.places.items i place in_places) ∙ ap (slice_get (set old.places.items i place)) (sym same) ∙ there) in
-                    let p_within : p < length old.watchers = subst (λ o. IfSome o (λ k. k < length old.watchers)) is_place in_watchers in
-                    subst (λ m. Contains (get_or (watched_at place i old.watchers) p []) m) (sym same) (subst (λ o. Contains (get_or (watched_at o i old.watchers) p []) i) (sym is_place) (watched_has p i old.watchers p_within))
+                    let is_hint : hint ≡ Some p = same_Some hint (Some p) (sym (set_here old.found.items i hint in_found) ∙ ap (slice_get (set old.found.items i hint)) (sym same) ∙ there) in
+                    let p_within : p < length old.watchers = subst (λ o. IfSome o (λ k. k < length old.watchers)) is_hint in_watchers in
+                    subst (λ m. Contains (get_or (watched_at hint i old.watchers) p []) m) (sym same) (subst (λ o. Contains (get_or (watched_at o i old.watchers) p []) i) (sym is_hint) (watched_has p i old.watchers p_within))
                 | inr other ↦
-                    let inside = slice_get_within (set old.places.items i place) j (Some p) there in
-                    watched_keeps place i old.watchers p j in_watchers (had.watched j p (sym (set_elsewhere old.places.items i j place other (omega (arith, length-set old.places.items i place))) ∙ there) left)
+                    let inside = slice_get_within (set old.found.items i hint) j (Some p) there in
+                    watched_keeps hint i old.watchers p j in_watchers (had.watched j p (sym (set_elsewhere old.found.items i j hint other (omega (arith, length-set old.found.items i hint))) ∙ there) left)
               ]);
         }
 
@@ -149,7 +149,7 @@ module _ (before : Segment → Segment → Bool) (mode : Mode) (edges : List Edg
       shares = tt;
     }
 
-    -- where no place is left nothing is
+    -- where no hint is left nothing is
     pub none_without : (i : ℕ) (e : Edge) → IsHint before mode edges gone side i None → length gone ≡ length edges → slice_get edges i ≡ Some e → ¬ HasBeside before mode edges (IsFlagged gone) side e
     none_without i e had long at_e beside =
         let below = slice_get_within edges beside.place beside.other beside.stands in
@@ -160,31 +160,31 @@ module _ (before : Segment → Segment → Bool) (mode : Mode) (edges : List Edg
         unset q true at left = absurd (left at)
         unset q false at left = refl
 
-    -- what stands at a place that is left may come beside it
-    pub beside_placed : (hints : Hints) (i : ℕ) (e : Edge) → AreHints before mode edges gone side hints → slice_get edges i ≡ Some e → IsPlaced gone hints.places.items i
+    -- what stands at a hint that is left may come beside it
+    pub beside_hinted : (hints : Hints) (i : ℕ) (e : Edge) → AreHints before mode edges gone side hints → slice_get edges i ≡ Some e → HasHint gone hints.found.items i
         → HasBeside before mode edges (IsFlagged gone) side e
-    beside_placed hints i e are at_e placed =
-        let is = are.each i placed.place placed.is in
-        let other = element_at edges placed.place is.fits.0 in
-        record { place = placed.place; other = other.0; stands = other.1; is_left = λ flagged. false≢true (same_Some false true (sym placed.is_left ∙ flagged)); fits = is.fits.1 e other.0 at_e other.1 }
+    beside_hinted hints i e are at_e hinted =
+        let is = are.each i hinted.hint hinted.is in
+        let other = element_at edges hinted.hint is.fits.0 in
+        record { place = hinted.hint; other = other.0; stands = other.1; is_left = λ flagged. false≢true (same_Some false true (sym hinted.is_left ∙ flagged)); fits = is.fits.1 e other.0 at_e other.1 }
 
-    -- what the next place tells
-    pub told_by_next : (i : ℕ) (places : List (Option ℕ)) (next : Option ℕ) → IsHint before mode edges gone side i next → IfSome next (λ p. slice_get gone p ≡ Some false) → i < length places → length gone ≡ length edges
-        → HasBesideAt before mode edges gone side i (set places i next) (is_some next)
-    told_by_next i places (Some p) is left within long = record {
-      some = λ has. record { place = p; is = set_here places i (Some p) within; is_left = left };
+    -- what the next hint tells
+    pub told_by_next : (i : ℕ) (found : List (Option ℕ)) (next : Option ℕ) → IsHint before mode edges gone side i next → IfSome next (λ p. slice_get gone p ≡ Some false) → i < length found → length gone ≡ length edges
+        → HasBesideAt before mode edges gone side i (set found i next) (is_some next)
+    told_by_next i found (Some p) is left within long = record {
+      some = λ has. record { hint = p; is = set_here found i (Some p) within; is_left = left };
       none = λ has. absurd (false≢true (sym has));
     }
-    told_by_next i places None is left within long = record {
+    told_by_next i found None is left within long = record {
       some = λ has. absurd (false≢true has);
       none = λ has e at_e. none_without i e is long at_e;
     }
 
-  -- the places on both sides
-  pub placed_on : (sides : Sides) (side : Side) (i : ℕ) (e : Edge) → AreBothHints before mode edges gone sides → slice_get edges i ≡ Some e → IsPlaced gone (places_of side sides) i
+  -- the hints on both sides
+  pub hinted_on : (sides : Sides) (side : Side) (i : ℕ) (e : Edge) → AreBothHints before mode edges gone sides → slice_get edges i ≡ Some e → HasHint gone (hints_of side sides) i
       → HasBeside before mode edges (IsFlagged gone) side e
-  placed_on sides Follower i e are at_e placed = beside_placed Follower sides.followers i e are.followers at_e placed
-  placed_on sides Leader i e are at_e placed = beside_placed Leader sides.leaders i e are.leaders at_e placed
+  hinted_on sides Follower i e are at_e hinted = beside_hinted Follower sides.followers i e are.followers at_e hinted
+  hinted_on sides Leader i e are at_e hinted = beside_hinted Leader sides.leaders i e are.leaders at_e hinted
 
   -- a position where one side is missing is stuck
   pub stuck_from : (i : ℕ) (side : Side) (e : Edge) → slice_get edges i ≡ Some e → slice_get gone i ≡ Some false → ¬ HasBeside before mode edges (IsFlagged gone) side e
@@ -198,14 +198,14 @@ module _ (before : Segment → Segment → Bool) (mode : Mode) (edges : List Edg
   }
 
   -- where a follower is left the leader decides
-  pub told_by_both : (i : ℕ) (e : Edge) (sides : Sides) → slice_get edges i ≡ Some e → slice_get gone i ≡ Some false → IsPlaced gone sides.followers.places.items i
-      → (has : Bool) → HasBesideAt before mode edges gone Leader i sides.leaders.places.items has → TellsStuck before mode edges gone sides i (not has)
+  pub told_by_both : (i : ℕ) (e : Edge) (sides : Sides) → slice_get edges i ≡ Some e → slice_get gone i ≡ Some false → HasHint gone sides.followers.found.items i
+      → (has : Bool) → HasBesideAt before mode edges gone Leader i sides.leaders.found.items has → TellsStuck before mode edges gone sides i (not has)
   told_by_both i e sides at_e left follower true tells = record {
     yes = λ is. absurd (false≢true is);
     no = λ is there side. both side;
   }
     where
-      both : (side : Side) → IsPlaced gone (places_of side sides) i
+      both : (side : Side) → HasHint gone (hints_of side sides) i
       both Follower = follower
       both Leader = tells.some refl
   told_by_both i e sides at_e left follower false tells = record {
@@ -216,7 +216,7 @@ module _ (before : Segment → Segment → Bool) (mode : Mode) (edges : List Edg
   -- what doesn't wait is settled
   pub settled_below : (size n : ℕ) (sides : Sides) (waiting : Waiting) → AreBothHints before mode edges gone sides → AreAwake gone size sides waiting → n ≤ size → ((j : ℕ) → j < n → waits waiting j ≡ false)
       → AreSettled before mode edges gone n
-  settled_below size n sides waiting are awake le none = λ j e side below at_e left. placed_on sides side j e are at_e (awake.placed j side (omega arith) left (none j below))
+  settled_below size n sides waiting are awake le none = λ j e side below at_e left. hinted_on sides side j e are at_e (awake.hinted j side (omega arith) left (none j below))
 
   -- what is settled isn't stuck
   pub not_stuck : (n j : ℕ) → length gone ≡ length edges → AreSettled before mode edges gone n → j < n → ¬ IsStuck before mode edges (IsFlagged gone) j
@@ -232,51 +232,51 @@ module _ (before : Segment → Segment → Bool) (mode : Mode) (edges : List Edg
   pub first_from : (i : ℕ) → length gone ≡ length edges → IsStuck before mode edges (IsFlagged gone) i → AreSettled before mode edges gone i → IsFirstStuck before mode edges (IsFlagged gone) i
   first_from i long stuck settled = (stuck, λ j below. not_stuck i j long settled below)
 
--- a later place leaves fewer
-pub fewer_places : (size many : ℕ) (next : Option ℕ) (place : ℕ) (after : Option ℕ) → size ≡ many → next ≡ Some place → place < size → place + 1 ≤ unwrap_or after size → many - unwrap_or after many < many - unwrap_or next many
-fewer_places size many next place after same is within later =
+-- a later position leaves fewer
+pub fewer_left : (size many : ℕ) (next : Option ℕ) (other : ℕ) (after : Option ℕ) → size ≡ many → next ≡ Some other → other < size → other + 1 ≤ unwrap_or after size → many - unwrap_or after many < many - unwrap_or next many
+fewer_left size many next other after same is within later =
     subst (λ m. m - unwrap_or after m < m - unwrap_or next m) same (subst (λ o. size - unwrap_or after size < size - unwrap_or o size) (sym is) (omega (arith, within, later)))
 
--- who has no place that is left gives none up
-pub kept_put : (gone : List Bool) (places : List (Option ℕ)) (i : ℕ) (next : Option ℕ) → ¬ IsPlaced gone places i → KeepPlaced gone places (set places i next)
-kept_put gone places i next none = λ j placed.
+-- who has no hint that is left gives none up
+pub kept_put : (gone : List Bool) (found : List (Option ℕ)) (i : ℕ) (next : Option ℕ) → ¬ HasHint gone found i → KeepHints gone found (set found i next)
+kept_put gone found i next none = λ j hinted.
     elim (cases_eq j i) [
-      | inl same ↦ absurd (none (subst (IsPlaced gone places) same placed))
-      | inr other ↦ record { place = placed.place; is = set_elsewhere places i j next other (slice_get_within places j (Some placed.place) placed.is) ∙ placed.is; is_left = placed.is_left }
+      | inl same ↦ absurd (none (subst (HasHint gone found) same hinted))
+      | inr other ↦ record { hint = hinted.hint; is = set_elsewhere found i j next other (slice_get_within found j (Some hinted.hint) hinted.is) ∙ hinted.is; is_left = hinted.is_left }
     ]
 
--- an edge that has a place is placed if that isn't gone
-pub placed_if_left : (gone : List Bool) (places : List (Option ℕ)) (i p : ℕ) (is_gone : Bool) → slice_get places i ≡ Some (Some p) → slice_get gone p ≡ Some is_gone → Decides (not is_gone) (IsPlaced gone places i)
-placed_if_left gone places i p true at flag = (
+-- an edge that has a hint has one that is left if that isn't gone
+pub hinted_if_left : (gone : List Bool) (found : List (Option ℕ)) (i p : ℕ) (is_gone : Bool) → slice_get found i ≡ Some (Some p) → slice_get gone p ≡ Some is_gone → Decides (not is_gone) (HasHint gone found i)
+hinted_if_left gone found i p true at flag = (
   λ is. absurd (false≢true is),
-  λ placed.
-      let same : placed.place ≡ p = same_Some placed.place p (same_Some (Some placed.place) (Some p) (sym placed.is ∙ at)) in
-      absurd (false≢true (same_Some false true (sym placed.is_left ∙ ap (slice_get gone) same ∙ flag))),
+  λ hinted.
+      let same : hinted.hint ≡ p = same_Some hinted.hint p (same_Some (Some hinted.hint) (Some p) (sym hinted.is ∙ at)) in
+      absurd (false≢true (same_Some false true (sym hinted.is_left ∙ ap (slice_get gone) same ∙ flag))),
 )
-placed_if_left gone places i p false at flag = (λ is. record { place = p; is = at; is_left = flag }, λ placed. refl)
+hinted_if_left gone found i p false at flag = (λ is. record { hint = p; is = at; is_left = flag }, λ hinted. refl)
 
-pub unplaced_if_none : (gone : List Bool) (places : List (Option ℕ)) (i : ℕ) → slice_get places i ≡ Some None → Decides false (IsPlaced gone places i)
-unplaced_if_none gone places i at = (λ is. absurd (false≢true is), λ placed. absurd (let clash = same_Some None (Some placed.place) (sym at ∙ placed.is) in cc))
+pub unhinted_if_none : (gone : List Bool) (found : List (Option ℕ)) (i : ℕ) → slice_get found i ≡ Some None → Decides false (HasHint gone found i)
+unhinted_if_none gone found i at = (λ is. absurd (false≢true is), λ hinted. absurd (let clash = same_Some None (Some hinted.hint) (sym at ∙ hinted.is) in cc))
 
--- what is no place is none
-pub none_alone : (Is : Option ℕ → Type 0) → ((p : ℕ) → ¬ Is (Some p)) → (place : Option ℕ) → Is place → place ≡ None
+-- what is no hint is none
+pub none_alone : (Is : Option ℕ → Type 0) → ((p : ℕ) → ¬ Is (Some p)) → (hint : Option ℕ) → Is hint → hint ≡ None
 none_alone Is never None is = refl
 none_alone Is never (Some p) is = absurd (never p is)
 
--- nothing stands where no edge has a place
-unplaced : (size i p : ℕ) → ¬ (slice_get (replicate size None) i ≡ Some (Some p))
-unplaced zero i p at = absurd (cc)
-unplaced (suc n) zero p at = absurd (cc)
-unplaced (suc n) (suc i) p at = unplaced n i p at
+-- nothing stands where no edge has a hint
+unhinted : (size i p : ℕ) → ¬ (slice_get (replicate size None) i ≡ Some (Some p))
+unhinted zero i p at = absurd (cc)
+unhinted (suc n) zero p at = absurd (cc)
+unhinted (suc n) (suc i) p at = unhinted n i p at
 
--- before any edge has a place
-pub hints_none : (before : Segment → Segment → Bool) (mode : Mode) (edges : List Edge) (gone : List Bool) (side : Side) (hints : Hints) (size : ℕ) → size ≡ length edges → hints.places.items ≡ replicate size None
+-- before any edge has a hint
+pub hints_none : (before : Segment → Segment → Bool) (mode : Mode) (edges : List Edge) (gone : List Bool) (side : Side) (hints : Hints) (size : ℕ) → size ≡ length edges → hints.found.items ≡ replicate size None
     → hints.watchers ≡ replicate size [] → AreUsers (opposite side) edges [] size hints.users → AreChained (opposite side) edges 0 hints.chain → AreHints before mode edges gone side hints
 hints_none before mode edges gone side hints size same none empty users chain = record {
   long = ap length none ∙ length-replicate size None ∙ same;
   as_long = ap length empty ∙ length-replicate size [] ∙ same;
   users = subst (λ n. AreUsers (opposite side) edges [] n hints.users) same users;
   chain = chain;
-  each = λ i p at. absurd (unplaced size i p (sym (ap (λ l. slice_get l i) none) ∙ at));
-  watched = λ i p at left. absurd (unplaced size i p (sym (ap (λ l. slice_get l i) none) ∙ at));
+  each = λ i p at. absurd (unhinted size i p (sym (ap (λ l. slice_get l i) none) ∙ at));
+  watched = λ i p at left. absurd (unhinted size i p (sym (ap (λ l. slice_get l i) none) ∙ at));
 }

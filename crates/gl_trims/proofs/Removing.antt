@@ -12,7 +12,7 @@ use Rattle.gl_filters.specs.declared.query.Mode.{Mode}
 use Rattle.gl_index.specs.declared.sides.Side.{Side}
 use Rattle.gl_trims.specs.declared.trims.Hints.{Hints}
 use Rattle.gl_trims.specs.Trims.{HasBeside, IsStuck, IsFirstStuck, IsTrimOrder}
-use Rattle.gl_trims.specs.bodies.Trimming.{IsFlagged, AreFlagsOf, AreHints, AreBothHints, AreAwake, AreSettled, IsPlaced, IsWoken, places_of}
+use Rattle.gl_trims.specs.bodies.Trimming.{IsFlagged, AreFlagsOf, AreHints, AreBothHints, AreAwake, AreSettled, HasHint, IsWoken, hints_of}
 use Rattle.gl_trims.specs.bodies.Waiting.{waits, AreEarlier}
 use Rattle.gl_trims.specs.declared.waiting.Waiting.{Waiting}
 use Rattle.gl_index.specs.Indexes.{AreChained}
@@ -76,7 +76,7 @@ pub awake_all : (gone : List Bool) (size : ℕ) (sides : Sides) (waiting : Waiti
 awake_all gone size sides waiting all earlier next = record {
   earlier = earlier;
   within = omega (arith, next);
-  placed = λ i side below left silent. absurd (false≢true (sym silent ∙ all i));
+  hinted = λ i side below left silent. absurd (false≢true (sym silent ∙ all i));
 }
 
 -- fewer flags are left
@@ -200,23 +200,23 @@ module _ (before : Segment → Segment → Bool) (mode : Mode) (edges : List Edg
         let below = slice_get_within edges i e at in
         beside_to (IsFlagged gone) (Contains removed) agree side e (settled i e side below at (unflagged i below kept))
 
-  -- hints stay hints, and those whose place goes are told
+  -- hints stay hints, and those whose hint goes are told
   hints_gone : (gone : List Bool) (side : Side) (old new : Hints) (i : ℕ) → length gone ≡ length edges → i < length edges → AreHints before mode edges gone side old → IsWoken i old new → AreHints before mode edges (set gone i true) side new
   hints_gone gone side old new i long inside are woken = record {
-    long = ap length woken.places ∙ are.long;
+    long = ap length woken.found ∙ are.long;
     as_long = ap length woken.watchers ∙ length-set old.watchers i [] ∙ are.as_long;
     users = subst (AreUsers (opposite side) edges [] (length edges)) (sym woken.users) are.users;
     chain = subst (AreChained (opposite side) edges 0) (sym woken.chain) are.chain;
     each = λ j p at.
-        let is = are.each j p (sym (ap (λ l. slice_get l j) woken.places) ∙ at) in
+        let is = are.each j p (sym (ap (λ l. slice_get l j) woken.found) ∙ at) in
         record {
           passed = λ q e f below at_e at_f unset. is.passed q e f below at_e at_f (was_unset gone i q (omega (arith, long, slice_get_within edges q f at_f)) (omega (arith, long, inside)) unset).1;
           fits = is.fits;
         };
     watched = λ j p at unset.
-        let hint = are.each j p (sym (ap (λ l. slice_get l j) woken.places) ∙ at) in
+        let hint = are.each j p (sym (ap (λ l. slice_get l j) woken.found) ∙ at) in
         let was = was_unset gone i p (omega (arith, long, hint.fits.0)) (omega (arith, long, inside)) unset in
-        subst (λ w. Contains (get_or w p []) j) (sym woken.watchers) (left_other old.watchers i p j was.0 (are.watched j p (sym (ap (λ l. slice_get l j) woken.places) ∙ at) was.1));
+        subst (λ w. Contains (get_or w p []) j) (sym woken.watchers) (left_other old.watchers i p j was.0 (are.watched j p (sym (ap (λ l. slice_get l j) woken.found) ∙ at) was.1));
   }
 
   pub both_gone : (gone : List Bool) (old new : Sides) (i : ℕ) → length gone ≡ length edges → i < length edges → AreBothHints before mode edges gone old
@@ -224,19 +224,19 @@ module _ (before : Segment → Segment → Bool) (mode : Mode) (edges : List Edg
   both_gone gone old new i long inside are followers leaders =
       record { followers = hints_gone gone Follower old.followers new.followers i long inside are.followers followers; leaders = hints_gone gone Leader old.leaders new.leaders i long inside are.leaders leaders }
 
-  -- who is left and doesn't wait keeps its places
-  places_gone : (gone : List Bool) (side : Side) (old new : Hints) (i j : ℕ) → length gone ≡ length edges → i < length edges → AreHints before mode edges gone side old → IsWoken i old new
-      → list_any (λ w. eqb w j) (get_or old.watchers i []) ≡ false → IsPlaced gone old.places.items j → IsPlaced (set gone i true) new.places.items j
-  places_gone gone side old new i j long inside are woken unwatched placed =
-      let hint = are.each j placed.place placed.is in
-      elim (cases_eq placed.place i) [
+  -- who is left and doesn't wait keeps its hints
+  hinted_gone : (gone : List Bool) (side : Side) (old new : Hints) (i j : ℕ) → length gone ≡ length edges → i < length edges → AreHints before mode edges gone side old → IsWoken i old new
+      → list_any (λ w. eqb w j) (get_or old.watchers i []) ≡ false → HasHint gone old.found.items j → HasHint (set gone i true) new.found.items j
+  hinted_gone gone side old new i j long inside are woken unwatched hinted =
+      let hint = are.each j hinted.hint hinted.is in
+      elim (cases_eq hinted.hint i) [
         | inl same ↦
-            let watches = are.watched j placed.place placed.is placed.is_left in
+            let watches = are.watched j hinted.hint hinted.is hinted.is_left in
             absurd (false≢true (sym unwatched ∙ any_from_contains (get_or old.watchers i []) j (subst (λ p. Contains (get_or old.watchers p []) j) same watches)))
         | inr other ↦ record {
-          place = placed.place;
-          is = ap (λ l. slice_get l j) woken.places ∙ placed.is;
-          is_left = set_elsewhere gone i placed.place true other (omega (arith, long, hint.fits.0)) ∙ placed.is_left;
+          hint = hinted.hint;
+          is = ap (λ l. slice_get l j) woken.found ∙ hinted.is;
+          is_left = set_elsewhere gone i hinted.hint true other (omega (arith, long, hint.fits.0)) ∙ hinted.is_left;
         }
       ]
 
@@ -247,13 +247,13 @@ module _ (before : Segment → Segment → Bool) (mode : Mode) (edges : List Edg
   awake_gone gone size old new i had has long same inside are followers leaders told earlier next awake = record {
     earlier = earlier;
     within = omega (arith, next, awake.within);
-    placed = λ j side below unset silent.
+    hinted = λ j side below unset silent.
         let none : (waits had j ≡ false) × (list_any (λ w. eqb w j) (get_or old.followers.watchers i []) ≡ false) × (list_any (λ w. eqb w j) (get_or old.leaders.watchers i []) ≡ false) = all_false _ _ _ (sym (told j) ∙ silent) in
         let was = was_unset gone i j (omega (arith, long, same)) (omega (arith, long, same)) unset in
-        on side j none.1 none.2 (awake.placed j side below was.1 none.0);
+        on side j none.1 none.2 (awake.hinted j side below was.1 none.0);
   }
     where
       on : (side : Side) (j : ℕ) → list_any (λ w. eqb w j) (get_or old.followers.watchers i []) ≡ false → list_any (λ w. eqb w j) (get_or old.leaders.watchers i []) ≡ false
-          → IsPlaced gone (places_of side old) j → IsPlaced (set gone i true) (places_of side new) j
-      on Follower j follows leads placed = places_gone gone Follower old.followers new.followers i j long (omega (arith, same, inside)) are.followers followers follows placed
-      on Leader j follows leads placed = places_gone gone Leader old.leaders new.leaders i j long (omega (arith, same, inside)) are.leaders leaders leads placed
+          → HasHint gone (hints_of side old) j → HasHint (set gone i true) (hints_of side new) j
+      on Follower j follows leads hinted = hinted_gone gone Follower old.followers new.followers i j long (omega (arith, same, inside)) are.followers followers follows hinted
+      on Leader j follows leads hinted = hinted_gone gone Leader old.leaders new.leaders i j long (omega (arith, same, inside)) are.leaders leaders leads hinted

@@ -1,4 +1,4 @@
--- Who watches which place, and who waits.
+-- Who watches which position, and who waits.
 use Rattle.std.proofs.Common.{◌≡◌, ◌≢◌, ℕ, ◌<◌, ◌⊎◌, Bool, true, false, ◌||◌, List, [], ◌∷◌, ◌++◌, length, set, get_or, Option, Some, None, refl, sym, ap, subst, ◌∙◌, inl, inr}
 use Rattle.std.specs.Prelude.{Contains, IfSome}
 use Rattle.std.proofs.lemmas.Bool.{cases_eq}
@@ -7,7 +7,7 @@ use Rattle.std.proofs.lemmas.List.Elements.{Contains-append_left, Contains-appen
 use Rattle.gl_edges.proofs.Membership.{contains_here}
 use Rattle.gl_trims.specs.bodies.Trimming.{watched_at}
 
--- those that watch place q, as one list is set
+-- those that watch position q, as one list is set
 set_cases : (lists : List (List ℕ)) (p q : ℕ) (xs : List ℕ) → p < length lists → ((q ≡ p) × (get_or (set lists p xs) q [] ≡ xs)) ⊎ (get_or (set lists p xs) q [] ≡ get_or lists q [])
 set_cases lists p q xs within =
     elim (cases_eq q p) [
@@ -16,7 +16,7 @@ set_cases lists p q xs within =
     ]
 
 -- one watcher more
-pub length_watched : (place : Option ℕ) (i : ℕ) (lists : List (List ℕ)) → length (watched_at place i lists) ≡ length lists
+pub length_watched : (hint : Option ℕ) (i : ℕ) (lists : List (List ℕ)) → length (watched_at hint i lists) ≡ length lists
 length_watched None i lists = refl
 length_watched (Some p) i lists = length-set lists p (get_or lists p [] ++ i ∷ [])
 
@@ -24,7 +24,7 @@ pub watched_has : (p i : ℕ) (lists : List (List ℕ)) → p < length lists →
 watched_has p i lists within =
     subst (λ l. Contains l i) (sym (get_or-set_same lists p (get_or lists p [] ++ i ∷ []) [] within)) (Contains-append_right (get_or lists p []) (i ∷ []) i (contains_here i []))
 
-pub watched_keeps : (place : Option ℕ) (i : ℕ) (lists : List (List ℕ)) (q j : ℕ) → IfSome place (λ p. p < length lists) → Contains (get_or lists q []) j → Contains (get_or (watched_at place i lists) q []) j
+pub watched_keeps : (hint : Option ℕ) (i : ℕ) (lists : List (List ℕ)) (q j : ℕ) → IfSome hint (λ p. p < length lists) → Contains (get_or lists q []) j → Contains (get_or (watched_at hint i lists) q []) j
 watched_keeps None i lists q j within at = at
 watched_keeps (Some p) i lists q j within at =
     elim (set_cases lists p q (get_or lists p [] ++ i ∷ []) within) [
@@ -32,7 +32,7 @@ watched_keeps (Some p) i lists q j within at =
       | inr same ↦ subst (λ l. Contains l j) (sym same) at
     ]
 
--- nobody watches a place any more
+-- nobody watches a position any more
 pub left_other : (lists : List (List ℕ)) (p q j : ℕ) → q ≢ p → Contains (get_or lists q []) j → Contains (get_or (set lists p []) q []) j
 left_other lists p q j other at = subst (λ l. Contains l j) (sym (get_or-set_other lists p q [] [] other)) at
 

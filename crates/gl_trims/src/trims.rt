@@ -7,7 +7,7 @@ ghost use Rattle.gl_filters.specs.Picked.{edges_of_table};
 ghost use Rattle.gl_trims.specs.Trims.{is_beside, IsFirstStuck, IsTrimmed, others};
 ghost use Rattle.gl_index.specs.declared.sides.Side.{Side};
 ghost use Rattle.gl_edges.specs.declared.edge.Edge.{Edge};
-ghost use Rattle.gl_trims.specs.bodies.Trimming.{IsFlagged, IsStart, IsHint, IsPlaced, AreHints, AreBothHints, HasBesideAt, TellsStuck, KeepPlaced, AreSettled, AreFlagsOf, AreAwake, AreTaken, IsWoken, places_of, watched_at};
+ghost use Rattle.gl_trims.specs.bodies.Trimming.{IsFlagged, IsStart, IsHint, HasHint, AreHints, AreBothHints, HasBesideAt, TellsStuck, KeepHints, AreSettled, AreFlagsOf, AreAwake, AreTaken, IsWoken, hints_of, watched_at};
 ghost use Rattle.gl_trims.specs.bodies.Waiting.{waits, AreEarlier};
 ghost use Rattle.gl_index.specs.Indexes.{AreChained};
 ghost use Rattle.gl_index.specs.Sides.{opposite};
@@ -31,9 +31,10 @@ pub struct Trimmed {
     pub removed: Vec<usize>,
 }
 
-// For each edge that was looked at a place before which no edge is left that may come beside it on one side.
+// For each edge that was looked at a hint: a position before which no edge is left that may come beside it on one
+// side.
 //
-// A place is looked for only when its edge is looked at, and a leader only where there is a follower: an edge
+// A hint is looked for only when its edge is looked at, and a leader only where there is a follower: an edge
 // without one goes. By then the edges before it may be gone, with which it needn't be compared.
 #[derive(Drop)]
 pub(crate) struct Hints {
@@ -41,26 +42,26 @@ pub(crate) struct Hints {
     pub(crate) users: Users,
     // leads through the edges that share a lock
     pub(crate) chain: Chain,
-    // for each position its place, where one was found
-    pub(crate) places: Vec<Option<usize>>,
-    // for each place that is left the positions of which it is the place
+    // for each position its hint, where one was found
+    pub(crate) found: Vec<Option<usize>>,
+    // for each position that is left those of which it is the hint
     pub(crate) watchers: Watchers,
 }
 
 impl Hints {
-    // The edge at a position has this place from now on, and watches it.
-    fn put(&mut self, i: usize, place: Option<usize>) -> Result<(), Memory>
-        requires here { i < vec_len self.old.places }
-        requires there { IfSome place (λ p. p < length self.old.watchers) }
+    // The edge at a position has this hint from here on, and watches it.
+    fn put(&mut self, i: usize, hint: Option<usize>) -> Result<(), Memory>
+        requires here { i < vec_len self.old.found }
+        requires there { IfSome hint (λ p. p < length self.old.watchers) }
         ensures users { OnOk result (self.new.users ≡ self.old.users) }
         ensures chain { OnOk result (self.new.chain ≡ self.old.chain) }
-        ensures places { OnOk result (self.new.places.items ≡ set self.old.places.items i place) }
+        ensures found { OnOk result (self.new.found.items ≡ set self.old.found.items i hint) }
         ensures watchers { OnOk result
-            (self.new.watchers ≡ watched_at place i self.old.watchers) }
+            (self.new.watchers ≡ watched_at hint i self.old.watchers) }
     {
-        self.places[i] = place;
-        match place {
-            Some(place) => self.watchers.add(place, i),
+        self.found[i] = hint;
+        match hint {
+            Some(hint) => self.watchers.add(hint, i),
             None => Ok(()),
         }
     }
@@ -73,17 +74,17 @@ pub(crate) struct Sides {
     pub(crate) leaders: Hints,
 }
 
-// Whether the edge at a position has a place, and the one there is left.
-fn is_placed(gone: &[bool], places: &[Option<usize>], i: usize) -> bool
-    requires here { i < length places.now }
-    requires within { (p : ℕ) → slice_get places.now i ≡ Some (Some p)
+// Whether the edge at a position has a hint, and the edge there is left.
+fn has_hint(gone: &[bool], found: &[Option<usize>], i: usize) -> bool
+    requires here { i < length found.now }
+    requires within { (p : ℕ) → slice_get found.now i ≡ Some (Some p)
         → p < length gone.now }
-    ensures { Decides result (IsPlaced gone.now places.now i) }
+    ensures { Decides result (HasHint gone.now found.now i) }
 {
-    let Some(place) = places[i] else {
+    let Some(hint) = found[i] else {
         return false;
     };
-    !gone[place]
+    !gone[hint]
 }
 
 // What is trimmed.
@@ -111,7 +112,7 @@ impl Trimming<'_> {
         }
     }
 
-    // The first place from this one on of an edge that isn't gone and may come beside the edge at a
+    // The first position from this one on of an edge that isn't gone and may come beside the edge at a
     // position.
     pub(crate) fn next_beside(
         &self,
@@ -129,14 +130,14 @@ impl Trimming<'_> {
             (edges_of_table self.now.table.now) gone.now side i from }
         ensures hint { IsHint (is_before self.now.order.now) self.now.mode
             (edges_of_table self.now.table.now) gone.now side i result }
-        ensures left { IfSome result (λ place. slice_get gone.now place ≡ Some false) }
+        ensures left { IfSome result (λ p. slice_get gone.now p ≡ Some false) }
     {
         let mut next = from;
-        while let Some(place) = next {
-            if !gone[place] && self.fits(side, i, place) {
-                return Some(place);
+        while let Some(other) = next {
+            if !gone[other] && self.fits(side, i, other) {
+                return Some(other);
             }
-            next = chain.after(place);
+            next = chain.after(other);
         }
         None
     }
@@ -152,7 +153,7 @@ impl Trimming<'_> {
         Ok(Hints {
             users: Users::of_kept(alloc, self.table, towards, &[])?,
             chain: Chain::of(alloc, self.table, towards)?,
-            places: vec![in alloc; None; self.table.len()]?,
+            found: vec![in alloc; None; self.table.len()]?,
             watchers: Watchers::none(alloc, self.table.len())?,
         })
     }
@@ -188,7 +189,7 @@ impl Trimming<'_> {
         hints.chain.begin(lock)
     }
 
-    // The first place of an edge that isn't gone and may come beside the one at a position. Where that has a place,
+    // The first position of an edge that isn't gone and may come beside the one at a position. Where that has a hint,
     // none before it does.
     fn find(&self, gone: &[bool], hints: &Hints, side: Side, i: usize) -> Option<usize>
         requires here { i < length self.now.table.now }
@@ -197,16 +198,16 @@ impl Trimming<'_> {
             (edges_of_table self.now.table.now) gone.now side hints.now }
         ensures hint { IsHint (is_before self.now.order.now) self.now.mode
             (edges_of_table self.now.table.now) gone.now side i result }
-        ensures left { IfSome result (λ place. slice_get gone.now place ≡ Some false) }
+        ensures left { IfSome result (λ p. slice_get gone.now p ≡ Some false) }
     {
-        let Some(place) = hints.places[i] else {
+        let Some(hint) = hints.found[i] else {
             let first = self.start(hints, side, i);
             return self.next_beside(gone, &hints.chain, side, i, first);
         };
-        self.next_beside(gone, &hints.chain, side, i, Some(place))
+        self.next_beside(gone, &hints.chain, side, i, Some(hint))
     }
 
-    // Whether an edge is left that may come beside the one at a position. Then one is its place.
+    // Whether an edge is left that may come beside the one at a position. Then one is its hint.
     fn has_beside(
         &self,
         gone: &[bool],
@@ -222,17 +223,17 @@ impl Trimming<'_> {
             (AreHints (is_before self.now.order.now) self.now.mode
             (edges_of_table self.now.table.now) gone.now side hints.new) }
         ensures kept { OnOk result
-            (KeepPlaced gone.now hints.old.places.items hints.new.places.items) }
+            (KeepHints gone.now hints.old.found.items hints.new.found.items) }
         ensures tells { IfOk result
             (λ has. HasBesideAt (is_before self.now.order.now) self.now.mode
-            (edges_of_table self.now.table.now) gone.now side i hints.new.places.items has) }
+            (edges_of_table self.now.table.now) gone.now side i hints.new.found.items has) }
     {
-        if is_placed(gone, &hints.places, i) {
+        if has_hint(gone, &hints.found, i) {
             return Ok(true);
         }
-        let place = self.find(gone, hints, side, i);
-        hints.put(i, place)?;
-        Ok(place.is_some())
+        let hint = self.find(gone, hints, side, i);
+        hints.put(i, hint)?;
+        Ok(hint.is_some())
     }
 
     // Whether the edge at a position is left, and no follower of it, or no leader.
@@ -246,7 +247,7 @@ impl Trimming<'_> {
             (edges_of_table self.now.table.now) gone.now sides.new) }
         ensures kept { OnOk result
             ((side : Side)
-            → KeepPlaced gone.now (places_of side sides.old) (places_of side sides.new)) }
+            → KeepHints gone.now (hints_of side sides.old) (hints_of side sides.new)) }
         ensures tells { IfOk result
             (λ stuck. TellsStuck (is_before self.now.order.now) self.now.mode
             (edges_of_table self.now.table.now) gone.now sides.new i stuck) }

@@ -6,7 +6,7 @@ use std::alloc::Global;
 use std::marker::Model;
 use std::mem;
 
-/// For each place the positions of those that watch it. Contracts see a list of lists of numbers.
+/// For each position the positions of those that watch it. Contracts see a list of lists of numbers.
 #[derive(Drop)]
 pub(crate) struct Watchers {
     lists: Vec<Vec<usize>>,
@@ -21,33 +21,33 @@ impl Model for Watchers {
 }
 
 impl Watchers {
-    /// Nobody watches any of so many places.
-    pub(crate) fn none(alloc: Global, places: usize) -> Result<Watchers, Memory>
-        ensures { IfOk result (λ watchers. watchers ≡ replicate places []) }
+    /// Nobody watches any of so many positions.
+    pub(crate) fn none(alloc: Global, positions: usize) -> Result<Watchers, Memory>
+        ensures { IfOk result (λ watchers. watchers ≡ replicate positions []) }
     {
-        let mut lists = Vec::with_capacity(alloc, places)?;
-        for _ in 0..places {
+        let mut lists = Vec::with_capacity(alloc, positions)?;
+        for _ in 0..positions {
             lists.push(Vec::new(alloc))?;
         }
         Ok(Watchers { lists })
     }
 
-    /// One more watches a place.
-    pub(crate) fn add(&mut self, place: usize, watcher: usize) -> Result<(), Memory>
-        requires { place < length self.old }
+    /// One more watches a position.
+    pub(crate) fn add(&mut self, position: usize, watcher: usize) -> Result<(), Memory>
+        requires { position < length self.old }
         ensures { OnOk result
-            (self.new ≡ set self.old place (get_or self.old place [] ++ watcher ∷ [])) }
+            (self.new ≡ set self.old position (get_or self.old position [] ++ watcher ∷ [])) }
     {
-        self.lists[place].push(watcher)?;
+        self.lists[position].push(watcher)?;
         Ok(())
     }
 
-    /// Those that watch a place, of which none does so any longer.
-    pub(crate) fn take(&mut self, alloc: Global, place: usize) -> Vec<usize>
-        requires { place < length self.old }
-        ensures taken { result.items ≡ get_or self.old place [] }
-        ensures left { self.new ≡ set self.old place [] }
+    /// Those that watch a position, of which none does so any longer.
+    pub(crate) fn take(&mut self, alloc: Global, position: usize) -> Vec<usize>
+        requires { position < length self.old }
+        ensures taken { result.items ≡ get_or self.old position [] }
+        ensures left { self.new ≡ set self.old position [] }
     {
-        mem::replace(&mut self.lists[place], Vec::new(alloc))
+        mem::replace(&mut self.lists[position], Vec::new(alloc))
     }
 }

@@ -186,8 +186,8 @@ impl Search<'_> {
         self.by_lock.after(i)
     }
 
-    // Takes one of the steps. Spent where none is left and the search is bound to them.
-    fn take_step(&self, steps: &mut usize) -> Result<(), Stop>
+    // Spends one of the steps. Err where none is left and the search is bound to them.
+    fn spend_step(&self, steps: &mut usize) -> Result<(), Stop>
         ensures stopped { IfErr result (λ stop. self.now.is_bound ≡ false → stop ≡ Memory) }
     {
         if *steps > 0 {
@@ -281,7 +281,7 @@ impl Search<'_> {
             (path.now ++ next ∷ []) walk.items)) }
         ensures stopped { IfErr result (λ stop. self.now.is_bound ≡ false → stop ≡ Memory) }
     {
-        self.take_step(steps)?;
+        self.spend_step(steps)?;
         if !self.may_follow(path, next) {
             return Ok(None);
         }

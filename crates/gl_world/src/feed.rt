@@ -8,7 +8,8 @@ use gl_shards::Table;
 use std::alloc::Global;
 use std::marker::Model;
 
-/// The edges shipped to a shard, how many of them its worker has put into its table, and the table.
+/// The edges shipped to a shard, how many of them its worker has put into its table, and the table: all
+/// that went through what gl_shards calls a feed, and what became of it.
 ///
 /// Contracts see the shard.
 #[derive(Drop, Debug)]

@@ -1,7 +1,10 @@
 //! The core: recorders, lanes, a collector and shards as one machine, and its report.
 //!
+//! No running path goes through it: it is what running calls are proved against. gl_engine does on running
+//! threads what the machine does step by step, and says it in the machine's words.
+//!
 //! A [`World`] has a recorder with a lane for each thread, one collector, and shards, each with a
-//! feed, a worker and a table of edges. Its steps may come in any order, as a scheduler of threads
+//! queue of edges, a worker and a table of edges. Its steps may come in any order, as a scheduler of threads
 //! might choose. Whatever the order, what is collected of a thread is how the list of events that
 //! the thread took begins; and once the world is drained, its report is the Goodlock report of what
 //! the threads took: timing doesn't show, nor the number of shards.
@@ -16,6 +19,9 @@
 //!     let report = world.report(&query)?;
 //! }
 //! ```
+//!
+//! What gl_shards calls a feed is the queue of edges alone, with its two ends. The machine has the queue, the
+//! worker and the table of a shard in one, and calls that a `Feed`, after the edges shipped to it.
 //!
 //! The steps are defined in `specs/Machine.antt` and `specs/Dispatch.antt`, and what a drained
 //! machine reports in `specs/Headline.antt`. [`every_schedule_keeps_order`] and

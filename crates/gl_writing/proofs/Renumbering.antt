@@ -97,9 +97,9 @@ module _ {X Y : Type 0} (R : X → Y → Type 0) where
 
 -- the same event but for its numbers, where these numbers of locks are the same lock
 pub data Renumbered (R : ℕ → ℕ → Type 0) : Event → Event → Type 0 where
-  acquire : (a b : ℕ) (mode : LockMode) (m n : ℕ) → R a b → Renumbered R (Acquire a mode m) (Acquire b mode n)
-  release : (a b : ℕ) (mode : LockMode) (m n : ℕ) → R a b → Renumbered R (Release a mode m) (Release b mode n)
-  try_acquire : (a b : ℕ) (mode : LockMode) (m n : ℕ) → R a b → Renumbered R (TryAcquire a mode m) (TryAcquire b mode n)
+  acquire : (a b : ℕ) (mode : LockMode) (m n : ℕ) → R a b → Renumbered R (Acquire mode a m) (Acquire mode b n)
+  release : (a b : ℕ) (mode : LockMode) (m n : ℕ) → R a b → Renumbered R (Release mode a m) (Release mode b n)
+  try_acquire : (a b : ℕ) (mode : LockMode) (m n : ℕ) → R a b → Renumbered R (TryAcquire mode a m) (TryAcquire mode b n)
   fork : (s t m n : ℕ) → Renumbered R (Fork s m) (Fork t n)
   join : (s t m n : ℕ) → Renumbered R (Join s m) (Join t n)
 

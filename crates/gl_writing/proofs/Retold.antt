@@ -116,14 +116,14 @@ name_there : (names : List (List ℕ)) (n : ℕ) → n < length names → slice_
 name_there names n within = slice_get-get_or names n [] within ∙ ap (λ x. Some x) (sym (unwrap_or-slice_get names n []))
 
 renumbered : (old new : NameLists) (thread : List ℕ) (e f : Event) → IsRetold old new thread e f → Renumbered (IsSameName old.locks new.locks) e f
-renumbered old new thread (Acquire lock mode loc) f is =
-    subst (Renumbered (IsSameName old.locks new.locks) (Acquire lock mode loc)) (sym is.numbered.event_is)
+renumbered old new thread (Acquire mode lock loc) f is =
+    subst (Renumbered (IsSameName old.locks new.locks) (Acquire mode lock loc)) (sym is.numbered.event_is)
     (acquire lock is.numbered.operand_number mode loc is.numbered.loc_number (name_at old.locks lock, name_there old.locks lock is.named.0, is.numbered.operand_at))
-renumbered old new thread (Release lock mode loc) f is =
-    subst (Renumbered (IsSameName old.locks new.locks) (Release lock mode loc)) (sym is.numbered.event_is)
+renumbered old new thread (Release mode lock loc) f is =
+    subst (Renumbered (IsSameName old.locks new.locks) (Release mode lock loc)) (sym is.numbered.event_is)
     (release lock is.numbered.operand_number mode loc is.numbered.loc_number (name_at old.locks lock, name_there old.locks lock is.named.0, is.numbered.operand_at))
-renumbered old new thread (TryAcquire lock mode loc) f is =
-    subst (Renumbered (IsSameName old.locks new.locks) (TryAcquire lock mode loc)) (sym is.numbered.event_is)
+renumbered old new thread (TryAcquire mode lock loc) f is =
+    subst (Renumbered (IsSameName old.locks new.locks) (TryAcquire mode lock loc)) (sym is.numbered.event_is)
     (try_acquire lock is.numbered.operand_number mode loc is.numbered.loc_number (name_at old.locks lock, name_there old.locks lock is.named.0, is.numbered.operand_at))
 renumbered old new thread (Fork other loc) f is =
     subst (Renumbered (IsSameName old.locks new.locks) (Fork other loc)) (sym is.numbered.event_is) (fork other is.numbered.operand_number loc is.numbered.loc_number)
@@ -134,16 +134,16 @@ name_among : (names : List (List ℕ)) (n : ℕ) → n < length names → Contai
 name_among names n within = subst (Contains names) (sym (unwrap_or-slice_get names n [])) (Contains-get_or names n [] within)
 
 operand_among : (names : NameLists) (e : Event) → IsNamed names e → Contains (operands (operation_in e) names) (operand_name names e)
-operand_among names (Acquire lock mode loc) named = name_among names.locks lock named.0
-operand_among names (Release lock mode loc) named = name_among names.locks lock named.0
-operand_among names (TryAcquire lock mode loc) named = name_among names.locks lock named.0
+operand_among names (Acquire mode lock loc) named = name_among names.locks lock named.0
+operand_among names (Release mode lock loc) named = name_among names.locks lock named.0
+operand_among names (TryAcquire mode lock loc) named = name_among names.locks lock named.0
 operand_among names (Fork other loc) named = name_among names.threads other named.0
 operand_among names (Join other loc) named = name_among names.threads other named.0
 
 loc_among : (names : NameLists) (e : Event) → IsNamed names e → Contains names.locs (name_at names.locs (location e))
-loc_among names (Acquire lock mode loc) named = name_among names.locs loc named.1
-loc_among names (Release lock mode loc) named = name_among names.locs loc named.1
-loc_among names (TryAcquire lock mode loc) named = name_among names.locs loc named.1
+loc_among names (Acquire mode lock loc) named = name_among names.locs loc named.1
+loc_among names (Release mode lock loc) named = name_among names.locs loc named.1
+loc_among names (TryAcquire mode lock loc) named = name_among names.locs loc named.1
 loc_among names (Fork other loc) named = name_among names.locs loc named.1
 loc_among names (Join other loc) named = name_among names.locs loc named.1
 

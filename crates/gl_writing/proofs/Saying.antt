@@ -22,32 +22,32 @@ use Rattle.gl_std.proofs.Shapes.{holds-none, free_of, says_shape}
 -- ---- words
 
 pub word_read : (e : Event) → operation_of (word_of e) ≡ Some (operation_in e)
-word_read (Acquire lock Exclusive loc) = refl
-word_read (Acquire lock Shared loc) = refl
-word_read (Release lock Exclusive loc) = refl
-word_read (Release lock Shared loc) = refl
-word_read (TryAcquire lock Exclusive loc) = refl
-word_read (TryAcquire lock Shared loc) = refl
+word_read (Acquire Exclusive lock loc) = refl
+word_read (Acquire Shared lock loc) = refl
+word_read (Release Exclusive lock loc) = refl
+word_read (Release Shared lock loc) = refl
+word_read (TryAcquire Exclusive lock loc) = refl
+word_read (TryAcquire Shared lock loc) = refl
 word_read (Fork thread loc) = refl
 word_read (Join thread loc) = refl
 
 word_without_bar : (e : Event) → holds BAR (word_of e) ≡ false
-word_without_bar (Acquire lock Exclusive loc) = refl
-word_without_bar (Acquire lock Shared loc) = refl
-word_without_bar (Release lock Exclusive loc) = refl
-word_without_bar (Release lock Shared loc) = refl
-word_without_bar (TryAcquire lock Exclusive loc) = refl
-word_without_bar (TryAcquire lock Shared loc) = refl
+word_without_bar (Acquire Exclusive lock loc) = refl
+word_without_bar (Acquire Shared lock loc) = refl
+word_without_bar (Release Exclusive lock loc) = refl
+word_without_bar (Release Shared lock loc) = refl
+word_without_bar (TryAcquire Exclusive lock loc) = refl
+word_without_bar (TryAcquire Shared lock loc) = refl
 word_without_bar (Fork thread loc) = refl
 word_without_bar (Join thread loc) = refl
 
 word_without_open : (e : Event) → holds OPEN (word_of e) ≡ false
-word_without_open (Acquire lock Exclusive loc) = refl
-word_without_open (Acquire lock Shared loc) = refl
-word_without_open (Release lock Exclusive loc) = refl
-word_without_open (Release lock Shared loc) = refl
-word_without_open (TryAcquire lock Exclusive loc) = refl
-word_without_open (TryAcquire lock Shared loc) = refl
+word_without_open (Acquire Exclusive lock loc) = refl
+word_without_open (Acquire Shared lock loc) = refl
+word_without_open (Release Exclusive lock loc) = refl
+word_without_open (Release Shared lock loc) = refl
+word_without_open (TryAcquire Exclusive lock loc) = refl
+word_without_open (TryAcquire Shared lock loc) = refl
 word_without_open (Fork thread loc) = refl
 word_without_open (Join thread loc) = refl
 

@@ -22,20 +22,20 @@ name_at names number = unwrap_or (slice_get names number) []
 
 -- the word of the event's operation
 abbrev pub word_of : Event → List ℕ
-word_of (Acquire lock Exclusive loc) = codes "acq"
-word_of (Acquire lock Shared loc) = codes "racq"
-word_of (Release lock Exclusive loc) = codes "rel"
-word_of (Release lock Shared loc) = codes "rrel"
-word_of (TryAcquire lock Exclusive loc) = codes "tryacq"
-word_of (TryAcquire lock Shared loc) = codes "tryracq"
+word_of (Acquire Exclusive lock loc) = codes "acq"
+word_of (Acquire Shared lock loc) = codes "racq"
+word_of (Release Exclusive lock loc) = codes "rel"
+word_of (Release Shared lock loc) = codes "rrel"
+word_of (TryAcquire Exclusive lock loc) = codes "tryacq"
+word_of (TryAcquire Shared lock loc) = codes "tryracq"
 word_of (Fork thread loc) = codes "fork"
 word_of (Join thread loc) = codes "join"
 
 -- the name of the lock or thread that the event is on
 abbrev pub operand_name : NameLists → Event → List ℕ
-operand_name names (Acquire lock mode loc) = name_at names.locks lock
-operand_name names (Release lock mode loc) = name_at names.locks lock
-operand_name names (TryAcquire lock mode loc) = name_at names.locks lock
+operand_name names (Acquire mode lock loc) = name_at names.locks lock
+operand_name names (Release mode lock loc) = name_at names.locks lock
+operand_name names (TryAcquire mode lock loc) = name_at names.locks lock
 operand_name names (Fork thread loc) = name_at names.threads thread
 operand_name names (Join thread loc) = name_at names.threads thread
 
@@ -61,9 +61,9 @@ written names lists = flat_map (λ own. written_list names own.0 own.1) (zip nam
 
 -- the operation of the event
 abbrev pub operation_in : Event → Operation
-operation_in (Acquire lock mode loc) = AcquireOf mode
-operation_in (Release lock mode loc) = ReleaseOf mode
-operation_in (TryAcquire lock mode loc) = TryAcquireOf mode
+operation_in (Acquire mode lock loc) = AcquireOf mode
+operation_in (Release mode lock loc) = ReleaseOf mode
+operation_in (TryAcquire mode lock loc) = TryAcquireOf mode
 operation_in (Fork thread loc) = ForkOf
 operation_in (Join thread loc) = JoinOf
 

@@ -1,7 +1,9 @@
 -- What a search of paths relies on.
-use Rattle.std.specs.Prelude.{◌≡◌, ℕ, ◌≤◌, ◌-◌, List, [], ◌∷◌, length, take}
+use Rattle.std.specs.Prelude.{◌≡◌, ℕ, ◌≤◌, ◌-◌, false, List, [], ◌∷◌, ◌++◌, length, take, Result, IfErr, OnOk}
 use Rattle.gl_segments.specs.Clocks.{is_before}
 use Rattle.gl_filters.specs.Picked.{edges_of_table}
+use Rattle.gl_filters.specs.declared.steps.Stop.{Stop}
+use Rattle.gl_filters.specs.declared.steps.Stop.TheVariants.{Memory}
 use Rattle.gl_cycles.specs.bodies.Blocks.{block, blocks_below}
 use Rattle.gl_index.specs.Indexes.{IsIndexOf}
 use Rattle.gl_pruning.specs.OffCycles.{KeepsCycles}
@@ -18,9 +20,20 @@ pub record IsReady (s : Searcher) : Type 0 where
   -- and the index leads through the rest
   pub indexed : IsIndexOf (edges_of_table s.table.now) s.kept.items s.index
 
+-- the cycles that begin with a front
+abbrev pub all_from : Searcher → List ℕ → List (List ℕ)
+all_from s front = block (is_before s.order.now) s.mode (edges_of_table s.table.now) (s.len - length front) front
+
 -- the cycles that begin with the edge at a position, up to the cap
 abbrev pub first_from : Searcher → ℕ → List (List ℕ)
-first_from s root = take s.cap (block (is_before s.order.now) s.mode (edges_of_table s.table.now) (s.len - 1) (root ∷ []))
+first_from s root = take s.cap (all_from s (root ∷ []))
+
+-- the cycles that begin with a front were added to those before, up to the cap; or why the search stopped: only for want of memory, where it
+-- isn't bound to its steps
+pub record HasGrown (s : Searcher) (front : List ℕ) (before after : List (List ℕ))
+    (grown : Result (Unit {0}) Stop) : Type 0 where
+  pub added : OnOk grown (after ≡ take s.cap (before ++ all_from s front))
+  pub stopped : IfErr grown (λ stop. s.is_bound ≡ false → stop ≡ Memory)
 
 -- what a search looks for
 abbrev pub sought_by : Searcher → Sought

@@ -13,8 +13,8 @@ use Rattle.gl_world.specs.Keeping.{notes_of}
 use Rattle.gl_engine.specs.Collecting.{as_of}
 use Rattle.gl_engine.specs.Dealing.{dealt}
 use Rattle.gl_engine.specs.Gathering.{IsStoppedAt}
-use Rattle.gl_engine.specs.declared.faults.RunFault.{RunFault}
-use Rattle.gl_engine.specs.declared.faults.RunFault.TheVariants as kept
+use Rattle.gl_engine.specs.declared.gathered.RunFault.{RunFault}
+use Rattle.gl_engine.specs.declared.gathered.RunFault.TheVariants as kept
 use Rattle.gl_engine.specs.declared.pulled.Pulled.{Pulled}
 use Rattle.gl_engine.specs.declared.pulled.Pulled.TheVariants.{Empty, Event, Ended}
 use Rattle.gl_engine.specs.declared.pulled.PullFault.{PullFault}

@@ -14,7 +14,7 @@ use Rattle.gl_engine.specs.Collecting.{as_of}
 use Rattle.gl_engine.specs.Keeping.{AreNotesOf, IsCollector}
 use Rattle.gl_engine.specs.Recording.{Closed}
 use Rattle.gl_engine.specs.Dealing.{dealt, made_by}
-use Rattle.gl_engine.specs.declared.faults.RunFault.{RunFault}
+use Rattle.gl_engine.specs.declared.gathered.RunFault.{RunFault}
 use Rattle.gl_engine.specs.declared.lane_input.LaneInput.{LaneInput}
 
 -- an input's lane

@@ -2,23 +2,26 @@
 ghost use Rattle.std.specs.Prelude.{◌≡◌, ◌≤◌, false};
 ghost use Rattle.gl_event.specs.declared.limits.TheConstants.{MAX_RING, MAX_THREADS};
 ghost use Rattle.gl_io.specs.Positions.{untold};
+ghost use Rattle.gl_live.specs.Streamed.{IsUnread};
 ghost use Rattle.gl_shards.specs.declared.shard.TheConstants.{MAX_SHARDS};
+ghost use Rattle.gl_std.specs.Streaming.{CanBeAsked};
 
-use super::{Meeting, counts, reported};
+use super::lists::reported;
+use super::meeting::Meeting;
+use super::wanted::{Listed, TWO_EDGES, Wanted, is_wanted, query_for};
 use crate::texts::unread_items;
 use gl_cycles::Report;
-use gl_event::{Event, Memory, Segment, ThreadId};
-use gl_filters::{Mode, Query};
+use gl_event::{MAX_RING, MAX_THREADS, Segment, ThreadId};
+use gl_filters::Query;
+use gl_findings::Contents;
 use gl_io::FromStd;
-use gl_live::{LiveFault, StreamFault, StreamOptions, stream_report};
-use gl_shards::{Gate, Open};
+use gl_live::{LiveFault, StreamFault, StreamOptions, stream_report, stream_report_with};
+use gl_shards::{Gate, MAX_SHARDS, Open};
 use gl_std::{Failed, Items, LinesFault, Source, StdKind};
-use gl_worked::ops::Op::{Acq, Rel};
-use gl_worked::ops::event_of;
-use std::alloc::Global;
+use gl_worked::ops::Op::{self, Acq, Rel};
+use gl_worked::ops::lists_of;
 use std::process::Abort;
 use std::sync::Wait;
-use std::test::Fail;
 use std::thread::Threads;
 
 // The first thread takes a and b, and releases both; the second takes b and then a.
@@ -26,56 +29,281 @@ const OPPOSITE_ORDER: &[u8] =
     b"T0|acq(a)|1\nT0|acq(b)|2\nT0|rel(b)|3\nT0|rel(a)|4\nT1|acq(b)|5\nT1|acq(a)|6\n";
 
 // The events of that text.
-fn opposite_lists(alloc: Global) -> Result<Vec<Vec<Event>>, Memory> {
-    let first = vec![in alloc;
-        event_of(Acq(0, 0)),
-        event_of(Acq(1, 1)),
-        event_of(Rel(1, 2)),
-        event_of(Rel(0, 3)),
-    ]?;
-    let second = vec![in alloc; event_of(Acq(1, 4)), event_of(Acq(0, 5))]?;
-    Ok(vec![in alloc; first, second]?)
+const OPPOSITE_LISTS: &[&[Op]] = &[
+    &[Acq(0, 0), Acq(1, 1), Rel(1, 2), Rel(0, 3)],
+    &[Acq(1, 4), Acq(0, 5)],
+];
+
+// Two threads join one another.
+const JOIN_LOOP: &[u8] = b"T0|join(T1)|1\nT1|join(T0)|2\n";
+
+// Two threads take a and then b, at the same places; two others take b and then a.
+const CROSSED: &[u8] = b"T0|acq(a)|1\nT0|acq(b)|2\nT0|rel(b)|3\nT0|rel(a)|4\n\
+    T1|acq(a)|1\nT1|acq(b)|2\nT1|rel(b)|3\nT1|rel(a)|4\n\
+    T2|acq(b)|5\nT2|acq(a)|6\nT2|rel(a)|7\nT2|rel(b)|8\n\
+    T3|acq(b)|5\nT3|acq(a)|6\nT3|rel(a)|7\nT3|rel(b)|8\n";
+
+// What becomes of a text.
+#[derive(Clone, Copy)]
+enum End {
+    Report(Wanted),
+    Fault(LinesFault),
+    // each of these segments is before the next one round
+    Ring(&'static [(u32, u32)]),
 }
 
-// What becomes of the text of a source, by a session with so many lanes, workers, and notes in a ring.
+// A text, how many threads it may name, with which contents a report is asked for, where that is told, and what
+// becomes of it: by three workers, and rings of one note.
+#[derive(Clone, Copy)]
+struct Case {
+    name: &'static str,
+    text: &'static [u8],
+    threads: u32,
+    contents: Option<Contents>,
+    end: End,
+}
+
+const CASES: &[Case] = &[
+    // The first line of the second thread is the fifth.
+    Case {
+        name: "one_thread_too_few",
+        text: OPPOSITE_ORDER,
+        threads: 1,
+        contents: None,
+        end: End::Fault(LinesFault::Line {
+            line: 5,
+            kind: StdKind::TooManyThreads,
+        }),
+    },
+    // The line after an edge has no operand: it is told, and not the one after it, which has no bar.
+    Case {
+        name: "fault_after_an_edge",
+        text: b"T0|acq(a)|1\nT0|acq(b)|2\nT0|acq|3\nT0\n",
+        threads: 64,
+        contents: None,
+        end: End::Fault(LinesFault::Line {
+            line: 3,
+            kind: StdKind::BadOperand,
+        }),
+    },
+    // A text of no lines has no events, whatever lanes there are.
+    Case {
+        name: "no_lines",
+        text: b"",
+        threads: 64,
+        contents: None,
+        end: End::Report(Wanted {
+            edges: 0,
+            cycles: Listed::Count(0),
+            more: false,
+            trim: None,
+        }),
+    },
+    // Two threads join one another: what each does afterwards is before itself.
+    Case {
+        name: "joined_by_each_other",
+        text: JOIN_LOOP,
+        threads: 64,
+        contents: None,
+        end: End::Ring(&[(0, 1), (1, 1)]),
+    },
+    // There is no order, and so there are no findings.
+    Case {
+        name: "joined_by_each_other, findings",
+        text: JOIN_LOOP,
+        threads: 64,
+        contents: Some(Contents::Findings),
+        end: End::Ring(&[(0, 1), (1, 1)]),
+    },
+    // The text's four cycles are one finding.
+    Case {
+        name: "crossed_in_a_text",
+        text: CROSSED,
+        threads: 64,
+        contents: Some(Contents::CyclesAndTrim),
+        end: End::Report(Wanted {
+            edges: 4,
+            cycles: Listed::These(&[&[0, 2], &[0, 3], &[1, 2], &[1, 3]]),
+            more: false,
+            trim: None,
+        }),
+    },
+    Case {
+        name: "crossed_in_a_text, findings",
+        text: CROSSED,
+        threads: 64,
+        contents: Some(Contents::Findings),
+        end: End::Report(Wanted {
+            edges: 4,
+            cycles: Listed::These(&[&[0, 2]]),
+            more: false,
+            trim: None,
+        }),
+    },
+];
+
+// What `stream_report` answers, of which nothing is told: what is asked then stands among few facts, and the prover
+// takes it quickly. So it is with the next one.
+fn run_plain<R: AllocGlobal + Threads + Wait + Sync, S: Source, G: Gate + Sync>(
+    rt: &R,
+    items: Items,
+    input: &mut S,
+    options: &StreamOptions,
+    query: &Query,
+    gate: &G,
+) -> (Result<Report, StreamFault>, Items)
+    requires usable { CanBeAsked items (S.failed input.old) }
+    requires unread { IsUnread options.now.threads (S.position input.old)
+        (S.failed input.old) items }
+    requires some_thread { 1 ≤ options.now.threads }
+    requires threads_fit { options.now.threads ≤ MAX_THREADS }
+    requires some_shard { 1 ≤ options.now.shards }
+    requires shards_fit { options.now.shards ≤ MAX_SHARDS }
+    requires some_ring { 1 ≤ options.now.ring }
+    requires ring_fits { options.now.ring ≤ MAX_RING }
+{
+    stream_report(rt, rt.alloc(), items, input, options, query, gate)
+}
+
+// What `stream_report_with` answers, for a text that names 64 threads at the most, by three workers and rings of one
+// note.
+fn run_with<R: AllocGlobal + Threads + Wait + Sync, S: Source>(
+    rt: &R,
+    items: Items,
+    input: &mut S,
+    contents: Contents,
+    query: &Query,
+) -> (Result<Report, StreamFault>, Items)
+    requires usable { CanBeAsked items (S.failed input.old) }
+    requires unread { IsUnread 64 (S.position input.old) (S.failed input.old) items }
+{
+    let options = StreamOptions {
+        threads: 64,
+        shards: 3,
+        ring: 1,
+    };
+    stream_report_with(
+        rt,
+        rt.alloc(),
+        items,
+        input,
+        &options,
+        contents,
+        query,
+        &Open,
+    )
+}
+
+// What becomes of the text of a source, and its items, by a session with so many lanes, workers, and notes in a ring.
 fn streamed<R: AllocGlobal + Threads + Wait + Sync, S: Source, G: Gate + Sync>(
     rt: &R,
     input: &mut S,
-    threads: u32,
-    shards: u32,
-    ring: u32,
+    numbers: (u32, u32, u32),
     gate: &G,
-) -> Result<(Result<Report, StreamFault>, Items), Fail>
-    requires not_failed { S.failed input.old ≡ false }
-    requires some_thread { 1 ≤ threads }
-    requires threads_fit { threads ≤ MAX_THREADS }
-    requires some_shard { 1 ≤ shards }
-    requires shards_fit { shards ≤ MAX_SHARDS }
-    requires some_ring { 1 ≤ ring }
-    requires ring_fits { ring ≤ MAX_RING }
+) -> Option<(Result<Report, StreamFault>, Items)>
+    requires { S.failed input.old ≡ false }
 {
+    let (threads, shards, ring) = numbers;
+    if threads == 0
+        || threads > MAX_THREADS
+        || shards == 0
+        || shards > MAX_SHARDS
+        || ring == 0
+        || ring > MAX_RING
+    {
+        return None;
+    }
     let items = unread_items(rt.alloc(), threads)?;
-    let query = Query::new(Mode::Full, 16, 1_000)?;
+    let query = query_for(1_000)?;
     let options = StreamOptions {
         threads,
         shards,
         ring,
     };
-    Ok(stream_report(rt, rt.alloc(), items, input, &options, &query, gate))
+    Some(run_plain(rt, items, input, &options, &query, gate))
 }
 
-// What becomes of this text, by a session with so many lanes, three workers, and rings of one note.
+// The same with these contents.
+fn streamed_with<R: AllocGlobal + Threads + Wait + Sync>(
+    rt: &R,
+    text: &[u8],
+    contents: Contents,
+) -> Option<Result<Report, StreamFault>> {
+    let items = unread_items(rt.alloc(), 64)?;
+    let query = query_for(1_000)?;
+    let mut input = FromStd::new(text);
+    let (result, _items) = run_with(rt, items, &mut input, contents, &query);
+    Some(result)
+}
+
+// The same without contents, and so many threads.
 fn of_text<R: AllocGlobal + Threads + Wait + Sync>(
     rt: &R,
     text: &[u8],
     threads: u32,
-) -> Result<Result<Report, StreamFault>, Fail>
-    requires some_thread { 1 ≤ threads }
-    requires threads_fit { threads ≤ MAX_THREADS }
-{
+) -> Option<Result<Report, StreamFault>> {
     let mut input = FromStd::new(text);
-    let (result, _items) = streamed(rt, &mut input, threads, 3, 1, &Open)?;
-    Ok(result)
+    match streamed(rt, &mut input, (threads, 3, 1), &Open) {
+        Some((result, _items)) => Some(result),
+        None => None,
+    }
+}
+
+fn ended<R: AllocGlobal + Threads + Wait + Sync>(
+    rt: &R,
+    case: &Case,
+) -> Option<Result<Report, StreamFault>> {
+    match case.contents {
+        Some(contents) => streamed_with(rt, case.text, contents),
+        None => of_text(rt, case.text, case.threads),
+    }
+}
+
+fn segment(at: (u32, u32)) -> Segment {
+    Segment {
+        thread: ThreadId::new(at.0),
+        index: at.1,
+    }
+}
+
+// Whether the first of these segments was found, and all of them are the ring.
+fn is_ring(at: &Segment, ring: &[Segment], wanted: &[(u32, u32)]) -> bool {
+    if wanted.is_empty() || ring.len() != wanted.len() || *at != segment(wanted[0]) {
+        return false;
+    }
+    for (found, want) in ring.iter().zip(wanted) {
+        if *found != segment(*want) {
+            return false;
+        }
+    }
+    true
+}
+
+// Whether it is as it is wanted.
+fn is_end(ended: &Result<Report, StreamFault>, wanted: &End) -> bool {
+    match (ended, wanted) {
+        (Ok(report), End::Report(wanted)) => is_wanted(report, wanted),
+        (Err(StreamFault::Text(fault)), End::Fault(wanted)) => *fault == *wanted,
+        (Err(StreamFault::Session(LiveFault::Inconsistent { at, ring })), End::Ring(wanted)) => {
+            is_ring(at, ring, wanted)
+        }
+        _ => false,
+    }
+}
+
+// Whether there is a session, and it ends so.
+fn is_right(ended: Option<Result<Report, StreamFault>>, wanted: &End) -> bool {
+    match ended {
+        Some(ended) => is_end(&ended, wanted),
+        None => false,
+    }
+}
+
+#[test]
+fn ends_of_texts(rt: HostRuntime) {
+    for case in CASES {
+        assert!(rt; is_right(ended(&rt, case), &case.end), "{}", case.name);
+    }
 }
 
 // The edges, the cycles, and what is said of more of them are the same.
@@ -85,99 +313,39 @@ fn are_alike(one: &Report, other: &Report) -> bool {
         && one.found.more == other.found.more
 }
 
-// The text's report with so many lanes is that of its lists.
-fn expect_as_live<R: Abort + AllocGlobal + Threads + Wait + Sync>(
-    rt: &R,
-    threads: u32,
-) -> Result<(), Fail>
-    requires some_thread { 1 ≤ threads }
-    requires threads_fit { threads ≤ MAX_THREADS }
-{
-    let lists = opposite_lists(rt.alloc())?;
-    let live = reported(rt, lists.as_slice(), 2, 3, 1, &Open).expect(rt, "it is confirmed");
-    let report = of_text(rt, OPPOSITE_ORDER, threads)?.expect(rt, "it is confirmed");
-    assert_eq!(rt; counts(&report), (2, 1, false));
-    assert!(rt; are_alike(&report, &live));
-    Ok(())
-}
-
-// A lane for each thread of the text.
-#[test]
-fn streamed_as_live(rt: HostRuntime) -> Result<(), Fail> {
-    expect_as_live(&rt, 2)
-}
-
-// Lanes that no line mentions change nothing.
-#[test]
-fn lanes_left_over(rt: HostRuntime) -> Result<(), Fail> {
-    expect_as_live(&rt, 64)
-}
-
-// This fault of the text is the answer.
-fn expect_fault<R: Abort>(rt: &R, ended: &Result<Report, StreamFault>, expected: &LinesFault) {
-    match ended {
-        Err(StreamFault::Text(fault)) => assert_eq!(rt; *fault, *expected),
-        other => assert!(rt; false, "{other:?}"),
-    }
-}
-
-// The first line of the second thread is the fifth.
-#[test]
-fn one_thread_too_few(rt: HostRuntime) -> Result<(), Fail> {
-    let result = of_text(&rt, OPPOSITE_ORDER, 1)?;
-    let kind = StdKind::TooManyThreads;
-    expect_fault(&rt, &result, &LinesFault::Line { line: 5, kind });
-    Ok(())
-}
-
-// The line after an edge has no operand: it is told, and not the one after it, which has no bar.
-#[test]
-fn fault_after_an_edge(rt: HostRuntime) -> Result<(), Fail> {
-    let text = b"T0|acq(a)|1\nT0|acq(b)|2\nT0|acq|3\nT0\n";
-    let result = of_text(&rt, text, 64)?;
-    let kind = StdKind::BadOperand;
-    expect_fault(&rt, &result, &LinesFault::Line { line: 3, kind });
-    Ok(())
-}
-
-// A text of no lines has no events, whatever lanes there are.
-#[test]
-fn no_lines(rt: HostRuntime) -> Result<(), Fail> {
-    let report = of_text(&rt, b"", 64)?.expect(&rt, "there is nothing to confirm");
-    assert_eq!(rt; counts(&report), (0, 0, false));
-    Ok(())
-}
-
-// What a thread does after its first join.
-fn after_join(thread: u32) -> Segment {
-    Segment {
-        thread: ThreadId::new(thread),
-        index: 1,
-    }
-}
-
-// Two threads join one another: what each does afterwards is before itself.
-#[test]
-fn joined_by_each_other(rt: HostRuntime) -> Result<(), Fail> {
-    match of_text(&rt, b"T0|join(T1)|1\nT1|join(T0)|2\n", 64)? {
-        Err(StreamFault::Session(LiveFault::Inconsistent { at, ring })) => {
-            assert!(rt; at == after_join(0));
-            assert!(rt; ring.as_slice() == [after_join(0), after_join(1)].as_slice());
+// Whether the text's report is as wanted, and that of its lists.
+fn is_as_live(streamed: Option<Result<Report, StreamFault>>, live: Option<Report>) -> bool {
+    match (streamed, live) {
+        (Some(Ok(report)), Some(live)) => {
+            is_wanted(&report, &TWO_EDGES) && are_alike(&report, &live)
         }
-        other => assert!(rt; false, "{other:?}"),
+        _ => false,
     }
-    Ok(())
+}
+
+// A lane for each thread of the text; and lanes that no line mentions, which change nothing.
+#[test]
+fn streamed_as_live(rt: HostRuntime) {
+    let lists = lists_of(rt.alloc(), OPPOSITE_LISTS).expect(&rt, "memory");
+    for threads in [2, 64] {
+        let live = reported(&rt, &lists, (2, 3, 1), &Open);
+        let report = of_text(&rt, OPPOSITE_ORDER, threads);
+        assert!(rt; is_as_live(report, live), "{threads} lanes");
+    }
+}
+
+// Whether the items have told so many threads, locks and locations, skipped lines and stray releases.
+fn have_told(items: Items, names: (u32, u32, u32), others: (u64, u64)) -> bool {
+    let (found, skipped, stray) = items.parts();
+    (found.threads(), found.locks(), found.locs()) == names && (skipped, stray) == others
 }
 
 // The items come back with the names that they told.
 #[test]
-fn names_come_back(rt: HostRuntime) -> Result<(), Fail> {
+fn names_come_back(rt: HostRuntime) {
     let mut input = FromStd::new(OPPOSITE_ORDER);
-    let (_result, items) = streamed(&rt, &mut input, 64, 1, 1, &Open)?;
-    let (names, skipped, stray) = items.parts();
-    assert_eq!(rt; (names.threads(), names.locks(), names.locs()), (2, 2, 6));
-    assert_eq!(rt; (skipped, stray), (0, 0));
-    Ok(())
+    let (_result, items) = streamed(&rt, &mut input, (64, 1, 1), &Open).expect(&rt, "a session");
+    assert!(rt; have_told(items, (2, 2, 6), (0, 0)));
 }
 
 // Gives its text, and then fails, or ends once both workers have passed their gate.
@@ -225,23 +393,34 @@ impl Source for HeldBack<'_> {
     }
 }
 
+// What becomes of the text that the source gives, by a session of 64 lanes and two workers.
+fn of_held<R: AllocGlobal + Threads + Wait + Sync, G: Gate + Sync>(
+    rt: &R,
+    input: HeldBack<'_>,
+    ring: u32,
+    gate: &G,
+) -> Option<Result<Report, StreamFault>>
+    requires { input.is_failed ≡ false }
+{
+    let mut input = input;
+    match streamed(rt, &mut input, (64, 2, ring), gate) {
+        Some((result, _items)) => Some(result),
+        None => None,
+    }
+}
+
 // Two workers are both at work before the text has ended, each on its first edge.
 #[test]
-fn reader_pair(rt: HostRuntime) -> Result<(), Fail> {
+fn reader_pair(rt: HostRuntime) {
     let gate = Meeting::new();
-    let mut input = HeldBack::new(OPPOSITE_ORDER, Some(&gate));
-    let (result, _items) = streamed(&rt, &mut input, 64, 2, 256, &gate)?;
-    let report = result.expect(&rt, "the session is confirmed");
-    assert_eq!(rt; counts(&report), (2, 1, false));
-    assert_eq!(rt; gate.passes(), (1, 1, 0, 0));
-    Ok(())
+    let input = HeldBack::new(OPPOSITE_ORDER, Some(&gate));
+    assert!(rt; is_right(of_held(&rt, input, 256, &gate), &End::Report(TWO_EDGES)));
+    assert!(rt; gate.passes() == (1, 1, 0, 0));
 }
 
 // A read fails after a line that LF has ended.
 #[test]
-fn cut_while_streaming(rt: HostRuntime) -> Result<(), Fail> {
-    let mut input = HeldBack::new(b"T0|acq(a)|1\nT0", None);
-    let (result, _items) = streamed(&rt, &mut input, 64, 2, 1, &Open)?;
-    expect_fault(&rt, &result, &LinesFault::Read);
-    Ok(())
+fn cut_while_streaming(rt: HostRuntime) {
+    let input = HeldBack::new(b"T0|acq(a)|1\nT0", None);
+    assert!(rt; is_right(of_held(&rt, input, 1, &Open), &End::Fault(LinesFault::Read)));
 }

@@ -1,7 +1,7 @@
 -- The clocks of a thread's segments, by where they grow.
 use Rattle.std.specs.Prelude.{◌≡◌, ◌≢◌, ℕ, zero, suc, ◌+◌, ◌<◌, ◌≤◌, ◌⊎◌, Bool, ◌&&◌, ◌||◌, List, [], ◌∷◌, ◌++◌, All, filter, length, slice_index, slice_index_or, ◌==◌, nat_le, nat_lt, if◌then◌else◌}
 use Rattle.std.specs.List.Sorted.{IsNonDecreasingBy}
-use Rattle.gl_segments.specs.declared.history.Growth.{Growth}
+use Rattle.gl_segments.specs.declared.growths.Growth.{Growth}
 use Rattle.gl_segments.specs.declared.history.Growing.{Growing}
 
 -- the growth is of this thread, and this segment is the one from which it holds or a later one

@@ -77,9 +77,9 @@ Forks cuts thread s = (loc : ℕ) × (cut_at cuts s ≡ Some (Fork thread loc))
 
 -- the last segment of the thread that the event joins, if that has a list
 abbrev pub joined_last : List (List Event) → Event → List Segment
-joined_last cuts (Acquire lock mode loc) = []
-joined_last cuts (Release lock mode loc) = []
-joined_last cuts (TryAcquire lock mode loc) = []
+joined_last cuts (Acquire mode lock loc) = []
+joined_last cuts (Release mode lock loc) = []
+joined_last cuts (TryAcquire mode lock loc) = []
 joined_last cuts (Fork thread loc) = []
 joined_last cuts (Join thread loc) = option_map_or (λ es. record { thread = thread; index = length es } ∷ []) (slice_get cuts thread) []
 

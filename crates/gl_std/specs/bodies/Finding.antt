@@ -15,8 +15,8 @@ use Rattle.gl_std.specs.declared.faults.StdKind.TheVariants.{HeldFull, DepthFull
 use Rattle.gl_std.specs.declared.faults.ReadFault.{ReadFault}
 use Rattle.gl_std.specs.declared.faults.ReadFault.TheVariants.{Line}
 use Rattle.gl_std.specs.declared.names.Found.{Found}
-use Rattle.gl_std.specs.declared.standing.Ruling.{Ruling}
-use Rattle.gl_std.specs.declared.standing.Ruling.TheVariants.{Kept, Stray, Fault}
+use Rattle.gl_std.specs.declared.ruling.Ruling.{Ruling}
+use Rattle.gl_std.specs.declared.ruling.Ruling.TheVariants.{Kept, Stray, Fault}
 use Rattle.gl_std.specs.declared.trace.Trace.{Trace}
 
 -- the names, with this one at the end if it has no number

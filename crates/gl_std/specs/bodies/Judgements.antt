@@ -1,9 +1,9 @@
 -- What a judged line does to each trace that a judge stands for.
-use Rattle.std.specs.Prelude.{◌≡◌, ℕ, false, Result, Ok, Err}
+use Rattle.std.specs.Prelude.{◌≡◌, ℕ, false, Result, Ok, Err, IfOk, length}
 use Rattle.gl_std.specs.Line.{Shape, is_on_itself}
 use Rattle.gl_std.specs.Line.Shape.{Blank, Bad, Other, Call}
 use Rattle.gl_std.specs.bodies.States.{HasJudged}
-use Rattle.gl_std.specs.bodies.Telling.{with_judged}
+use Rattle.gl_std.specs.bodies.Telling.{with_judged, IsKnown}
 use Rattle.gl_std.specs.declared.faults.ReadFault.{ReadFault}
 use Rattle.gl_std.specs.declared.faults.ReadFault.TheVariants.{Line}
 use Rattle.gl_std.specs.declared.faults.StdKind.{StdKind}
@@ -22,6 +22,18 @@ HasJudgedMore old new judged = (told : Trace) → HasJudged old told → HasJudg
 -- a fault that is answered is what comes after each of them
 abbrev pub FailsAs : Judge → (Trace → Result Trace ReadFault) → Result Judged ReadFault → Type 0
 FailsAs old after result = (number : ℕ) (kind : StdKind) → result ≡ Err (Line number kind) → (told : Trace) → HasJudged old told → after told ≡ Err (Line number kind)
+
+-- a line is judged, where `after` tells what comes after a trace
+pub record JudgesLine (old new : Judge) (after : Trace → Result Trace ReadFault)
+    (result : Result Judged ReadFault) : Type 0 where
+  -- what the line tells is told of each trace that the judge stands for, and the judge then stands for that
+  pub tells : IfOk result (TellsAs old new after)
+  pub judged : IfOk result (HasJudgedMore old new)
+  -- an event is of a thread that has a name
+  pub known : IfOk result (λ judged. IsKnown judged (length new.names.threads))
+  -- a line is at fault only where it is after each trace that the judge stands for
+  pub fault : FailsAs old after result
+  pub same_limits : new.limits ≡ old.limits
 
 -- no thread forks or joins itself, if this is what a line says
 abbrev pub AreApart : Shape → Type 0

@@ -1,13 +1,12 @@
 //! Judging the lines of a block, whose names have numbers of its own.
-ghost use Rattle.std.specs.Prelude.{◌≡◌, ◌+◌, ◌^◌, ◌<◌, ◌≤◌, false, [], ◌∷◌, All, length, vec_len, IfOk, OnOk};
+ghost use Rattle.std.specs.Prelude.{◌≡◌, ◌+◌, ◌^◌, ◌<◌, ◌≤◌, false, [], ◌∷◌, All, vec_len, OnOk};
 ghost use Rattle.gl_std.specs.Line.{is_on_itself};
 ghost use Rattle.gl_std.specs.Trace.{after_shape, operands};
 ghost use Rattle.gl_std.specs.bodies.Blocks.{named, shape_in, shapes_of, AreNumbered, FailsShapes, IsKnownOf, IsNumbered, TakesShapes};
 ghost use Rattle.gl_std.specs.bodies.Finding.{found_in};
-ghost use Rattle.gl_std.specs.bodies.Judgements.{AreApart, FailsAs, HasJudgedMore, TellsAs};
+ghost use Rattle.gl_std.specs.bodies.Judgements.{AreApart, JudgesLine};
 ghost use Rattle.gl_std.specs.bodies.Shown.{shown_operation};
 ghost use Rattle.gl_std.specs.bodies.States.{IsSound};
-ghost use Rattle.gl_std.specs.bodies.Telling.{IsKnown};
 ghost use Rattle.gl_std.specs.declared.said.Said.TheVariants.{Call as CallSaid};
 
 use super::{Judge, Judged};
@@ -89,17 +88,10 @@ impl Judge {
         requires apart { AreApart (shape_in names.now said) }
         requires known { IsKnownOf names.now self.old.names known.old }
         requires countable { self.old.line + 1 < 2 ^ 64 }
-        ensures ok { IfOk result
-            (TellsAs self.old self.new
-            (λ told. after_shape self.old.limits self.old.line told (shape_in names.now said))) }
-        ensures judged { IfOk result (HasJudgedMore self.old self.new) }
-        ensures of_thread { IfOk result
-            (λ judged. IsKnown judged (length self.new.names.threads)) }
-        ensures fault { FailsAs self.old
+        ensures judges { JudgesLine self.old self.new
             (λ told. after_shape self.old.limits self.old.line told (shape_in names.now said))
             result }
         ensures known { IsKnownOf names.now self.old.names known.new }
-        ensures limits { self.new.limits ≡ self.old.limits }
         ensures line { self.new.line ≡ self.old.line }
         ensures few_skipped { self.new.skipped ≤ self.old.skipped + 1 }
         ensures few_stray { self.new.stray ≤ self.old.stray + 1 }
@@ -140,18 +132,10 @@ impl Judge {
             (shape_in names.now (CallSaid operation thread operand location)) }
         requires known { IsKnownOf names.now self.old.names known.old }
         requires countable { self.old.line + 1 < 2 ^ 64 }
-        ensures ok { IfOk result
-            (TellsAs self.old self.new
-            (λ told. after_shape self.old.limits self.old.line told
-            (shape_in names.now (CallSaid operation thread operand location)))) }
-        ensures judged { IfOk result (HasJudgedMore self.old self.new) }
-        ensures of_thread { IfOk result
-            (λ judged. IsKnown judged (length self.new.names.threads)) }
-        ensures fault { FailsAs self.old
+        ensures judges { JudgesLine self.old self.new
             (λ told. after_shape self.old.limits self.old.line told
             (shape_in names.now (CallSaid operation thread operand location))) result }
         ensures known { IsKnownOf names.now self.old.names known.new }
-        ensures limits { self.new.limits ≡ self.old.limits }
         ensures line { self.new.line ≡ self.old.line }
         ensures few_skipped { self.new.skipped ≤ self.old.skipped + 1 }
         ensures few_stray { self.new.stray ≤ self.old.stray + 1 }

@@ -1,19 +1,18 @@
 //! Judging a line whose names have numbers.
-ghost use Rattle.std.specs.Prelude.{◌≡◌, ℕ, ◌+◌, ◌^◌, ◌<◌, ◌≤◌, List, Some, None, IfOk, length, nat_le, if◌then◌else◌};
+ghost use Rattle.std.specs.Prelude.{◌≡◌, ℕ, ◌+◌, ◌^◌, ◌<◌, ◌≤◌, List, Some, None, length, nat_le, if◌then◌else◌};
 ghost use Rattle.gl_std.specs.Trace.{after_call};
 ghost use Rattle.gl_std.specs.bodies.Counting.{count_of};
 ghost use Rattle.gl_std.specs.bodies.Finding.{AreFoundAt};
-ghost use Rattle.gl_std.specs.bodies.Judgements.{FailsAs, HasJudgedMore, TellsAs};
+ghost use Rattle.gl_std.specs.bodies.Judgements.{JudgesLine};
 ghost use Rattle.gl_std.specs.bodies.Shown.{shown_operation};
 ghost use Rattle.gl_std.specs.bodies.States.{IsSound};
-ghost use Rattle.gl_std.specs.bodies.Telling.{IsKnown};
 ghost use Rattle.gl_std.specs.declared.faults.StdKind.TheVariants.{TooManyEvents};
 
 use super::{Judge, Judged, event_of, kept_event, stand};
 use crate::faults::{ReadFault, StdKind};
 use crate::line::Operation;
 use crate::names::Found;
-use crate::standing::Ruling;
+use crate::ruling::Ruling;
 use gl_event::{LocId, ThreadId};
 
 impl Judge {
@@ -29,20 +28,11 @@ impl Judge {
         requires sound { IsSound self.old }
         requires there { thread < length self.old.names.threads }
         requires countable { self.old.line + 1 < 2 ^ 64 }
-        ensures ok { (t o l : List ℕ)
+        ensures judges { (t o l : List ℕ)
             → AreFoundAt self.old.names (shown_operation operation) t o l thread operand loc
-            → IfOk result (TellsAs self.old self.new
+            → JudgesLine self.old self.new
             (λ told. after_call self.old.limits self.old.line told
-            (shown_operation operation) t o l)) }
-        ensures judged { (t o l : List ℕ)
-            → AreFoundAt self.old.names (shown_operation operation) t o l thread operand loc
-            → IfOk result (HasJudgedMore self.old self.new) }
-        ensures known { IfOk result (λ judged. IsKnown judged (length self.new.names.threads)) }
-        ensures fault { (t o l : List ℕ)
-            → AreFoundAt self.old.names (shown_operation operation) t o l thread operand loc
-            → FailsAs self.old (λ told. after_call self.old.limits self.old.line told
             (shown_operation operation) t o l) result }
-        ensures limits { self.new.limits ≡ self.old.limits }
         ensures line { self.new.line ≡ self.old.line }
         ensures few_skipped { self.new.skipped ≡ self.old.skipped }
         ensures few_stray { self.new.stray ≤ self.old.stray + 1 }

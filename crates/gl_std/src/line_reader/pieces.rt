@@ -127,14 +127,15 @@ impl LineReader {
         ensures short { OnOk result (AreShort pieces.new.items) }
         ensures fewer { result ≡ Ok More → self.new.turns < self.old.turns }
     {
-        while pieces.len() + 1 < most {
+        loop {
             match self.read_piece(alloc, input, spare, pieces)? {
                 Ending::More => {}
-                Ending::End => return Ok(Ending::End),
-                Ending::Broke => return Ok(Ending::Broke),
+                ending => return Ok(ending),
+            }
+            if pieces.len() >= most {
+                return Ok(Ending::More);
             }
         }
-        self.read_piece(alloc, input, spare, pieces)
     }
 
     // Adds a piece.
@@ -178,19 +179,15 @@ impl LineReader {
         ensures short { OnOk result (IsShort piece.new) }
         ensures fewer { result ≡ Ok More → self.new.turns < self.old.turns }
     {
-        match self.read_more(input, piece)? {
-            Ending::More => {}
-            Ending::End => return Ok(Ending::End),
-            Ending::Broke => return Ok(Ending::Broke),
-        }
-        while piece.text.len() <= LONGEST - CHUNK {
+        loop {
             match self.read_more(input, piece)? {
                 Ending::More => {}
-                Ending::End => return Ok(Ending::End),
-                Ending::Broke => return Ok(Ending::Broke),
+                ending => return Ok(ending),
+            }
+            if piece.text.len() > LONGEST - CHUNK {
+                return Ok(Ending::More);
             }
         }
-        Ok(Ending::More)
     }
 
     // Adds what one read gives to a piece, where that is something.

@@ -3,6 +3,7 @@ ghost use Rattle.std.specs.Prelude.{◌≡◌, ◌+◌, ◌*◌, ◌^◌, ◌<�
 ghost use Rattle.gl_std.specs.Laws.{IsFront};
 ghost use Rattle.gl_std.specs.Line.{Shape};
 ghost use Rattle.gl_std.specs.Line.Shape.{Call};
+ghost use Rattle.gl_std.specs.Trace.{operands};
 ghost use Rattle.gl_std.specs.bodies.Blocks.{shape_in, AddsFew, GoOn, IsNumbered};
 ghost use Rattle.gl_std.specs.bodies.Shown.{shown, shown_operation};
 
@@ -77,16 +78,37 @@ impl Names {
     {
         let thread = self.threads.number_again(alloc, thread)?;
         let location = self.locs.number_again(alloc, location)?;
-        let operand = if operation.is_on_thread() {
-            self.threads.number_again(alloc, operand)?
-        } else {
-            self.locks.number_again(alloc, operand)?
-        };
+        let operand = self.number_operand(alloc, operation, operand)?;
         Ok(Said::Call {
             operation,
             thread: ThreadId::new(thread),
             operand,
             location: LocId::new(location),
         })
+    }
+
+    // The number of the operand. A new name gets the next one.
+    #[inline(always)]
+    fn number_operand(
+        &mut self,
+        alloc: Global,
+        operation: Operation,
+        name: &[u8],
+    ) -> Result<u32, AllocError>
+        requires threads { length self.old.threads + 1 < 2 ^ 32 }
+        requires locks { length self.old.locks + 1 < 2 ^ 32 }
+        ensures stands { IfOk result (λ number. slice_get
+            (operands (shown_operation operation) self.new) number ≡ Some name.now) }
+        ensures threads { OnOk result (IsFront self.old.threads self.new.threads) }
+        ensures locks { OnOk result (IsFront self.old.locks self.new.locks) }
+        ensures same { self.new.locs ≡ self.old.locs }
+        ensures few_threads { OnOk result
+            (length self.new.threads ≤ length self.old.threads + 1) }
+        ensures few_locks { OnOk result (length self.new.locks ≤ length self.old.locks + 1) }
+    {
+        if operation.is_on_thread() {
+            return self.threads.number_again(alloc, name);
+        }
+        self.locks.number_again(alloc, name)
     }
 }

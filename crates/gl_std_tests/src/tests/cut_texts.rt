@@ -1,16 +1,15 @@
 //! Texts that are told item by item.
-ghost use Rattle.std.specs.Prelude.{◌≤◌, IfOk};
+ghost use Rattle.std.specs.Prelude.{◌≤◌, IfSome};
 ghost use Rattle.gl_std.specs.Sourced.{items_of, source_of};
 ghost use Rattle.gl_std.specs.Streaming.{CanBeAsked};
 
-use super::{GREATEST, expect, limits_of, long_line};
+use super::{GREATEST, limits_of, long_line};
 use crate::pieces::Pieces;
 use gl_event::ThreadId;
-use gl_std::{Item, Lines, LinesFault, Names, Seed, StdKind};
+use gl_std::{Item, Lines, LinesFault, Seed, StdKind};
 use gl_worked::ops::Op::{self, Acq, Rel};
 use gl_worked::ops::event_of;
 use std::alloc::Global;
-use std::test::Fail;
 
 // An answer.
 #[derive(Clone, Copy)]
@@ -122,12 +121,12 @@ pub(super) fn lines_of<'a>(
     piece: usize,
     fails: bool,
     turns: u64,
-) -> Result<Lines<Pieces<'a>>, Fail>
+) -> Option<Lines<Pieces<'a>>>
     requires few { turns ≤ 100000 }
-    ensures { IfOk result (λ l. CanBeAsked (items_of l) (source_of l).is_failed) }
+    ensures { IfSome result (λ l. CanBeAsked (items_of l) (source_of l).is_failed) }
 {
     let input = Pieces::new(text, piece, fails);
-    Ok(Lines::new(alloc, input, &limits_of(GREATEST)?, turns, Seed::fixed())?)
+    Lines::new(alloc, input, &limits_of(GREATEST)?, turns, Seed::fixed()).ok()
 }
 
 // Whether the next answer is this one.
@@ -151,35 +150,47 @@ pub(super) fn answers_all(lines: &mut Lines<Pieces<'_>>, all: &[Answer]) -> bool
     are
 }
 
-// Whether the text's answers are these, so many bytes a read.
-fn is_answered(alloc: Global, case: &Case, piece: usize) -> Result<bool, Fail>
-    requires few { case.now.turns ≤ 100000 }
+// Whether the next answers are these, then this one, and then another one.
+pub(super) fn ends(
+    lines: &mut Lines<Pieces<'_>>,
+    all: &[Answer],
+    last: Answer,
+    then: Answer,
+) -> bool
+    requires { CanBeAsked (items_of lines.old) (source_of lines.old).is_failed }
 {
-    let mut lines = lines_of(alloc, case.text, piece, case.fails, case.turns)?;
-    let are = answers_all(&mut lines, case.answers);
-    let ends = answers(&mut lines, case.last);
-    let stays = answers(&mut lines, case.last);
-    Ok(are && ends && stays)
+    let are = answers_all(lines, all);
+    let is_last = answers(lines, last);
+    let stays = answers(lines, then);
+    are && is_last && stays
+}
+
+// Whether the text's answers are these, so many bytes a read.
+fn is_answered(alloc: Global, case: &Case, piece: usize) -> bool {
+    if case.turns > 100_000 {
+        return false;
+    }
+    match lines_of(alloc, case.text, piece, case.fails, case.turns) {
+        Some(mut lines) => ends(&mut lines, case.answers, case.last, case.last),
+        None => false,
+    }
 }
 
 // The same, whichever of these pieces it is read in.
-fn is_answered_each(alloc: Global, case: &Case) -> Result<bool, Fail> {
-    if case.turns > 100_000 {
-        return Ok(false);
-    }
-    let mut is = true;
+fn is_answered_each(alloc: Global, case: &Case) -> bool {
     for piece in case.pieces {
-        is = is_answered(alloc, case, *piece)? && is;
+        if !is_answered(alloc, case, *piece) {
+            return false;
+        }
     }
-    Ok(is)
+    true
 }
 
 #[test]
-fn cut_texts(rt: HostRuntime) -> Result<(), Fail> {
+fn cut_texts(rt: HostRuntime) {
     for case in CASES {
-        assert!(rt; is_answered_each(rt.alloc(), case)?, "{}", case.name);
+        assert!(rt; is_answered_each(rt.alloc(), case), "{}", case.name);
     }
-    Ok(())
 }
 
 // Texts whose first line is at fault, read so many bytes at a time.
@@ -191,17 +202,18 @@ const BAD_FIRST: &[(&[u8], usize, StdKind)] = &[
 ];
 
 // Whether the first line is at fault, and stays so.
-fn is_bad_first(alloc: Global, text: &[u8], piece: usize, kind: StdKind) -> Result<bool, Fail> {
-    let mut lines = lines_of(alloc, text, piece, false, 100_000)?;
-    Ok(answers_all(&mut lines, &[Bad(1, kind), Bad(1, kind)]))
+fn is_bad_first(alloc: Global, text: &[u8], piece: usize, kind: StdKind) -> bool {
+    match lines_of(alloc, text, piece, false, 100_000) {
+        Some(mut lines) => ends(&mut lines, &[], Bad(1, kind), Bad(1, kind)),
+        None => false,
+    }
 }
 
 #[test]
-fn cut_reads_of_bad_lines(rt: HostRuntime) -> Result<(), Fail> {
+fn cut_reads_of_bad_lines(rt: HostRuntime) {
     for (text, piece, kind) in BAD_FIRST {
-        assert!(rt; is_bad_first(rt.alloc(), text, *piece, *kind)?, "{kind}");
+        assert!(rt; is_bad_first(rt.alloc(), text, *piece, *kind), "{kind}");
     }
-    Ok(())
 }
 
 // The first acquire, at a location of so many bytes, and what ends its line.
@@ -212,28 +224,28 @@ const LONG: &[(usize, &[u8], usize, Answer)] = &[
     (65_526, b"\ry\n", 3, Bad(1, StdKind::TooLong)),
 ];
 
+// Whether this is what the text begins with, read so many bytes at a time.
+fn is_first(alloc: Global, text: &[u8], piece: usize, answer: Answer) -> bool {
+    match lines_of(alloc, text, piece, false, 100_000) {
+        Some(mut lines) => answers(&mut lines, answer),
+        None => false,
+    }
+}
+
 // What the long line is, read so many bytes at a time.
-fn is_long(
-    alloc: Global,
-    length: usize,
-    end: &[u8],
-    piece: usize,
-    answer: Answer,
-) -> Result<bool, Fail> {
-    let text = long_line(alloc, length, end)?;
-    let mut lines = lines_of(alloc, &text, piece, false, 100_000)?;
-    Ok(answers(&mut lines, answer))
+fn is_long(alloc: Global, length: usize, end: &[u8], piece: usize, answer: Answer) -> bool {
+    match long_line(alloc, length, end) {
+        Some(text) => is_first(alloc, &text, piece, answer),
+        None => false,
+    }
 }
 
 #[test]
-fn cut_reads_of_longest_line(rt: HostRuntime) -> Result<(), Fail> {
+fn cut_reads_of_longest_line(rt: HostRuntime) {
     for (length, end, piece, answer) in LONG {
-        assert!(rt;
-            is_long(rt.alloc(), *length, end, *piece, *answer)?,
-            "{length}, {piece}"
-        );
+        let is = is_long(rt.alloc(), *length, end, *piece, *answer);
+        assert!(rt; is, "{length}, {piece}");
     }
-    Ok(())
 }
 
 const PARTS: &[Answer] = &[
@@ -246,20 +258,35 @@ const PARTS: &[Answer] = &[
     End,
 ];
 
-// How many threads, locks and locations have names.
-fn counts_of(names: &Names) -> (u32, u32, u32) {
-    (names.threads(), names.locks(), names.locs())
+// Whether so many threads, locks and locations have names, and so many lines were skipped and releases were strays.
+// The whole text was read.
+fn has_parts(lines: Lines<Pieces<'_>>, names: (u32, u32, u32), dropped: (u64, u64)) -> bool {
+    let (found, skipped, stray, input) = lines.parts();
+    (found.threads(), found.locks(), found.locs()) == names
+        && (skipped, stray) == dropped
+        && input.rest.is_empty()
+}
+
+// Whether the text's answers are these, and so are its parts then.
+fn is_parted(
+    alloc: Global,
+    text: &[u8],
+    all: &[Answer],
+    names: (u32, u32, u32),
+    dropped: (u64, u64),
+) -> bool {
+    match lines_of(alloc, text, 1_000, false, 100_000) {
+        Some(mut lines) => {
+            let are = answers_all(&mut lines, all);
+            are && has_parts(lines, names, dropped)
+        }
+        None => false,
+    }
 }
 
 // What is known once the end was answered.
 #[test]
-fn parts_at_the_end(rt: HostRuntime) -> Result<(), Fail> {
+fn parts_at_the_end(rt: HostRuntime) {
     let text = b"T0|acq(a)|1\nT0|acq(b)|2\nT0|r(x)|9\nT0|rel(c)|7\nT1|acq(b)|5\nT1|acq(a)|6\n";
-    let mut lines = lines_of(rt.alloc(), text, 1_000, false, 100_000)?;
-    assert!(rt; answers_all(&mut lines, PARTS));
-    let (names, skipped, stray, input) = lines.parts();
-    expect(&rt, &counts_of(&names), &(2, 2, 4));
-    expect(&rt, &(skipped, stray), &(1, 1));
-    expect(&rt, &input.rest.len(), &0);
-    Ok(())
+    assert!(rt; is_parted(rt.alloc(), text, PARTS, (2, 2, 4), (1, 1)));
 }

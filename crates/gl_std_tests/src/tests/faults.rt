@@ -1,10 +1,7 @@
 //! The first fault of a text, and texts that just obey the limits.
-use super::{GREATEST, limits_of, long_line};
-use gl_event::Limits;
+use super::{GREATEST, limits_of, long_line, trace_of};
 use gl_std::{ReadFault, StdKind, read_trace};
 use std::alloc::Global;
-use std::process::Abort;
-use std::test::Fail;
 
 // Texts, and the line and kind of their first fault.
 const BAD: &[(&[u8], u64, StdKind)] = &[
@@ -40,93 +37,95 @@ const LIMITED: &[([u32; 4], &[u8], u64, StdKind)] = &[
     ),
 ];
 
+// Why the text has no trace under these limits.
+fn fault_of(alloc: Global, text: &[u8], numbers: [u32; 4]) -> Option<ReadFault> {
+    read_trace(alloc, text, &limits_of(numbers)?).err()
+}
+
 // Whether the text's first fault under these limits is this one.
-fn is_fault(alloc: Global, text: &[u8], limits: &Limits, line: u64, kind: StdKind) -> bool {
-    match read_trace(alloc, text, limits) {
-        Ok(_) => false,
-        Err(fault) => fault == ReadFault::Line { line, kind },
-    }
+fn is_fault(alloc: Global, text: &[u8], numbers: [u32; 4], line: u64, kind: StdKind) -> bool {
+    fault_of(alloc, text, numbers) == Some(ReadFault::Line { line, kind })
 }
 
 #[test]
-fn bad_texts(rt: HostRuntime) -> Result<(), Fail> {
-    let limits = limits_of(GREATEST)?;
+fn bad_texts(rt: HostRuntime) {
     for (text, line, kind) in BAD {
-        assert!(rt;
-            is_fault(rt.alloc(), text, &limits, *line, *kind),
-            "{kind} at {line}"
-        );
+        let is = is_fault(rt.alloc(), text, GREATEST, *line, *kind);
+        assert!(rt; is, "{kind} at {line}");
     }
-    Ok(())
 }
 
 #[test]
-fn limited_texts(rt: HostRuntime) -> Result<(), Fail> {
+fn limited_texts(rt: HostRuntime) {
     for (limits, text, line, kind) in LIMITED {
-        let limits = limits_of(*limits)?;
-        assert!(rt; is_fault(rt.alloc(), text, &limits, *line, *kind), "{kind}");
+        assert!(rt; is_fault(rt.alloc(), text, *limits, *line, *kind), "{kind}");
     }
-    Ok(())
 }
 
-// The faults are different.
-fn expect_other(rt: &impl Abort, one: ReadFault, other: ReadFault) {
-    assert_ne!(rt; one, other);
+// Faults that differ from the first line's having no bar.
+const OTHERS: &[ReadFault] = &[
+    ReadFault::Line {
+        line: 2,
+        kind: StdKind::NoBar,
+    },
+    ReadFault::Line {
+        line: 1,
+        kind: StdKind::NoLocation,
+    },
+    ReadFault::Memory,
+];
+
+fn is_no_bar(fault: ReadFault) -> bool {
+    fault
+        == ReadFault::Line {
+            line: 1,
+            kind: StdKind::NoBar,
+        }
 }
 
 #[test]
-fn faults_differ(rt: HostRuntime) -> Result<(), Fail> {
-    let fault = |line, kind| ReadFault::Line { line, kind };
-    let one = fault(1, StdKind::NoBar);
-    expect_other(&rt, one, fault(2, StdKind::NoBar));
-    expect_other(&rt, one, fault(1, StdKind::NoLocation));
-    expect_other(&rt, one, ReadFault::Memory);
-    Ok(())
+fn faults_differ(rt: HostRuntime) {
+    for (at, other) in OTHERS.iter().enumerate() {
+        assert!(rt; !is_no_bar(*other), "fault {at}");
+    }
 }
 
 // Whether an acquire at a location of so many bytes is read.
-fn is_read(alloc: Global, length: usize, end: &[u8]) -> Result<bool, Fail> {
-    let text = long_line(alloc, length, end)?;
-    Ok(read_trace(alloc, &text, &limits_of(GREATEST)?).is_ok())
+fn is_read(alloc: Global, length: usize, end: &[u8]) -> bool {
+    match long_line(alloc, length, end) {
+        Some(text) => trace_of(alloc, &text, GREATEST).is_some(),
+        None => false,
+    }
+}
+
+// Whether the made text is refused for this fault.
+fn is_refused(alloc: Global, text: Option<Vec<u8>>, line: u64, kind: StdKind) -> bool {
+    match text {
+        Some(text) => is_fault(alloc, &text, GREATEST, line, kind),
+        None => false,
+    }
 }
 
 #[test]
-fn longest_line(rt: HostRuntime) -> Result<(), Fail> {
-    assert!(rt; is_read(rt.alloc(), 65_526, b"\n")?);
-    assert!(rt; is_read(rt.alloc(), 65_526, b"\r\n")?);
-    let text = long_line(rt.alloc(), 65_527, b"\n")?;
-    assert!(rt;
-        is_fault(
-            rt.alloc(),
-            &text,
-            &limits_of(GREATEST)?,
-            1,
-            StdKind::TooLong
-        )
-    );
-    Ok(())
+fn longest_line(rt: HostRuntime) {
+    let alloc = rt.alloc();
+    assert!(rt; is_read(alloc, 65_526, b"\n"));
+    assert!(rt; is_read(alloc, 65_526, b"\r\n"));
+    assert!(rt; is_refused(alloc, long_line(alloc, 65_527, b"\n"), 1, StdKind::TooLong));
 }
 
 // Acquires of so many locks, one after the other.
-fn nested(alloc: Global, locks: u32) -> Result<Vec<u8>, Fail> {
+fn nested(alloc: Global, locks: u32) -> Option<Vec<u8>> {
     let mut text = Vec::new(alloc);
     for lock in 0..locks {
-        text.extend_from_slice(format!(in alloc; "T0|acq({lock})|1\n")?.as_bytes())?;
+        let line = format!(in alloc; "T0|acq({lock})|1\n").ok()?;
+        text.extend_from_slice(line.as_bytes()).ok()?;
     }
-    Ok(text)
+    Some(text)
 }
 
 #[test]
-fn held_limit_reached(rt: HostRuntime) -> Result<(), Fail> {
-    let text = nested(rt.alloc(), 65)?;
-    assert!(rt;
-        is_fault(
-            rt.alloc(),
-            &text,
-            &limits_of(GREATEST)?,
-            65,
-            StdKind::HeldFull
-        )
-    );
-    Ok(())
+fn held_limit_reached(rt: HostRuntime) {
+    let alloc = rt.alloc();
+    assert!(rt; is_refused(alloc, nested(alloc, 65), 65, StdKind::HeldFull));
 }

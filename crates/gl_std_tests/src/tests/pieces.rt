@@ -1,13 +1,11 @@
 //! Texts that come in pieces.
-ghost use Rattle.std.specs.Prelude.{◌≤◌};
+ghost use Rattle.std.specs.Prelude.{◌≡◌, false};
 
-use super::expect;
 use super::texts::{Named, Told, tells};
 use crate::pieces::{Pieces, hear, hear_in_threads};
 use gl_std::{Heard, ReadFault, StdKind};
 use gl_worked::ops::Op::{Acq, Rel};
 use std::alloc::Global;
-use std::test::Fail;
 use std::thread::Threads;
 
 // What is heard of a text.
@@ -92,51 +90,54 @@ fn is_heard(heard: &Heard, is_whole: bool, wanted: &Wanted) -> bool {
     }
 }
 
-// Whether this is heard of the text in pieces of so many bytes, and all of it was read, by one thread and by
-// three.
-fn is_heard_in<T: Threads + Sync>(
+// Whether this is heard of the text in pieces of so many bytes, by one thread, and all of it was read.
+fn is_heard_alone(alloc: Global, case: &Case, piece: usize) -> bool {
+    let mut input = Pieces::new(case.text, piece, case.fails);
+    match hear(alloc, &mut input, 100) {
+        Ok(heard) => is_heard(&heard, case.is_whole, &case.wanted) && input.rest.is_empty(),
+        Err(_) => false,
+    }
+}
+
+// The same by three.
+fn is_heard_in_threads<T: Threads + Sync>(
     rt: &T,
     alloc: Global,
     case: &Case,
     piece: usize,
-) -> Result<bool, Fail> {
+) -> bool {
     let mut input = Pieces::new(case.text, piece, case.fails);
-    let heard = hear(alloc, &mut input, 100)?;
-    let mut again = Pieces::new(case.text, piece, case.fails);
-    let heard_again = hear_in_threads(rt, alloc, &mut again, 100)?;
-    Ok(
-        is_heard(&heard, case.is_whole, &case.wanted)
-            && input.rest.is_empty()
-            && is_heard(&heard_again, case.is_whole, &case.wanted)
-            && again.rest.is_empty(),
-    )
+    match hear_in_threads(rt, alloc, &mut input, 100) {
+        Ok(heard) => is_heard(&heard, case.is_whole, &case.wanted) && input.rest.is_empty(),
+        Err(_) => false,
+    }
 }
 
-// The same, whichever of these pieces it is read in.
-fn is_heard_in_each<T: Threads + Sync>(rt: &T, alloc: Global, case: &Case) -> Result<bool, Fail> {
-    let mut is = true;
+// Both, whichever of these pieces it is read in.
+fn is_heard_in_each<T: Threads + Sync>(rt: &T, alloc: Global, case: &Case) -> bool {
     for piece in case.pieces {
-        is = is_heard_in(rt, alloc, case, *piece)? && is;
+        if !is_heard_alone(alloc, case, *piece) || !is_heard_in_threads(rt, alloc, case, *piece) {
+            return false;
+        }
     }
-    Ok(is)
+    true
 }
 
 #[test]
-fn pieces(rt: HostRuntime) -> Result<(), Fail> {
+fn pieces(rt: HostRuntime) {
     for case in CASES {
-        assert!(rt; is_heard_in_each(&rt, rt.alloc(), case)?, "{}", case.name);
+        assert!(rt; is_heard_in_each(&rt, rt.alloc(), case), "{}", case.name);
     }
-    Ok(())
 }
 
 // A text of 1,200,000 bytes and 100,000 lines, and then this line.
-fn long_text(alloc: Global, last: &[u8]) -> Result<Vec<u8>, Fail> {
+fn long_text(alloc: Global, last: &[u8]) -> Option<Vec<u8>> {
     let mut text = Vec::new(alloc);
     for _ in 0..50_000 {
-        text.extend_from_slice(b"T0|acq(a)|1\nT0|rel(a)|2\n")?;
+        text.extend_from_slice(b"T0|acq(a)|1\nT0|rel(a)|2\n").ok()?;
     }
-    text.extend_from_slice(last)?;
-    Ok(text)
+    text.extend_from_slice(last).ok()?;
+    Some(text)
 }
 
 // How many events the trace's only thread has.
@@ -153,74 +154,75 @@ fn events_heard(heard: &Heard) -> Option<usize> {
     }
 }
 
+// What is heard in three threads of a text, of which many bytes are read at a time.
+fn heard_of<T: Threads + Sync>(rt: &T, alloc: Global, text: &[u8], fails: bool) -> Option<Heard> {
+    let mut input = Pieces::new(text, 65_536, fails);
+    hear_in_threads(rt, alloc, &mut input, 100).ok()
+}
+
+// Whether so many events are heard.
+fn has_events(heard: Option<Heard>, is_whole: bool, events: usize) -> bool {
+    match heard {
+        Some(heard) => heard.is_whole == is_whole && events_heard(&heard) == Some(events),
+        None => false,
+    }
+}
+
 // A text that is cut in several pieces, in the midst of lines.
 #[test]
-fn more_than_one_piece(rt: HostRuntime) -> Result<(), Fail> {
-    let text = long_text(rt.alloc(), b"T0|acq(a)|1")?;
-    let mut whole = Pieces::new(text.as_slice(), 65_536, false);
-    let heard = hear_in_threads(&rt, rt.alloc(), &mut whole, 100)?;
-    expect(
-        &rt,
-        &(heard.is_whole, events_heard(&heard)),
-        &(true, Some(100_001)),
-    );
-    let mut broken = Pieces::new(text.as_slice(), 65_536, true);
-    let heard = hear_in_threads(&rt, rt.alloc(), &mut broken, 100)?;
-    expect(
-        &rt,
-        &(heard.is_whole, events_heard(&heard)),
-        &(false, Some(100_000)),
-    );
-    Ok(())
+fn more_than_one_piece(rt: HostRuntime) {
+    let text = long_text(rt.alloc(), b"T0|acq(a)|1").expect(&rt, "memory");
+    assert!(rt; has_events(heard_of(&rt, rt.alloc(), &text, false), true, 100_001));
+    assert!(rt; has_events(heard_of(&rt, rt.alloc(), &text, true), false, 100_000));
+}
+
+// Whether this is heard of the whole text.
+fn is_wanted(heard: Option<Heard>, wanted: &Wanted) -> bool {
+    match heard {
+        Some(heard) => is_heard(&heard, true, wanted),
+        None => false,
+    }
 }
 
 #[test]
-fn fault_in_a_later_piece(rt: HostRuntime) -> Result<(), Fail> {
-    let text = long_text(rt.alloc(), b"T0|acq(a)\nT0\n")?;
-    let mut input = Pieces::new(text.as_slice(), 65_536, false);
-    let heard = hear_in_threads(&rt, rt.alloc(), &mut input, 100)?;
+fn fault_in_a_later_piece(rt: HostRuntime) {
+    let text = long_text(rt.alloc(), b"T0|acq(a)\nT0\n").expect(&rt, "memory");
     let wanted = Wanted::Bad(100_001, StdKind::NoLocation);
-    assert!(rt; is_heard(&heard, true, &wanted));
-    Ok(())
+    assert!(rt; is_wanted(heard_of(&rt, rt.alloc(), &text, false), &wanted));
 }
 
-// How many of so many turns read a text that two reads give, and whether it was read whole.
-fn reads_of(alloc: Global, turns: u64) -> Result<(u64, bool), Fail>
-    requires { turns ≤ 100 }
+// A text that two reads give; a third one meets the end. So many turns, how many of them read it, and whether it was
+// read whole.
+const TURNS: &[(u64, u64, bool)] = &[(0, 0, false), (2, 2, false), (3, 3, true), (9, 3, true)];
+
+fn two_reads() -> Pieces<'static>
+    ensures { result.is_failed ≡ false }
 {
-    let mut input = Pieces::new(b"T0|acq(a)|1\n", 6, false);
-    let is_whole = hear(alloc, &mut input, turns)?.is_whole;
-    Ok((input.reads, is_whole))
+    Pieces::new(b"T0|acq(a)|1\n", 6, false)
+}
+
+// How many of so many turns read the text, and whether it was read whole.
+fn reads_of(alloc: Global, turns: u64) -> Option<(u64, bool)> {
+    let mut input = two_reads();
+    let heard = hear(alloc, &mut input, turns.min(100)).ok()?;
+    Some((input.reads, heard.is_whole))
 }
 
 // The same in three threads.
-fn reads_in_threads<T: Threads + Sync>(
-    rt: &T,
-    alloc: Global,
-    turns: u64,
-) -> Result<(u64, bool), Fail>
-    requires { turns ≤ 100 }
-{
-    let mut input = Pieces::new(b"T0|acq(a)|1\n", 6, false);
-    let is_whole = hear_in_threads(rt, alloc, &mut input, turns)?.is_whole;
-    Ok((input.reads, is_whole))
+fn reads_in_threads<T: Threads + Sync>(rt: &T, alloc: Global, turns: u64) -> Option<(u64, bool)> {
+    let mut input = two_reads();
+    let heard = hear_in_threads(rt, alloc, &mut input, turns.min(100)).ok()?;
+    Some((input.reads, heard.is_whole))
 }
 
 #[test]
-fn turns_used_up(rt: HostRuntime) -> Result<(), Fail> {
-    // a third read meets the end
-    expect(&rt, &reads_of(rt.alloc(), 0)?, &(0, false));
-    expect(&rt, &reads_of(rt.alloc(), 2)?, &(2, false));
-    expect(&rt, &reads_of(rt.alloc(), 3)?, &(3, true));
-    expect(&rt, &reads_of(rt.alloc(), 9)?, &(3, true));
-    Ok(())
-}
-
-#[test]
-fn turns_used_up_in_threads(rt: HostRuntime) -> Result<(), Fail> {
-    expect(&rt, &reads_in_threads(&rt, rt.alloc(), 0)?, &(0, false));
-    expect(&rt, &reads_in_threads(&rt, rt.alloc(), 2)?, &(2, false));
-    expect(&rt, &reads_in_threads(&rt, rt.alloc(), 3)?, &(3, true));
-    expect(&rt, &reads_in_threads(&rt, rt.alloc(), 9)?, &(3, true));
-    Ok(())
+fn turns_used_up(rt: HostRuntime) {
+    for (turns, reads, is_whole) in TURNS {
+        let wanted = Some((*reads, *is_whole));
+        assert!(rt; reads_of(rt.alloc(), *turns) == wanted, "{turns} turns");
+        assert!(rt;
+            reads_in_threads(&rt, rt.alloc(), *turns) == wanted,
+            "{turns} turns in threads"
+        );
+    }
 }

@@ -1,18 +1,16 @@
 //! Texts that stop after so many bytes, each number of them in turn, and texts that never end.
-ghost use Rattle.std.specs.Prelude.{◌≡◌, ◌<◌, ◌≤◌, length, IfOk};
+ghost use Rattle.std.specs.Prelude.{◌≡◌, ◌<◌, ◌≤◌, length, IfSome};
 ghost use Rattle.gl_io.specs.Positions.{untold};
 ghost use Rattle.gl_std.specs.Sourced.{items_of, source_of};
 ghost use Rattle.gl_std.specs.Streaming.{CanBeAsked};
 
-use super::cut_texts::{Answer, answers, answers_all, lines_of};
-use super::{GREATEST, expect, limits_of};
+use super::cut_texts::{Answer, answer_of, ends, lines_of};
+use super::{GREATEST, limits_of};
 use crate::pieces::{Pieces, hear};
-use Answer::{Bad, Broken, End, Told};
-use gl_std::{Failed, Heard, Item, Lines, LinesFault, ReadFault, Seed, Source, StdKind, Trace};
+use Answer::{Bad, Broken, End, Skipped, Told};
+use gl_std::{Failed, Heard, Lines, ReadFault, Seed, Source, StdKind, Trace};
 use gl_worked::ops::Op::{Acq, Rel};
 use std::alloc::Global;
-use std::process::Abort;
-use std::test::Fail;
 
 // Six lines, of twelve bytes each.
 const SIX_LINES: &[u8] =
@@ -41,23 +39,17 @@ fn rest_of_line(bytes: usize, line: u64, item: Answer) -> Answer {
 
 // Whether the front of the text, a byte a read, is these items and then this. A fault stays, and else the
 // text has ended.
-fn is_front(
-    alloc: Global,
-    front: &[u8],
-    fails: bool,
-    items: &[Answer],
-    last: Answer,
-) -> Result<bool, Fail> {
-    let mut lines = lines_of(alloc, front, 1, fails, 100)?;
-    let are = answers_all(&mut lines, items);
-    let ends = answers(&mut lines, last);
-    let stays = answers(&mut lines, if let Told(..) = last { End } else { last });
-    Ok(are && ends && stays)
+fn is_front(alloc: Global, front: &[u8], fails: bool, items: &[Answer], last: Answer) -> bool {
+    let then = if let Told(..) = last { End } else { last };
+    match lines_of(alloc, front, 1, fails, 100) {
+        Some(mut lines) => ends(&mut lines, items, last, then),
+        None => false,
+    }
 }
 
 // The text after so many lines and so many bytes of the next one: then it ends, or a read fails, whatever
 // that line was to be.
-fn is_cut_at(alloc: Global, text: &[u8], lines: usize, bytes: usize) -> Result<bool, Fail>
+fn is_cut_at(alloc: Global, text: &[u8], lines: usize, bytes: usize) -> bool
     requires text { length text.now ≡ 72 }
     requires lines { lines < 6 }
     requires bytes { bytes < 12 }
@@ -65,29 +57,27 @@ fn is_cut_at(alloc: Global, text: &[u8], lines: usize, bytes: usize) -> Result<b
     let front = &text[..12 * lines + bytes];
     let items = &SIX_ITEMS[..lines];
     let last = rest_of_line(bytes, lines as u64 + 1, SIX_ITEMS[lines]);
-    let ends = is_front(alloc, front, false, items, last)?;
-    let fails = is_front(alloc, front, true, items, Broken)?;
-    Ok(ends && fails)
+    is_front(alloc, front, false, items, last) && is_front(alloc, front, true, items, Broken)
 }
 
 // The text cut at each byte of this line.
-fn is_cut_in_line(alloc: Global, text: &[u8], line: usize) -> Result<bool, Fail>
+fn is_cut_in_line(alloc: Global, text: &[u8], line: usize) -> bool
     requires text { length text.now ≡ 72 }
     requires line { line < 6 }
 {
-    let mut is = true;
     for bytes in 0..12 {
-        is = is_cut_at(alloc, text, line, bytes)? && is;
+        if !is_cut_at(alloc, text, line, bytes) {
+            return false;
+        }
     }
-    Ok(is)
+    true
 }
 
 #[test]
-fn cut_line(rt: HostRuntime) -> Result<(), Fail> {
+fn cut_line(rt: HostRuntime) {
     for line in 0..6 {
-        assert!(rt; is_cut_in_line(rt.alloc(), SIX_LINES, line)?, "line {line}");
+        assert!(rt; is_cut_in_line(rt.alloc(), SIX_LINES, line), "line {line}");
     }
-    Ok(())
 }
 
 // How many events the lists have.
@@ -99,62 +89,70 @@ fn events_of(trace: &Trace) -> usize {
     count
 }
 
-// What is read at once of the front of the text: so many events, or this fault.
-fn expect_heard(rt: &impl Abort, heard: &Heard, is_whole: bool, wanted: &Result<usize, ReadFault>) {
-    expect(rt, &heard.is_whole, &is_whole);
-    match &heard.trace {
-        Ok(trace) => expect(rt, &Ok(events_of(trace)), wanted),
-        Err(fault) => expect(rt, &Err(*fault), wanted),
+// Whether so many events are read at once, or this is the fault.
+fn is_read(heard: &Heard, is_whole: bool, wanted: Result<usize, ReadFault>) -> bool {
+    if heard.is_whole != is_whole {
+        return false;
+    }
+    match (&heard.trace, wanted) {
+        (Ok(trace), Ok(events)) => events_of(trace) == events,
+        (Err(fault), Err(wanted)) => *fault == wanted,
+        _ => false,
+    }
+}
+
+// Whether so it is of the front of the text, a byte a read; then it ends, or a read fails.
+fn is_heard(alloc: Global, front: &[u8], fails: bool, wanted: Result<usize, ReadFault>) -> bool {
+    let mut input = Pieces::new(front, 1, fails);
+    match hear(alloc, &mut input, 100) {
+        Ok(heard) => is_read(&heard, !fails, wanted),
+        Err(_) => false,
+    }
+}
+
+// What is read at once of a text that ends after so many bytes of its next line.
+fn heard_at_end(lines: usize, bytes: usize) -> Result<usize, ReadFault>
+    requires lines { lines < 6 }
+{
+    match rest_of_line(bytes, lines as u64 + 1, Broken) {
+        End => Ok(lines),
+        Bad(line, kind) => Err(ReadFault::Line { line, kind }),
+        _ => Ok(lines + 1),
     }
 }
 
 // The same of the text that is read at once: where a read fails, the lines that LF had ended are its trace.
-fn expect_heard_at(
-    rt: &impl Abort,
-    alloc: Global,
-    text: &[u8],
-    lines: usize,
-    bytes: usize,
-) -> Result<(), Fail>
+fn is_heard_at(alloc: Global, text: &[u8], lines: usize, bytes: usize) -> bool
     requires text { length text.now ≡ 72 }
     requires lines { lines < 6 }
     requires bytes { bytes < 12 }
 {
     let front = &text[..12 * lines + bytes];
-    let wanted = match rest_of_line(bytes, lines as u64 + 1, Broken) {
-        End => Ok(lines),
-        Bad(line, kind) => Err(ReadFault::Line { line, kind }),
-        _ => Ok(lines + 1),
-    };
-    let mut ends = Pieces::new(front, 1, false);
-    expect_heard(rt, &hear(alloc, &mut ends, 100)?, true, &wanted);
-    let mut fails = Pieces::new(front, 1, true);
-    expect_heard(rt, &hear(alloc, &mut fails, 100)?, false, &Ok(lines));
-    Ok(())
+    is_heard(alloc, front, false, heard_at_end(lines, bytes))
+        && is_heard(alloc, front, true, Ok(lines))
 }
 
 // The text read at once, cut at each byte of this line.
-fn expect_heard_of_line(
-    rt: &impl Abort,
-    alloc: Global,
-    text: &[u8],
-    line: usize,
-) -> Result<(), Fail>
+fn is_heard_in_line(alloc: Global, text: &[u8], line: usize) -> bool
     requires text { length text.now ≡ 72 }
     requires line { line < 6 }
 {
     for bytes in 0..12 {
-        expect_heard_at(rt, alloc, text, line, bytes)?;
+        if !is_heard_at(alloc, text, line, bytes) {
+            return false;
+        }
     }
-    Ok(())
+    true
 }
 
 #[test]
-fn cut_line_read_at_once(rt: HostRuntime) -> Result<(), Fail> {
+fn cut_line_read_at_once(rt: HostRuntime) {
     for line in 0..6 {
-        expect_heard_of_line(&rt, rt.alloc(), SIX_LINES, line)?;
+        assert!(rt;
+            is_heard_in_line(rt.alloc(), SIX_LINES, line),
+            "line {line}"
+        );
     }
-    Ok(())
 }
 
 // Gives a line for ever, a byte a read.
@@ -182,66 +180,81 @@ impl Source for Endless<'_> {
 }
 
 // The line for ever, of which so many bytes are read.
-fn for_ever<'a>(alloc: Global, line: &'a [u8], turns: u64) -> Result<Lines<Endless<'a>>, Fail>
+fn for_ever<'a>(alloc: Global, line: &'a [u8], turns: u64) -> Option<Lines<Endless<'a>>>
     requires few { turns ≤ 100_000 }
-    ensures { IfOk result (λ l. CanBeAsked (items_of l) (source_of l).is_failed) }
+    ensures { IfSome result (λ l. CanBeAsked (items_of l) (source_of l).is_failed) }
 {
     let input = Endless {
         line,
         rest: line,
         is_failed: false,
     };
-    Ok(Lines::new(alloc, input, &limits_of(GREATEST)?, turns, Seed::fixed())?)
+    Lines::new(alloc, input, &limits_of(GREATEST)?, turns, Seed::fixed()).ok()
 }
 
-// The next answer is this one.
-fn expect_more(rt: &impl Abort, lines: &mut Lines<Endless<'_>>, expected: &Result<Item, LinesFault>)
+// Whether the next answer is this one.
+fn is_next(lines: &mut Lines<Endless<'_>>, answer: Answer) -> bool
     requires { CanBeAsked (items_of lines.old) (source_of lines.old).is_failed }
     ensures { CanBeAsked (items_of lines.new) (source_of lines.new).is_failed }
 {
-    expect(rt, &lines.next(), expected);
+    lines.next() == answer_of(answer)
+}
+
+// Whether so many lines are skipped, and then reading fails.
+fn is_broken_after(lines: &mut Lines<Endless<'_>>, count: u64) -> bool
+    requires { CanBeAsked (items_of lines.old) (source_of lines.old).is_failed }
+{
+    for _ in 0..count {
+        if !is_next(lines, Skipped) {
+            return false;
+        }
+    }
+    is_next(lines, Broken) && is_next(lines, Broken)
 }
 
 // As many items as lines could be read, and then that reading failed.
-fn expect_endless(rt: &impl Abort, alloc: Global, count: u64, turns: u64) -> Result<(), Fail>
+fn is_endless(alloc: Global, line: &[u8], count: u64, turns: u64) -> bool
     requires few { turns ≤ 100_000 }
 {
-    let mut lines = for_ever(alloc, b"T0|r(x)|1\n", turns)?;
-    for _ in 0..count {
-        expect_more(rt, &mut lines, &Ok(Item::Skipped));
+    match for_ever(alloc, line, turns) {
+        Some(mut lines) => is_broken_after(&mut lines, count),
+        None => false,
     }
-    expect_more(rt, &mut lines, &Err(LinesFault::Read));
-    expect_more(rt, &mut lines, &Err(LinesFault::Read));
-    Ok(())
 }
 
-// A line of ten bytes for ever, and each number of turns.
+// A line of ten bytes.
+const SKIPPED_LINE: &[u8] = b"T0|r(x)|1\n";
+
+// The line for ever, and each number of turns.
 #[test]
-fn endless_reader(rt: HostRuntime) -> Result<(), Fail> {
-    for lines in 0..5u64 {
-        for bytes in 0..10u64 {
-            expect_endless(&rt, rt.alloc(), lines, 10 * lines + bytes)?;
-        }
+fn endless_reader(rt: HostRuntime) {
+    for turns in 0..50u64 {
+        assert!(rt;
+            is_endless(rt.alloc(), SKIPPED_LINE, turns / 10, turns),
+            "{turns} turns"
+        );
     }
-    expect_endless(&rt, rt.alloc(), 100, 1_000)
+    assert!(rt; is_endless(rt.alloc(), SKIPPED_LINE, 100, 1_000));
 }
 
-// A line that never ends is not too long before its end is seen. One that has ended is, though the next
-// read fails.
+// Whether a line of so many bytes that has ended is too long, though the next read fails.
+fn is_too_long(alloc: Global, length: usize) -> bool {
+    let Ok(mut text) = Vec::from_elem(alloc, b'x', length) else {
+        return false;
+    };
+    if text.push(b'\n').is_err() {
+        return false;
+    }
+    let fault = Bad(1, StdKind::TooLong);
+    match lines_of(alloc, text.as_slice(), 1_000, true, 100) {
+        Some(mut lines) => ends(&mut lines, &[], fault, fault),
+        None => false,
+    }
+}
+
+// A line that never ends is not too long before its end is seen. One that has ended is.
 #[test]
-fn endless_line(rt: HostRuntime) -> Result<(), Fail> {
-    let mut lines = for_ever(rt.alloc(), b"x", 70_000)?;
-    expect_more(&rt, &mut lines, &Err(LinesFault::Read));
-    let text = vec![in rt.alloc(); b'x'; 65_537]?;
-    expect_ended_line(&rt, text)
-}
-
-// The same line, ended by LF, where no more can be read.
-fn expect_ended_line(rt: &(impl Abort + AllocGlobal), text: Vec<u8>) -> Result<(), Fail> {
-    let mut text = text;
-    text.extend_from_slice(b"\n")?;
-    let mut lines = lines_of(rt.alloc(), text.as_slice(), 1_000, true, 100)?;
-    assert!(rt; answers(&mut lines, Bad(1, StdKind::TooLong)));
-    assert!(rt; answers(&mut lines, Bad(1, StdKind::TooLong)));
-    Ok(())
+fn endless_line(rt: HostRuntime) {
+    assert!(rt; is_endless(rt.alloc(), b"x", 0, 70_000));
+    assert!(rt; is_too_long(rt.alloc(), 65_537));
 }

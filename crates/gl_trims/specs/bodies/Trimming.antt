@@ -24,69 +24,69 @@ pub record AreFlagsOf (size : ℕ) (gone : List Bool) (removed : List ℕ) : Typ
   pub long : length gone ≡ size
   pub flags : (i : ℕ) → i < size → slice_get gone i ≡ Some (list_any (λ k. k == i) removed)
 
--- one more watches a place, if there is one
+-- one more watches a hint, if there is one
 abbrev pub watched_at : Option ℕ → ℕ → List (List ℕ) → List (List ℕ)
 watched_at None watcher watchers = watchers
-watched_at (Some place) watcher watchers = set watchers place (get_or watchers place [] ++ watcher ∷ [])
+watched_at (Some hint) watcher watchers = set watchers hint (get_or watchers hint [] ++ watcher ∷ [])
 
--- nobody watches this place any more
-pub record IsWoken (place : ℕ) (old new : Hints) : Type 0 where
+-- nobody watches this position any more
+pub record IsWoken (position : ℕ) (old new : Hints) : Type 0 where
   pub users : new.users ≡ old.users
   pub chain : new.chain ≡ old.chain
-  pub places : new.places.items ≡ old.places.items
-  pub watchers : new.watchers ≡ set old.watchers place []
+  pub found : new.found.items ≡ old.found.items
+  pub watchers : new.watchers ≡ set old.watchers position []
 
--- the places on this side
-abbrev pub places_of : Side → Sides → List (Option ℕ)
-places_of Follower sides = sides.followers.places.items
-places_of Leader sides = sides.leaders.places.items
+-- the hints on this side
+abbrev pub hints_of : Side → Sides → List (Option ℕ)
+hints_of Follower sides = sides.followers.found.items
+hints_of Leader sides = sides.leaders.found.items
 
 module _ (gone : List Bool) where
-  -- the edge at i has a place, and that edge is left
-  pub record IsPlaced (places : List (Option ℕ)) (i : ℕ) : Type 0 where
-    pub place : ℕ
-    pub is : slice_get places i ≡ Some (Some place)
-    pub is_left : slice_get gone place ≡ Some false
+  -- the edge at i has a hint, and the edge there is left
+  pub record HasHint (found : List (Option ℕ)) (i : ℕ) : Type 0 where
+    pub hint : ℕ
+    pub is : slice_get found i ≡ Some (Some hint)
+    pub is_left : slice_get gone hint ≡ Some false
 
   -- each edge that has one still does
-  abbrev pub KeepPlaced : List (Option ℕ) → List (Option ℕ) → Type 0
-  KeepPlaced old new = (i : ℕ) → IsPlaced old i → IsPlaced new i
+  abbrev pub KeepHints : List (Option ℕ) → List (Option ℕ) → Type 0
+  KeepHints old new = (i : ℕ) → HasHint old i → HasHint new i
 
   -- each edge that is left has one on both sides, or waits to be looked at
   pub record AreAwake (size : ℕ) (sides : Sides) (waiting : Waiting) : Type 0 where
     pub earlier : AreEarlier waiting
     pub within : waiting.next ≤ size
-    pub placed : (i : ℕ) (side : Side) → i < size → slice_get gone i ≡ Some false → waits waiting i ≡ false → IsPlaced (places_of side sides) i
+    pub hinted : (i : ℕ) (side : Side) → i < size → slice_get gone i ≡ Some false → waits waiting i ≡ false → HasHint (hints_of side sides) i
 
 module _ (before : Segment → Segment → Bool) (mode : Mode) (edges : List Edge) (gone : List Bool) where
   module _ (side : Side) where
-    -- no edge below a place is left that may come beside the edge at i
+    -- no edge below a position is left that may come beside the edge at i
     abbrev pub NoneBeside : ℕ → ℕ → Type 0
     NoneBeside i to =
         (q : ℕ) (e f : Edge) → q < to → slice_get edges i ≡ Some e → slice_get edges q ≡ Some f → slice_get gone q ≡ Some false → is_beside before mode side e f ≡ false
 
-    -- no edge before this place is left that may come beside the edge at i; the one there shares a lock with it
-    pub record IsStart (i : ℕ) (place : Option ℕ) : Type 0 where
-      pub passed : NoneBeside i (unwrap_or place (length edges))
-      pub shares : IfSome place (λ p. (p < length edges) × ((e f : Edge) → slice_get edges i ≡ Some e → slice_get edges p ≡ Some f → lock_towards (opposite side) f ≡ lock_towards side e))
+    -- no edge before this position is left that may come beside the edge at i; the one there shares a lock with it
+    pub record IsStart (i : ℕ) (from : Option ℕ) : Type 0 where
+      pub passed : NoneBeside i (unwrap_or from (length edges))
+      pub shares : IfSome from (λ p. (p < length edges) × ((e f : Edge) → slice_get edges i ≡ Some e → slice_get edges p ≡ Some f → lock_towards (opposite side) f ≡ lock_towards side e))
 
     -- and the one there may come beside it, or might have before it was gone
-    pub record IsHint (i : ℕ) (place : Option ℕ) : Type 0 where
-      pub passed : NoneBeside i (unwrap_or place (length edges))
-      pub fits : IfSome place (λ p. (p < length edges) × ((e f : Edge) → slice_get edges i ≡ Some e → slice_get edges p ≡ Some f → is_beside before mode side e f ≡ true))
+    pub record IsHint (i : ℕ) (hint : Option ℕ) : Type 0 where
+      pub passed : NoneBeside i (unwrap_or hint (length edges))
+      pub fits : IfSome hint (λ p. (p < length edges) × ((e f : Edge) → slice_get edges i ≡ Some e → slice_get edges p ≡ Some f → is_beside before mode side e f ≡ true))
 
-    -- where an edge has a place it is one, and the edge watches it as long as it is left
+    -- what was found of an edge is a hint, and the edge watches it as long as it is left
     pub record AreHints (hints : Hints) : Type 0 where
-      pub long : length hints.places.items ≡ length edges
+      pub long : length hints.found.items ≡ length edges
       pub as_long : length hints.watchers ≡ length edges
       pub users : AreUsers (opposite side) edges [] (length edges) hints.users
       pub chain : AreChained (opposite side) edges 0 hints.chain
-      pub each : (i p : ℕ) → slice_get hints.places.items i ≡ Some (Some p) → IsHint i (Some p)
-      pub watched : (i p : ℕ) → slice_get hints.places.items i ≡ Some (Some p) → slice_get gone p ≡ Some false → Contains (get_or hints.watchers p []) i
+      pub each : (i p : ℕ) → slice_get hints.found.items i ≡ Some (Some p) → IsHint i (Some p)
+      pub watched : (i p : ℕ) → slice_get hints.found.items i ≡ Some (Some p) → slice_get gone p ≡ Some false → Contains (get_or hints.watchers p []) i
 
     -- whether an edge is left that may come beside the edge at i
-    pub record HasBesideAt (i : ℕ) (places : List (Option ℕ)) (has : Bool) : Type 0 where
-      pub some : has ≡ true → IsPlaced gone places i
+    pub record HasBesideAt (i : ℕ) (found : List (Option ℕ)) (has : Bool) : Type 0 where
+      pub some : has ≡ true → HasHint gone found i
       pub none : has ≡ false → (e : Edge) → slice_get edges i ≡ Some e → ¬ HasBeside before mode edges (IsFlagged gone) side e
 
   -- on both sides
@@ -97,7 +97,7 @@ module _ (before : Segment → Segment → Bool) (mode : Mode) (edges : List Edg
   -- whether the edge at i is stuck
   pub record TellsStuck (sides : Sides) (i : ℕ) (stuck : Bool) : Type 0 where
     pub yes : stuck ≡ true → IsStuck before mode edges (IsFlagged gone) i
-    pub no : stuck ≡ false → slice_get gone i ≡ Some false → (side : Side) → IsPlaced gone (places_of side sides) i
+    pub no : stuck ≡ false → slice_get gone i ≡ Some false → (side : Side) → HasHint gone (hints_of side sides) i
 
   -- each edge below a position that isn't gone has a follower and a leader left
   abbrev pub AreSettled : ℕ → Type 0

@@ -1,5 +1,5 @@
 use Rattle.std.proofs.Common.{sym}
-use Rattle.gl_cycles.proofs.Whole.{trim_is, whole_is, none_with_cycle}
+use Rattle.gl_cycles.proofs.WholeTrims.{trim_is, whole_is, none_with_cycle}
 use Rattle.gl_cycles.proofs.laws.trims_are_unique.Goals as goal
 
 pub returns-clause-removed : goal.returns-clause-removed

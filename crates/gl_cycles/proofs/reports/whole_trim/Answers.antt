@@ -5,7 +5,7 @@ use Rattle.gl_segments.specs.Clocks.{is_before}
 use Rattle.gl_filters.specs.Picked.{edges_of_table}
 use Rattle.gl_cycles.specs.AllCycles.{all_cycles}
 use Rattle.gl_trims.specs.Trims.{IsTrimmed}
-use Rattle.gl_cycles.proofs.Whole.{first_of_taken, none_with_cycle, whole_is, some_from_test}
+use Rattle.gl_cycles.proofs.WholeTrims.{first_of_taken, none_with_cycle, whole_is, some_from_test}
 use Rattle.gl_cycles.proofs.reports.whole_trim.Goals as goal
 
 -- no edge of a cycle goes

@@ -1,5 +1,5 @@
 use Rattle.std.proofs.Common.{arith}
-use Rattle.gl_cycles.proofs.Staged.{all_found}
+use Rattle.gl_cycles.proofs.RootByRoot.{all_found}
 use Rattle.gl_cycles.proofs.stages.first_cycles_parallel.Goals as goal
 
 -- the search is through

@@ -6,9 +6,9 @@ use Rattle.gl_live_tests.proofs.texts.unread_items.Goals as goal
 pub returns-clause-unread : goal.returns-clause-unread
 returns-clause-unread c = λ now.
     record {
-      limits = c.in_ok-limits.limits;
+      limits = c.in-Ok.limits;
       turns = 1000;
       start = now;
-      as_many = ap (λ (b : Bounds). b.threads) c.in_ok-limits.ensures.kept;
-      tells = c.in_ok-new.ensures.tells now;
+      as_many = ap (λ (b : Bounds). b.threads) c.in-Ok.ensures.kept;
+      tells = c.in-Ok-new.ensures.tells now;
     }

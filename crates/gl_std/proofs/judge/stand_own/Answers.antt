@@ -1,7 +1,7 @@
 use Rattle.std.proofs.Common.{◌≡◌, Some, vec_len, ap, sym, ◌∙◌, arith}
 use Rattle.std.proofs.lemmas.Grind.{common_steps}
 use Rattle.gl_std.specs.Trace.{events_of}
-use Rattle.gl_std.specs.declared.standing.Ruling.TheVariants.{Kept}
+use Rattle.gl_std.specs.declared.ruling.Ruling.TheVariants.{Kept}
 use Rattle.gl_std.proofs.JudgedLines.{standing_own, standing_event}
 use Rattle.gl_std.proofs.judge.stand_own.Goals as goal
 

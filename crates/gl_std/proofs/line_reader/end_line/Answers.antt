@@ -17,8 +17,7 @@ returns-then-is_empty-clause-ends c =
     let none : length kept ≡ 0 = grind (arith, nat_tests, c.is_empty.ensures, c.if-is_empty.true) in
     let nil = nil_of kept none in
     line_ended c.args.judge.now c.take.new.self kept kept c.args.end.now c.args.end.now c.without_cr.result.now c.take.result c.requires.one_line
-    (ap (λ k. take KEPT (k ++ c.args.end.now)) (sym nil)) c.without_cr.ensures c.take.ensures.ok c.take.ensures.judged c.take.ensures.known c.take.ensures.fault
-    c.take.ensures.sound c.take.ensures.limits c.take.ensures.line (on_ok c.take.result (kept ≡ []) nil)
+    (ap (λ k. take KEPT (k ++ c.args.end.now)) (sym nil)) c.without_cr.ensures c.take.ensures.judges c.take.ensures.sound c.take.ensures.line (on_ok c.take.result (kept ≡ []) nil)
 
 -- the line began in a read before
 pub returns-in_err-judged-clause-ends : goal.returns-in_err-judged-clause-ends
@@ -30,7 +29,7 @@ returns-in_err-judged-clause-ends c =
     let failed : c.take-2.result ≡ Err (Line number kind) = let was = c.in_err-judged.was in let of = c.from_residual-in_err-judged.ensures in grind (arith, common_steps, was, of, is) in
     reached_fault old kept c.args.end.now raw seen told number kind reaches c.requires.one_line
     (ap (take KEPT) c.in_ok-keep.ensures.kept ∙ take-take KEPT KEPT (kept ++ c.args.end.now) (omega arith))
-    (ap (after_line old.limits old.line told) (sym (c.without_cr-2.ensures ∙ ap without_cr c.as_slice.ensures.value)) ∙ c.take-2.ensures.fault number kind failed told reaches.judged))
+    (ap (after_line old.limits old.line told) (sym (c.without_cr-2.ensures ∙ ap without_cr c.as_slice.ensures.value)) ∙ c.take-2.ensures.judges.fault number kind failed told reaches.judged))
 
 pub returns-clause-ends : goal.returns-clause-ends
 returns-clause-ends c =
@@ -38,13 +37,14 @@ returns-clause-ends c =
     let new = c.take-2.new.self in
     let kept = c.args.unfinished.now.items in
     let raw = c.keep.new.unfinished.items in
+    let judges = c.in_ok-judged.ensures.judges in
     record {
       reaches = λ seen told reaches.
           reached_line old new kept c.clear.new.self.items c.args.end.now raw seen told c.in_ok-judged.judged reaches c.requires.one_line
           (ap (take KEPT) c.in_ok-keep.ensures.kept ∙ take-take KEPT KEPT (kept ++ c.args.end.now) (omega arith))
-          (ap (after_line old.limits old.line told) (sym (c.without_cr-2.ensures ∙ ap without_cr c.as_slice.ensures.value)) ∙ c.in_ok-judged.ensures.ok told reaches.judged)
-          (c.in_ok-judged.ensures.judged told reaches.judged) c.take-2.ensures.limits c.in_ok-judged.ensures.line c.clear.ensures.items;
-      known = c.in_ok-judged.ensures.known;
+          (ap (after_line old.limits old.line told) (sym (c.without_cr-2.ensures ∙ ap without_cr c.as_slice.ensures.value)) ∙ judges.tells told reaches.judged)
+          (judges.judged told reaches.judged) judges.same_limits c.in_ok-judged.ensures.line c.clear.ensures.items;
+      known = judges.known;
       sound = c.in_ok-judged.ensures.sound;
       empty = c.clear.ensures.items;
       line = c.in_ok-judged.ensures.line;

@@ -33,11 +33,11 @@ loop-line-preserved c =
     let more = with_judged c.in_ok-judged.judged new.names so_far.told in
     record {
       told = more;
-      rest_of_text = line_on c.args.limits.now old.limits old.line new.line so_far.told more c.in-Some.line.now _ _ _ so_far.limits judged.line c.in-Some.ensures.0 (judged.ok so_far.told so_far.judged) so_far.rest_of_text;
-      judged = judged.judged so_far.told so_far.judged;
+      rest_of_text = line_on c.args.limits.now old.limits old.line new.line so_far.told more c.in-Some.line.now _ _ _ so_far.limits judged.line c.in-Some.ensures.0 (judged.judges.tells so_far.told so_far.judged) so_far.rest_of_text;
+      judged = judged.judges.judged so_far.told so_far.judged;
       listed = rw c.names.ensures at (c.in_ok-add.ensures so_far.told (sym so_far.listed));
       sound = judged.sound;
-      limits = c.take.ensures.limits ∙ so_far.limits;
+      limits = c.take.ensures.judges.same_limits ∙ so_far.limits;
       countable = omega (arith, so_far.countable, judged.line, c.in-Some.ensures.1);
     }
 
@@ -46,7 +46,7 @@ returns-in_err-judged-clause-fault c = λ number kind is.
     let so_far = c.loop-line.invariant in
     let old = c.loop-line.judge in
     let failed : c.take.result ≡ Err (Line number kind) = let was = c.in_err-judged.was in let of = c.from_residual.ensures in grind (arith, common_steps, was, of, is) in
-    line_fault c.args.limits.now old.limits old.line so_far.told c.in-Some.line.now _ _ _ (Line number kind) so_far.limits c.in-Some.ensures.0 (c.take.ensures.fault number kind failed so_far.told so_far.judged) so_far.rest_of_text
+    line_fault c.args.limits.now old.limits old.line so_far.told c.in-Some.line.now _ _ _ (Line number kind) so_far.limits c.in-Some.ensures.0 (c.take.ensures.judges.fault number kind failed so_far.told so_far.judged) so_far.rest_of_text
 
 -- all lines were read
 pub returns-clause-trace : goal.returns-clause-trace

@@ -2,7 +2,7 @@ use Rattle.std.proofs.Common.{◌≡◌, ℕ, suc, ◌+◌, ◌-◌, ◌<◌, �
 use Rattle.std.specs.Prelude.{All, slice_get, unwrap_or}
 use Rattle.std.proofs.lemmas.List.{length-map, length_push}
 use Rattle.std.proofs.lemmas.List.Elements.{All-push}
-use Rattle.std.proofs.Common.{Option, None, take, ◌++◌}
+use Rattle.std.proofs.Common.{Option, None, take, [], ◌∷◌, ◌++◌}
 use Rattle.gl_cycles.specs.bodies.Blocks.{block}
 use Rattle.gl_cycles.specs.declared.paths.Searcher.{Searcher}
 use Rattle.gl_segments.specs.Clocks.{is_before}
@@ -13,26 +13,32 @@ use Rattle.gl_index.specs.Indexes.{held_lock, both_locks}
 use Rattle.gl_index.proofs.Lists.{element_at}
 use Rattle.gl_index.proofs.Tables.{within_edges}
 use Rattle.gl_cycles.proofs.Fronts.{wanted_after, wanted_last, held_first, wanted_by_table, held_by_table, some_picked}
-use Rattle.gl_cycles.specs.bodies.Searching.{IsReady}
-use Rattle.gl_cycles.proofs.Off.{block-off}
-use Rattle.gl_cycles.proofs.Growing.{HasGrown, OthersAreStray, LeftOutAreStray, other_lock, other_locks, grow_begin, grow_step, grow_end, grow_short, grow_closed, grown_room, goes_on, grow_stray, joined_path}
+use Rattle.gl_cycles.specs.bodies.Searching.{IsReady, all_from}
+use Rattle.gl_cycles.proofs.EdgesOffCycles.{block-off}
+use Rattle.gl_cycles.proofs.Growing.{HasGrownTo, OthersAreStray, LeftOutAreStray, other_lock, other_locks, grow_begin, grow_step, grow_end, grow_short, grow_closed, grown_room, goes_on, grow_stray, joined_path}
 use Rattle.gl_cycles.proofs.paths.Searcher.+grow.Goals as goal
 
 -- the path is closed
-pub grow-returns-then-is_closed-clause-grown : goal.grow-returns-then-is_closed-clause-grown
-grow-returns-then-is_closed-clause-grown t c =
+pub grow-returns-then-is_closed : goal.grow-returns-then-is_closed
+grow-returns-then-is_closed t c =
     let s = c.args.self.now in
-    grow_closed (is_before s.order.now) s.mode (edges_of_table s.table.now) c.args.path.now s.cap _ (s.len - length c.args.path.now) _
-    (omega (arith, c.args.found.now.ok.0, c.len.ensures, length-map c.args.found.now.items (λ cycle. cycle.items)))
-    (within_edges s.table.now c.args.path.now c.requires.within) c.requires.is_path (sym c.if-is_closed.ensures) c.in_ok-keep_closed.ensures
+    record {
+      added = grow_closed (is_before s.order.now) s.mode (edges_of_table s.table.now) c.args.path.now s.cap _ (s.len - length c.args.path.now) _
+          (omega (arith, c.args.found.now.ok.0, c.len.ensures, length-map c.args.found.now.items (λ cycle. cycle.items)))
+          (within_edges s.table.now c.args.path.now c.requires.within) c.requires.is_path (sym c.if-is_closed.ensures) c.in_ok-keep_closed.ensures;
+      stopped = tt;
+    }
 
 -- the path may not be longer
-pub grow-returns-then-path-self-clause-grown : goal.grow-returns-then-path-self-clause-grown
-grow-returns-then-path-self-clause-grown t c =
+pub grow-returns-then-path-self : goal.grow-returns-then-path-self
+grow-returns-then-path-self t c =
     let s = c.args.self.now in
     let none : s.len - length c.args.path.now ≡ 0 = omega arith in
-    rw none (grow_short (is_before s.order.now) s.mode (edges_of_table s.table.now) c.args.path.now s.cap _
-    (omega (arith, c.requires.room, length-map c.args.found.now.items (λ cycle. cycle.items))) (sym c.if-is_closed.ensures))
+    record {
+      added = rw none (grow_short (is_before s.order.now) s.mode (edges_of_table s.table.now) c.args.path.now s.cap _
+          (omega (arith, c.requires.room, length-map c.args.found.now.items (λ cycle. cycle.items))) (sym c.if-is_closed.ensures));
+      stopped = tt;
+    }
 
 -- the index gives the first edge that may follow the path
 first_follower : (s : Searcher) (path : List ℕ) → All (λ i. i < length s.table.now) path → 0 < length path → (first : Option ℕ)
@@ -66,7 +72,7 @@ grow-loop-next-init t c =
 -- what has grown where the next follower is known
 abbrev Grown : (s : Searcher) → List ℕ → List (List ℕ) → List (List ℕ) → Option ℕ → Type 0
 Grown s path old now next =
-    HasGrown (is_before s.order.now) s.mode (edges_of_table s.table.now) (s.len - length path - 1) path s.cap held_lock (wanted_after (picked (edges_of_table s.table.now) path)) old now next
+    HasGrownTo (is_before s.order.now) s.mode (edges_of_table s.table.now) (s.len - length path - 1) path s.cap held_lock (wanted_after (picked (edges_of_table s.table.now) path)) old now next
 
 -- fewer positions are left behind a later follower
 closer : (n m i : ℕ) (now next : Option ℕ) → m ≡ n → now ≡ Some i → i < unwrap_or next m → unwrap_or next m ≤ m → n - unwrap_or next n < n - unwrap_or now n
@@ -74,6 +80,13 @@ closer n m i now next same is before within =
     let here : unwrap_or now n ≡ i = ap (λ o. unwrap_or o n) is in
     let there : unwrap_or next m ≡ unwrap_or next n = ap (unwrap_or next) same in
     omega arith
+
+-- what one follower adds, with as many edges left as behind it
+grown_by : (s : Searcher) (path : List ℕ) (i : ℕ) (before after : List (List ℕ)) → after ≡ take s.cap (before ++ all_from s (path ++ i ∷ []))
+    → after ≡ take s.cap (before ++ block (is_before s.order.now) s.mode (edges_of_table s.table.now) (s.len - length path - 1) (path ++ i ∷ []))
+grown_by s path i before after added =
+    let left : s.len - length (path ++ i ∷ []) ≡ s.len - length path - 1 = omega (arith, length_push path i) in
+    subst (λ n. after ≡ take s.cap (before ++ block (is_before s.order.now) s.mode (edges_of_table s.table.now) n (path ++ i ∷ []))) left added
 
 -- the call for one follower
 pub grow-grow_by-requires : goal.grow-grow_by-requires
@@ -131,26 +144,32 @@ grow-loop-next-preserved t c =
     subst (Grown s c.args.path.now (map (λ cycle. cycle.items) c.args.found.now.items) (map (λ cycle. cycle.items) c.loop-next.found.items)) c.in-Some.is c.loop-next.invariant in
     let here = element_at (edges_of_table s.table.now) c.in-Some.i had.holds.0 in
     grow_step (is_before s.order.now) s.mode (edges_of_table s.table.now) (s.len - length c.args.path.now - 1) c.args.path.now s.cap held_lock s.kept.items _
-    (other_lock (is_before s.order.now) s.mode (edges_of_table s.table.now) (s.len - length c.args.path.now - 1) c.args.path.now s.cap (some_picked s.table.now c.args.path.now c.requires.within c.requires.some)) (left_outs s c.args.path.now c.requires.ready (omega (arith, c.requires.short, c.if-path-self.false))) _ _ _ c.in-Some.i _ had c.in_ok-grow_by.ensures.grown
+    (other_lock (is_before s.order.now) s.mode (edges_of_table s.table.now) (s.len - length c.args.path.now - 1) c.args.path.now s.cap (some_picked s.table.now c.args.path.now c.requires.within c.requires.some)) (left_outs s c.args.path.now c.requires.ready (omega (arith, c.requires.short, c.if-path-self.false))) _ _ _ c.in-Some.i _ had (grown_by s c.args.path.now c.in-Some.i _ _ c.in_ok-grow_by.ensures.added)
     (subst (λ lock. IsNextWith held_lock (edges_of_table s.table.now) s.kept.items lock (c.in-Some.i + 1) c.after-next.result) (had.holds.1 here.0 here.1) (c.after-next.ensures (edges_of_table s.table.now) s.kept.items here.0 c.requires.ready.indexed here.1))
 
 -- all followers are done
-pub grow-returns-clause-grown : goal.grow-returns-clause-grown
-grow-returns-clause-grown t c =
+pub grow-returns : goal.grow-returns
+grow-returns t c =
     let s = c.args.self.now in
     let had : Grown s c.args.path.now (map (λ cycle. cycle.items) c.args.found.now.items) (map (λ cycle. cycle.items) c.loop-next.found.items) None =
     subst (Grown s c.args.path.now (map (λ cycle. cycle.items) c.args.found.now.items) (map (λ cycle. cycle.items) c.loop-next.found.items)) c.in_default.is c.loop-next.invariant in
     let left : suc (s.len - length c.args.path.now - 1) ≡ s.len - length c.args.path.now = omega (arith, c.requires.short) in
-    subst (λ n. map (λ cycle. cycle.items) c.loop-next.found.items ≡ take s.cap (map (λ cycle. cycle.items) c.args.found.now.items ++ block (is_before s.order.now) s.mode (edges_of_table s.table.now) n c.args.path.now)) left
-    (grow_end (is_before s.order.now) s.mode (edges_of_table s.table.now) (s.len - length c.args.path.now - 1) c.args.path.now s.cap held_lock _ _ _ had (sym c.if-is_closed.ensures))
+    record {
+      added = subst (λ n. map (λ cycle. cycle.items) c.loop-next.found.items ≡ take s.cap (map (λ cycle. cycle.items) c.args.found.now.items ++ block (is_before s.order.now) s.mode (edges_of_table s.table.now) n c.args.path.now)) left
+          (grow_end (is_before s.order.now) s.mode (edges_of_table s.table.now) (s.len - length c.args.path.now - 1) c.args.path.now s.cap held_lock _ _ _ had (sym c.if-is_closed.ensures));
+      stopped = tt;
+    }
 
 -- the edge can't follow
-pub grow_by-returns-then-not-can_join-clause-grown : goal.grow_by-returns-then-not-can_join-clause-grown
-grow_by-returns-then-not-can_join-clause-grown t c =
+pub grow_by-returns-then-not-can_join : goal.grow_by-returns-then-not-can_join
+grow_by-returns-then-not-can_join t c =
     let s = c.args.self.now in
     let here = element_at (edges_of_table s.table.now) c.args.next (omega (arith, c.requires.there, length-map s.table.now (λ pair. pair.0))) in
-    grow_stray (is_before s.order.now) s.mode (edges_of_table s.table.now) (s.len - length c.args.path.now - 1) c.args.path.now s.cap _ c.args.next here.0
-    (omega (arith, c.requires.room, length-map c.args.found.now.items (λ cycle. cycle.items))) here.1 (sym (c.if-not-can_join.ensures here.0 here.1))
+    record {
+      added = grow_stray (is_before s.order.now) s.mode (edges_of_table s.table.now) (s.len - length (c.args.path.now ++ c.args.next ∷ [])) c.args.path.now s.cap _ c.args.next here.0
+          (omega (arith, c.requires.room, length-map c.args.found.now.items (λ cycle. cycle.items))) here.1 (sym (c.if-not-can_join.ensures here.0 here.1));
+      stopped = tt;
+    }
 
 pub grow_by-grow-requires : goal.grow_by-grow-requires
 grow_by-grow-requires t c =
@@ -177,7 +196,7 @@ abbrev closing : (s : Searcher) → List ℕ → ℕ × ℕ
 closing s path = (wanted_after (picked (edges_of_table s.table.now) path), held_first (picked (edges_of_table s.table.now) path))
 
 abbrev Closed : (s : Searcher) → List ℕ → List (List ℕ) → List (List ℕ) → Option ℕ → Type 0
-Closed s path old now next = HasGrown (is_before s.order.now) s.mode (edges_of_table s.table.now) (s.len - length path - 1) path s.cap both_locks (closing s path) old now next
+Closed s path old now next = HasGrownTo (is_before s.order.now) s.mode (edges_of_table s.table.now) (s.len - length path - 1) path s.cap both_locks (closing s path) old now next
 
 -- other edges don't close it
 others : (s : Searcher) (path : List ℕ) → All (λ i. i < length s.table.now) path → 0 < length path → length path + 1 ≡ s.len
@@ -252,17 +271,20 @@ close-loop-next-preserved t c =
     let had : Closed s path (map (λ cycle. cycle.items) c.args.found.now.items) (map (λ cycle. cycle.items) c.loop-next.found.items) (Some c.in-Some.i) =
     subst (Closed s path (map (λ cycle. cycle.items) c.args.found.now.items) (map (λ cycle. cycle.items) c.loop-next.found.items)) c.in-Some.is c.loop-next.invariant in
     let here = element_at (edges_of_table s.table.now) c.in-Some.i had.holds.0 in
-    grow_step (is_before s.order.now) s.mode (edges_of_table s.table.now) (s.len - length path - 1) path s.cap both_locks s.kept.items (closing s path) (others s path c.requires.within c.requires.some c.requires.one_left) (left_outs s path c.requires.ready (omega (arith, c.requires.one_left))) _ _ _ c.in-Some.i _ had c.in_ok-grow_by.ensures.grown
+    grow_step (is_before s.order.now) s.mode (edges_of_table s.table.now) (s.len - length path - 1) path s.cap both_locks s.kept.items (closing s path) (others s path c.requires.within c.requires.some c.requires.one_left) (left_outs s path c.requires.ready (omega (arith, c.requires.one_left))) _ _ _ c.in-Some.i _ had (grown_by s path c.in-Some.i _ _ c.in_ok-grow_by.ensures.added)
     (subst (λ locks. IsNextWith both_locks (edges_of_table s.table.now) s.kept.items locks (c.in-Some.i + 1) c.after-next.result) (had.holds.1 here.0 here.1) (c.after-next.ensures (edges_of_table s.table.now) s.kept.items here.0 c.requires.ready.indexed.closers here.1))
 
 -- all edges that close it are done
-pub close-returns-clause-grown : goal.close-returns-clause-grown
-close-returns-clause-grown t c =
+pub close-returns : goal.close-returns
+close-returns t c =
     let s = c.args.self.now in
     let path = c.args.path.now in
     let had : Closed s path (map (λ cycle. cycle.items) c.args.found.now.items) (map (λ cycle. cycle.items) c.loop-next.found.items) None =
     subst (Closed s path (map (λ cycle. cycle.items) c.args.found.now.items) (map (λ cycle. cycle.items) c.loop-next.found.items)) c.in_default.is c.loop-next.invariant in
     let one_left = c.requires.one_left in
     let left : suc (s.len - length path - 1) ≡ s.len - length path = omega arith in
-    subst (λ n. map (λ cycle. cycle.items) c.loop-next.found.items ≡ take s.cap (map (λ cycle. cycle.items) c.args.found.now.items ++ block (is_before s.order.now) s.mode (edges_of_table s.table.now) n path)) left
-    (grow_end (is_before s.order.now) s.mode (edges_of_table s.table.now) (s.len - length path - 1) path s.cap both_locks (closing s path) _ _ had c.requires.unclosed)
+    record {
+      added = subst (λ n. map (λ cycle. cycle.items) c.loop-next.found.items ≡ take s.cap (map (λ cycle. cycle.items) c.args.found.now.items ++ block (is_before s.order.now) s.mode (edges_of_table s.table.now) n path)) left
+          (grow_end (is_before s.order.now) s.mode (edges_of_table s.table.now) (s.len - length path - 1) path s.cap both_locks (closing s path) _ _ had c.requires.unclosed);
+      stopped = tt;
+    }

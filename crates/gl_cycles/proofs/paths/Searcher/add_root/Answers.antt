@@ -2,7 +2,7 @@ use Rattle.std.proofs.Common.{◌++◌, map, take, ap, subst, ◌∙◌, arith}
 use Rattle.std.specs.Prelude.{◌≡◌, IfSome}
 use Rattle.std.proofs.lemmas.List.{length-map}
 use Rattle.gl_cycles.specs.bodies.Searching.{first_from, sought_by}
-use Rattle.gl_cycles.proofs.Staged.{found_joined, found_full}
+use Rattle.gl_cycles.proofs.RootByRoot.{found_joined, found_full}
 use Rattle.gl_cycles.proofs.paths.Searcher.add_root.Goals as goal
 
 -- there are as many as the cap

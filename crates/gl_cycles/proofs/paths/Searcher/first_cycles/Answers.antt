@@ -1,6 +1,6 @@
 use Rattle.std.proofs.Common.{arith}
 use Rattle.gl_cycles.specs.bodies.Searching.{sought_by}
-use Rattle.gl_cycles.proofs.Staged.{found_more, all_found}
+use Rattle.gl_cycles.proofs.RootByRoot.{found_more, all_found}
 use Rattle.gl_cycles.proofs.paths.Searcher.first_cycles.Goals as goal
 
 pub loop-root-preserved : goal.loop-root-preserved

@@ -14,10 +14,13 @@ grow-requires-clause-is_path c =
     path_of_one (is_before s.order.now) s.mode (edges_of_table s.table.now) c.args.root here.0 here.1
 
 -- the edge is in no cycle
-pub returns-then-not-index-clause-grown : goal.returns-then-not-index-clause-grown
-returns-then-not-index-clause-grown c =
+pub returns-then-not-index : goal.returns-then-not-index
+returns-then-not-index c =
     let s = c.args.self.now in
     let here = element_at (edges_of_table s.table.now) c.args.root (omega (arith, c.requires.there, length-map s.table.now (λ pair. pair.0))) in
-    grow_off (is_before s.order.now) s.mode (edges_of_table s.table.now) s.len (s.len - 1) [] s.cap _ c.args.root here.0 (omega (arith, c.requires.some))
-    (omega (arith, c.requires.room, length-map c.args.found.now.items (λ cycle. cycle.items))) here.1 (c.requires.ready.kept.left_out c.args.root here.0 here.1
-    (slice_get_read s.kept.items _ c.args.root _ s.kept.ok.0 (omega (arith, c.requires.there, c.requires.ready.kept.long, length-map s.table.now (λ pair. pair.0), s.kept.ok.0)) c.index.ensures ∙ ap Some c.if-not-index.true))
+    record {
+      added = grow_off (is_before s.order.now) s.mode (edges_of_table s.table.now) s.len (s.len - 1) [] s.cap _ c.args.root here.0 (omega (arith, c.requires.some))
+          (omega (arith, c.requires.room, length-map c.args.found.now.items (λ cycle. cycle.items))) here.1 (c.requires.ready.kept.left_out c.args.root here.0 here.1
+          (slice_get_read s.kept.items _ c.args.root _ s.kept.ok.0 (omega (arith, c.requires.there, c.requires.ready.kept.long, length-map s.table.now (λ pair. pair.0), s.kept.ok.0)) c.index.ensures ∙ ap Some c.if-not-index.true));
+      stopped = tt;
+    }

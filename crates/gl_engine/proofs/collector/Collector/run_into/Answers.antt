@@ -1,7 +1,8 @@
 use Rattle.std.proofs.Common.{map, sym, ap, ◌∙◌}
 use Rattle.gl_engine.specs.Collecting.{Collecting, Pulling}
-use Rattle.gl_engine.proofs.Ending.{found_gone}
-use Rattle.gl_engine.proofs.Running.{lanes_shown, unsent_dealt, gathered_all}
+use Rattle.gl_engine.specs.bodies.Whole.{lane_of}
+use Rattle.gl_engine.proofs.Ending.{found_broken, found_gone}
+use Rattle.gl_engine.proofs.Running.{as_long, lanes_shown, unsent_dealt, gathered_all}
 use Rattle.gl_engine.proofs.collector.Collector.run_into.Goals as goal
 
 pub collect_all-gathered-requires-clause-unsent : goal.collect_all-gathered-requires-clause-unsent
@@ -23,3 +24,10 @@ returns-clause-gone g c shard is =
     found_gone _ c.collect_all-gathered.new.inputs.items c.args.outlets.items c.collect_all-gathered.new.outlets.items c.collect_all-gathered.ensures.goes_on.feeds shard
     c.self.inside.intake.limits c.self.invariant.same_limits c.collect_all-gathered.result c.end_all-gone.result c.collect_all-gathered.ensures.goes_on.keeps c.collect_all-gathered.ensures.ended
     c.collect_all-gathered.ensures.goes_on.blamed c.end_all-gone.ensures.ended (sym c.first_fault.ensures.first ∙ is)
+
+pub returns-clause-broken : goal.returns-clause-broken
+returns-clause-broken g c thread why is =
+    found_broken _ c.collect_all-gathered.new.inputs.items
+    (as_long lane_of lane_of c.collect_all-gathered.new.inputs.items c.self.inside.inputs.items c.collect_all-gathered.ensures.goes_on.lanes ∙ c.self.invariant.inputs_are.count)
+    thread why _ c.self.inside.intake.limits c.self.invariant.same_limits c.collect_all-gathered.result c.end_all-gone.result
+    c.collect_all-gathered.ensures.goes_on.blamed (sym c.first_fault.ensures.first ∙ is)

@@ -23,7 +23,7 @@ pub returns-clause-stands : goal.returns-clause-stands
 returns-clause-stands c = λ es stands.
     let own : StandsAfter es (record { held = c.self.inside.held; events = c.self.inside.events; segments = c.self.inside.segments }) = subst (StandsAfter es) (sym c.self.view_is) stands in
     let e = c.args.event in
-    let is : Release c.args.lock (lock_mode e) (location e) ≡ e = sym c.requires.releases in
+    let is : Release (lock_mode e) c.args.lock (location e) ≡ e = sym c.requires.releases in
     record {
       held = subst (λ x. StandsFor (es ++ x ∷ []) c.release.new.self) is ((c.in-Ok.ensures.answers es own.held).stands (lock_mode e) (location e));
       events = omega (arith, own.events, length_push es e);

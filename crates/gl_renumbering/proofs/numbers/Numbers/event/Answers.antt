@@ -18,7 +18,7 @@ returns-in_ok-loc-in-Acquire-clause-event c = λ more.
     let place_name = name_at c.args.old.now.locs c.in-Acquire.loc in
     let lock = lock_told c.lock.new.self.names names (name_at c.args.old.now.locks c.in-Acquire.lock) place_name c.in_ok-lock-in-Acquire.lock c.in_ok-loc-in-Acquire.ensures.names c.in_ok-lock-in-Acquire.ensures.number more in
     let place = place_told names place_name c.in_ok-loc-in-Acquire.loc c.in_ok-loc-in-Acquire.ensures.number more in
-    (λ i. Acquire (lock i) c.in-Acquire.mode (place i)) ∙ ap (λ e. event_by (with_more names more) (told c.args.old.now e)) (sym c.in-Acquire.is)
+    (λ i. Acquire c.in-Acquire.mode (lock i) (place i)) ∙ ap (λ e. event_by (with_more names more) (told c.args.old.now e)) (sym c.in-Acquire.is)
 
 pub returns-in_ok-loc-in-Release-clause-names : goal.returns-in_ok-loc-in-Release-clause-names
 returns-in_ok-loc-in-Release-clause-names c =
@@ -31,7 +31,7 @@ returns-in_ok-loc-in-Release-clause-event c = λ more.
     let place_name = name_at c.args.old.now.locs c.in-Release.loc in
     let lock = lock_told c.lock-in-Release.new.self.names names (name_at c.args.old.now.locks c.in-Release.lock) place_name c.in_ok-lock-in-Release.lock c.in_ok-loc-in-Release.ensures.names c.in_ok-lock-in-Release.ensures.number more in
     let place = place_told names place_name c.in_ok-loc-in-Release.loc c.in_ok-loc-in-Release.ensures.number more in
-    (λ i. Release (lock i) c.in-Release.mode (place i)) ∙ ap (λ e. event_by (with_more names more) (told c.args.old.now e)) (sym c.in-Release.is)
+    (λ i. Release c.in-Release.mode (lock i) (place i)) ∙ ap (λ e. event_by (with_more names more) (told c.args.old.now e)) (sym c.in-Release.is)
 
 pub returns-in_ok-loc-in-TryAcquire-clause-names : goal.returns-in_ok-loc-in-TryAcquire-clause-names
 returns-in_ok-loc-in-TryAcquire-clause-names c =
@@ -44,7 +44,7 @@ returns-in_ok-loc-in-TryAcquire-clause-event c = λ more.
     let place_name = name_at c.args.old.now.locs c.in-TryAcquire.loc in
     let lock = lock_told c.lock-in-TryAcquire.new.self.names names (name_at c.args.old.now.locks c.in-TryAcquire.lock) place_name c.in_ok-lock-in-TryAcquire.lock c.in_ok-loc-in-TryAcquire.ensures.names c.in_ok-lock-in-TryAcquire.ensures.number more in
     let place = place_told names place_name c.in_ok-loc-in-TryAcquire.loc c.in_ok-loc-in-TryAcquire.ensures.number more in
-    (λ i. TryAcquire (lock i) c.in-TryAcquire.mode (place i)) ∙ ap (λ e. event_by (with_more names more) (told c.args.old.now e)) (sym c.in-TryAcquire.is)
+    (λ i. TryAcquire c.in-TryAcquire.mode (lock i) (place i)) ∙ ap (λ e. event_by (with_more names more) (told c.args.old.now e)) (sym c.in-TryAcquire.is)
 
 pub returns-in_ok-loc-in-Fork-clause-names : goal.returns-in_ok-loc-in-Fork-clause-names
 returns-in_ok-loc-in-Fork-clause-names c =

@@ -11,12 +11,13 @@ returns-clause-sound c =
     let old = c.args.self.now in
     let new = c.take_shape.new.self in
     let was = c.requires.sound in
+    let judges = c.in_ok-judged.ensures.judges in
     let told = with_judged c.in_ok-judged.judged new.names was.told in
-    let is = ap (after_shape old.limits old.line was.told) (sym c.shape_of.ensures) ∙ c.in_ok-judged.ensures.ok was.told was.judged in
+    let is = ap (after_shape old.limits old.line was.told) (sym c.shape_of.ensures) ∙ judges.tells was.told was.judged in
     let over = after_line_over old.limits old.line was.told told c.args.line.now was.sound is in
-    let judged = c.in_ok-judged.ensures.judged was.told was.judged in
+    let judged = judges.judged was.told was.judged in
     sound_of _ told (record { names = judged.names; states = judged.states; skipped = judged.skipped; stray = judged.stray })
-    (subst (λ limits. IsTraceOver limits told) (sym c.take_shape.ensures.limits) over)
-    (subst AreWithinRange (sym c.take_shape.ensures.limits) was.in_range)
+    (subst (λ limits. IsTraceOver limits told) (sym judges.same_limits) over)
+    (subst AreWithinRange (sym judges.same_limits) was.in_range)
     (omega (arith, was.few_skipped, c.take_shape.ensures.few_skipped, c.take_shape.ensures.line))
     (omega (arith, was.few_stray, c.take_shape.ensures.few_stray, c.take_shape.ensures.line))

@@ -22,6 +22,5 @@ returns c =
     let some : length old.unfinished.items ≢ 0 = grind (arith, nat_tests, c.is_empty.ensures, c.if-is_empty.false) in
     record {
       takes =
-          last_taken old _ c.as_slice.result.now c.take.result (some_of old.unfinished.items some) c.as_slice.ensures.value
-          c.take.ensures.ok c.take.ensures.judged c.take.ensures.known c.take.ensures.fault;
+          last_taken old _ c.as_slice.result.now c.take.result (some_of old.unfinished.items some) c.as_slice.ensures.value c.take.ensures.judges;
     }

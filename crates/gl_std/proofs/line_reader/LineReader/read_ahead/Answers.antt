@@ -1,22 +1,54 @@
-use Rattle.std.proofs.Common.{subst}
+use Rattle.std.proofs.Common.{Ok, refl, ap, subst, arith}
 use Rattle.gl_std.specs.bodies.Ahead.{text_of, HasReadOn}
-use Rattle.gl_std.specs.declared.line_reader.pieces.Ending.TheVariants.{End, Broke}
-use Rattle.gl_std.proofs.PiecesAhead.{read_on_then, read_on_then_ok}
+use Rattle.gl_std.specs.declared.line_reader.pieces.Ending.TheVariants.{More}
+use Rattle.gl_std.proofs.PiecesAhead.{only_ahead_then, read_on_none, read_on_then}
 use Rattle.gl_std.proofs.line_reader.LineReader.read_ahead.Goals as goal
 
--- the source has ended
-pub returns-in-End-clause-reads : goal.returns-in-End-clause-reads
-returns-in-End-clause-reads g c =
-    read_on_then _ _ _ c.args.self.now c.loop-self.self c.read_piece.new.self (text_of c.args.pieces.now.items) (text_of c.loop-self.pieces.items) (text_of c.read_piece.new.pieces.items) _ _ End c.loop-self.invariant.reads
-    (subst (HasReadOn (g.R.Source.position c.loop-self.input) c.loop-self.self (text_of c.loop-self.pieces.items) (g.R.Source.position c.read_piece.new.input) (g.R.Source.failed c.read_piece.new.input) c.read_piece.new.self (text_of c.read_piece.new.pieces.items)) c.in-End.is c.in_ok-read_piece.ensures.reads)
+pub loop-ending-init : goal.loop-ending-init
+loop-ending-init g c = record {
+  reads = read_on_none _ c.args.self.now (text_of c.args.pieces.now.items) _ c.requires.not_failed;
+  only = record { same_judge = refl; same_beginning = refl; same_size = refl };
+  short = c.requires.short;
+  not_failed = c.requires.not_failed;
+  few = omega arith;
+}
 
--- a read failed, or no turn was left
-pub returns-in-Broke-clause-reads : goal.returns-in-Broke-clause-reads
-returns-in-Broke-clause-reads g c =
-    read_on_then _ _ _ c.args.self.now c.loop-self.self c.read_piece.new.self (text_of c.args.pieces.now.items) (text_of c.loop-self.pieces.items) (text_of c.read_piece.new.pieces.items) _ _ Broke c.loop-self.invariant.reads
-    (subst (HasReadOn (g.R.Source.position c.loop-self.input) c.loop-self.self (text_of c.loop-self.pieces.items) (g.R.Source.position c.read_piece.new.input) (g.R.Source.failed c.read_piece.new.input) c.read_piece.new.self (text_of c.read_piece.new.pieces.items)) c.in-Broke.is c.in_ok-read_piece.ensures.reads)
+pub loop-ending-preserved : goal.loop-ending-preserved
+loop-ending-preserved g c =
+    let so_far = c.loop-ending.invariant in
+    let new = c.read_piece.new in
+    let more = subst (HasReadOn (g.R.Source.position c.loop-ending.input) c.loop-ending.self (text_of c.loop-ending.pieces.items) (g.R.Source.position new.input) (g.R.Source.failed new.input) new.self (text_of new.pieces.items)) c.in-More.is c.in_ok-ending.ensures.reads in
+    let fewer = c.in_ok-ending.ensures.fewer (ap (λ e. Ok e) c.in-More.is) in
+    record {
+      reads = read_on_then _ _ _ c.args.self.now c.loop-ending.self new.self (text_of c.args.pieces.now.items) (text_of c.loop-ending.pieces.items) (text_of new.pieces.items) _ _ More so_far.reads more;
+      only = only_ahead_then _ _ _ so_far.only c.in_ok-ending.ensures.only;
+      short = c.in_ok-ending.ensures.short;
+      not_failed = more.gives.0;
+      few = omega (arith, so_far.few, fewer);
+    }
 
--- the last read of as many as were asked for
-pub returns-clause-reads : goal.returns-clause-reads
-returns-clause-reads g c =
-    read_on_then_ok _ _ _ c.args.self.now c.loop-self.self c.read_piece-2.new.self (text_of c.args.pieces.now.items) (text_of c.loop-self.pieces.items) (text_of c.read_piece-2.new.pieces.items) _ _ c.read_piece-2.result c.loop-self.invariant.reads c.read_piece-2.ensures.reads
+-- the source has ended, or can't be read on
+pub returns-in_default : goal.returns-in_default
+returns-in_default g c =
+    let so_far = c.loop-ending.invariant in
+    let new = c.read_piece.new in
+    record {
+      reads = read_on_then _ _ _ c.args.self.now c.loop-ending.self new.self (text_of c.args.pieces.now.items) (text_of c.loop-ending.pieces.items) (text_of new.pieces.items) _ _ _ so_far.reads c.in_ok-ending.ensures.reads;
+      only = only_ahead_then _ _ _ so_far.only c.in_ok-ending.ensures.only;
+      short = c.in_ok-ending.ensures.short;
+      fewer = λ is. let fewer = c.in_ok-ending.ensures.fewer is in omega (arith, so_far.few, fewer);
+    }
+
+-- there are as many as were asked for
+pub returns-then-len-most : goal.returns-then-len-most
+returns-then-len-most g c =
+    let so_far = c.loop-ending.invariant in
+    let new = c.read_piece.new in
+    let more = subst (HasReadOn (g.R.Source.position c.loop-ending.input) c.loop-ending.self (text_of c.loop-ending.pieces.items) (g.R.Source.position new.input) (g.R.Source.failed new.input) new.self (text_of new.pieces.items)) c.in-More.is c.in_ok-ending.ensures.reads in
+    let fewer = c.in_ok-ending.ensures.fewer (ap (λ e. Ok e) c.in-More.is) in
+    record {
+      reads = read_on_then _ _ _ c.args.self.now c.loop-ending.self new.self (text_of c.args.pieces.now.items) (text_of c.loop-ending.pieces.items) (text_of new.pieces.items) _ _ More so_far.reads more;
+      only = only_ahead_then _ _ _ so_far.only c.in_ok-ending.ensures.only;
+      short = c.in_ok-ending.ensures.short;
+      fewer = λ _. omega (arith, so_far.few, fewer);
+    }

@@ -3,14 +3,14 @@ use Rattle.gl_std.specs.bodies.Ahead.{text_of, AreShort, HasReadOn, OnlyReadsAhe
 use Rattle.gl_std.specs.declared.line_reader.pieces.Ending.TheVariants.{More}
 use Rattle.gl_std.proofs.line_reader.LineReader.read_ahead.Given as goal
 
-abbrev pub invariant-loop-self : goal.invariant-loop-self
-invariant-loop-self g l = record {
+abbrev pub invariant-loop-ending : goal.invariant-loop-ending
+invariant-loop-ending g l = record {
   reads : HasReadOn (g.R.Source.position l.initial.input) l.initial.self (text_of l.initial.pieces.items) (g.R.Source.position l.input) (g.R.Source.failed l.input) l.self (text_of l.pieces.items) More;
   only : OnlyReadsAhead l.initial.self l.self;
   short : AreShort l.pieces.items;
   not_failed : g.R.Source.failed l.input ≡ false;
-  fewer : l.self.turns ≤ l.initial.self.turns;
+  few : l.self.turns ≤ l.initial.self.turns;
 }
 
-abbrev pub decreases-loop-self : goal.decreases-loop-self
-decreases-loop-self g l = l.self.turns
+abbrev pub decreases-loop-ending : goal.decreases-loop-ending
+decreases-loop-ending g l = l.self.turns

@@ -1,28 +1,54 @@
-use Rattle.std.proofs.Common.{Ok, ap, subst}
+use Rattle.std.proofs.Common.{Ok, length, refl, ap, subst, arith}
 use Rattle.gl_std.specs.bodies.Ahead.{bytes_of, HasReadOn}
-use Rattle.gl_std.specs.declared.line_reader.pieces.Ending.TheVariants.{End, Broke}
-use Rattle.gl_std.proofs.PiecesAhead.{read_on_then}
+use Rattle.gl_std.specs.declared.line_reader.pieces.Ending.TheVariants.{More}
+use Rattle.gl_std.proofs.PiecesAhead.{only_ahead_then, read_on_none, read_on_then}
 use Rattle.gl_std.proofs.line_reader.LineReader.read_into.Goals as goal
 
--- the first read
-pub loop-self-init : goal.loop-self-init
-loop-self-init g c =
-    let reads = subst (HasReadOn (g.R.Source.position c.args.input.now) c.args.self.now (bytes_of c.args.piece.now) (g.R.Source.position c.read_more.new.input) (g.R.Source.failed c.read_more.new.input) c.read_more.new.self (bytes_of c.read_more.new.piece)) c.in-More.is c.in_ok-read_more.ensures.reads in
-    record { reads = reads; only = c.in_ok-read_more.ensures.only; short = c.in_ok-read_more.ensures.short; not_failed = reads.gives.0; fewer = c.in_ok-read_more.ensures.fewer (ap (λ e. Ok e) c.in-More.is) }
+pub loop-ending-init : goal.loop-ending-init
+loop-ending-init g c = record {
+  reads = read_on_none _ c.args.self.now (bytes_of c.args.piece.now) _ c.requires.not_failed;
+  only = record { same_judge = refl; same_beginning = refl; same_size = refl };
+  room = omega (arith, ap length c.requires.none);
+  not_failed = c.requires.not_failed;
+  few = omega arith;
+}
 
-pub returns-in-End-clause-reads : goal.returns-in-End-clause-reads
-returns-in-End-clause-reads g c =
-    subst (HasReadOn (g.R.Source.position c.args.input.now) c.args.self.now (bytes_of c.args.piece.now) (g.R.Source.position c.read_more.new.input) (g.R.Source.failed c.read_more.new.input) c.read_more.new.self (bytes_of c.read_more.new.piece)) c.in-End.is c.in_ok-read_more.ensures.reads
+pub loop-ending-preserved : goal.loop-ending-preserved
+loop-ending-preserved g c =
+    let so_far = c.loop-ending.invariant in
+    let new = c.read_more.new in
+    let more = subst (HasReadOn (g.R.Source.position c.loop-ending.input) c.loop-ending.self (bytes_of c.loop-ending.piece) (g.R.Source.position new.input) (g.R.Source.failed new.input) new.self (bytes_of new.piece)) c.in-More.is c.in_ok-ending.ensures.reads in
+    let fewer = c.in_ok-ending.ensures.fewer (ap (λ e. Ok e) c.in-More.is) in
+    record {
+      reads = read_on_then _ _ _ c.args.self.now c.loop-ending.self new.self (bytes_of c.args.piece.now) (bytes_of c.loop-ending.piece) (bytes_of new.piece) _ _ More so_far.reads more;
+      only = only_ahead_then _ _ _ so_far.only c.in_ok-ending.ensures.only;
+      room = omega (arith, c.len.ensures, c.if-len.false);
+      not_failed = more.gives.0;
+      few = omega (arith, so_far.few, fewer);
+    }
 
--- and those after it
-pub returns-in-End-2-clause-reads : goal.returns-in-End-2-clause-reads
-returns-in-End-2-clause-reads g c =
-    let new = c.read_more-in-loop-self.new in
-    read_on_then _ _ _ c.args.self.now c.loop-self.self new.self (bytes_of c.args.piece.now) (bytes_of c.loop-self.piece) (bytes_of new.piece) _ _ End c.loop-self.invariant.reads
-    (subst (HasReadOn (g.R.Source.position c.loop-self.input) c.loop-self.self (bytes_of c.loop-self.piece) (g.R.Source.position new.input) (g.R.Source.failed new.input) new.self (bytes_of new.piece)) c.in-End-2.is c.in_ok-read_more-2.ensures.reads)
+-- the source has ended, or can't be read on
+pub returns-in_default : goal.returns-in_default
+returns-in_default g c =
+    let so_far = c.loop-ending.invariant in
+    let new = c.read_more.new in
+    record {
+      reads = read_on_then _ _ _ c.args.self.now c.loop-ending.self new.self (bytes_of c.args.piece.now) (bytes_of c.loop-ending.piece) (bytes_of new.piece) _ _ _ so_far.reads c.in_ok-ending.ensures.reads;
+      only = only_ahead_then _ _ _ so_far.only c.in_ok-ending.ensures.only;
+      short = c.in_ok-ending.ensures.short;
+      fewer = λ is. let fewer = c.in_ok-ending.ensures.fewer is in omega (arith, so_far.few, fewer);
+    }
 
-pub returns-in-Broke-2-clause-reads : goal.returns-in-Broke-2-clause-reads
-returns-in-Broke-2-clause-reads g c =
-    let new = c.read_more-in-loop-self.new in
-    read_on_then _ _ _ c.args.self.now c.loop-self.self new.self (bytes_of c.args.piece.now) (bytes_of c.loop-self.piece) (bytes_of new.piece) _ _ Broke c.loop-self.invariant.reads
-    (subst (HasReadOn (g.R.Source.position c.loop-self.input) c.loop-self.self (bytes_of c.loop-self.piece) (g.R.Source.position new.input) (g.R.Source.failed new.input) new.self (bytes_of new.piece)) c.in-Broke-2.is c.in_ok-read_more-2.ensures.reads)
+-- there is no room for more
+pub returns-then-len : goal.returns-then-len
+returns-then-len g c =
+    let so_far = c.loop-ending.invariant in
+    let new = c.read_more.new in
+    let more = subst (HasReadOn (g.R.Source.position c.loop-ending.input) c.loop-ending.self (bytes_of c.loop-ending.piece) (g.R.Source.position new.input) (g.R.Source.failed new.input) new.self (bytes_of new.piece)) c.in-More.is c.in_ok-ending.ensures.reads in
+    let fewer = c.in_ok-ending.ensures.fewer (ap (λ e. Ok e) c.in-More.is) in
+    record {
+      reads = read_on_then _ _ _ c.args.self.now c.loop-ending.self new.self (bytes_of c.args.piece.now) (bytes_of c.loop-ending.piece) (bytes_of new.piece) _ _ More so_far.reads more;
+      only = only_ahead_then _ _ _ so_far.only c.in_ok-ending.ensures.only;
+      short = c.in_ok-ending.ensures.short;
+      fewer = λ _. omega (arith, so_far.few, fewer);
+    }

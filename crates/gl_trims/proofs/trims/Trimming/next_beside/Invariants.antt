@@ -9,6 +9,6 @@ use Rattle.gl_trims.proofs.trims.Trimming.next_beside.Given as goal
 abbrev pub invariant-loop-next : goal.invariant-loop-next
 invariant-loop-next l = IsStart (is_before l.self.order.now) l.self.mode (edges_of_table l.self.table.now) l.gone l.side l.i l.next
 
--- how many places are left to look at
+-- how many positions are left to look at
 abbrev pub decreases-loop-next : goal.decreases-loop-next
 decreases-loop-next l = length l.self.table.now - unwrap_or l.next (length l.self.table.now)

@@ -1,0 +1,20 @@
+-- The lists of threads, dealt out: each share has lists that follow one another.
+use Rattle.std.specs.Prelude.{◌≡◌, ℕ, ◌-◌, ◌≤◌, List, [], ◌∷◌, take, drop}
+use Rattle.gl_event.specs.declared.events.Event.{Event}
+use Rattle.gl_edges.specs.Edges.{edges_made_from, once}
+use Rattle.gl_edges.specs.declared.edge.Edge.{Edge}
+use Rattle.gl_edges.specs.declared.edge.Sample.{Sample}
+use Rattle.gl_edges.specs.declared.parallel.Share.{Share}
+
+-- the lists of a share
+abbrev pub lists_of : List (List Event) → Share → List (List Event)
+lists_of lists share = take (share.to - share.from) (drop share.from lists)
+
+-- the edges of a share's lists: each once, ascending, with its least sample
+abbrev pub edges_of_share : List (List Event) → Share → List (Edge × Sample)
+edges_of_share lists share = once (edges_made_from share.from (lists_of lists share))
+
+-- the shares follow one another, from one position to another
+abbrev pub FollowOn : ℕ → List Share → ℕ → Type 0
+FollowOn from [] to = from ≡ to
+FollowOn from (share ∷ rest) to = (share.from ≡ from) × (share.from ≤ share.to) × FollowOn share.to rest to

@@ -1,0 +1,137 @@
+//! The edges of whole lists of events, by several threads.
+ghost use Rattle.std.specs.Prelude.{◌≡◌, ◌≤◌, ◌<◌, ◌+◌, ℕ, List, [], ◌++◌, map, length, slice_get, Some, IfOk};
+ghost use Rattle.std.specs.List.{flat_map};
+ghost use Rattle.gl_event.specs.Bounds.{greatest};
+ghost use Rattle.gl_event.specs.Lawful.{IsLawful};
+ghost use Rattle.gl_event.specs.declared.events.Event.{Event};
+ghost use Rattle.gl_edges.specs.Edges.{edges};
+ghost use Rattle.gl_edges.specs.bodies.Sharing.{edges_of_share, FollowOn};
+ghost use Rattle.gl_edges.specs.declared.parallel.Share.{Share};
+
+use crate::edge::{Edge, Sample};
+use crate::gather::{edges_from, edges_of};
+use crate::list::EdgeList;
+use gl_event::{Event, Memory};
+use rayon::prelude::*;
+use std::alloc::Global;
+use std::thread::Threads;
+
+// Up to how many events one thread goes through: for so few, others don't pay.
+const ALONE: usize = 16_384;
+
+/// Lists that follow one another: from one position to another.
+#[derive(Clone, Copy)]
+struct Share {
+    from: usize,
+    to: usize,
+}
+
+// How many events the lists have.
+fn events_in(lists: &[Vec<Event>]) -> usize {
+    let mut events: usize = 0;
+    for list in lists {
+        events = events.saturating_add(list.len());
+    }
+    events
+}
+
+// The lists dealt out, so that a share has as many events as these, or few more, but for the last one.
+fn deal(alloc: Global, lists: &[Vec<Event>], enough: usize) -> Result<Vec<Share>, Memory>
+    ensures { IfOk result (λ shares. FollowOn 0 shares.items (length lists.now)) }
+{
+    let mut shares = Vec::new(alloc);
+    let mut from = 0;
+    let mut events: usize = 0;
+    for i in 0..lists.len() {
+        events = events.saturating_add(lists[i].len());
+        if events >= enough {
+            shares.push(Share { from, to: i + 1 })?;
+            from = i + 1;
+            events = 0;
+        }
+    }
+    if from < lists.len() {
+        shares.push(Share {
+            from,
+            to: lists.len(),
+        })?;
+    }
+    Ok(shares)
+}
+
+// For each share of the lists its edges, by several threads.
+fn edges_of_each(
+    rt: &(impl Threads + Sync),
+    alloc: Global,
+    lists: &[Vec<Event>],
+    shares: &[Share],
+) -> Result<Vec<EdgeList>, Memory>
+    requires few { length lists.now ≤ 1024 }
+    requires lawful { (thread : ℕ) (es : List Event)
+        → slice_get (map (λ v. v.items) lists.now) thread ≡ Some es
+        → IsLawful greatest thread es }
+    requires dealt { FollowOn 0 shares.now (length lists.now) }
+    ensures { IfOk result
+        (λ pieces. pieces.items
+        ≡ map (edges_of_share (map (λ v. v.items) lists.now)) shares.now) }
+{
+    let found: Result<Vec<EdgeList>, Memory> = shares
+        .par_iter()
+        .map(
+            |share: &Share| -> Result<EdgeList, Memory>
+                requires { (share.now.from ≤ share.now.to)
+                    × (share.now.to ≤ length lists.now) × (length lists.now ≤ 1024)
+                    × ((thread : ℕ) (es : List Event)
+                    → slice_get (map (λ v. v.items) lists.now) thread ≡ Some es
+                    → IsLawful greatest thread es) }
+                ensures { IfOk result
+                    (λ l. l
+                    ≡ edges_of_share (map (λ v. v.items) lists.entry.now) share.now) }
+            { edges_from(alloc, share.from as u32, &lists[share.from..share.to]) },
+        )
+        .with_min_len(1)
+        .collect(rt, alloc)?;
+    found
+}
+
+// The pairs of all lists, one list after the other.
+fn joined(alloc: Global, pieces: Vec<EdgeList>) -> Result<Vec<(Edge, Sample)>, Memory>
+    ensures { IfOk result (λ pairs. pairs.items ≡ flat_map (λ piece. piece) pieces.items) }
+{
+    let mut pairs = Vec::new(alloc);
+    for piece in pieces {
+        let mut more = piece.into_vec();
+        pairs.append(&mut more)?;
+    }
+    Ok(pairs)
+}
+
+/// The same as [`edges_of`], by so many threads, or one where there are few events or one list has nearly all. Each thread goes through
+/// lists that follow one another, about as many events as each other one does, since an edge of a lesser
+/// thread is below all edges of a greater one.
+///
+/// The longest list takes as long as it takes one thread.
+pub fn edges_of_parallel(
+    rt: &(impl Threads + Sync),
+    alloc: Global,
+    lists: &[Vec<Event>],
+    threads: usize,
+) -> Result<EdgeList, Memory>
+    requires few { length lists.now ≤ 1024 }
+    requires lawful { (thread : ℕ) (es : List Event)
+        → slice_get (map (λ v. v.items) lists.now) thread ≡ Some es
+        → IsLawful greatest thread es }
+    ensures { IfOk result (λ l. l ≡ edges (map (λ v. v.items) lists.now)) }
+{
+    let events = events_in(lists);
+    if threads < 2 || events <= ALONE {
+        return edges_of(alloc, lists);
+    }
+    let shares = deal(alloc, lists, events / threads + 1)?;
+    if shares.len() < 2 {
+        return edges_of(alloc, lists);
+    }
+    let pieces = edges_of_each(rt, alloc, lists, shares.as_slice())?;
+    let pairs = joined(alloc, pieces)?;
+    Ok(EdgeList::from_ascending(pairs))
+}

@@ -1,0 +1,183 @@
+//! Edges that are in no cycle, left out on several threads.
+//!
+//! The positions of a table are dealt out to parts. In each part a thread leaves out edges of its own,
+//! and knows nothing of the others. An edge stays that stays by each of them.
+ghost use Rattle.std.specs.Prelude.{◌<◌, length, All, IfOk, OnOk};
+ghost use Rattle.gl_pruning.specs.Sought.{KeepsSought};
+
+use crate::parts::Part;
+use crate::reasons::{ALL_EFFORT, Reason, count_set, reasons};
+use crate::sought::Sought;
+use gl_event::Memory;
+use rayon::prelude::*;
+use std::alloc::Global;
+use std::thread::Threads;
+
+// How many parts there are: more than most machines have processors, so that they even out.
+const PARTS: usize = 8;
+
+// For how many edges other threads don't pay.
+const FEW: usize = 1_000;
+
+// How many times ways back are looked for, each time within the whole budget, since what one part
+// leaves out another one sees the next time.
+const PASSES: usize = 3;
+
+impl Sought<'_> {
+    // Which edges stay if some of a part are left out.
+    fn kept_by_part(
+        &self,
+        alloc: Global,
+        reason: Reason,
+        part: Part,
+        kept: &[bool],
+    ) -> Result<Vec<bool>, Memory>
+        requires { KeepsSought self.now kept.now }
+        ensures { IfOk result (λ stay. KeepsSought self.now stay.items) }
+    {
+        let mut stay = Vec::from_slice(alloc, kept)?;
+        self.leave_out(alloc, reason, part, &mut stay)?;
+        Ok(stay)
+    }
+
+    // Leaves out the edge at a position, if it isn't one that stays.
+    fn leave_out_unless(&self, stay: &[bool], kept: &mut Vec<bool>, i: usize)
+        requires there { i < length self.now.table.now }
+        requires stay { KeepsSought self.now stay.now }
+        requires kept { KeepsSought self.now kept.old.items }
+        ensures { KeepsSought self.now kept.new.items }
+    {
+        if !stay[i] {
+            kept[i] = false;
+        }
+    }
+
+    // Leaves out all but those that stay.
+    fn leave_out_others(&self, stay: &[bool], kept: &mut Vec<bool>)
+        requires stay { KeepsSought self.now stay.now }
+        requires kept { KeepsSought self.now kept.old.items }
+        ensures { KeepsSought self.now kept.new.items }
+    {
+        for i in 0..self.table.len() {
+            self.leave_out_unless(stay, kept, i);
+        }
+    }
+}
+
+// Which edges stay by each part.
+fn kept_by_each(
+    rt: &(impl Threads + Sync),
+    alloc: Global,
+    sought: &Sought<'_>,
+    reason: Reason,
+    effort: usize,
+    kept: &[bool],
+) -> Result<Vec<Vec<bool>>, Memory>
+    requires { KeepsSought sought.now kept.now }
+    ensures { IfOk result (λ parts. All (λ stay. KeepsSought sought.now stay.items) parts.items) }
+{
+    let found: Result<Vec<Vec<bool>>, Memory> = (0..PARTS)
+        .into_par_iter()
+        .map(
+            |number: usize| -> Result<Vec<bool>, Memory>
+                requires { KeepsSought sought.now kept.now }
+                ensures { IfOk result (λ stay. KeepsSought sought.entry.now stay.items) }
+            { sought.kept_by_part(alloc, reason, Part::one(number, PARTS).within(effort), kept) },
+        )
+        .with_min_len(1)
+        .collect(rt, alloc)?;
+    found
+}
+
+// Leaves out edges of all parts, some parts in each thread.
+fn leave_out_by_parts(
+    rt: &(impl Threads + Sync),
+    alloc: Global,
+    sought: &Sought<'_>,
+    reason: Reason,
+    effort: usize,
+    kept: &mut Vec<bool>,
+) -> Result<(), Memory>
+    requires kept { KeepsSought sought.now kept.old.items }
+    ensures { OnOk result (KeepsSought sought.now kept.new.items) }
+{
+    if count_set(kept) <= FEW {
+        return sought.leave_out(alloc, reason, Part::whole().within(effort), kept);
+    }
+    let parts = kept_by_each(rt, alloc, sought, reason, effort, kept)?;
+    for i in 0..parts.len() {
+        sought.leave_out_others(&parts[i], kept);
+    }
+    Ok(())
+}
+
+// Leaves out edges that have no way back, as long as there are any and the search for them may go on.
+fn leave_out_in_passes(
+    rt: &(impl Threads + Sync),
+    alloc: Global,
+    sought: &Sought<'_>,
+    effort: usize,
+    kept: &mut Vec<bool>,
+) -> Result<(), Memory>
+    requires kept { KeepsSought sought.now kept.old.items }
+    ensures { OnOk result (KeepsSought sought.now kept.new.items) }
+{
+    for _ in 0..PASSES {
+        let before = count_set(kept);
+        leave_out_by_parts(rt, alloc, sought, Reason::NoWay, effort, kept)?;
+        if count_set(kept) == before {
+            return Ok(());
+        }
+    }
+    Ok(())
+}
+
+// Leaves out edges for a reason, with so much effort.
+fn leave_out_parallel(
+    rt: &(impl Threads + Sync),
+    alloc: Global,
+    sought: &Sought<'_>,
+    reason: Reason,
+    effort: usize,
+    kept: &mut Vec<bool>,
+) -> Result<(), Memory>
+    requires kept { KeepsSought sought.now kept.old.items }
+    ensures { OnOk result (KeepsSought sought.now kept.new.items) }
+{
+    match reason {
+        Reason::Alike(_) => leave_out_by_parts(rt, alloc, sought, reason, effort, kept),
+        Reason::NoWay => leave_out_in_passes(rt, alloc, sought, effort, kept),
+    }
+}
+
+/// The same as [`Sought::leave_out_in_turn`], on several threads, and with each reason once.
+///
+/// Err where memory was refused.
+pub fn leave_out_in_turn_parallel(
+    rt: &(impl Threads + Sync),
+    alloc: Global,
+    sought: &Sought<'_>,
+    effort: usize,
+    kept: &mut Vec<bool>,
+) -> Result<(), Memory>
+    requires kept { KeepsSought sought.now kept.old.items }
+    ensures { OnOk result (KeepsSought sought.now kept.new.items) }
+{
+    for reason in reasons() {
+        leave_out_parallel(rt, alloc, sought, reason, effort, kept)?;
+    }
+    Ok(())
+}
+
+/// The same as [`Sought::kept_edges`], on several threads.
+pub(crate) fn kept_edges_parallel(
+    rt: &(impl Threads + Sync),
+    alloc: Global,
+    sought: &Sought<'_>,
+) -> Result<Vec<bool>, Memory>
+    ensures { IfOk result (λ kept. KeepsSought sought.now kept.items) }
+{
+    let mut kept = sought.kept_at_first(alloc)?;
+    leave_out_in_turn_parallel(rt, alloc, sought, ALL_EFFORT, &mut kept)?;
+    Ok(kept)
+}

@@ -1,7 +1,0 @@
-use Rattle.gl_std.specs.Sourced.{items_of, source_of}
-use Rattle.gl_std.specs.Streaming.{CanBeAsked}
-use Rattle.gl_std_tests.proofs.tests.tables.expect_endless.Given as goal
-
--- the next item can be asked for
-abbrev pub invariant-loop : goal.invariant-loop
-invariant-loop g l = CanBeAsked (items_of l.lines) (source_of l.lines).is_failed
