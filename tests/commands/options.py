@@ -101,14 +101,14 @@ def threads_that_read(program):
 def threads_that_look_for_edges(program):
     """Each of several threads takes the lists of some threads of the trace, where there are many events and two are asked
     for. A text as small as this is read by one thread."""
-    events = b"T0|acq(a)|1\nT0|rel(a)|2\nT1|acq(a)|1\nT1|rel(a)|2\n"
+    events = b"".join(b"T%d|acq(a)|1\nT%d|rel(a)|2\n" % (number, number) for number in range(3))
     for words in ("predict", "stats"):
-        got = program.counts(f"{words} --jobs 1", events * 6000)[0]
+        got = program.counts(f"{words} --jobs 1", events * 4000)[0]
         program.expect(f"{words} --jobs 1 starts no thread, not {got}", got == 0)
-        got = program.counts(f"{words} --jobs 2", events * 6000)[0]
-        program.expect(f"{words} --jobs 2 starts threads for 24,000 events of two threads", got > 0)
         got = program.counts(f"{words} --jobs 2", events * 4000)[0]
-        program.expect(f"{words} --jobs 2 starts no thread for 16,000 events, not {got}", got == 0)
+        program.expect(f"{words} --jobs 2 starts threads for 24,000 events of three threads", got > 0)
+        got = program.counts(f"{words} --jobs 2", events * 2700)[0]
+        program.expect(f"{words} --jobs 2 starts no thread for 16,200 events, not {got}", got == 0)
 
 
 def room_of(program, words, few, many, trace=trace_of(2)):

@@ -28,7 +28,7 @@ class Call(typing.NamedTuple):
 
 
 def acquire(lock, loc):
-    return f"Acquire {{ lock: LockId {{ number: {lock} }}, mode: Exclusive, loc: LocId {{ number: {loc} }} }}"
+    return f"Acquire {{ mode: Exclusive, lock: LockId {{ number: {lock} }}, loc: LocId {{ number: {loc} }} }}"
 
 
 def release(lock, loc):
