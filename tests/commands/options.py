@@ -101,13 +101,13 @@ def threads_that_read(program):
 def threads_that_look_for_edges(program):
     """Each of several threads takes the lists of some threads of the trace, where there are many events and two are asked
     for. A text as small as this is read by one thread."""
-    events = b"".join(b"T%d|acq(a)|1\nT%d|rel(a)|2\n" % (number, number) for number in range(3))
+    events = b"".join(b"T%d|acq(a)|1\nT%d|rel(a)|2\n" % (number, number) for number in range(2))
     for words in ("predict", "stats"):
-        got = program.counts(f"{words} --jobs 1", events * 4000)[0]
+        got = program.counts(f"{words} --jobs 1", events * 6000)[0]
         program.expect(f"{words} --jobs 1 starts no thread, not {got}", got == 0)
-        got = program.counts(f"{words} --jobs 2", events * 4000)[0]
-        program.expect(f"{words} --jobs 2 starts threads for 24,000 events of three threads", got > 0)
-        got = program.counts(f"{words} --jobs 2", events * 2700)[0]
+        got = program.counts(f"{words} --jobs 2", events * 6000)[0]
+        program.expect(f"{words} --jobs 2 starts threads for 24,000 events of two threads, of which each has as many", got > 0)
+        got = program.counts(f"{words} --jobs 2", events * 4050)[0]
         program.expect(f"{words} --jobs 2 starts no thread for 16,200 events, not {got}", got == 0)
 
 

@@ -17,7 +17,7 @@ use Rattle.gl_edges.specs.declared.edge.Sample.{Sample}
 use Rattle.gl_filters.proofs.Valid.{cycle_if_valid}
 use Rattle.gl_filters.specs.Asked.{Asked, first_out_of_range}
 use Rattle.gl_filters.specs.Picked.{edges_of_table, picked}
-use Rattle.gl_cycles.proofs.Surviving.{none_if_all_go}
+use Rattle.gl_cycles.proofs.TrimsSpareCycles.{none_if_all_go}
 use Rattle.gl_cycles.specs.Laws.{IsCycleAt}
 use Rattle.gl_trims.specs.Trims.{IsWholeRemoval}
 use Rattle.gl_cycles.specs.declared.found.Report.{Report}

@@ -10,7 +10,7 @@ use Rattle.gl_std.specs.declared.trace.Trace.{Trace}
 use Rattle.gl_segments.specs.Laws.{DecidesBefore}
 use Rattle.gl_segments.specs.Segments.{Before}
 use Rattle.gl_segments.proofs.LawLemmas.{agree}
-use Rattle.gl_cycles.proofs.Uniqueness.{same_segment}
+use Rattle.gl_cycles.proofs.ReportsAreUnique.{same_segment}
 use Rattle.gl_commands.specs.Answer.{Answer, IsLeastBeforeItself, AnswersAreUnique, PlainAnswersAreUnique}
 use Rattle.gl_commands.specs.Answer.Answer.{Refusal}
 use Rattle.gl_commands.specs.Answer.IsAnswerUnder.{bad_line, no_order, ordered}

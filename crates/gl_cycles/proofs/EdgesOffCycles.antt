@@ -14,9 +14,9 @@ use Rattle.gl_filters.specs.Picked.{picked}
 use Rattle.gl_cycles.specs.AllCycles.{lists_below}
 use Rattle.gl_cycles.specs.bodies.Blocks.{block}
 use Rattle.gl_pruning.specs.OffCycles.{IsOffCycles}
-use Rattle.gl_cycles.proofs.Blocking.{picked-append, picked-push}
-use Rattle.gl_cycles.proofs.Level.{picked_among}
-use Rattle.gl_cycles.proofs.Members.{lists_from}
+use Rattle.gl_cycles.proofs.BelowFronts.{picked-append, picked-push}
+use Rattle.gl_cycles.proofs.CyclesAreLevel.{picked_among}
+use Rattle.gl_cycles.proofs.AmongAllCycles.{lists_from}
 
 -- nothing passes where none of the lists that begin so does
 filter-none_of : (p : List ℕ → Bool) (front : List ℕ) (ls : List (List ℕ)) → ((rest : List ℕ) → Contains ls rest → p (front ++ rest) ≡ false) → filter p (map (λ rest. front ++ rest) ls) ≡ []

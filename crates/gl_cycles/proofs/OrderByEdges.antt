@@ -20,10 +20,10 @@ use Rattle.gl_edges.proofs.Orders.{edge_cmp_total}
 use Rattle.gl_filters.specs.declared.query.Mode.{Mode}
 use Rattle.gl_filters.specs.Picked.{picked}
 use Rattle.gl_cycles.specs.AllCycles.{all_cycles}
-use Rattle.gl_cycles.proofs.Ascending.{cycles_ascend}
+use Rattle.gl_cycles.proofs.CyclesAscend.{cycles_ascend}
 use Rattle.gl_index.proofs.Lists.{element_at}
-use Rattle.gl_cycles.proofs.Fronts.{picked-cons}
-use Rattle.gl_cycles.proofs.Members.{there_is_cycle}
+use Rattle.gl_cycles.proofs.EdgesOfPaths.{picked-cons}
+use Rattle.gl_cycles.proofs.AmongAllCycles.{there_is_cycle}
 
 module _ (edges : List Edge) (ascend : IsStrictlySortedBy edge_cmp edges) where
   -- the edges of lists that begin with two positions, by the order of these

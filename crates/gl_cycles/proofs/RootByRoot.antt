@@ -7,8 +7,8 @@ use Rattle.gl_cycles.specs.AllCycles.{all_cycles}
 use Rattle.gl_cycles.specs.bodies.Blocks.{block, blocks_below}
 use Rattle.gl_cycles.specs.bodies.Searching.{HasFound}
 use Rattle.gl_pruning.specs.declared.sought.Sought.{Sought}
-use Rattle.gl_cycles.proofs.Growing.{all_from_roots, grow_full, roots_more, length-first}
-use Rattle.gl_cycles.proofs.Joining.{take_append-take}
+use Rattle.gl_cycles.proofs.PathsGrow.{all_from_roots, grow_full, roots_more, length-first}
+use Rattle.gl_cycles.proofs.RootsJoined.{take_append-take}
 
 module _ (s : Sought) (cap : ℕ) where
   -- before the first root

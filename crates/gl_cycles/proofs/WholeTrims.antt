@@ -14,9 +14,9 @@ use Rattle.gl_cycles.specs.AllCycles.{all_cycles}
 use Rattle.gl_trims.specs.Trims.{is_beside, HasBeside, IsStuck, IsFirstStuck, IsTrimOrder, IsTrimmed, others, is_alone, is_stuck, removals, whole_trim}
 use Rattle.gl_index.specs.declared.sides.Side.{Side}
 use Rattle.gl_trims.specs.bodies.Trimming.{AreFlagsOf}
-use Rattle.gl_cycles.proofs.Members.{filter_has, filter_from, there_is_cycle}
+use Rattle.gl_cycles.proofs.AmongAllCycles.{filter_has, filter_from, there_is_cycle}
 use Rattle.gl_trims.proofs.Removing.{flags_none, flags_more, left, fewer, none_set, unflagged, order_push}
-use Rattle.gl_cycles.proofs.Surviving.{cycles_survive, cycle_has_some}
+use Rattle.gl_cycles.proofs.TrimsSpareCycles.{cycles_survive, cycle_has_some}
 use Rattle.gl_index.specs.declared.sides.Side.TheVariants.{Follower, Leader}
 
 -- the first number of a range that passes

@@ -35,20 +35,23 @@ fn events_in(lists: &[Vec<Event>]) -> usize {
     events
 }
 
-// The lists dealt out, so that a share has as many events as these, or few more, but for the last one.
-fn deal(alloc: Global, lists: &[Vec<Event>], enough: usize) -> Result<Vec<Share>, Memory>
+// The lists dealt out: each to the share in whose even part of all events its middle lies.
+fn deal(alloc: Global, lists: &[Vec<Event>], even: usize) -> Result<Vec<Share>, Memory>
+    requires { 0 < even }
     ensures { IfOk result (λ shares. FollowOn 0 shares.items (length lists.now)) }
 {
     let mut shares = Vec::new(alloc);
     let mut from = 0;
-    let mut events: usize = 0;
+    let mut end = even;
+    let mut before: usize = 0;
     for i in 0..lists.len() {
-        events = events.saturating_add(lists[i].len());
-        if events >= enough {
-            shares.push(Share { from, to: i + 1 })?;
-            from = i + 1;
-            events = 0;
+        let middle = before.saturating_add(lists[i].len() / 2);
+        if from < i && middle >= end {
+            shares.push(Share { from, to: i })?;
+            from = i;
+            end = (middle / even).saturating_add(1).saturating_mul(even);
         }
+        before = before.saturating_add(lists[i].len());
     }
     if from < lists.len() {
         shares.push(Share {
@@ -127,7 +130,7 @@ pub fn edges_of_parallel(
     if threads < 2 || events <= ALONE {
         return edges_of(alloc, lists);
     }
-    let shares = deal(alloc, lists, events / threads + 1)?;
+    let shares = deal(alloc, lists, events.div_ceil(threads))?;
     if shares.len() < 2 {
         return edges_of(alloc, lists);
     }

@@ -17,8 +17,8 @@ use Rattle.gl_edges.proofs.Membership.{contains_range, contains_cases, contains_
 use Rattle.gl_filters.specs.declared.query.Mode.{Mode}
 use Rattle.gl_filters.specs.Picked.{edges_of_table}
 use Rattle.gl_cycles.specs.AllCycles.{lists_below, all_cycles}
-use Rattle.gl_cycles.proofs.Lists.{map-flat_map, same_flat_map, map-one_more, map-nothing, upto-more, upto-until, take-take_append, take-full}
-use Rattle.gl_cycles.proofs.Growing.{length-first}
+use Rattle.gl_cycles.proofs.ListsOfPositions.{map-flat_map, same_flat_map, map-one_more, map-nothing, upto-more, upto-until, take-take_append, take-full}
+use Rattle.gl_cycles.proofs.PathsGrow.{length-first}
 use Rattle.gl_findings.specs.Findings.{begins_least, turned, first_with, findings, is_turn, signature_of}
 use Rattle.gl_findings.specs.bodies.Growing.{finding, block, blocks_below}
 

@@ -24,11 +24,11 @@ use Rattle.gl_filters.proofs.Cycling.{cycle_from_test, test_from_cycle}
 use Rattle.gl_cycles.specs.AllCycles.{all_cycles}
 use Rattle.gl_pruning.specs.OffCycles.{KeepsCycles}
 use Rattle.gl_cycles.specs.Laws.{IsCycleAt}
-use Rattle.gl_cycles.proofs.Ascending.{cycles_ascend}
+use Rattle.gl_cycles.proofs.CyclesAscend.{cycles_ascend}
 use Rattle.gl_index.proofs.Lists.{element_at}
-use Rattle.gl_cycles.proofs.Fronts.{length-picked, picked-cons}
-use Rattle.gl_cycles.proofs.Level.{picked_among}
-use Rattle.gl_cycles.proofs.Members.{cycle_is_there, there_is_cycle}
+use Rattle.gl_cycles.proofs.EdgesOfPaths.{length-picked, picked-cons}
+use Rattle.gl_cycles.proofs.CyclesAreLevel.{picked_among}
+use Rattle.gl_cycles.proofs.AmongAllCycles.{cycle_is_there, there_is_cycle}
 use Rattle.gl_walks.specs.declared.purpose.Purpose.{Purpose}
 use Rattle.gl_walks.specs.declared.purpose.Purpose.TheVariants.{Cycle}
 use Rattle.gl_walks.specs.Walks.{IsWalk, NoWalk, IsFirstWalk}

@@ -17,10 +17,10 @@ use Rattle.gl_filters.specs.Picked.{edges_of_table, picked}
 use Rattle.gl_cycles.specs.AllCycles.{all_cycles}
 use Rattle.gl_cycles.specs.Laws.{IsCycleAt}
 use Rattle.gl_pruning.specs.OffCycles.{KeepsCycles}
-use Rattle.gl_cycles.proofs.Blocking.{picked-append}
+use Rattle.gl_cycles.proofs.BelowFronts.{picked-append}
 use Rattle.gl_index.proofs.Lists.{element_at}
-use Rattle.gl_cycles.proofs.Level.{picked_among}
-use Rattle.gl_cycles.proofs.Members.{there_is_cycle}
+use Rattle.gl_cycles.proofs.CyclesAreLevel.{picked_among}
+use Rattle.gl_cycles.proofs.AmongAllCycles.{there_is_cycle}
 use Rattle.gl_walks.specs.declared.purpose.Purpose.TheVariants.{Front}
 use Rattle.gl_walks.specs.Walks.{is_front, NoWalk}
 use Rattle.gl_findings.specs.Findings.{class_of, classes_of, signature_of, turned, is_turn, first_with}

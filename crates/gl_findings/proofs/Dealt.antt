@@ -7,8 +7,8 @@ use Rattle.std.proofs.lemmas.List.{append-nil}
 use Rattle.std.proofs.lemmas.List.Elements.{All-push}
 use Rattle.std.proofs.lemmas.Grind.{flat_map-append}
 use Rattle.gl_segments.specs.Clocks.{is_before}
-use Rattle.gl_cycles.proofs.Joining.{flat-take}
-use Rattle.gl_cycles.proofs.Lists.{upto-more, upto-until}
+use Rattle.gl_cycles.proofs.RootsJoined.{flat-take}
+use Rattle.gl_cycles.proofs.ListsOfPositions.{upto-more, upto-until}
 use Rattle.gl_findings.specs.Findings.{findings}
 use Rattle.gl_findings.specs.bodies.Finding.{IsReady, block_of, below_of, first_from, first_of_root}
 use Rattle.gl_findings.specs.declared.finder.Finder.{Finder}

@@ -15,8 +15,8 @@ use Rattle.gl_edges.proofs.Membership.{contains_here, contains_later, contains_c
 use Rattle.gl_filters.specs.declared.query.Mode.{Mode}
 use Rattle.gl_filters.specs.Picked.{edges_of_table}
 use Rattle.gl_cycles.specs.AllCycles.{all_cycles, lists_below}
-use Rattle.gl_cycles.proofs.Fronts.{length-picked}
-use Rattle.gl_cycles.proofs.Members.{filter_has, filter_from, there_is_cycle}
+use Rattle.gl_cycles.proofs.EdgesOfPaths.{length-picked}
+use Rattle.gl_cycles.proofs.AmongAllCycles.{filter_has, filter_from, there_is_cycle}
 use Rattle.gl_findings.specs.Findings.{same_places, class_of, classes_of, signature_of, turned, is_turn, begins_least, first_with, findings}
 use Rattle.gl_findings.specs.Laws.{IsToldBy, AreOneFinding, NoneIsMissed, EachIsCycle, NoneIsTwice}
 use Rattle.gl_findings.proofs.Cutting.{classes_told, All-left, All-right}

@@ -15,7 +15,7 @@ use Rattle.gl_filters.specs.Asked.{Asked}
 use Rattle.gl_cycles.specs.Reports.{IsReport, IsGoodlockReport, IsReportFault}
 use Rattle.gl_cycles.specs.declared.found.Report.{Report}
 use Rattle.gl_cycles.specs.declared.found.ReportFault.{ReportFault}
-use Rattle.gl_cycles.proofs.Uniqueness.{reports_agree, loops_agree, none_of_loops}
+use Rattle.gl_cycles.proofs.ReportsAreUnique.{reports_agree, loops_agree, none_of_loops}
 use Rattle.gl_intake.specs.Stream.{events_of, has_ended, logs_of}
 use Rattle.gl_world.specs.Machine.{Lane, State, start, taken_of, taken_lists, IsDrained}
 use Rattle.gl_world.specs.Keeping.{IsLaneOf, IsSound}

@@ -1,7 +1,7 @@
 use Rattle.std.proofs.Common.{◌≡◌, Some, sym, ap, subst, ◌∙◌}
 use Rattle.gl_edges.specs.Edges.{edges}
 use Rattle.gl_cycles.specs.Reports.{IsGoodlockReport}
-use Rattle.gl_cycles.proofs.Uniqueness.{reports_agree}
+use Rattle.gl_cycles.proofs.ReportsAreUnique.{reports_agree}
 use Rattle.gl_std.specs.Names.{NameLists}
 use Rattle.gl_renumbering.specs.Tales.{lists_by_mention}
 use Rattle.gl_renumbering.proofs.Alike.{same_lists}

@@ -1,4 +1,4 @@
-use Rattle.gl_cycles.proofs.Members.{there_is_cycle, cycle_is_there}
+use Rattle.gl_cycles.proofs.AmongAllCycles.{there_is_cycle, cycle_is_there}
 use Rattle.gl_cycles.proofs.laws.cycles_are_all.Goals as goal
 
 pub returns : goal.returns

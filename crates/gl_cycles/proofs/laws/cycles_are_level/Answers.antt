@@ -1,4 +1,4 @@
-use Rattle.gl_cycles.proofs.Level.{cycle_is_level}
+use Rattle.gl_cycles.proofs.CyclesAreLevel.{cycle_is_level}
 use Rattle.gl_cycles.proofs.laws.cycles_are_level.Goals as goal
 
 pub returns : goal.returns

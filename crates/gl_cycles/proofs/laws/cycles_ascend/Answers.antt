@@ -1,4 +1,4 @@
-use Rattle.gl_cycles.proofs.Ascending as lists
+use Rattle.gl_cycles.proofs.CyclesAscend as lists
 use Rattle.gl_cycles.proofs.laws.cycles_ascend.Goals as goal
 
 pub returns : goal.returns

@@ -1,4 +1,4 @@
-use Rattle.gl_cycles.proofs.Surviving.{none_if_all_go}
+use Rattle.gl_cycles.proofs.TrimsSpareCycles.{none_if_all_go}
 use Rattle.gl_cycles.proofs.laws.no_cycle_if_all_go.Goals as goal
 
 pub returns : goal.returns

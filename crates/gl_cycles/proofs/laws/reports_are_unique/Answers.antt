@@ -1,4 +1,4 @@
-use Rattle.gl_cycles.proofs.Uniqueness.{reports_agree, loops_agree, none_of_loops}
+use Rattle.gl_cycles.proofs.ReportsAreUnique.{reports_agree, loops_agree, none_of_loops}
 use Rattle.gl_cycles.proofs.laws.reports_are_unique.Goals as goal
 
 pub returns-clause-report : goal.returns-clause-report

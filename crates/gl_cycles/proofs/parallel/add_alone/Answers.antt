@@ -4,7 +4,7 @@ use Rattle.gl_segments.specs.Clocks.{is_before}
 use Rattle.gl_filters.specs.Picked.{edges_of_table}
 use Rattle.gl_cycles.specs.bodies.Blocks.{block}
 use Rattle.gl_cycles.specs.bodies.Searching.{first_from}
-use Rattle.gl_cycles.proofs.Joining.{root_more}
+use Rattle.gl_cycles.proofs.RootsJoined.{root_more}
 use Rattle.gl_cycles.proofs.parallel.add_alone.Goals as goal
 
 pub loop-root-preserved : goal.loop-root-preserved

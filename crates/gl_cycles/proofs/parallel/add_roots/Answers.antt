@@ -2,7 +2,7 @@ use Rattle.std.proofs.Common.{◌-◌, ◌++◌, map, take, ap, ◌∙◌}
 use Rattle.std.specs.List.{flat_map, range_with_len}
 use Rattle.std.proofs.lemmas.Result.{on_ok_weaker}
 use Rattle.gl_cycles.specs.bodies.Searching.{first_from}
-use Rattle.gl_cycles.proofs.Joining.{flat-same}
+use Rattle.gl_cycles.proofs.RootsJoined.{flat-same}
 use Rattle.gl_cycles.proofs.parallel.add_roots.Goals as goal
 
 pub returns : goal.returns

@@ -2,7 +2,7 @@ use Rattle.std.proofs.Common.{◌≡◌, ◌<◌, false, length, map, ap, ◌∙
 use Rattle.rayon.specs.Numbers.{nat_range}
 use Rattle.rayon.proofs.ToStd.{nat_range-All}
 use Rattle.gl_cycles.specs.bodies.Searching.{IsReady, first_from}
-use Rattle.gl_cycles.proofs.Joining.{pieces_are}
+use Rattle.gl_cycles.proofs.RootsJoined.{pieces_are}
 use Rattle.gl_pruning.proofs.Answered.{if_ok}
 use Rattle.gl_cycles.proofs.parallel.cycles_of_roots.Goals as goal
 

@@ -4,7 +4,7 @@ use Rattle.gl_segments.specs.Clocks.{is_before}
 use Rattle.gl_filters.specs.Picked.{edges_of_table}
 use Rattle.gl_cycles.specs.bodies.Blocks.{block}
 use Rattle.gl_cycles.specs.bodies.Searching.{first_from}
-use Rattle.gl_cycles.proofs.Joining.{runs_on, of_roots, flat-take}
+use Rattle.gl_cycles.proofs.RootsJoined.{runs_on, of_roots, flat-take}
 use Rattle.gl_cycles.proofs.parallel.first_cycles.Goals as goal
 
 pub loop-done-init : goal.loop-done-init

@@ -1,6 +1,6 @@
 use Rattle.std.proofs.Common.{◌≡◌, ◌-◌, ◌++◌, ◌∷◌, [], map, take, get_or, ap, ◌∙◌, arith}
 use Rattle.std.specs.List.{flat_map, range_with_len}
-use Rattle.gl_cycles.proofs.Joining.{root_more}
+use Rattle.gl_cycles.proofs.RootsJoined.{root_more}
 use Rattle.gl_findings.specs.bodies.Finding.{block_of, first_of_root}
 use Rattle.gl_findings.proofs.parallel.add_alone.Goals as goal
 

@@ -1,7 +1,7 @@
 use Rattle.std.proofs.Common.{◌-◌, ◌++◌, map, take, ap, ◌∙◌}
 use Rattle.std.specs.List.{flat_map, range_with_len}
 use Rattle.std.proofs.lemmas.Result.{on_ok_weaker}
-use Rattle.gl_cycles.proofs.Joining.{flat-same}
+use Rattle.gl_cycles.proofs.RootsJoined.{flat-same}
 use Rattle.gl_findings.specs.bodies.Finding.{first_of_root}
 use Rattle.gl_findings.proofs.parallel.add_roots.Goals as goal
 

@@ -1,6 +1,6 @@
 use Rattle.std.proofs.Common.{◌≡◌, length, take, ap, ◌∙◌, arith}
 use Rattle.std.specs.List.{flat_map, range_with_len}
-use Rattle.gl_cycles.proofs.Joining.{runs_on}
+use Rattle.gl_cycles.proofs.RootsJoined.{runs_on}
 use Rattle.gl_findings.specs.bodies.Finding.{first_of_root}
 use Rattle.gl_findings.proofs.parallel.findings_by_roots.Goals as goal
 

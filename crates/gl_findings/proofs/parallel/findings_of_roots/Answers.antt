@@ -2,7 +2,7 @@ use Rattle.std.proofs.Common.{ℕ, ◌<◌, List, length, map, Bor, Global, ap, 
 use Rattle.std.specs.Prelude.{All}
 use Rattle.rayon.specs.Numbers.{nat_range}
 use Rattle.rayon.proofs.ToStd.{nat_range-All}
-use Rattle.gl_cycles.proofs.Joining.{pieces_are}
+use Rattle.gl_cycles.proofs.RootsJoined.{pieces_are}
 use Rattle.gl_pruning.proofs.Answered.{if_ok}
 use Rattle.gl_findings.specs.bodies.Finding.{IsReady, IsUnbound, first_of_root}
 use Rattle.gl_findings.specs.declared.finder.Finder.{Finder}

@@ -12,10 +12,10 @@ use Rattle.gl_index.specs.Listed.{IsNextWith}
 use Rattle.gl_index.specs.Indexes.{held_lock, both_locks}
 use Rattle.gl_index.proofs.Lists.{element_at}
 use Rattle.gl_index.proofs.Tables.{within_edges}
-use Rattle.gl_cycles.proofs.Fronts.{wanted_after, wanted_last, held_first, wanted_by_table, held_by_table, some_picked}
+use Rattle.gl_cycles.proofs.EdgesOfPaths.{wanted_after, wanted_last, held_first, wanted_by_table, held_by_table, some_picked}
 use Rattle.gl_cycles.specs.bodies.Searching.{IsReady, all_from}
 use Rattle.gl_cycles.proofs.EdgesOffCycles.{block-off}
-use Rattle.gl_cycles.proofs.Growing.{HasGrownTo, OthersAreStray, LeftOutAreStray, other_lock, other_locks, grow_begin, grow_step, grow_end, grow_short, grow_closed, grown_room, goes_on, grow_stray, joined_path}
+use Rattle.gl_cycles.proofs.PathsGrow.{HasGrownTo, OthersAreStray, LeftOutAreStray, other_lock, other_locks, grow_begin, grow_step, grow_end, grow_short, grow_closed, grown_room, goes_on, grow_stray, joined_path}
 use Rattle.gl_cycles.proofs.paths.Searcher.+grow.Goals as goal
 
 -- the path is closed

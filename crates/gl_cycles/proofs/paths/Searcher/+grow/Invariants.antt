@@ -3,8 +3,8 @@ use Rattle.std.specs.Prelude.{unwrap_or}
 use Rattle.gl_segments.specs.Clocks.{is_before}
 use Rattle.gl_filters.specs.Picked.{edges_of_table, picked}
 use Rattle.gl_index.specs.Indexes.{held_lock, both_locks}
-use Rattle.gl_cycles.proofs.Fronts.{wanted_after, held_first}
-use Rattle.gl_cycles.proofs.Growing.{HasGrownTo}
+use Rattle.gl_cycles.proofs.EdgesOfPaths.{wanted_after, held_first}
+use Rattle.gl_cycles.proofs.PathsGrow.{HasGrownTo}
 use Rattle.gl_cycles.proofs.paths.Searcher.+grow.Given as goal
 
 -- how many more edges the path may have; a call for the last edge, and one for one follower, come between two lengths

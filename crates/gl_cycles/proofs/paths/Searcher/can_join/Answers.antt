@@ -10,7 +10,7 @@ use Rattle.gl_segments.specs.Clocks.{is_before}
 use Rattle.gl_filters.specs.Picked.{edges_of_table}
 use Rattle.gl_filters.specs.Test.{leads_to}
 use Rattle.gl_index.proofs.Tables.{edge_at}
-use Rattle.gl_cycles.proofs.Fronts.{follow_by_table}
+use Rattle.gl_cycles.proofs.EdgesOfPaths.{follow_by_table}
 use Rattle.gl_cycles.proofs.paths.Searcher.can_join.Goals as goal
 
 -- the edge at a position

@@ -1,7 +1,7 @@
 use Rattle.std.proofs.Common.{sym, ◌∙◌}
 use Rattle.gl_segments.specs.Clocks.{is_before}
 use Rattle.gl_filters.specs.Test.{goes_with}
-use Rattle.gl_cycles.proofs.Fronts.{all_more, all_not}
+use Rattle.gl_cycles.proofs.EdgesOfPaths.{all_more, all_not}
 use Rattle.gl_cycles.proofs.paths.Searcher.goes_with_all.Goals as goal
 
 -- one doesn't go with the edge

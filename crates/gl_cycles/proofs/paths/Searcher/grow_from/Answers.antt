@@ -4,7 +4,7 @@ use Rattle.std.proofs.lemmas.Option.{slice_get_read}
 use Rattle.gl_segments.specs.Clocks.{is_before}
 use Rattle.gl_filters.specs.Picked.{edges_of_table}
 use Rattle.gl_index.proofs.Lists.{element_at}
-use Rattle.gl_cycles.proofs.Growing.{path_of_one, grow_off}
+use Rattle.gl_cycles.proofs.PathsGrow.{path_of_one, grow_off}
 use Rattle.gl_cycles.proofs.paths.Searcher.grow_from.Goals as goal
 
 pub grow-requires-clause-is_path : goal.grow-requires-clause-is_path

@@ -1,5 +1,5 @@
 use Rattle.std.proofs.Common.{sym, ◌∙◌}
-use Rattle.gl_cycles.proofs.Fronts.{closed_by_table}
+use Rattle.gl_cycles.proofs.EdgesOfPaths.{closed_by_table}
 use Rattle.gl_cycles.proofs.paths.Searcher.is_closed.Goals as goal
 
 pub returns : goal.returns

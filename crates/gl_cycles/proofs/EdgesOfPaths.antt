@@ -16,7 +16,7 @@ use Rattle.gl_filters.proofs.Paths.{list_all_push, last_of_push}
 use Rattle.gl_filters.specs.Picked.{edges_of_table, picked}
 use Rattle.gl_index.proofs.Lists.{element_at}
 use Rattle.gl_index.proofs.Tables.{edge_at, AreWithin, within_edges}
-use Rattle.gl_cycles.proofs.Blocking.{picked-append, picked-push}
+use Rattle.gl_cycles.proofs.BelowFronts.{picked-append, picked-push}
 
 -- the first position's edge comes first
 pub picked-cons : (edges : List Edge) (i : ℕ) (path : List ℕ) (e : Edge) → slice_get edges i ≡ Some e → picked edges (i ∷ path) ≡ e ∷ picked edges path

@@ -11,7 +11,7 @@ use Rattle.gl_filters.proofs.Cycling.{test_from_cycle}
 use Rattle.gl_filters.specs.Picked.{picked}
 use Rattle.gl_cycles.specs.AllCycles.{all_cycles}
 use Rattle.gl_pruning.specs.Loops.{IsNeverFalling}
-use Rattle.gl_cycles.proofs.Members.{there_is_cycle}
+use Rattle.gl_cycles.proofs.AmongAllCycles.{there_is_cycle}
 use Rattle.gl_pruning.proofs.Level.{loop_is_level}
 use Rattle.gl_pruning.proofs.Off.{loop_from_cycle}
 

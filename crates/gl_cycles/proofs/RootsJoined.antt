@@ -13,8 +13,8 @@ use Rattle.gl_cycles.specs.AllCycles.{all_cycles}
 use Rattle.gl_cycles.specs.bodies.Blocks.{block, blocks_below}
 use Rattle.gl_cycles.specs.bodies.Searching.{first_from}
 use Rattle.rayon.specs.Shown.{run-append}
-use Rattle.gl_cycles.proofs.Lists.{take-take_append}
-use Rattle.gl_cycles.proofs.Growing.{all_from_roots}
+use Rattle.gl_cycles.proofs.ListsOfPositions.{take-take_append}
+use Rattle.gl_cycles.proofs.PathsGrow.{all_from_roots}
 
 -- the first of joined lists, where only the first of the second one are known
 pub take_append-take : {X : Type 0} (n m : ℕ) (xs ys : List X) → n ≤ m → take n (xs ++ ys) ≡ take n (xs ++ take m ys)

@@ -14,12 +14,12 @@ use Rattle.gl_cycles.specs.bodies.Blocks.{block, upto, blocks_below}
 use Rattle.gl_index.specs.Listed.{IsNextWith}
 use Rattle.gl_index.specs.Indexes.{held_lock, both_locks}
 use Rattle.gl_pruning.specs.OffCycles.{IsOffCycles}
-use Rattle.gl_cycles.proofs.Lists.{upto-more, upto-until, take-take_append, take-full}
-use Rattle.gl_cycles.proofs.Blocking.{all_cycles-block, block-zero, block-suc, block-stray, not_led_on, none_after_closed, picked-push}
+use Rattle.gl_cycles.proofs.ListsOfPositions.{upto-more, upto-until, take-take_append, take-full}
+use Rattle.gl_cycles.proofs.BelowFronts.{all_cycles-block, block-zero, block-suc, block-stray, not_led_on, none_after_closed, picked-push}
 use Rattle.gl_filters.proofs.Paths.{is_path_push}
 use Rattle.gl_cycles.proofs.EdgesOffCycles.{block-off}
 use Rattle.gl_index.proofs.Tables.{AreWithin}
-use Rattle.gl_cycles.proofs.Fronts.{held_first, unclosed-push, wanted_after, length-picked}
+use Rattle.gl_cycles.proofs.EdgesOfPaths.{held_first, unclosed-push, wanted_after, length-picked}
 use Rattle.gl_index.proofs.Lists.{element_at}
 
 pub length-first : {X : Type 0} (n : ℕ) (xs : List X) → length (take n xs) ≤ n

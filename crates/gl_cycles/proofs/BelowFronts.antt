@@ -13,7 +13,7 @@ use Rattle.gl_filters.proofs.Paths.{is_path_push, is_path-cut}
 use Rattle.gl_filters.specs.Picked.{picked}
 use Rattle.gl_cycles.specs.AllCycles.{lists_below, all_cycles}
 use Rattle.gl_cycles.specs.bodies.Blocks.{block, blocks_below}
-use Rattle.gl_cycles.proofs.Lists.{filter-flat_map, map-flat_map, same_flat_map, map-one_more, map-nothing, filter-none}
+use Rattle.gl_cycles.proofs.ListsOfPositions.{filter-flat_map, map-flat_map, same_flat_map, map-one_more, map-nothing, filter-none}
 
 pub picked-append : (edges : List Edge) (xs ys : List ℕ) → picked edges (xs ++ ys) ≡ picked edges xs ++ picked edges ys
 picked-append edges [] ys = refl

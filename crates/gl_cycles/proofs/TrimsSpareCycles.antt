@@ -17,9 +17,9 @@ use Rattle.gl_trims.specs.Trims.{HasBeside, IsRemovalOrder, IsTrimOrder, IsWhole
 use Rattle.gl_index.specs.declared.sides.Side.{Side}
 use Rattle.gl_index.specs.declared.sides.Side.TheVariants.{Follower, Leader}
 use Rattle.gl_index.proofs.Lists.{element_at}
-use Rattle.gl_cycles.proofs.Fronts.{length-picked, picked-cons}
+use Rattle.gl_cycles.proofs.EdgesOfPaths.{length-picked, picked-cons}
 use Rattle.gl_index.proofs.Tables.{AreWithin}
-use Rattle.gl_cycles.proofs.Members.{there_is_cycle}
+use Rattle.gl_cycles.proofs.AmongAllCycles.{there_is_cycle}
 
 -- what is in a list with one element more
 contains_push : (xs : List ℕ) (x i : ℕ) → Contains (xs ++ x ∷ []) i → Contains xs i ⊎ (x ≡ i)

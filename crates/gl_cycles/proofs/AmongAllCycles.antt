@@ -11,7 +11,7 @@ use Rattle.gl_filters.specs.Test.{is_cycle}
 use Rattle.gl_filters.specs.Picked.{picked}
 use Rattle.gl_cycles.specs.AllCycles.{lists_below, all_cycles}
 use Rattle.gl_cycles.specs.Laws.{IsCycleAt}
-use Rattle.gl_cycles.proofs.Fronts.{length-picked}
+use Rattle.gl_cycles.proofs.EdgesOfPaths.{length-picked}
 use Rattle.gl_filters.proofs.Cycling.{cycle_from_test, test_from_cycle}
 
 -- an element that passes the test is kept
