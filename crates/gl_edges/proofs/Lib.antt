@@ -7,6 +7,7 @@ pub mod Least
 pub mod Tables
 pub mod Merging
 pub mod Filling
+pub mod Batching
 pub mod Holding
 pub mod Following
 pub mod Gathering

@@ -8,6 +8,7 @@ use Rattle.std.specs.declared.cmp.Ordering.{Ordering}
 use Rattle.std.specs.declared.cmp.Ordering.TheVariants.{Less, Equal, Greater}
 use Rattle.std.proofs.lemmas.List.Elements.{Contains-append_left, Contains-append_right, Contains-append_cases}
 use Rattle.gl_edges.specs.Edges.{least_samples, once}
+use Rattle.gl_edges.specs.Laws.{AreAmong}
 use Rattle.gl_edges.specs.Order.{sample_cmp}
 use Rattle.gl_edges.specs.Samples.{IsLeastSample}
 use Rattle.gl_edges.specs.declared.edge.Edge.{Edge}
@@ -55,6 +56,35 @@ less_there pairs edge other at = by_answer (table.get (least_samples pairs) edge
     by_answer None is known = absurd (known other at)
     by_answer (Some sample) is known = record { sample = sample; there = once_has pairs edge sample is; above = known.least other at }
 
+-- among the pairs of a list are those of another one, and for each of its pairs there is one of the same edge with a sample that isn't
+-- above it
+module _ (few all : List (Edge × Sample)) (from : AreAmong few all) (less : (edge : Edge) (other : Sample) → Contains all (edge, other) → (sample : Sample) × Contains few (edge, sample) × (is_lt (sample_cmp other sample) ≡ false)) where
+  -- a least sample of the few is one of all
+  least_of_all : (edge : Edge) (sample : Sample) → IsLeastSample few edge sample → IsLeastSample all edge sample
+  least_of_all edge sample least = record {
+    here = from (edge, sample) least.here;
+    least = λ other at.
+        let (lesser, there, above) = less edge other at in
+        not_below_trans sample_cmp_total other lesser sample above (least.least lesser there);
+  }
+
+  -- both tables answer alike
+  same_answer : (edge : Edge) (a b : Option Sample) → Answers few edge a → Answers all edge b → a ≡ b
+  same_answer edge None None known_a known_b = refl
+  same_answer edge None (Some t) known_a known_b = let (lesser, there, above) = less edge t known_b.here in absurd (known_a lesser there)
+  same_answer edge (Some s) None known_a known_b = absurd (known_b s (from (edge, s) known_a.here))
+  same_answer edge (Some s) (Some t) known_a known_b =
+      let known = least_of_all edge s known_a in
+      ap Some (neither_below sample_cmp_total sample_cmp_exact s t (known_b.least s known.here) (known.least t known_b.here))
+
+  -- so each edge is there once with the same sample
+  pub once_of_lesser : once few ≡ once all
+  unfolding once
+  once_of_lesser =
+      ap table.entries
+      (table.same_map edge_cmp_total edge_cmp_exact (least_samples few) (least_samples all)
+      (λ edge. same_answer edge _ _ (table_answers few edge) (table_answers all edge)))
+
 module _ (xs ys : List (Edge × Sample)) where
   -- the two lists, one after the other
   abbrev merged : List (Edge × Sample)
@@ -69,35 +99,13 @@ module _ (xs ys : List (Edge × Sample)) where
       ]
 
   -- each pair of the merged lists is one of the pairs
-  merged_from : (edge : Edge) (sample : Sample) → Contains merged (edge, sample) → Contains (xs ++ ys) (edge, sample)
-  merged_from edge sample at =
-      elim (Contains-append_cases (once xs) (once ys) (edge, sample) at) [
-        | inl left ↦ Contains-append_left xs ys (edge, sample) (once_is_least xs edge sample left).here
-        | inr right ↦ Contains-append_right xs ys (edge, sample) (once_is_least ys edge sample right).here
+  merged_from : AreAmong merged (xs ++ ys)
+  merged_from pair at =
+      elim (Contains-append_cases (once xs) (once ys) pair at) [
+        | inl left ↦ Contains-append_left xs ys pair (once_is_least xs pair.0 pair.1 left).here
+        | inr right ↦ Contains-append_right xs ys pair (once_is_least ys pair.0 pair.1 right).here
       ]
-
-  -- a least sample of the merged lists is one of the pairs
-  merged_least : (edge : Edge) (sample : Sample) → IsLeastSample merged edge sample → IsLeastSample (xs ++ ys) edge sample
-  merged_least edge sample least = record {
-    here = merged_from edge sample least.here;
-    least = λ other at.
-        let (less, there, above) = merged_less edge other at in
-        not_below_trans sample_cmp_total other less sample above (least.least less there);
-  }
-
-  -- both tables answer alike
-  same_answer : (edge : Edge) (a b : Option Sample) → Answers merged edge a → Answers (xs ++ ys) edge b → a ≡ b
-  same_answer edge None None known_a known_b = refl
-  same_answer edge None (Some t) known_a known_b = let (less, there, above) = merged_less edge t known_b.here in absurd (known_a less there)
-  same_answer edge (Some s) None known_a known_b = absurd (known_b s (merged_from edge s known_a.here))
-  same_answer edge (Some s) (Some t) known_a known_b =
-      let known = merged_least edge s known_a in
-      ap Some (neither_below sample_cmp_total sample_cmp_exact s t (known_b.least s known.here) (known.least t known_b.here))
 
   -- so the lists are equal
   pub once_merged : once merged ≡ once (xs ++ ys)
-  unfolding once
-  once_merged =
-      ap table.entries
-      (table.same_map edge_cmp_total edge_cmp_exact (least_samples merged) (least_samples (xs ++ ys))
-      (λ edge. same_answer edge _ _ (table_answers merged edge) (table_answers (xs ++ ys) edge)))
+  once_merged = once_of_lesser merged (xs ++ ys) merged_from merged_less

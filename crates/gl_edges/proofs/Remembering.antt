@@ -122,7 +122,7 @@ module _ (tracker : Tracker) (wanted : ℕ) (mode : LockMode) (loc : ℕ) where
 -- pairs in another order
 gathers_alike : (xs ys : List (Edge × Sample)) (place : ℕ) (gatherer : Gatherer) → AreAmong xs ys → AreAmong ys xs → Gathers xs place gatherer → Gathers ys place gatherer
 gathers_alike xs ys place gatherer to from is = record {
-  table = table_alike gatherer.table xs ys to from is.table;
+  table = table_alike gatherer.batch xs ys to from is.table;
   seen = λ edge at. let (sample, there, early) = is.seen edge at in (sample, to (edge, sample) there, early);
 }
 
@@ -151,9 +151,9 @@ no_edges thread es (Fork other loc) none = refl
 no_edges thread es (Join other loc) none = refl
 
 -- before the first event of a list
-pub gathers_start : (pairs : List (Edge × Sample)) (gatherer : Gatherer) → gatherer.seen ≡ [] → IsTableOf gatherer.table pairs → Gathers (pairs ++ []) 0 gatherer
+pub gathers_start : (pairs : List (Edge × Sample)) (gatherer : Gatherer) → gatherer.seen ≡ [] → IsTableOf gatherer.batch pairs → Gathers (pairs ++ []) 0 gatherer
 gathers_start pairs gatherer none is = record {
-  table = subst (IsTableOf gatherer.table) (sym (append-nil pairs)) is;
+  table = subst (IsTableOf gatherer.batch) (sym (append-nil pairs)) is;
   seen = λ edge at. absurd (contains_none edge (subst (λ edges. Contains edges edge) none at));
 }
 

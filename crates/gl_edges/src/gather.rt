@@ -11,11 +11,11 @@ ghost use Rattle.gl_edges.specs.Tracking.{Follows, IsNextFor};
 ghost use Rattle.gl_edges.specs.declared.edge.Edge.{Edge};
 ghost use Rattle.gl_edges.specs.declared.edge.Sample.{Sample};
 
+use crate::batch::Batch;
 use crate::edge::{Edge, Sample};
 use crate::guards::Guards;
 use crate::list::EdgeList;
 use crate::seen::Seen;
-use crate::table::Table;
 use crate::tracker::Tracker;
 use gl_event::{Event, LocId, LockId, LockMode, Memory, ThreadId};
 use std::alloc::Global;
@@ -27,7 +27,7 @@ const SPARE: usize = 1024;
 // the current thread made before.
 #[derive(Drop)]
 struct Gatherer {
-    table: Table,
+    batch: Batch,
     edge: Edge,
     seen: Seen,
 }
@@ -48,7 +48,7 @@ impl Gatherer {
             → Gathers (pairs ++ map (pair_for tracker.now wanted mode loc) tracker.now.state.held)
             (tracker.now.state.events + 1) self.new) }
     {
-        let room = self.table.len().saturating_mul(2).saturating_add(SPARE);
+        let room = self.batch.len().saturating_mul(2).saturating_add(SPARE);
         if self.seen.note(tracker, wanted, mode, room)? {
             return Ok(());
         }
@@ -66,8 +66,8 @@ impl Gatherer {
         loc: LocId,
     ) -> Result<(), Memory>
         ensures table { OnOk result
-            ((pairs : List (Edge × Sample)) → IsTableOf self.old.table pairs
-            → IsTableOf self.new.table
+            ((pairs : List (Edge × Sample)) → IsTableOf self.old.batch pairs
+            → IsTableOf self.new.batch
             (pairs ++ map (pair_for tracker.now wanted mode loc) tracker.now.state.held)) }
         ensures seen { OnOk result (self.new.seen ≡ self.old.seen) }
     {
@@ -86,7 +86,7 @@ impl Gatherer {
                 held_loc: entry.loc,
                 wanted_loc: loc,
             };
-            self.table.keep(alloc, &self.edge, sample)?;
+            self.batch.keep(alloc, &self.edge, sample)?;
         }
         Ok(())
     }
@@ -127,8 +127,8 @@ impl Gatherer {
     fn take_list(&mut self, alloc: Global, thread: ThreadId, list: &[Event]) -> Result<(), Memory>
         requires { IsLawful greatest thread list.now }
         ensures { OnOk result
-            ((pairs : List (Edge × Sample)) → IsTableOf self.old.table pairs
-            → IsTableOf self.new.table (pairs ++ edges_of_list thread list.now)) }
+            ((pairs : List (Edge × Sample)) → IsTableOf self.old.batch pairs
+            → IsTableOf self.new.batch (pairs ++ edges_of_list thread list.now)) }
     {
         self.seen.begin(thread);
         let mut tracker = Tracker::new(thread);
@@ -154,7 +154,7 @@ pub(crate) fn edges_from(
         (λ l. l ≡ once (edges_made_from first (map (λ v. v.items) lists.now))) }
 {
     let mut gatherer = Gatherer {
-        table: Table::new(alloc),
+        batch: Batch::new(alloc),
         edge: Edge {
             thread: ThreadId::new(0),
             held: LockId::new(0),
@@ -171,7 +171,7 @@ pub(crate) fn edges_from(
         let thread = ThreadId::new(first + index as u32);
         gatherer.take_list(alloc, thread, list.as_slice())?;
     }
-    gatherer.table.into_list(alloc)
+    Ok(gatherer.batch.into_list())
 }
 
 /// The edges of these lists: each once, ascending, with its least sample. A thread's number is the

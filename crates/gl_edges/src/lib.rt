@@ -16,6 +16,7 @@
 //! docs/GLOSSARY.md has its words beside those of the field.
 #![tactic(auto)]
 
+mod batch;
 mod clashes;
 mod edge;
 mod gather;

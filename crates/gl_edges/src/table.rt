@@ -60,17 +60,6 @@ impl Table {
         Ok(())
     }
 
-    /// As [`insert`](Table::insert), but for a copy of the edge, which is made where it is put in.
-    pub(crate) fn keep(&mut self, alloc: Global, edge: &Edge, sample: Sample) -> Result<(), Memory>
-        ensures { OnOk result (self.new ≡ once (self.old ++ (edge.now, sample) ∷ [])) }
-    {
-        if !has_seen(&self.edges, edge, &sample) {
-            let new = edge.copy(alloc)?;
-            self.edges.insert(new, sample)?;
-        }
-        Ok(())
-    }
-
     /// The same table once more, or that there is no memory for it. It copies each edge, in time
     /// logarithmic in the number of edges.
     pub fn copy(&self, alloc: Global) -> Result<Table, Memory>

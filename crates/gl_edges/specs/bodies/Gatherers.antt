@@ -16,7 +16,7 @@ AreBefore edges pairs place = (edge : Edge) → Contains edges edge → (sample 
 -- what a gatherer knows after these pairs, before this place of its thread's list
 pub record Gathers (pairs : List (Edge × Sample)) (place : ℕ) (gatherer : Gatherer) : Type 0 where
   -- each edge with its least sample
-  pub table : IsTableOf gatherer.table pairs
+  pub table : IsTableOf gatherer.batch pairs
   -- and acquires whose edges are there already
   pub seen : AreBefore gatherer.seen pairs place
 

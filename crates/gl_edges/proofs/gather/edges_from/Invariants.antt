@@ -4,4 +4,4 @@ use Rattle.gl_edges.specs.bodies.Tables.{IsTableOf}
 use Rattle.gl_edges.proofs.gather.edges_from.Given as goal
 
 abbrev pub invariant-loop-index : goal.invariant-loop-index
-invariant-loop-index l = IsTableOf l.gatherer.table (edges_made_from l.first (map (λ v. v.items) (take l.index l.lists)))
+invariant-loop-index l = IsTableOf l.gatherer.batch (edges_made_from l.first (map (λ v. v.items) (take l.index l.lists)))

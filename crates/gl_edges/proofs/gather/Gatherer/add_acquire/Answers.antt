@@ -6,7 +6,7 @@ returns-then-branch c = λ pairs is.
     let old = c.args.self.now in
     record {
       table =
-          table_seen c.args.tracker.now c.args.wanted c.args.mode c.args.loc old.table pairs old.seen is.seen
+          table_seen c.args.tracker.now c.args.wanted c.args.mode c.args.loc old.batch pairs old.seen is.seen
           (c.in_ok-note.ensures.known c.if-branch.true) is.table;
       seen = before_more c.args.tracker.now c.args.wanted c.args.mode c.args.loc pairs old.seen c.note.new.self is.seen c.in_ok-note.ensures.noted;
     }

@@ -29,7 +29,7 @@ loop-entry-preserved c =
           let f = pair_for c.args.tracker.now c.args.wanted c.args.mode c.args.loc in
           let within = rw c.entries-entries.ensures at c.loop-entry-test.true in
           let item = rw c.entries-entries.ensures at c.entry-item.is in
-          let step = table_push c.loop-entry.self.table c.keep.new.self (pairs ++ map f (take c.loop-entry.entry-index c.args.tracker.now.state.held)) _ c.in_ok-keep.ensures (known.known pairs is) in
+          let step = table_push c.loop-entry.self.batch c.keep.new.self (pairs ++ map f (take c.loop-entry.entry-index c.args.tracker.now.state.held)) _ c.in_ok-keep.ensures (known.known pairs is) in
           table_more c.keep.new.self pairs f c.args.tracker.now.state.held c.loop-entry.entry-index c.entry-item.result _ within item
           (pair_is c.loop-entry.self.edge c.args.tracker.now c.args.wanted c.args.mode c.args.loc c.entry-item.result _ known.of_thread known.wants known.wants_as known.in_segment known.guarded c.events.ensures)
           step;

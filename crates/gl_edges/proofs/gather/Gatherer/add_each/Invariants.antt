@@ -14,5 +14,5 @@ invariant-loop-entry l = record {
   in_segment : l.self.edge.second ≡ l.tracker.state.segments;
   guarded : l.self.edge.guards ≡ guards_of l.tracker.state.held;
   same_seen : l.self.seen ≡ l.fn.self.seen;
-  known : (pairs : List (Edge × Sample)) → IsTableOf l.fn.self.table pairs → IsTableOf l.self.table (pairs ++ map (pair_for l.tracker l.fn.wanted l.fn.mode l.fn.loc) (take l.entry-index l.tracker.state.held));
+  known : (pairs : List (Edge × Sample)) → IsTableOf l.fn.self.batch pairs → IsTableOf l.self.batch (pairs ++ map (pair_for l.tracker l.fn.wanted l.fn.mode l.fn.loc) (take l.entry-index l.tracker.state.held));
 }

@@ -33,4 +33,4 @@ loop-event-preserved c =
 
 pub returns : goal.returns
 returns c = λ pairs is.
-    table_list c.loop-event.self.table pairs c.args.thread c.args.list.now c.loop-event.event-index (omega arith) (c.loop-event.invariant.known pairs is).table
+    table_list c.loop-event.self.batch pairs c.args.thread c.args.list.now c.loop-event.event-index (omega arith) (c.loop-event.invariant.known pairs is).table

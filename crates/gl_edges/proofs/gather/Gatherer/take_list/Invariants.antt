@@ -10,5 +10,5 @@ use Rattle.gl_edges.proofs.gather.Gatherer.take_list.Given as goal
 abbrev pub invariant-loop-event : goal.invariant-loop-event
 invariant-loop-event l = record {
   follows : Follows l.fn.thread (take l.event-index l.list) l.tracker;
-  known : (pairs : List (Edge × Sample)) → IsTableOf l.fn.self.table pairs → Gathers (pairs ++ edges_below l.fn.thread l.list l.event-index) l.event-index l.self;
+  known : (pairs : List (Edge × Sample)) → IsTableOf l.fn.self.batch pairs → Gathers (pairs ++ edges_below l.fn.thread l.list l.event-index) l.event-index l.self;
 }
