@@ -8,9 +8,9 @@ use Rattle.std.specs.declared.cmp.Ordering.TheVariants.{Less, Equal, Greater}
 use Rattle.std.proofs.lemmas.Cmp.{ranked}
 use Rattle.std.proofs.lemmas.List.{append-nil}
 use Rattle.std.proofs.lemmas.List.Elements.{Contains-append_left, Contains-append_right, Contains-append_cases}
-use Rattle.gl_event.specs.Events.{depth, held}
+use Rattle.gl_event.specs.Events.{depth, held, location, lock_mode, wanted_lock}
 use Rattle.gl_event.specs.declared.events.Event.{Event}
-use Rattle.gl_event.specs.declared.events.Event.TheVariants.{Acquire, Release, TryAcquire, Fork, Join}
+use Rattle.std.specs.Option.{option_map_or}
 use Rattle.gl_event.specs.declared.events.LockMode.{LockMode}
 use Rattle.gl_edges.specs.Edges.{least_samples, once, pair_at, edges_wanting, edges_after}
 use Rattle.gl_edges.specs.bodies.Gatherers.{AreBefore, Gathers, pair_for}
@@ -143,12 +143,8 @@ gathers_acquire thread es tracker tracked wanted mode loc pairs gatherer free is
     (append_among pairs _ _ (pairs_all thread es tracker tracked wanted mode loc)) is))
 
 -- an event that wants no lock makes no edges
-pub no_edges : (thread : ℕ) (es : List Event) (event : Event) → ((mode : LockMode) (lock : ℕ) (loc : ℕ) → event ≡ Acquire mode lock loc → ⊥) → edges_after thread es event ≡ []
-no_edges thread es (Acquire mode lock loc) none = absurd (none mode lock loc refl)
-no_edges thread es (Release mode lock loc) none = refl
-no_edges thread es (TryAcquire mode lock loc) none = refl
-no_edges thread es (Fork other loc) none = refl
-no_edges thread es (Join other loc) none = refl
+pub no_edges : (thread : ℕ) (es : List Event) (event : Event) → wanted_lock event ≡ None → edges_after thread es event ≡ []
+no_edges thread es event none = ap (λ wanted. option_map_or (λ lock. edges_wanting thread es lock (lock_mode event) (location event)) wanted []) none
 
 -- before the first event of a list
 pub gathers_start : (pairs : List (Edge × Sample)) (gatherer : Gatherer) → gatherer.seen ≡ [] → IsTableOf gatherer.batch pairs → Gathers (pairs ++ []) 0 gatherer

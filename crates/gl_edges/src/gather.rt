@@ -98,13 +98,13 @@ impl Gatherer {
             → Follows thread es tracker.now → Gathers pairs (length es) self.old
             → Gathers (pairs ++ edges_after thread es event.now) (length es + 1) self.new) }
     {
-        let Event::Acquire { lock, mode, loc } = *event else {
+        let Some(wanted) = event.wanted() else {
             return Ok(());
         };
-        if tracker.state.holds(lock) {
+        if tracker.state.holds(wanted.lock) {
             return Ok(());
         }
-        self.add_acquire(alloc, tracker, lock, mode, loc)
+        self.add_acquire(alloc, tracker, wanted.lock, wanted.mode, wanted.loc)
     }
 
     // Takes the next event of the thread.

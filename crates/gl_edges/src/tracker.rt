@@ -94,13 +94,13 @@ pub fn next_edges(
     ensures room { (es : List Event) → StandsAfter es state.now
         → OnErr result (edges_after thread es event.now ≢ []) }
 {
-    let Event::Acquire { lock, mode, loc } = *event else {
+    let Some(wanted) = event.wanted() else {
         return Ok(Vec::new(alloc));
     };
-    if state.holds(lock) {
+    if state.holds(wanted.lock) {
         return Ok(Vec::new(alloc));
     }
-    edges_to(alloc, thread, state, lock, mode, loc)
+    edges_to(alloc, thread, state, wanted.lock, wanted.mode, wanted.loc)
 }
 
 // The edges from each held lock to one that isn't held, ascending.

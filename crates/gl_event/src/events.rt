@@ -151,8 +151,18 @@ pub enum Effect {
     },
 }
 
+/// A lock that an event wants, and the mode and the place in which it does.
+#[derive(Clone, Copy, Debug, PartialEq, Eq, Hash)]
+pub struct Wanted {
+    pub lock: LockId,
+    pub mode: LockMode,
+    pub loc: LocId,
+}
+
 impl Event {
-    ghost use Rattle.gl_event.specs.Events.{closes};
+    ghost use Rattle.std.specs.Prelude.{None, IfSome};
+    ghost use Rattle.gl_event.specs.Events.{closes, wanted_lock};
+    ghost use Rattle.gl_event.specs.declared.events.Event.TheVariants.{Acquire};
     ghost use Rattle.gl_event.specs.States.{HasEffect};
 
     /// What the event does to its thread.
@@ -165,6 +175,21 @@ impl Event {
             Event::TryAcquire { lock, mode, loc } => Effect::Acquires { lock, mode, loc },
             Event::Fork { thread, .. } => Effect::Closes { partner: thread },
             Event::Join { thread, .. } => Effect::Closes { partner: thread },
+        }
+    }
+
+    /// The lock that the event wants: it waits for it where it has to, and makes edges. None, where it
+    /// wants none.
+    pub fn wanted(&self) -> Option<Wanted>
+        ensures some { IfSome result (λ w. self.now ≡ Acquire w.mode w.lock w.loc) }
+        ensures none { result ≡ None → wanted_lock self.now ≡ None }
+    {
+        match *self {
+            Event::Acquire { lock, mode, loc } => Some(Wanted { lock, mode, loc }),
+            Event::Release { .. } => None,
+            Event::TryAcquire { .. } => None,
+            Event::Fork { .. } => None,
+            Event::Join { .. } => None,
         }
     }
 

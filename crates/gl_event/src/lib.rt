@@ -18,7 +18,7 @@ mod lists;
 mod notes;
 mod thread_state;
 
-pub use events::{Effect, Event, LockMode, Refusal, Segment};
+pub use events::{Effect, Event, LockMode, Refusal, Segment, Wanted};
 pub use held::{Held, HeldEntry, HeldFault, MAX_DEPTH, MAX_HELD, NotHeld};
 pub use ids::{LocId, LockId, ThreadId};
 pub use limits::{
