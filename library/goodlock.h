@@ -32,7 +32,8 @@
  * acquire   BEFORE the call that may wait for the lock: a run that hangs then has its deadlock in the lists. Where the
  *           call fails, record a release.
  * try       AFTER an attempt that succeeded and couldn't have waited for ever (trylock, a timed lock).
- * release   before the lock is given up.
+ * release   beside the call that gives the lock up, before it or after it: only the order of the thread's own events
+ *           counts.
  * fork      before the thread starts.
  * join      after the thread was waited for.
  * A wait for a condition is a release of its mutex and an acquire, both before the wait.

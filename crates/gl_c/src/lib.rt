@@ -15,6 +15,8 @@
 //! A handle ([`Session`](session::Session), [`Lane`](lane::Lane), [`Made`](made::Made)) is one pointer to a
 //! box, or null: then it is of nothing, and calls that want something answer `MISUSE`. A call takes the box out
 //! of the handle, works on it, and puts it back.
+//!
+//! docs/GLOSSARY.md has its words beside those of the field.
 #![tactic(auto)]
 
 mod codes;

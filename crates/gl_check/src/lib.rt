@@ -19,6 +19,8 @@
 //! edges, whose cycles are cycles and ascend, and whose trim order, if it has one, takes away each edge.
 //! Of findings the signatures ascend, so that no finding is told twice. That no cycle and no finding is
 //! missing in a list is not checked, nor that a finding is shown by the first of its cycles.
+//!
+//! docs/GLOSSARY.md has its words beside those of the field.
 #![tactic(auto)]
 
 mod claims;

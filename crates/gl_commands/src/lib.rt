@@ -11,6 +11,8 @@
 //! [`perform`] does what the words of a command line ask for. Each command tells by [`Ended`] how it ended.
 //! `specs/Ending.antt` says which ends there are and what was written then, `specs/Answer.antt` and
 //! `specs/Checking.antt` what is answered to a text, and `specs/Said.antt` what is said of an end.
+//!
+//! docs/GLOSSARY.md has its words beside those of the field.
 #![tactic(auto)]
 
 mod answer;

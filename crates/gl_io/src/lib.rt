@@ -14,6 +14,8 @@
 //!
 //! A source or sink that has failed is not to be used again: each call on it has that as a
 //! condition.
+//!
+//! docs/GLOSSARY.md has its words beside those of the field.
 #![tactic(auto)]
 
 mod from_std;

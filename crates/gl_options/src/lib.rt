@@ -15,6 +15,8 @@
 //! `specs/Options.antt` has the command line, command by command and option by option, and says which words ask for a
 //! command, its query and its form. `specs/Sessions.antt` says which numbers a session can be run with: words ask for no
 //! others.
+//!
+//! docs/GLOSSARY.md has its words beside those of the field.
 #![tactic(auto)]
 
 mod building;

@@ -13,6 +13,8 @@
 //! A taker stores no list of events: it knows how many it took, how many of them were forks and
 //! joins, and which locks its thread holds. So its contracts hold for every lawful list of events
 //! that these could stand for.
+//!
+//! docs/GLOSSARY.md has its words beside those of the field.
 #![tactic(auto)]
 
 mod lawful;

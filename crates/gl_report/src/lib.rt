@@ -1,4 +1,6 @@
 //! Printed reports: as text, and as JSON. And counts of traces and their reports.
+//!
+//! docs/GLOSSARY.md has its words beside those of the field.
 #![tactic(auto)]
 
 mod answers;

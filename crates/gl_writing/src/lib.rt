@@ -9,6 +9,8 @@
 //! and so on. `specs/Written` says which bytes these are. What is written of a trace that was read is read
 //! again under the same limits, and tells the same ([`written_texts_are_read_again`]): only numbers
 //! may differ, since they go by first mention.
+//!
+//! docs/GLOSSARY.md has its words beside those of the field.
 #![tactic(auto)]
 
 mod laws;

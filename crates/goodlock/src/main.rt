@@ -1,5 +1,7 @@
 //! `goodlock` reads a trace of lock events from standard input and prints the deadlocks that it
 //! predicts, counts of the trace, or the trace itself.
+//!
+//! docs/GLOSSARY.md has its words beside those of the field.
 #![tactic(auto)]
 
 ghost use Rattle.std.specs.Prelude.{◌≡◌};
