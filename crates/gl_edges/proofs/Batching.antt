@@ -7,6 +7,7 @@ use Rattle.std.specs.List.Sorted.{IsPermutation, IsSorted, IsStrictlySortedBy}
 use Rattle.std.specs.Ordering.{eq_by_cmp, is_eq, is_lt, on, ordering_then}
 use Rattle.std.specs.declared.cmp.Ordering.{Ordering}
 use Rattle.std.specs.declared.cmp.Ordering.TheVariants.{Less, Equal, Greater}
+use Rattle.std.proofs.lemmas.List.{append-nil, append_assoc}
 use Rattle.std.proofs.lemmas.List.Elements.{All-head, All-tail}
 use Rattle.std.proofs.lemmas.List.Kept.{IsStrictlySortedBy-dedup}
 use Rattle.std.proofs.lemmas.List.Sorted.{Contains-permutation, IsPermutation-sym, ranks_by, sorted_far}
@@ -123,6 +124,10 @@ freed_same (pair ∷ pairs) sorted =
     let far : AllPairs (λ a b. is_lt (pair_cmp b a) ≡ false) (pair ∷ pairs) = λ i j d below inside. sorted_far _ (ranks_by pair_total (λ a. a)) (pair ∷ pairs) sorted i j d (omega arith) inside in
     freed_from_same pairs pair (λ j d inside. far zero (suc j) d (omega arith) (omega arith)) (λ i j d below inside. far (suc i) (suc j) d (omega arith) (omega arith))
 
+-- behind others, pairs that have the same edges with the same least samples
+once_alike : (ended pairs others : List (Edge × Sample)) → once others ≡ once pairs → once (ended ++ others) ≡ once (ended ++ pairs)
+once_alike ended pairs others same = sym (once_behind ended others) ∙ ap (λ ps. once (ended ++ ps)) same ∙ once_behind ended pairs
+
 -- what is left of pairs in another order, which are sorted and freed of repeats
 module _ (pairs others left : List (Edge × Sample)) (same : IsPermutation pairs others) (sorted : IsSorted pair_cmp others) (freed : left ≡ dedup same_edge others) where
   -- it ascends
@@ -135,6 +140,16 @@ module _ (pairs others left : List (Edge × Sample)) (same : IsPermutation pairs
       ap once freed ∙ freed_same others sorted
       ∙ same_once others pairs (λ p at. Contains-permutation others pairs p (IsPermutation-sym pairs others same) at) (λ p at. Contains-permutation pairs others p same at)
 
--- one more pair behind others, of which each edge may be taken once before
-pub once_push : (pairs others : List (Edge × Sample)) (pair : Edge × Sample) → once others ≡ once pairs → once (others ++ pair ∷ []) ≡ once (once pairs ++ pair ∷ [])
-once_push pairs others pair same = sym (once_before others (pair ∷ [])) ∙ ap (λ ps. once (ps ++ pair ∷ [])) same
+-- ---- pairs of lists that ended, and those of the current one
+
+-- one more pair of the current list, of which each edge may be taken once before
+pub once_push : (ended pairs others : List (Edge × Sample)) (pair : Edge × Sample) → once others ≡ once pairs
+    → once (ended ++ (others ++ pair ∷ [])) ≡ once (once (ended ++ pairs) ++ pair ∷ [])
+once_push ended pairs others pair same =
+    ap once (sym (append_assoc ended others (pair ∷ [])))
+    ∙ sym (once_before (ended ++ others) (pair ∷ []))
+    ∙ ap (λ ps. once (ps ++ pair ∷ [])) (once_alike ended pairs others same)
+
+-- the current list ends
+pub once_ended : (ended pairs left rest : List (Edge × Sample)) → once left ≡ once pairs → rest ≡ [] → once ((ended ++ left) ++ rest) ≡ once (ended ++ pairs)
+once_ended ended pairs left rest same none = ap (λ r. once ((ended ++ left) ++ r)) none ∙ ap once (append-nil (ended ++ left)) ∙ once_alike ended pairs left same

@@ -2,7 +2,7 @@
 //!
 //! Nearly each edge that comes is a new one. To put it into a tree takes a search along the tree, once to see whether
 //! it is there and once more to put it in; to append it and to sort all at the end takes less time.
-ghost use Rattle.std.specs.Prelude.{◌≡◌, Bool, [], ◌∷◌, ◌++◌, OnOk};
+ghost use Rattle.std.specs.Prelude.{◌≡◌, [], ◌∷◌, ◌++◌, IfOk, OnOk};
 ghost use Rattle.std.specs.Ordering.{eq_by_cmp};
 ghost use Rattle.gl_edges.specs.Edges.{once};
 ghost use Rattle.gl_edges.specs.Order.{edge_cmp, AreAscending};
@@ -16,24 +16,27 @@ use std::marker::Model;
 // So many pairs more than twice those that were left the last time come before they are sorted.
 const SPARE: usize = 4096;
 
-/// Edges, each with a sample, in the order in which they came. Contracts see the ascending list of these
-/// edges, each once, with its least sample.
+/// Edges, each with a sample. Contracts see the ascending list of these edges, each once, with its least
+/// sample.
 #[derive(Drop)]
 pub(crate) struct Batch {
+    // Those of the lists that ended, which were sorted list by list.
+    ended: Vec<(Edge, Sample)>,
+    // Those of the current list, in the order in which they came.
     pairs: Vec<(Edge, Sample)>,
-    // Before there are more than so many, they are sorted and freed of repeats.
+    // Before there are more than so many of the current list, they are sorted and freed of repeats.
     most: usize,
 }
 
 impl Model for Batch {
-    ghost use Rattle.std.specs.Prelude.{List};
+    ghost use Rattle.std.specs.Prelude.{List, ◌++◌};
     ghost use Rattle.gl_edges.specs.Edges.{once};
     ghost use Rattle.gl_edges.specs.declared.edge.Edge.{Edge};
     ghost use Rattle.gl_edges.specs.declared.edge.Sample.{Sample};
 
     ghost Value = { List (Edge × Sample) };
 
-    ghost view = { λ b. once b.pairs.items };
+    ghost view = { λ b. once (b.ended.items ++ b.pairs.items) };
 }
 
 impl Batch {
@@ -42,6 +45,7 @@ impl Batch {
         ensures { result ≡ [] }
     {
         Batch {
+            ended: Vec::new(alloc),
             pairs: Vec::new(alloc),
             most: SPARE,
         }
@@ -49,7 +53,7 @@ impl Batch {
 
     /// How many pairs there are: no more than twice the edges, and a few thousand.
     pub(crate) fn len(&self) -> usize {
-        self.pairs.len()
+        self.ended.len().saturating_add(self.pairs.len())
     }
 
     /// Puts a copy of the edge in. Where it is there already, the lesser of the two samples stays.
@@ -65,13 +69,28 @@ impl Batch {
         Ok(())
     }
 
-    /// The edges with their samples, ascending.
-    pub(crate) fn into_list(self) -> EdgeList
-        ensures { result ≡ self }
+    /// Ends the current list: edges of another thread come.
+    pub(crate) fn end_list(&mut self) -> Result<(), Memory>
+        ensures { OnOk result (self.new ≡ self.old) }
     {
-        let Batch { mut pairs, most: _ } = self;
-        compact(&mut pairs);
-        EdgeList::from_ascending(pairs)
+        compact(&mut self.pairs);
+        self.ended.append(&mut self.pairs)?;
+        self.most = SPARE;
+        Ok(())
+    }
+
+    /// The edges with their samples, ascending. Where the lists that ended came by thread, they ascend already.
+    pub(crate) fn into_list(self) -> Result<EdgeList, Memory>
+        ensures { IfOk result (λ l. l ≡ self) }
+    {
+        let Batch {
+            ended: mut all,
+            mut pairs,
+            most: _,
+        } = self;
+        all.append(&mut pairs)?;
+        compact(&mut all);
+        Ok(EdgeList::from_ascending(all))
     }
 }
 

@@ -135,7 +135,7 @@ impl Gatherer {
         for event in list {
             self.take(alloc, &mut tracker, *event)?;
         }
-        Ok(())
+        self.batch.end_list()
     }
 }
 
@@ -171,7 +171,7 @@ pub(crate) fn edges_from(
         let thread = ThreadId::new(first + index as u32);
         gatherer.take_list(alloc, thread, list.as_slice())?;
     }
-    Ok(gatherer.batch.into_list())
+    gatherer.batch.into_list()
 }
 
 /// The edges of these lists: each once, ascending, with its least sample. A thread's number is the

@@ -1,5 +1,6 @@
 use Rattle.std.proofs.Common.{sym, ◌∙◌}
 use Rattle.std.proofs.lemmas.List.{take_all}
+use Rattle.std.proofs.lemmas.Result.{IfOk-weaker}
 use Rattle.gl_edges.proofs.Gathering.{list_at, table_lists}
 use Rattle.gl_edges.proofs.Filling.{once_of_none}
 use Rattle.gl_edges.proofs.gather.edges_from.Goals as goal
@@ -23,4 +24,4 @@ pub returns : goal.returns
 returns c =
     let all = take_all c.loop-index.index c.args.lists.now c.loop-index-test.false in
     let known = rw all at c.loop-index.invariant in
-    c.into_list.ensures ∙ known.is
+    IfOk-weaker c.into_list.result _ _ (λ l is. is ∙ known.is) c.into_list.ensures

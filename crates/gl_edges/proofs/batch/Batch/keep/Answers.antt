@@ -6,11 +6,12 @@ use Rattle.gl_edges.proofs.batch.Batch.keep.Goals.{then-len-self, else-len-self}
 
 pub returns : goal.returns
 returns c =
-    let before : once c.if-len-self.self-inside.pairs.items ≡ once c.self.inside.pairs.items =
+    let inside = c.if-len-self.self-inside in
+    let (ended, same) : (inside.ended.items ≡ c.self.inside.ended.items) × (once inside.pairs.items ≡ once c.self.inside.pairs.items) =
     elim c.if-len-self.branch [
-      | then-len-self w ↦ rw w.self-inside-is w.compact.ensures.same
-      | else-len-self w ↦ rw w.self-inside-is refl
+      | then-len-self w ↦ rw w.self-inside-is (refl, w.compact.ensures.same)
+      | else-len-self w ↦ rw w.self-inside-is (refl, refl)
     ] in
-    rw (c.in_ok-push.ensures.items, c.in_ok-copy.ensures)
-    (once_push c.self.inside.pairs.items c.if-len-self.self-inside.pairs.items (c.args.edge.now, c.args.sample) before
+    rw (c.in_ok-push.ensures.items, c.in_ok-copy.ensures, ended)
+    (once_push c.self.inside.ended.items c.self.inside.pairs.items inside.pairs.items (c.args.edge.now, c.args.sample) same
     ∙ ap (λ pairs. once (pairs ++ (c.args.edge.now, c.args.sample) ∷ [])) c.self.view_is)

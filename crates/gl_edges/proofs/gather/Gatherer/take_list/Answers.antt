@@ -1,5 +1,6 @@
 use Rattle.std.proofs.Common.{◌+◌, ◌++◌, length, take, sym, subst, arith}
 use Rattle.std.proofs.lemmas.List.{length-take-le}
+use Rattle.std.proofs.lemmas.Result.{on_ok_weaker}
 use Rattle.gl_edges.specs.Edges.{edges_below}
 use Rattle.gl_edges.specs.bodies.Gatherers.{Gathers}
 use Rattle.gl_edges.proofs.Gathering.{follows_next, followed, pairs_event, table_list}
@@ -32,5 +33,4 @@ loop-event-preserved c =
     }
 
 pub returns : goal.returns
-returns c = λ pairs is.
-    table_list c.loop-event.self.batch pairs c.args.thread c.args.list.now c.loop-event.event-index (omega arith) (c.loop-event.invariant.known pairs is).table
+returns c = on_ok_weaker c.end_list.result (λ same pairs is. rw same (table_list c.loop-event.self.batch pairs c.args.thread c.args.list.now c.loop-event.event-index (omega arith) (c.loop-event.invariant.known pairs is).table)) c.end_list.ensures
