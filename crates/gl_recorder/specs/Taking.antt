@@ -23,6 +23,10 @@ pub record Tracks (limits : Bounds) (thread : ℕ) (es : List Event) (t : Taking
   pub lawful : IsLawful limits thread es
   pub stands : StandsAfter es t.state
 
+-- this holds of each list of events that the recorder may have taken, with its thread and limits
+abbrev pub ForEachTracked : Taking → (Bounds → ℕ → List Event → Type 0) → Type 0
+ForEachTracked t P = (limits : Bounds) (thread : ℕ) (es : List Event) → Tracks limits thread es t → P limits thread es
+
 -- the note of an event that comes after these
 abbrev pub event_note : ℕ → List Event → Event → Note
 event_note thread es e = record { thread = thread; place = length es; body = Happened e }

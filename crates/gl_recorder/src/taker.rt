@@ -1,12 +1,10 @@
 //! The recorder of one thread.
-ghost use Rattle.std.specs.Prelude.{◌≡◌, ◌≢◌, ◌<◌, ◌≤◌, ℕ, None, Some, List, [], ◌∷◌, ◌++◌, length, OnOk, OnErr, IfSome, IfNone};
-ghost use Rattle.gl_event.specs.Bounds.{Bounds};
+ghost use Rattle.std.specs.Prelude.{◌≡◌, ◌≢◌, ◌<◌, ◌≤◌, None, Some, [], ◌∷◌, ◌++◌, length, OnOk, OnErr, IfSome, IfNone};
 ghost use Rattle.gl_event.specs.Lawful.{lock_refusal, refusal};
 ghost use Rattle.gl_event.specs.States.{no_events, MayFollow};
-ghost use Rattle.gl_event.specs.declared.events.Event.{Event};
 ghost use Rattle.gl_event.specs.declared.limits.TheConstants.{MAX_EVENTS};
 ghost use Rattle.gl_event.specs.declared.notes.Body.TheVariants.{Happened};
-ghost use Rattle.gl_recorder.specs.Taking.{Tracks, end_note, answer_to, partner_refusal};
+ghost use Rattle.gl_recorder.specs.Taking.{ForEachTracked, Tracks, end_note, answer_to, partner_refusal};
 
 use gl_event::{Body, Effect, Event, Limits, Note, Refusal, ThreadId, ThreadState};
 use std::marker::Model;
@@ -46,8 +44,8 @@ impl Taker {
     /// The note that `take` would answer this event, or the first reason why the event may not come
     /// next. Nothing changes. The cost is that of `take`.
     pub fn check(&self, event: Event) -> Result<Note, Refusal>
-        ensures { (limits : Bounds) (thread : ℕ) (es : List Event)
-            → Tracks limits thread es self.now → result ≡ answer_to limits thread es event }
+        ensures { ForEachTracked self.now
+            (λ limits thread es. result ≡ answer_to limits thread es event) }
     {
         match self.refusal(&event) {
             Some(refusal) => Err(refusal),
@@ -60,11 +58,10 @@ impl Taker {
     ///
     /// It looks through the at most 64 held locks, and takes no memory.
     pub fn take(&mut self, event: Event) -> Result<Note, Refusal>
-        ensures answers { (limits : Bounds) (thread : ℕ) (es : List Event)
-            → Tracks limits thread es self.old → result ≡ answer_to limits thread es event }
-        ensures tracks { (limits : Bounds) (thread : ℕ) (es : List Event)
-            → Tracks limits thread es self.old
-            → OnOk result (Tracks limits thread (es ++ event ∷ []) self.new) }
+        ensures answers { ForEachTracked self.old
+            (λ limits thread es. result ≡ answer_to limits thread es event) }
+        ensures tracks { ForEachTracked self.old
+            (λ limits thread es. OnOk result (Tracks limits thread (es ++ event ∷ []) self.new)) }
         ensures unchanged { OnErr result (self.new ≡ self.old) }
     {
         if let Some(refusal) = self.refusal_beside_locks(&event) {
@@ -81,9 +78,8 @@ impl Taker {
     /// It looks through the at most 64 held locks, and takes no memory.
     pub fn advance(&mut self, event: Event)
         requires { MayFollow self.old.limits self.old.thread self.old.state event }
-        ensures { (limits : Bounds) (thread : ℕ) (es : List Event)
-            → Tracks limits thread es self.old
-            → Tracks limits thread (es ++ event ∷ []) self.new }
+        ensures { ForEachTracked self.old
+            (λ limits thread es. Tracks limits thread (es ++ event ∷ []) self.new) }
     {
         let has_room = self.state.events() < self.limits.events();
         prove!(has_room);
@@ -94,8 +90,7 @@ impl Taker {
     /// The thread whose events are taken.
     pub fn thread(&self) -> ThreadId
         ensures value { result ≡ self.now.thread }
-        ensures own { (limits : Bounds) (thread : ℕ) (es : List Event)
-            → Tracks limits thread es self.now → result ≡ thread }
+        ensures own { ForEachTracked self.now (λ limits thread es. result ≡ thread) }
     {
         self.thread
     }
@@ -110,8 +105,7 @@ impl Taker {
     /// How many events were taken.
     pub fn taken(&self) -> u32
         ensures value { result ≡ self.now.state.events }
-        ensures length { (limits : Bounds) (thread : ℕ) (es : List Event)
-            → Tracks limits thread es self.now → result ≡ length es }
+        ensures length { ForEachTracked self.now (λ limits thread es. result ≡ length es) }
     {
         self.state.events()
     }
@@ -119,8 +113,8 @@ impl Taker {
     /// The mark that the thread has ended, with the number of events taken.
     pub fn end(&self) -> Note
         ensures value { result ≡ end_note self.now.thread self.now.state.events }
-        ensures mark { (limits : Bounds) (thread : ℕ) (es : List Event)
-            → Tracks limits thread es self.now → result ≡ end_note thread (length es) }
+        ensures mark { ForEachTracked self.now
+            (λ limits thread es. result ≡ end_note thread (length es)) }
     {
         let count = self.state.events();
         Note {
@@ -144,8 +138,8 @@ impl Taker {
 
     // Why the event may not come next.
     fn refusal(&self, event: &Event) -> Option<Refusal>
-        ensures { (limits : Bounds) (thread : ℕ) (es : List Event)
-            → Tracks limits thread es self.now → result ≡ refusal limits thread es event.now }
+        ensures { ForEachTracked self.now
+            (λ limits thread es. result ≡ refusal limits thread es event.now) }
     {
         if let Some(refusal) = self.refusal_beside_locks(event) {
             return Some(refusal);
@@ -156,12 +150,11 @@ impl Taker {
     // Why the event may not come next, whatever the locks say; else these decide.
     fn refusal_beside_locks(&self, event: &Event) -> Option<Refusal>
         ensures refused { IfSome result
-            (λ r. (limits : Bounds) (thread : ℕ) (es : List Event)
-            → Tracks limits thread es self.now
-            → refusal limits thread es event.now ≡ Some r) }
+            (λ r. ForEachTracked self.now
+            (λ limits thread es. refusal limits thread es event.now ≡ Some r)) }
         ensures left { IfNone result
-            ((limits : Bounds) (thread : ℕ) (es : List Event) → Tracks limits thread es self.now
-            → refusal limits thread es event.now ≡ lock_refusal es event.now) }
+            (ForEachTracked self.now
+            (λ limits thread es. refusal limits thread es event.now ≡ lock_refusal es event.now)) }
         ensures room { IfNone result (self.now.state.events < MAX_EVENTS) }
     {
         if self.state.events() >= self.limits.events() {
