@@ -1,14 +1,14 @@
 -- Pairs that are sorted and then freed of repeated edges: each edge once, ascending, with its least sample.
-use Rattle.std.proofs.Common.{◌≡◌, ℕ, zero, suc, ◌<◌, ◌⊎◌, inl, inr, Bool, true, false, cond, List, [], ◌∷◌, ◌++◌, length, get_or, map, refl, sym, ap, subst, ◌∙◌, arith}
+use Rattle.std.proofs.Common.{◌≡◌, ℕ, zero, suc, ◌<◌, ◌⊎◌, inl, inr, Bool, true, false, cond, List, [], ◌∷◌, ◌++◌, length, get_or, map, take, drop, refl, sym, ap, subst, ◌∙◌, arith}
 use Rattle.std.specs.Prelude.{Contains, All}
 use Rattle.std.specs.Cmp.{IsTotalOrder, on_total, then_total}
 use Rattle.std.specs.List.{dedup, dedup_from, AllByRecursion, AllPairs}
 use Rattle.std.specs.List.Sorted.{IsPermutation, IsSorted, IsStrictlySortedBy}
-use Rattle.std.specs.Ordering.{eq_by_cmp, is_eq, is_lt, on, ordering_then}
+use Rattle.std.specs.Ordering.{eq_by_cmp, is_eq, is_le, is_lt, on, ordering_then}
 use Rattle.std.specs.declared.cmp.Ordering.{Ordering}
 use Rattle.std.specs.declared.cmp.Ordering.TheVariants.{Less, Equal, Greater}
-use Rattle.std.proofs.lemmas.List.{append-nil, append_assoc}
-use Rattle.std.proofs.lemmas.List.Elements.{All-head, All-tail}
+use Rattle.std.proofs.lemmas.List.{append-nil, append_assoc, take-append-drop}
+use Rattle.std.proofs.lemmas.List.Elements.{All-head, All-tail, Contains-append_cases, Contains-append_left, Contains-append_right}
 use Rattle.std.proofs.lemmas.List.Kept.{IsStrictlySortedBy-dedup}
 use Rattle.std.proofs.lemmas.List.Sorted.{Contains-permutation, IsPermutation-sym, ranks_by, sorted_far}
 use Rattle.gl_edges.specs.Edges.{once}
@@ -17,9 +17,10 @@ use Rattle.gl_edges.specs.declared.edge.Edge.{Edge}
 use Rattle.gl_edges.specs.declared.edge.Sample.{Sample}
 use Rattle.gl_edges.proofs.Filling.{once_before, once_behind}
 use Rattle.gl_edges.proofs.Least.{not_below_itself, same_once, tied}
-use Rattle.gl_edges.proofs.Membership.{contains_cases, contains_here, contains_later}
+use Rattle.gl_edges.proofs.Membership.{contains_cases, contains_here, contains_later, contains_none}
 use Rattle.gl_edges.proofs.Merging.{once_of_lesser}
 use Rattle.gl_edges.proofs.Orders.{edge_cmp_exact, edge_cmp_total, sample_cmp_total}
+use Rattle.gl_edges.proofs.Tables.{not_below}
 
 -- pairs by edge, and then by sample
 abbrev pub pair_cmp : Edge × Sample → Edge × Sample → Ordering
@@ -125,7 +126,7 @@ freed_same (pair ∷ pairs) sorted =
     freed_from_same pairs pair (λ j d inside. far zero (suc j) d (omega arith) (omega arith)) (λ i j d below inside. far (suc i) (suc j) d (omega arith) (omega arith))
 
 -- behind others, pairs that have the same edges with the same least samples
-once_alike : (ended pairs others : List (Edge × Sample)) → once others ≡ once pairs → once (ended ++ others) ≡ once (ended ++ pairs)
+pub once_alike : (ended pairs others : List (Edge × Sample)) → once others ≡ once pairs → once (ended ++ others) ≡ once (ended ++ pairs)
 once_alike ended pairs others same = sym (once_behind ended others) ∙ ap (λ ps. once (ended ++ ps)) same ∙ once_behind ended pairs
 
 -- what is left of pairs in another order, which are sorted and freed of repeats
@@ -153,3 +154,30 @@ once_push ended pairs others pair same =
 -- the current list ends
 pub once_ended : (ended pairs left rest : List (Edge × Sample)) → once left ≡ once pairs → rest ≡ [] → once ((ended ++ left) ++ rest) ≡ once (ended ++ pairs)
 once_ended ended pairs left rest same none = ap (λ r. once ((ended ++ left) ++ r)) none ∙ ap once (append-nil (ended ++ left)) ∙ once_alike ended pairs left same
+
+-- what is among the first elements is among all
+pub contains_in_front : {X : Type 0} (n : ℕ) (xs : List X) (x : X) → Contains (take n xs) x → Contains xs x
+contains_in_front n xs x at = subst (λ ys. Contains ys x) (take-append-drop n xs) (Contains-append_left (take n xs) (drop n xs) x at)
+
+-- a pair whose edge is among the current list's with a sample that isn't above adds nothing
+pub known_adds_none : (ended pairs : List (Edge × Sample)) (edge : Edge) (sample known : Sample) → Contains pairs (edge, known) → is_le (sample_cmp known sample) ≡ true
+    → once (once (ended ++ pairs) ++ (edge, sample) ∷ []) ≡ once (ended ++ pairs)
+known_adds_none ended pairs edge sample known at low =
+    let all = ended ++ pairs in
+    once_before all ((edge, sample) ∷ [])
+    ∙ sym
+    (once_of_lesser all (all ++ (edge, sample) ∷ [])
+    (λ pair there. Contains-append_left all ((edge, sample) ∷ []) pair there)
+    (λ e other there.
+    elim (Contains-append_cases all ((edge, sample) ∷ []) (e, other) there) [
+      | inl left ↦ (other, left, not_below_itself sample_cmp_total other other refl)
+      | inr last ↦
+          elim (contains_cases (edge, sample) (e, other) [] last) [
+            | inl is ↦ (
+              known,
+              subst (λ x. Contains all (x, known)) (ap (λ p. p.0) is) (Contains-append_right ended pairs (edge, known) at),
+              subst (λ s. is_lt (sample_cmp s known) ≡ false) (ap (λ p. p.1) is) (ap is_lt (sample_cmp_total.antisymm sample known) ∙ not_below (sample_cmp known sample) low),
+            )
+            | inr none ↦ absurd (contains_none (e, other) none)
+          ]
+    ]))

@@ -33,7 +33,7 @@ abbrev has_seen : Sample → Option Sample → Bool
 has_seen sample answer = option_map_or (λ known. is_le (sample_cmp known sample)) answer false
 
 -- what is no greater is not above
-not_below : (r : Ordering) → is_le r ≡ true → is_lt (ordering_reverse r) ≡ false
+pub not_below : (r : Ordering) → is_le r ≡ true → is_lt (ordering_reverse r) ≡ false
 not_below Less e = refl
 not_below Equal e = refl
 not_below Greater e = absurd (cc)

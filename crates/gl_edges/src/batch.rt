@@ -1,11 +1,13 @@
 //! Edges as they come, sorted from time to time.
 //!
 //! Nearly each edge that comes is a new one. To put it into a tree takes a search along the tree, once to see whether
-//! it is there and once more to put it in; to append it and to sort all at the end takes less time.
-ghost use Rattle.std.specs.Prelude.{◌≡◌, [], ◌∷◌, ◌++◌, IfOk, OnOk};
-ghost use Rattle.std.specs.Ordering.{eq_by_cmp};
+//! it is there and once more to put it in; to append it and to sort all at the end takes less time. Where the same
+//! locks are taken in very many orders most edges are repeats: then they are looked up among those that were sorted.
+ghost use Rattle.std.specs.Prelude.{◌≡◌, true, [], ◌∷◌, ◌++◌, Contains, IsTrue, IfOk, OnOk};
+ghost use Rattle.std.specs.Ordering.{eq_by_cmp, is_le};
 ghost use Rattle.gl_edges.specs.Edges.{once};
-ghost use Rattle.gl_edges.specs.Order.{edge_cmp, AreAscending};
+ghost use Rattle.gl_edges.specs.declared.edge.Sample.{Sample};
+ghost use Rattle.gl_edges.specs.Order.{edge_cmp, sample_cmp, AreAscending};
 
 use crate::edge::{Edge, Sample};
 use crate::list::EdgeList;
@@ -14,7 +16,7 @@ use std::alloc::Global;
 use std::marker::Model;
 
 // So many pairs more than twice those that were left the last time come before they are sorted.
-const SPARE: usize = 4096;
+const SPARE: usize = 16_384;
 
 /// Edges, each with a sample. Contracts see the ascending list of these edges, each once, with its least
 /// sample.
@@ -24,6 +26,10 @@ pub(crate) struct Batch {
     ended: Vec<(Edge, Sample)>,
     // Those of the current list, in the order in which they came.
     pairs: Vec<(Edge, Sample)>,
+    // So many of these are sorted, from the first on.
+    sorted: usize,
+    // Whether a quarter of them were repeats when they were sorted last.
+    has_repeats: bool,
     // Before there are more than so many of the current list, they are sorted and freed of repeats.
     most: usize,
 }
@@ -47,6 +53,8 @@ impl Batch {
         Batch {
             ended: Vec::new(alloc),
             pairs: Vec::new(alloc),
+            sorted: 0,
+            has_repeats: false,
             most: SPARE,
         }
     }
@@ -60,13 +68,39 @@ impl Batch {
     pub(crate) fn keep(&mut self, alloc: Global, edge: &Edge, sample: Sample) -> Result<(), Memory>
         ensures { OnOk result (self.new ≡ once (self.old ++ (edge.now, sample) ∷ [])) }
     {
-        if self.pairs.len() >= self.most {
-            compact(&mut self.pairs);
-            self.most = self.pairs.len().saturating_mul(2).saturating_add(SPARE);
+        self.make_room();
+        if self.knows(edge, &sample) {
+            return Ok(());
         }
         let copy = edge.copy(alloc)?;
         self.pairs.push((copy, sample))?;
         Ok(())
+    }
+
+    // Sorts the edges of the current list, where very many came since they were sorted last.
+    fn make_room(&mut self)
+        ensures { self.new ≡ self.old }
+    {
+        let came = self.pairs.len();
+        if came < self.most {
+            return;
+        }
+        compact(&mut self.pairs);
+        self.sorted = self.pairs.len();
+        self.has_repeats = self.sorted <= came - came / 4;
+        self.most = self.sorted.saturating_mul(2).saturating_add(SPARE);
+    }
+
+    // Whether the edge is looked up, and found with a sample that isn't above this one.
+    fn knows(&self, edge: &Edge, sample: &Sample) -> bool
+        ensures { IsTrue result
+            → once (self.now ++ (edge.now, sample.now) ∷ []) ≡ self.now }
+    {
+        if !self.has_repeats {
+            return false;
+        }
+        let count = self.sorted.min(self.pairs.len());
+        is_among(&self.pairs[..count], edge, sample)
     }
 
     /// Ends the current list: edges of another thread come.
@@ -75,6 +109,8 @@ impl Batch {
     {
         compact(&mut self.pairs);
         self.ended.append(&mut self.pairs)?;
+        self.sorted = 0;
+        self.has_repeats = false;
         self.most = SPARE;
         Ok(())
     }
@@ -86,6 +122,8 @@ impl Batch {
         let Batch {
             ended: mut all,
             mut pairs,
+            sorted: _,
+            has_repeats: _,
             most: _,
         } = self;
         all.append(&mut pairs)?;
@@ -105,4 +143,19 @@ fn compact(pairs: &mut Vec<(Edge, Sample)>)
             × (later.exit.now ≡ later.entry.now) × (earlier.exit.now ≡ earlier.entry.now) }
     { later.0.cmp(&earlier.0).is_eq() };
     pairs.dedup_by(is_repeated);
+}
+
+// Whether a search among sorted pairs finds this edge with a sample that isn't above this one.
+fn is_among(pairs: &[(Edge, Sample)], edge: &Edge, sample: &Sample) -> bool
+    ensures { IsTrue result
+        → (known : Sample) × Contains pairs.now (edge.now, known)
+        × (is_le (sample_cmp known sample.now) ≡ true) }
+{
+    let Ok(at) = pairs.binary_search_by(|pair: &(Edge, Sample)| pair.0.cmp(edge)) else {
+        return false;
+    };
+    match pairs.get(at) {
+        Some(pair) => pair.0.cmp(edge).is_eq() && pair.1.cmp(sample).is_le(),
+        None => false,
+    }
 }

@@ -1,15 +1,14 @@
 -- What a pull makes of a collector's inputs, stream and edges.
-use Rattle.std.proofs.Common.{◌≡◌, ◌≢◌, ℕ, ◌<◌, List, [], ◌∷◌, ◌++◌, length, map, take, set, get_or, None, Some, Result, Ok, Err, Vec, Global, refl, sym, ap, ◌∙◌, subst, inl, inr}
+use Rattle.std.proofs.Common.{◌≡◌, ◌≢◌, ℕ, ◌<◌, List, [], ◌∷◌, ◌++◌, length, map, take, set, get_or, None, Some, Result, Ok, Err, Bool, true, not, Option, Vec, Global, refl, sym, ap, ◌∙◌, subst, inl, inr}
 use Rattle.std.specs.Prelude.{slice_get, IfOk, OnOk, OnErr}
 use Rattle.std.proofs.Math.Seq.{take-append_seam, map-set_same}
 use Rattle.std.proofs.lemmas.Bool.{cases_eq}
-use Rattle.std.specs.Option.{option_map}
+use Rattle.std.specs.Option.{is_some, option_map}
 use Rattle.std.proofs.lemmas.List.{append-nil, length-set, map-append, map-set, get_or-map}
 use Rattle.std.proofs.lemmas.Option.{slice_get-map}
 use Rattle.gl_event.specs.Bounds.{Bounds}
+use Rattle.gl_event.specs.Events.{wanted_lock}
 use Rattle.gl_event.specs.declared.events.Event.{Event}
-use Rattle.gl_event.specs.declared.events.Event.TheVariants.{Acquire}
-use Rattle.gl_event.specs.declared.events.LockMode.{LockMode}
 use Rattle.gl_event.specs.declared.notes.Note.{Note}
 use Rattle.gl_event.specs.declared.notes.Body.{Body}
 use Rattle.gl_event.specs.declared.notes.Body.TheVariants.{Happened, Ended}
@@ -112,8 +111,13 @@ pub due_if : {E : Type 0} (thread : ℕ) (es : List Event) (e : Event) (result :
 due_if thread es e (Ok edges) made = made ∙ sym (newest thread es e)
 due_if thread es e (Err why) made = tt
 
+-- what isn't there, by the test
+pub is_not_there : {X : Type 0} (o : Option X) (b : Bool) → is_some o ≡ not b → b ≡ true → o ≡ None
+is_not_there None b test yes = refl
+is_not_there (Some x) b test yes = let never = test ∙ ap not yes in absurd (cc)
+
 -- an event that wants no lock makes none
-pub due_of_none : (thread : ℕ) (es : List Event) (e : Event) → ((mode : LockMode) (lock loc : ℕ) → e ≡ Acquire mode lock loc → ⊥) → edges_due thread (es ++ e ∷ []) (length es) (Happened e) ≡ []
+pub due_of_none : (thread : ℕ) (es : List Event) (e : Event) → wanted_lock e ≡ None → edges_due thread (es ++ e ∷ []) (length es) (Happened e) ≡ []
 due_of_none thread es e none = newest thread es e ∙ no_edges thread es e none
 
 -- nor does what tells nothing of edges, once it was accepted

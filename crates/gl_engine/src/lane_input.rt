@@ -60,13 +60,10 @@ fn makes_none(body: &Body) -> bool
     ensures { IsTrue result → (thread : ℕ) (es : List Event)
         → edges_due thread (with_body es body.now) (length es) body.now ≡ [] }
 {
-    let Body::Happened(event) = *body else {
-        return true;
-    };
-    let Event::Acquire { .. } = event else {
-        return true;
-    };
-    false
+    match *body {
+        Body::Happened(event) => event.wanted().is_none(),
+        Body::Ended { .. } => true,
+    }
 }
 
 // Makes every growth that the note wants, where it may come next: room for it in the intake, and its
