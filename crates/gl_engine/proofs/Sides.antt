@@ -113,8 +113,8 @@ due_if thread es e (Err why) made = tt
 
 -- what isn't there, by the test
 pub is_not_there : {X : Type 0} (o : Option X) (b : Bool) → is_some o ≡ not b → b ≡ true → o ≡ None
-is_not_there None b test yes = refl
-is_not_there (Some x) b test yes = let never = test ∙ ap not yes in absurd (cc)
+is_not_there None b test on = refl
+is_not_there (Some x) b test on = let never = test ∙ ap not on in absurd (cc)
 
 -- an event that wants no lock makes none
 pub due_of_none : (thread : ℕ) (es : List Event) (e : Event) → wanted_lock e ≡ None → edges_due thread (es ++ e ∷ []) (length es) (Happened e) ≡ []
