@@ -12,7 +12,7 @@ use Rattle.std.proofs.lemmas.List.Elements.{All-head, All-tail, Contains-append_
 use Rattle.std.proofs.lemmas.List.Kept.{IsStrictlySortedBy-dedup}
 use Rattle.std.proofs.lemmas.List.Sorted.{Contains-permutation, IsPermutation-sym, ranks_by, sorted_far}
 use Rattle.gl_edges.specs.Edges.{once}
-use Rattle.gl_edges.specs.Order.{edge_cmp, sample_cmp, AreAscending}
+use Rattle.gl_edges.specs.Order.{edge_cmp, pair_cmp, sample_cmp, AreAscending}
 use Rattle.gl_edges.specs.declared.edge.Edge.{Edge}
 use Rattle.gl_edges.specs.declared.edge.Sample.{Sample}
 use Rattle.gl_edges.proofs.Filling.{once_before, once_behind}
@@ -21,10 +21,6 @@ use Rattle.gl_edges.proofs.Membership.{contains_cases, contains_here, contains_l
 use Rattle.gl_edges.proofs.Merging.{once_of_lesser}
 use Rattle.gl_edges.proofs.Orders.{edge_cmp_exact, edge_cmp_total, sample_cmp_total}
 use Rattle.gl_edges.proofs.Tables.{not_below}
-
--- pairs by edge, and then by sample
-abbrev pub pair_cmp : Edge × Sample → Edge × Sample → Ordering
-pair_cmp a b = ordering_then (edge_cmp a.0 b.0) (sample_cmp a.1 b.1)
 
 -- by edge alone
 abbrev by_edge : Edge × Sample → Edge × Sample → Ordering

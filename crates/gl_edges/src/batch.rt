@@ -5,9 +5,10 @@
 //! locks are taken in very many orders most edges are repeats: then they are looked up among those that were sorted.
 ghost use Rattle.std.specs.Prelude.{◌≡◌, true, [], ◌∷◌, ◌++◌, Contains, IsTrue, IfOk, OnOk};
 ghost use Rattle.std.specs.Ordering.{eq_by_cmp, is_le};
+ghost use Rattle.std.specs.List.Sorted.{IsPermutation, IsSorted};
 ghost use Rattle.gl_edges.specs.Edges.{once};
 ghost use Rattle.gl_edges.specs.declared.edge.Sample.{Sample};
-ghost use Rattle.gl_edges.specs.Order.{edge_cmp, sample_cmp, AreAscending};
+ghost use Rattle.gl_edges.specs.Order.{edge_cmp, pair_cmp, sample_cmp, AreAscending};
 
 use crate::edge::{Edge, Sample};
 use crate::list::EdgeList;
@@ -132,12 +133,22 @@ impl Batch {
     }
 }
 
+// Sorts the pairs, by merging where there is memory for that: those that were sorted before stay together then.
+fn sort(pairs: &mut Vec<(Edge, Sample)>)
+    ensures same { IsPermutation pairs.old.items pairs.new.items }
+    ensures sorted { IsSorted pair_cmp pairs.new.items }
+{
+    if pairs.sort().is_err() {
+        pairs.sort_unstable();
+    }
+}
+
 // Sorts the pairs, and leaves each edge once, with its least sample.
 fn compact(pairs: &mut Vec<(Edge, Sample)>)
     ensures same { once pairs.new.items ≡ once pairs.old.items }
     ensures ascending { AreAscending pairs.new.items }
 {
-    pairs.sort_unstable();
+    sort(pairs);
     let is_repeated = |later: &mut (Edge, Sample), earlier: &mut (Edge, Sample)| -> bool
         ensures { (result ≡ eq_by_cmp edge_cmp later.entry.now.0 earlier.entry.now.0)
             × (later.exit.now ≡ later.entry.now) × (earlier.exit.now ≡ earlier.entry.now) }

@@ -8,12 +8,12 @@ dedup_by-requires c = search of_calls parts 8
 
 pub returns-clause-same : goal.returns-clause-same
 returns-clause-same c =
-    left_same c.args.pairs.now.items c.sort_unstable.new.self.items c.dedup_by.new.self.items c.sort_unstable.ensures.permutation c.sort_unstable.ensures.sorted
+    left_same c.args.pairs.now.items c.sort.new.pairs.items c.dedup_by.new.self.items c.sort.ensures.same c.sort.ensures.sorted
     (IsDeduped-is_dedup _ _ _ _ c.dedup_by.ensures.filtered same_edge
     (λ s x k b t x' k' h. let met = h.called.met.0 in (met.0 ∙ (λ i. same_edge (h.shows.0 i) (h.shows.1 i)), (sym h.leaves.0 ∙ met.1 ∙ h.shows.0, sym h.leaves.1 ∙ met.2 ∙ h.shows.1))))
 
 pub returns-clause-ascending : goal.returns-clause-ascending
 returns-clause-ascending c =
-    left_ascends c.args.pairs.now.items c.sort_unstable.new.self.items c.dedup_by.new.self.items c.sort_unstable.ensures.permutation c.sort_unstable.ensures.sorted
+    left_ascends c.args.pairs.now.items c.sort.new.pairs.items c.dedup_by.new.self.items c.sort.ensures.same c.sort.ensures.sorted
     (IsDeduped-is_dedup _ _ _ _ c.dedup_by.ensures.filtered same_edge
     (λ s x k b t x' k' h. let met = h.called.met.0 in (met.0 ∙ (λ i. same_edge (h.shows.0 i) (h.shows.1 i)), (sym h.leaves.0 ∙ met.1 ∙ h.shows.0, sym h.leaves.1 ∙ met.2 ∙ h.shows.1))))
