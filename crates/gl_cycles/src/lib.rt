@@ -25,6 +25,7 @@ mod parallel;
 mod paths;
 mod pieces;
 mod reports;
+mod runs;
 mod searches;
 mod stages;
 
@@ -35,7 +36,9 @@ pub use laws::{
     cycles_are_all, cycles_are_level, cycles_ascend, cycles_ascend_by_edges, cycles_survive_trims,
     no_cycle_if_all_go, reports_are_unique, trims_are_unique,
 };
+pub use pieces::add_pieces;
 pub use reports::{
     report_by, report_by_parallel, report_of_lists, report_over, report_over_parallel,
 };
+pub use runs::next_end;
 pub use searches::{search, search_parallel};

@@ -1,10 +1,9 @@
 //! The search for cycles: the first ones of a query, on one thread or on several.
-ghost use Rattle.std.specs.Prelude.{◌≡◌, ◌+◌, ◌<◌, ◌↔◌, List, ℕ, length, map, take, IfOk, IsTrue};
+ghost use Rattle.std.specs.Prelude.{◌≡◌, IfOk};
 ghost use Rattle.gl_segments.specs.Clocks.{is_before};
-ghost use Rattle.gl_filters.specs.Picked.{edges_of_table};
-ghost use Rattle.gl_cycles.specs.AllCycles.{all_cycles};
+ghost use Rattle.gl_cycles.specs.Listed.{listed_cycles};
 
-use crate::found::{Cycles, Found};
+use crate::found::Found;
 use crate::stages::{first_cycles, first_cycles_parallel};
 use gl_edges::EdgeList;
 use gl_event::Memory;
@@ -13,24 +12,6 @@ use gl_pruning::Sought;
 use gl_segments::Order;
 use std::alloc::Global;
 use std::thread::Threads;
-
-// The first of these cycles, and whether there are more.
-fn listed(cycles: Vec<Vec<usize>>, max: usize) -> Found
-    ensures cycles { (all : List (List ℕ))
-        → map (λ cycle. cycle.items) cycles.items ≡ take (max + 1) all
-        → result.cycles ≡ take max all }
-    ensures more { (all : List (List ℕ))
-        → map (λ cycle. cycle.items) cycles.items ≡ take (max + 1) all
-        → IsTrue result.more ↔ (max < length all) }
-{
-    let mut cycles = cycles;
-    let more = cycles.len() > max;
-    cycles.truncate(max);
-    Found {
-        cycles: Cycles::from_vec(cycles),
-        more,
-    }
-}
 
 /// The first cycles of a query over these edges, in the order of their edges, and whether there are
 /// more. Each edge in turn is the first of paths, which grow by every edge that may follow. The search
@@ -57,21 +38,13 @@ pub fn search(
     order: &Order,
     query: &Query,
 ) -> Result<Found, Memory>
-    ensures cycles { IfOk result
-        (λ found. found.cycles
-        ≡ take query.now.max
-        (all_cycles (is_before order.now) query.now.mode query.now.len
-        (edges_of_table edges.now))) }
-    ensures more { IfOk result
-        (λ found. IsTrue found.more ↔
-        (query.now.max < length
-        (all_cycles (is_before order.now) query.now.mode query.now.len
-        (edges_of_table edges.now)))) }
+    ensures { IfOk result
+        (λ found. found ≡ listed_cycles query.now (is_before order.now) edges.now) }
 {
     let sought = Sought::of(edges, order, query);
     let max = query.max() as usize;
     let cycles = first_cycles(alloc, &sought, max + 1)?;
-    Ok(listed(cycles, max))
+    Ok(Found::listed(cycles, max))
 }
 
 /// The same as [`search`], on several threads. The steps that a search takes before more edges are left
@@ -90,19 +63,11 @@ pub fn search_parallel(
     order: &Order,
     query: &Query,
 ) -> Result<Found, Memory>
-    ensures cycles { IfOk result
-        (λ found. found.cycles
-        ≡ take query.now.max
-        (all_cycles (is_before order.now) query.now.mode query.now.len
-        (edges_of_table edges.now))) }
-    ensures more { IfOk result
-        (λ found. IsTrue found.more ↔
-        (query.now.max < length
-        (all_cycles (is_before order.now) query.now.mode query.now.len
-        (edges_of_table edges.now)))) }
+    ensures { IfOk result
+        (λ found. found ≡ listed_cycles query.now (is_before order.now) edges.now) }
 {
     let sought = Sought::of(edges, order, query);
     let max = query.max() as usize;
     let cycles = first_cycles_parallel(rt, alloc, &sought, max + 1)?;
-    Ok(listed(cycles, max))
+    Ok(Found::listed(cycles, max))
 }

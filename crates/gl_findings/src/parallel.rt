@@ -6,8 +6,8 @@ ghost use Rattle.gl_findings.specs.Findings.{findings};
 ghost use Rattle.gl_findings.specs.bodies.Finding.{IsReady, IsUnbound, first_of_root};
 
 use crate::finder::Finder;
-use crate::pieces::add_pieces;
 use crate::roots::roots_of;
+use gl_cycles::{add_pieces, next_end};
 use gl_event::Memory;
 use rayon::prelude::*;
 use std::alloc::Global;
@@ -109,16 +109,6 @@ fn add_alone(
     Ok(())
 }
 
-// Up to where classes are looked at next: there are as many as before, but not more than there are.
-fn next_end(done: usize, size: usize) -> usize
-    requires { done < size }
-    ensures later { done < result }
-    ensures within { result ≤ size }
-{
-    let left = size - done;
-    done + done.max(ALONE).min(left)
-}
-
 // The first findings that begin with these classes, up to the cap.
 fn findings_by_roots(
     rt: &(impl Threads + Sync),
@@ -139,7 +129,7 @@ fn findings_by_roots(
     let mut found = Vec::new(alloc);
     let mut done = 0;
     while done < size {
-        let end = next_end(done, size);
+        let end = next_end(0, done, size, ALONE);
         add_roots(rt, alloc, finder, roots, done, end, &mut found)?;
         done = end;
     }

@@ -1,13 +1,13 @@
 //! The search for findings.
-ghost use Rattle.std.specs.Prelude.{◌≡◌, ◌↔◌, ◌<◌, ◌+◌, ℕ, List, length, map, take, IfOk, IfSome, IsTrue};
+ghost use Rattle.std.specs.Prelude.{◌≡◌, IfOk, IfSome};
 ghost use Rattle.gl_segments.specs.Clocks.{is_before};
-ghost use Rattle.gl_findings.specs.Findings.{findings};
+ghost use Rattle.gl_findings.specs.Listed.{listed_findings};
 ghost use Rattle.gl_findings.specs.bodies.Told.{AreGrounds};
 
 use crate::finder::Finder;
 use crate::grounds::Grounds;
 use crate::parallel::first_findings;
-use gl_cycles::{Cycles, Found, edges_on_loops, edges_sought, edges_sought_parallel};
+use gl_cycles::{Found, edges_on_loops, edges_sought, edges_sought_parallel};
 use gl_edges::EdgeList;
 use gl_event::Memory;
 use gl_filters::Query;
@@ -19,24 +19,6 @@ use std::thread::Threads;
 const STEPS_OF_EDGE: usize = 64;
 
 const STEPS: usize = 10_000;
-
-// The first of these findings, and whether there are more.
-fn listed(findings: Vec<Vec<usize>>, max: usize) -> Found
-    ensures cycles { (all : List (List ℕ))
-        → map (λ cycle. cycle.items) findings.items ≡ take (max + 1) all
-        → result.cycles ≡ take max all }
-    ensures more { (all : List (List ℕ))
-        → map (λ cycle. cycle.items) findings.items ≡ take (max + 1) all
-        → IsTrue result.more ↔ (max < length all) }
-{
-    let mut findings = findings;
-    let more = findings.len() > max;
-    findings.truncate(max);
-    Found {
-        cycles: Cycles::from_vec(findings),
-        more,
-    }
-}
 
 // How many steps the first search has.
 fn steps_of(edges: &EdgeList) -> usize {
@@ -57,20 +39,13 @@ fn found_within(
     grounds: &Grounds,
 ) -> Result<Option<Found>, Memory>
     requires { AreGrounds (is_before order.now) query.now.mode query.now.len edges.now grounds.now }
-    ensures cycles { IfOk result
+    ensures { IfOk result
         (λ soon. IfSome soon
-        (λ found. found.cycles
-        ≡ take query.now.max
-        (findings (is_before order.now) query.now.mode query.now.len edges.now))) }
-    ensures more { IfOk result
-        (λ soon. IfSome soon
-        (λ found. IsTrue found.more ↔
-        (query.now.max < length
-        (findings (is_before order.now) query.now.mode query.now.len edges.now)))) }
+        (λ found. found ≡ listed_findings query.now (is_before order.now) edges.now)) }
 {
     let finder = Finder::of(alloc, edges, order, query, grounds, true)?;
     match finder.findings_within(alloc, steps_of(edges))? {
-        Some(findings) => Ok(Some(listed(findings, query.max() as usize))),
+        Some(findings) => Ok(Some(Found::listed(findings, query.max() as usize))),
         None => Ok(None),
     }
 }
@@ -82,16 +57,9 @@ fn found_soon(
     order: &Order,
     query: &Query,
 ) -> Result<Option<Found>, Memory>
-    ensures cycles { IfOk result
+    ensures { IfOk result
         (λ soon. IfSome soon
-        (λ found. found.cycles
-        ≡ take query.now.max
-        (findings (is_before order.now) query.now.mode query.now.len edges.now))) }
-    ensures more { IfOk result
-        (λ soon. IfSome soon
-        (λ found. IsTrue found.more ↔
-        (query.now.max < length
-        (findings (is_before order.now) query.now.mode query.now.len edges.now)))) }
+        (λ found. found ≡ listed_findings query.now (is_before order.now) edges.now)) }
 {
     let kept = edges_on_loops(alloc, edges.entries())?;
     let grounds = Grounds::of(alloc, edges, kept)?;
@@ -107,18 +75,12 @@ fn first_found(
     grounds: &Grounds,
 ) -> Result<Found, Memory>
     requires { AreGrounds (is_before order.now) query.now.mode query.now.len edges.now grounds.now }
-    ensures cycles { IfOk result
-        (λ found. found.cycles
-        ≡ take query.now.max
-        (findings (is_before order.now) query.now.mode query.now.len edges.now)) }
-    ensures more { IfOk result
-        (λ found. IsTrue found.more ↔
-        (query.now.max < length
-        (findings (is_before order.now) query.now.mode query.now.len edges.now))) }
+    ensures { IfOk result
+        (λ found. found ≡ listed_findings query.now (is_before order.now) edges.now) }
 {
     let finder = Finder::of(alloc, edges, order, query, grounds, false)?;
     let found = finder.first_findings(alloc)?;
-    Ok(listed(found, query.max() as usize))
+    Ok(Found::listed(found, query.max() as usize))
 }
 
 // The same, on several threads.
@@ -131,18 +93,12 @@ fn first_found_parallel(
     grounds: &Grounds,
 ) -> Result<Found, Memory>
     requires { AreGrounds (is_before order.now) query.now.mode query.now.len edges.now grounds.now }
-    ensures cycles { IfOk result
-        (λ found. found.cycles
-        ≡ take query.now.max
-        (findings (is_before order.now) query.now.mode query.now.len edges.now)) }
-    ensures more { IfOk result
-        (λ found. IsTrue found.more ↔
-        (query.now.max < length
-        (findings (is_before order.now) query.now.mode query.now.len edges.now))) }
+    ensures { IfOk result
+        (λ found. found ≡ listed_findings query.now (is_before order.now) edges.now) }
 {
     let finder = Finder::of(alloc, edges, order, query, grounds, false)?;
     let found = first_findings(rt, alloc, &finder)?;
-    Ok(listed(found, query.max() as usize))
+    Ok(Found::listed(found, query.max() as usize))
 }
 
 /// The first findings of a query over these edges, in the order of their signatures, each shown by the
@@ -167,14 +123,8 @@ pub fn findings(
     order: &Order,
     query: &Query,
 ) -> Result<Found, Memory>
-    ensures cycles { IfOk result
-        (λ found. found.cycles
-        ≡ take query.now.max
-        (findings (is_before order.now) query.now.mode query.now.len edges.now)) }
-    ensures more { IfOk result
-        (λ found. IsTrue found.more ↔
-        (query.now.max < length
-        (findings (is_before order.now) query.now.mode query.now.len edges.now))) }
+    ensures { IfOk result
+        (λ found. found ≡ listed_findings query.now (is_before order.now) edges.now) }
 {
     if let Some(found) = found_soon(alloc, edges, order, query)? {
         return Ok(found);
@@ -194,14 +144,8 @@ pub fn findings_parallel(
     order: &Order,
     query: &Query,
 ) -> Result<Found, Memory>
-    ensures cycles { IfOk result
-        (λ found. found.cycles
-        ≡ take query.now.max
-        (findings (is_before order.now) query.now.mode query.now.len edges.now)) }
-    ensures more { IfOk result
-        (λ found. IsTrue found.more ↔
-        (query.now.max < length
-        (findings (is_before order.now) query.now.mode query.now.len edges.now))) }
+    ensures { IfOk result
+        (λ found. found ≡ listed_findings query.now (is_before order.now) edges.now) }
 {
     if let Some(found) = found_soon(alloc, edges, order, query)? {
         return Ok(found);
