@@ -1,9 +1,9 @@
 //! The search on several threads.
-ghost use Rattle.std.specs.Prelude.{◌≡◌, ◌-◌, ◌<◌, ◌≤◌, ◌++◌, length, map, take, All, IfOk, OnOk};
+ghost use Rattle.std.specs.Prelude.{◌≡◌, ◌-◌, ◌<◌, ◌≤◌, length, map, take, All, IfOk, OnOk};
 ghost use Rattle.std.specs.List.{flat_map, range_with_len};
 ghost use Rattle.gl_segments.specs.Clocks.{is_before};
 ghost use Rattle.gl_findings.specs.Findings.{findings};
-ghost use Rattle.gl_findings.specs.bodies.Finding.{IsReady, IsUnbound, first_of_root};
+ghost use Rattle.gl_findings.specs.bodies.Finding.{AreAdded, IsReady, IsUnbound, first_of_root};
 
 use crate::finder::Finder;
 use crate::roots::roots_of;
@@ -67,10 +67,10 @@ fn add_roots(
     requires within { to ≤ length roots.now }
     requires room { length found.old.items ≤ finder.now.cap }
     ensures { OnOk result
-        (map (λ cycle. cycle.items) found.new.items
-        ≡ take finder.now.cap
-        (map (λ cycle. cycle.items) found.old.items ++ flat_map
-        (first_of_root finder.now roots.now) (range_with_len from (to - from)))) }
+        (AreAdded finder.now
+        (flat_map (first_of_root finder.now roots.now) (range_with_len from (to - from)))
+        (map (λ cycle. cycle.items) found.old.items)
+        (map (λ cycle. cycle.items) found.new.items)) }
 {
     if found.len() >= finder.cap {
         return Ok(());
@@ -98,10 +98,10 @@ fn add_alone(
     requires within { to ≤ length roots.now }
     requires room { length found.old.items ≤ finder.now.cap }
     ensures { OnOk result
-        (map (λ cycle. cycle.items) found.new.items
-        ≡ take finder.now.cap
-        (map (λ cycle. cycle.items) found.old.items ++ flat_map
-        (first_of_root finder.now roots.now) (range_with_len from (to - from)))) }
+        (AreAdded finder.now
+        (flat_map (first_of_root finder.now roots.now) (range_with_len from (to - from)))
+        (map (λ cycle. cycle.items) found.old.items)
+        (map (λ cycle. cycle.items) found.new.items)) }
 {
     for i in from..to {
         finder.add_from(alloc, roots[i], found)?;
