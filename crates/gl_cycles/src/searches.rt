@@ -17,19 +17,14 @@ use std::thread::Threads;
 /// more. Each edge in turn is the first of paths, which grow by every edge that may follow. The search
 /// ends where one cycle more than are listed was found.
 ///
-/// Edges that are in no cycle are left out: before the search those that lie on no loop of the
-/// lock-order graph, and those that are alone among edges of their own thread (no other thread's edge
-/// holds the lock that they want, or none wants the one that they hold); others only where the search
-/// takes long. Where it has taken some steps for each edge and isn't through, those are left out that
-/// are seen to be in no cycle by their kind, by having no way back (no walk of edges which go with them
-/// from the lock that they want to the one that they hold), by their kind and thread, and by their
-/// segments. Then the search goes on at the edge where it stood, with more steps to take, and so on in
-/// turn.
+/// Edges that are in no cycle are left out, in the order of [gl_pruning]: before the search those that
+/// [a few look-ups for each edge](gl_pruning::Sought::kept_at_first) show, others
+/// [for one reason after the other](gl_pruning::Sought::leave_out_in_turn) and only where the search takes
+/// long. It then goes on at the edge where it stood, with more steps to take, and so on in turn.
 ///
-/// To find the edges on loops and those that are alone takes some look-ups for each edge. To leave out
-/// others takes no more steps than some for each that the search took before, but in the last round as
-/// many as each reason takes at most. There may be as many paths as the edges that stay to the power of the greatest length
-/// of a cycle less one.
+/// To leave out others takes no more steps than some for each that the search took before, but in the last
+/// round as many as each reason takes at most. There may be as many paths as the edges that stay to the
+/// power of the greatest length of a cycle less one.
 ///
 /// Err where memory was refused.
 pub fn search(

@@ -7,10 +7,11 @@ ghost use Rattle.gl_findings.specs.bodies.Told.{AreGrounds};
 use crate::finder::Finder;
 use crate::grounds::Grounds;
 use crate::parallel::first_findings;
-use gl_cycles::{Found, edges_on_loops, edges_sought, edges_sought_parallel};
+use gl_cycles::{Found, edges_sought, edges_sought_parallel};
 use gl_edges::EdgeList;
 use gl_event::Memory;
 use gl_filters::Query;
+use gl_pruning::Sought;
 use gl_segments::Order;
 use std::alloc::Global;
 use std::thread::Threads;
@@ -50,7 +51,7 @@ fn found_within(
     }
 }
 
-// The same, where a search among the edges that lie on loops finds them so.
+// The same, where a search among the edges that are kept at first finds them so.
 fn found_soon(
     alloc: Global,
     edges: &EdgeList,
@@ -61,7 +62,7 @@ fn found_soon(
         (λ soon. IfSome soon
         (λ found. found ≡ listed_findings query.now (is_before order.now) edges.now)) }
 {
-    let kept = edges_on_loops(alloc, edges.entries())?;
+    let kept = Sought::of(edges, order, query).kept_at_first(alloc)?;
     let grounds = Grounds::of(alloc, edges, kept)?;
     found_within(alloc, edges, order, query, &grounds)
 }
@@ -110,8 +111,9 @@ fn first_found_parallel(
 /// each signature that begins where it is to be told from the first cycle is looked for, told from each of its
 /// places on.
 ///
-/// A search among all edges that lie on loops comes first, with a few steps for each edge. Where these don't
-/// suffice, what can be seen to be in no cycle is left out, and the search begins once more.
+/// A search among the edges that [are kept at first](Sought::kept_at_first) comes first, with a few steps for
+/// each edge. Where these don't suffice, what can be seen to be in no cycle is left out, and the search begins
+/// once more.
 ///
 /// There may be as many signatures as classes to the power of the greatest length of a cycle. Threads that
 /// run the same code add none.
