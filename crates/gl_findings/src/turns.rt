@@ -1,7 +1,7 @@
 //! Signatures told from another of their classes on.
 ghost use Rattle.std.specs.Prelude.{◌≡◌, ◌<◌, ◌≤◌, ◌+◌, ◌∷◌, ◌++◌, [], length};
 ghost use Rattle.arrayvec.specs.ArrayVec.{array_vec_len};
-ghost use Rattle.gl_walks.specs.declared.walker.TheConstants.{LONGEST};
+ghost use Rattle.gl_walks.specs.declared.ground.TheConstants.{LONGEST};
 ghost use Rattle.gl_findings.specs.Findings.{begins_least, turned};
 
 use arrayvec::ArrayVec;

@@ -6,14 +6,14 @@ ghost use Rattle.gl_edges.specs.declared.edge.Edge.{Edge};
 ghost use Rattle.gl_filters.specs.Picked.{edges_of_table, picked};
 ghost use Rattle.gl_filters.specs.Test.{leads_back};
 ghost use Rattle.gl_filters.specs.declared.steps.Stop.TheVariants.{Memory};
-ghost use Rattle.gl_walks.specs.declared.walker.TheConstants.{LONGEST};
+ghost use Rattle.gl_walks.specs.declared.ground.TheConstants.{LONGEST};
 ghost use Rattle.gl_walks.specs.bodies.Listing.{Key, IsNext};
 ghost use Rattle.gl_walks.specs.bodies.Fronts.{goes_by, stays_above, may_follow, may_end, sought_by, IsFront, NoneFrom, IsLeastFrom, key_after, key_behind, IsIndexed};
 
 use crate::chains::Chain;
+use crate::ground::{Ground, LONGEST};
 use crate::keys::Keyed;
 use crate::purpose::Purpose;
-use crate::walker::{Ground, LONGEST};
 use arrayvec::ArrayVec;
 use gl_edges::Edge;
 use gl_event::Memory;
