@@ -16,6 +16,9 @@
 //! nothing. No edge of a cycle is among them, as [`cycles_survive_trims`] says. So where all go there is
 //! no cycle, in whichever order they go: [`removal_fault`] checks an order that was given.
 //!
+//! How a search on several threads deals out where to begin ([`next_end`]), puts together what was found
+//! apart ([`add_pieces`]) and lists it ([`Found::listed`]) is the same for findings (gl_findings).
+//!
 //! docs/GLOSSARY.md has its words beside those of the field.
 #![tactic(auto)]
 

@@ -4,9 +4,6 @@ use gl_edges::{Edge, Sample};
 use gl_filters::Mode;
 use gl_segments::Order;
 
-/// How many classes a pattern has at most.
-pub const LONGEST: usize = 16;
-
 /// What is walked through.
 #[derive(Clone, Copy, Drop)]
 pub struct Ground<'a> {

@@ -14,6 +14,6 @@ mod purpose;
 mod search;
 mod walker;
 
-pub use ground::{Ground, LONGEST};
+pub use ground::Ground;
 pub use purpose::Purpose;
 pub use walker::Walker;

@@ -3,7 +3,7 @@ ghost use Rattle.std.specs.Prelude.{◌≡◌, ◌<◌, ◌≤◌, false, length
 ghost use Rattle.gl_segments.specs.Clocks.{is_before};
 ghost use Rattle.gl_filters.specs.Picked.{edges_of_table};
 ghost use Rattle.gl_filters.specs.declared.steps.Stop.TheVariants.{Memory};
-ghost use Rattle.gl_walks.specs.declared.ground.TheConstants.{LONGEST};
+ghost use Rattle.gl_filters.specs.declared.lengths.TheConstants.{LONGEST};
 ghost use Rattle.gl_walks.specs.Walks.{NoWalk, IsFirstWalk};
 
 use crate::ground::Ground;

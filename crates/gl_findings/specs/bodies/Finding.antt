@@ -5,7 +5,7 @@ use Rattle.gl_filters.specs.Picked.{edges_of_table}
 use Rattle.gl_pruning.specs.OffCycles.{KeepsCycles}
 use Rattle.gl_walks.specs.declared.purpose.Purpose.{Purpose}
 use Rattle.gl_walks.specs.declared.purpose.Purpose.TheVariants.{Cycle, Front}
-use Rattle.gl_walks.specs.declared.ground.TheConstants.{LONGEST}
+use Rattle.gl_filters.specs.declared.lengths.TheConstants.{LONGEST}
 use Rattle.gl_walks.specs.declared.walker.Walker.{Walker}
 use Rattle.gl_findings.specs.Findings.{classes_of}
 use Rattle.gl_findings.specs.bodies.Grounds.{AreModels, IsNextClass}
