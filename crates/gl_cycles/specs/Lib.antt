@@ -1,5 +1,6 @@
 pub mod AllCycles
 pub mod Faults
 pub mod Laws
+pub mod Listed
 pub mod Reports
 pub mod bodies

@@ -1,5 +1,5 @@
 -- The report over edges: the first cycles that a query asks for, by the order of lists of events.
-use Rattle.std.specs.Prelude.{◌≡◌, Bool, List, length, take, nat_lt}
+use Rattle.std.specs.Prelude.{◌≡◌, Bool, List}
 use Rattle.gl_event.specs.declared.events.Event.{Event}
 use Rattle.gl_event.specs.declared.events.Segment.{Segment}
 use Rattle.gl_segments.specs.Laws.{DecidesBefore}
@@ -9,7 +9,7 @@ use Rattle.gl_edges.specs.declared.edge.Edge.{Edge}
 use Rattle.gl_edges.specs.declared.edge.Sample.{Sample}
 use Rattle.gl_filters.specs.Asked.{Asked}
 use Rattle.gl_filters.specs.Picked.{edges_of_table}
-use Rattle.gl_cycles.specs.AllCycles.{all_cycles}
+use Rattle.gl_cycles.specs.Listed.{listed_cycles}
 use Rattle.gl_trims.specs.Trims.{whole_trim}
 use Rattle.gl_cycles.specs.declared.found.Report.{Report}
 use Rattle.gl_cycles.specs.declared.found.ReportFault.{ReportFault}
@@ -18,11 +18,10 @@ use Rattle.gl_cycles.specs.declared.found.ReportFault.TheVariants.{Inconsistent,
 -- the first of the cycles that are asked for, whether there are more, and the whole trim order, by a test of which segment is before which
 abbrev pub report_by : Asked → (Segment → Segment → Bool) → List (Edge × Sample) → Report
 report_by asked before pairs =
-    let cycles = all_cycles before asked.mode asked.len (edges_of_table pairs) in
     record {
       query = asked;
       edges = pairs;
-      found = record { cycles = take asked.max cycles; more = nat_lt asked.max (length cycles) };
+      found = listed_cycles asked before pairs;
       trim = whole_trim before asked.mode (edges_of_table pairs);
     }
 

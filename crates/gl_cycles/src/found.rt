@@ -1,5 +1,6 @@
 //! What a search finds.
-ghost use Rattle.std.specs.Prelude.{◌≡◌, map};
+ghost use Rattle.std.specs.Prelude.{◌≡◌, ◌+◌, List, ℕ, map, take};
+ghost use Rattle.gl_cycles.specs.Listed.{listed};
 
 use gl_edges::EdgeList;
 use gl_event::Segment;
@@ -54,6 +55,23 @@ pub struct Found {
     pub cycles: Cycles,
     /// Whether there are more cycles than those that are listed.
     pub more: bool,
+}
+
+impl Found {
+    /// What is listed of all cycles, of which these are the first ones, up to one more than may be listed.
+    pub fn listed(cycles: Vec<Vec<usize>>, max: usize) -> Found
+        ensures { (all : List (List ℕ))
+            → map (λ cycle. cycle.items) cycles.items ≡ take (max + 1) all
+            → result ≡ listed max all }
+    {
+        let mut cycles = cycles;
+        let more = cycles.len() > max;
+        cycles.truncate(max);
+        Found {
+            cycles: Cycles::from_vec(cycles),
+            more,
+        }
+    }
 }
 
 /// The edges that trimming takes away, in the order in which they go, as positions in a list of

@@ -7,7 +7,8 @@ ghost use Rattle.gl_cycles.specs.AllCycles.{all_cycles};
 ghost use Rattle.gl_cycles.specs.bodies.Searching.{IsReady, HasFound, first_from, sought_by};
 
 use crate::paths::Searcher;
-use crate::pieces::add_cycles;
+use crate::pieces::add_pieces;
+use crate::runs::next_end;
 use gl_event::Memory;
 use rayon::prelude::*;
 use std::alloc::Global;
@@ -47,26 +48,6 @@ fn cycles_of_roots(
         .with_min_len(1)
         .collect(rt, alloc)?;
     found
-}
-
-// Adds the cycles of the pieces, one piece after the other, up to the cap.
-fn add_pieces(
-    alloc: Global,
-    found: &mut Vec<Vec<usize>>,
-    pieces: &[Vec<Vec<usize>>],
-    cap: usize,
-) -> Result<(), Memory>
-    requires { length found.old.items ≤ cap }
-    ensures { OnOk result
-        (map (λ cycle. cycle.items) found.new.items
-        ≡ take cap
-        (map (λ cycle. cycle.items) found.old.items ++ flat_map
-        (λ piece. map (λ cycle. cycle.items) piece.items) pieces.now)) }
-{
-    for i in 0..pieces.len() {
-        add_cycles(alloc, found, &pieces[i], cap)?;
-    }
-    Ok(())
 }
 
 // Adds the cycles that begin with the edges from one position to another, up to the cap.
@@ -126,19 +107,6 @@ fn add_alone(
     Ok(())
 }
 
-// Up to where edges are looked at next, of which some from one on were: there are as many as before,
-// but not more than there are.
-fn next_end(from: usize, done: usize, size: usize) -> usize
-    requires from { from ≤ done }
-    requires left { done < size }
-    ensures later { done < result }
-    ensures within { result ≤ size }
-{
-    let before = done - from;
-    let left = size - done;
-    done + before.max(ALONE).min(left)
-}
-
 /// The first cycles, up to the cap, of which those that begin with edges before a root were found.
 pub(crate) fn first_cycles(
     rt: &(impl Threads + Sync),
@@ -162,7 +130,7 @@ pub(crate) fn first_cycles(
     let mut found = found;
     let mut done = from;
     while done < size {
-        let end = next_end(from, done, size);
+        let end = next_end(from, done, size, ALONE);
         add_roots(rt, alloc, search, done, end, &mut found)?;
         done = end;
     }

@@ -1,6 +1,6 @@
 //! Paths of edges that lead on from each other, grown from each edge.
 ghost use Rattle.std.specs.Prelude.{◌≡◌, ◌+◌, ◌<◌, ◌≤◌, [], ◌∷◌, ◌++◌, true, false, Some, length, map, take, slice_get, nat_le, if◌then◌else◌, IfOk, IfErr, IfSome, OnOk, All};
-ghost use Rattle.gl_pruning.specs.declared.lengths.TheConstants.{PATH};
+ghost use Rattle.gl_filters.specs.declared.lengths.TheConstants.{LONGEST};
 ghost use Rattle.gl_segments.specs.Clocks.{is_before};
 ghost use Rattle.std.specs.List.{list_all};
 ghost use Rattle.gl_filters.specs.Test.{can_follow, goes_with, leads_back, is_path};
@@ -14,9 +14,9 @@ ghost use Rattle.gl_edges.specs.declared.edge.Edge.{Edge};
 use crate::pieces::add_cycles;
 use gl_edges::{Edge, Sample};
 use gl_event::Memory;
-use gl_filters::{Mode, Stop, goes_with, leads_on};
+use gl_filters::{Mode, Stop, goes_with, leads_on, longer_path, spend_step};
 use gl_index::Followers;
-use gl_pruning::{Sought, longer_path};
+use gl_pruning::Sought;
 use gl_segments::Order;
 use std::alloc::{AllocError, Global};
 
@@ -47,7 +47,7 @@ impl<'a> Searcher<'a> {
         is_bound: bool,
         kept: Vec<bool>,
     ) -> Result<Searcher<'a>, Memory>
-        requires fits { sought.now.len ≤ PATH }
+        requires fits { sought.now.len ≤ LONGEST }
         requires kept { KeepsSought sought.now kept.items }
         ensures ready { IfOk result IsReady }
         ensures sought { IfOk result (λ s. sought_by s ≡ sought.now) }
@@ -283,20 +283,6 @@ impl Searcher<'_> {
         self.grow(alloc, &[root], steps, found)
     }
 
-    // Spends one of the steps. Err where none is left and the search is bound to them.
-    fn spend_step(&self, steps: &mut usize) -> Result<(), Stop>
-        ensures stopped { IfErr result (λ stop. self.now.is_bound ≡ false → stop ≡ Memory) }
-    {
-        if *steps > 0 {
-            *steps -= 1;
-            return Ok(());
-        }
-        if self.is_bound {
-            return Err(Stop::Spent);
-        }
-        Ok(())
-    }
-
     // Adds the cycles that begin with the path, up to the cap.
     #[cycle(grow)]
     fn grow(
@@ -392,7 +378,7 @@ impl Searcher<'_> {
             (map (λ cycle. cycle.items) found.old.items)
             (map (λ cycle. cycle.items) found.new.items) result }
     {
-        self.spend_step(steps)?;
+        spend_step(self.is_bound, steps)?;
         if !self.can_join(path, next) {
             return Ok(());
         }

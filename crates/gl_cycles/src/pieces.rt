@@ -1,5 +1,6 @@
 //! Cycles that were found apart, put together.
 ghost use Rattle.std.specs.Prelude.{◌≡◌, ◌≤◌, ◌++◌, ◌∷◌, [], length, map, take, OnOk};
+ghost use Rattle.std.specs.List.{flat_map};
 
 use gl_event::Memory;
 use std::alloc::Global;
@@ -39,6 +40,28 @@ pub(crate) fn add_cycles(
 {
     for i in 0..piece.len() {
         add_cycle(alloc, found, &piece[i], cap)?;
+    }
+    Ok(())
+}
+
+/// Adds the cycles of the pieces, one piece after the other, up to the cap.
+///
+/// Err where memory was refused.
+pub fn add_pieces(
+    alloc: Global,
+    found: &mut Vec<Vec<usize>>,
+    pieces: &[Vec<Vec<usize>>],
+    cap: usize,
+) -> Result<(), Memory>
+    requires { length found.old.items ≤ cap }
+    ensures { OnOk result
+        (map (λ cycle. cycle.items) found.new.items
+        ≡ take cap
+        (map (λ cycle. cycle.items) found.old.items ++ flat_map
+        (λ piece. map (λ cycle. cycle.items) piece.items) pieces.now)) }
+{
+    for i in 0..pieces.len() {
+        add_cycles(alloc, found, &pieces[i], cap)?;
     }
     Ok(())
 }

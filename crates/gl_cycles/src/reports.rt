@@ -1,12 +1,12 @@
 //! Reports over edges.
-ghost use Rattle.std.specs.Prelude.{◌≡◌, ◌≤◌, ◌<◌, ◌↔◌, ℕ, List, Some, None, length, slice_get, take, IfOk, IfErr, IsTrue};
+ghost use Rattle.std.specs.Prelude.{◌≡◌, ◌≤◌, ℕ, List, Some, None, length, slice_get, IfOk, IfErr};
 ghost use Rattle.gl_event.specs.Bounds.{greatest};
 ghost use Rattle.gl_event.specs.Lawful.{IsLawful};
 ghost use Rattle.gl_event.specs.declared.events.Event.{Event};
 ghost use Rattle.gl_segments.specs.Clocks.{is_before};
 ghost use Rattle.gl_segments.specs.Orders.{lists_of, IsFaultOf};
 ghost use Rattle.gl_filters.specs.Picked.{edges_of_table};
-ghost use Rattle.gl_cycles.specs.AllCycles.{all_cycles};
+ghost use Rattle.gl_cycles.specs.Listed.{listed_cycles};
 ghost use Rattle.gl_cycles.specs.Reports.{IsGoodlockReport, IsReport, IsReportFault, report_by};
 ghost use Rattle.gl_trims.specs.Trims.{whole_trim};
 
@@ -39,9 +39,7 @@ fn whole_trim(
     query: &Query,
     found: &Found,
 ) -> Result<Option<TrimOrder>, Memory>
-    requires { found.now.cycles
-        ≡ take query.now.max
-        (all_cycles (is_before order.now) query.now.mode query.now.len (edges_of_table edges.now)) }
+    requires { found.now ≡ listed_cycles query.now (is_before order.now) edges.now }
     ensures { IfOk result
         (λ trim. trim
         ≡ whole_trim (is_before order.now) query.now.mode (edges_of_table edges.now)) }
@@ -64,12 +62,7 @@ fn report_found(
     query: &Query,
     found: Found,
 ) -> Result<Report, Memory>
-    requires cycles { found.cycles
-        ≡ take query.now.max
-        (all_cycles (is_before order.now) query.now.mode query.now.len (edges_of_table edges)) }
-    requires more { IsTrue found.more ↔
-        (query.now.max < length
-        (all_cycles (is_before order.now) query.now.mode query.now.len (edges_of_table edges))) }
+    requires { found ≡ listed_cycles query.now (is_before order.now) edges }
     ensures { IfOk result (λ report. report ≡ report_by query.now (is_before order.now) edges) }
 {
     let trim = whole_trim(alloc, &edges, order, query, &found)?;

@@ -1,10 +1,9 @@
 //! The search for cycles: the first ones of a query, on one thread or on several.
-ghost use Rattle.std.specs.Prelude.{◌≡◌, ◌+◌, ◌<◌, ◌↔◌, List, ℕ, length, map, take, IfOk, IsTrue};
+ghost use Rattle.std.specs.Prelude.{◌≡◌, IfOk};
 ghost use Rattle.gl_segments.specs.Clocks.{is_before};
-ghost use Rattle.gl_filters.specs.Picked.{edges_of_table};
-ghost use Rattle.gl_cycles.specs.AllCycles.{all_cycles};
+ghost use Rattle.gl_cycles.specs.Listed.{listed_cycles};
 
-use crate::found::{Cycles, Found};
+use crate::found::Found;
 use crate::stages::{first_cycles, first_cycles_parallel};
 use gl_edges::EdgeList;
 use gl_event::Memory;
@@ -14,41 +13,18 @@ use gl_segments::Order;
 use std::alloc::Global;
 use std::thread::Threads;
 
-// The first of these cycles, and whether there are more.
-fn listed(cycles: Vec<Vec<usize>>, max: usize) -> Found
-    ensures cycles { (all : List (List ℕ))
-        → map (λ cycle. cycle.items) cycles.items ≡ take (max + 1) all
-        → result.cycles ≡ take max all }
-    ensures more { (all : List (List ℕ))
-        → map (λ cycle. cycle.items) cycles.items ≡ take (max + 1) all
-        → IsTrue result.more ↔ (max < length all) }
-{
-    let mut cycles = cycles;
-    let more = cycles.len() > max;
-    cycles.truncate(max);
-    Found {
-        cycles: Cycles::from_vec(cycles),
-        more,
-    }
-}
-
 /// The first cycles of a query over these edges, in the order of their edges, and whether there are
 /// more. Each edge in turn is the first of paths, which grow by every edge that may follow. The search
 /// ends where one cycle more than are listed was found.
 ///
-/// Edges that are in no cycle are left out: before the search those that lie on no loop of the
-/// lock-order graph, and those that are alone among edges of their own thread (no other thread's edge
-/// holds the lock that they want, or none wants the one that they hold); others only where the search
-/// takes long. Where it has taken some steps for each edge and isn't through, those are left out that
-/// are seen to be in no cycle by their kind, by having no way back (no walk of edges which go with them
-/// from the lock that they want to the one that they hold), by their kind and thread, and by their
-/// segments. Then the search goes on at the edge where it stood, with more steps to take, and so on in
-/// turn.
+/// Edges that are in no cycle are left out, in the order of [gl_pruning]: before the search those that
+/// [a few look-ups for each edge](gl_pruning::Sought::kept_at_first) show, others
+/// [for one reason after the other](gl_pruning::Sought::leave_out_in_turn) and only where the search takes
+/// long. It then goes on at the edge where it stood, with more steps to take, and so on in turn.
 ///
-/// To find the edges on loops and those that are alone takes some look-ups for each edge. To leave out
-/// others takes no more steps than some for each that the search took before, but in the last round as
-/// many as each reason takes at most. There may be as many paths as the edges that stay to the power of the greatest length
-/// of a cycle less one.
+/// To leave out others takes no more steps than some for each that the search took before, but in the last
+/// round as many as each reason takes at most. There may be as many paths as the edges that stay to the
+/// power of the greatest length of a cycle less one.
 ///
 /// Err where memory was refused.
 pub fn search(
@@ -57,21 +33,13 @@ pub fn search(
     order: &Order,
     query: &Query,
 ) -> Result<Found, Memory>
-    ensures cycles { IfOk result
-        (λ found. found.cycles
-        ≡ take query.now.max
-        (all_cycles (is_before order.now) query.now.mode query.now.len
-        (edges_of_table edges.now))) }
-    ensures more { IfOk result
-        (λ found. IsTrue found.more ↔
-        (query.now.max < length
-        (all_cycles (is_before order.now) query.now.mode query.now.len
-        (edges_of_table edges.now)))) }
+    ensures { IfOk result
+        (λ found. found ≡ listed_cycles query.now (is_before order.now) edges.now) }
 {
     let sought = Sought::of(edges, order, query);
     let max = query.max() as usize;
     let cycles = first_cycles(alloc, &sought, max + 1)?;
-    Ok(listed(cycles, max))
+    Ok(Found::listed(cycles, max))
 }
 
 /// The same as [`search`], on several threads. The steps that a search takes before more edges are left
@@ -90,19 +58,11 @@ pub fn search_parallel(
     order: &Order,
     query: &Query,
 ) -> Result<Found, Memory>
-    ensures cycles { IfOk result
-        (λ found. found.cycles
-        ≡ take query.now.max
-        (all_cycles (is_before order.now) query.now.mode query.now.len
-        (edges_of_table edges.now))) }
-    ensures more { IfOk result
-        (λ found. IsTrue found.more ↔
-        (query.now.max < length
-        (all_cycles (is_before order.now) query.now.mode query.now.len
-        (edges_of_table edges.now)))) }
+    ensures { IfOk result
+        (λ found. found ≡ listed_cycles query.now (is_before order.now) edges.now) }
 {
     let sought = Sought::of(edges, order, query);
     let max = query.max() as usize;
     let cycles = first_cycles_parallel(rt, alloc, &sought, max + 1)?;
-    Ok(listed(cycles, max))
+    Ok(Found::listed(cycles, max))
 }

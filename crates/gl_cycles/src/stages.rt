@@ -18,7 +18,7 @@ ghost use Rattle.gl_filters.specs.Picked.{edges_of_table};
 ghost use Rattle.gl_cycles.specs.AllCycles.{all_cycles};
 ghost use Rattle.gl_pruning.specs.Sought.{KeepsSought};
 ghost use Rattle.gl_cycles.specs.bodies.Searching.{HasFound};
-ghost use Rattle.gl_pruning.specs.declared.lengths.TheConstants.{PATH};
+ghost use Rattle.gl_filters.specs.declared.lengths.TheConstants.{LONGEST};
 
 use crate::parallel;
 use crate::paths::Searcher;
@@ -68,7 +68,7 @@ fn search_on(
     found: &mut Vec<Vec<usize>>,
 ) -> Result<usize, Memory>
     requires some { 0 < sought.now.len }
-    requires fits { sought.now.len ≤ PATH }
+    requires fits { sought.now.len ≤ LONGEST }
     requires kept { KeepsSought sought.now kept.now }
     requires found { HasFound sought.now cap from (map (λ cycle. cycle.items) found.old.items) }
     ensures { IfOk result
@@ -89,7 +89,7 @@ fn search_in_rounds(
     found: &mut Vec<Vec<usize>>,
 ) -> Result<usize, Memory>
     requires some { 0 < sought.now.len }
-    requires fits { sought.now.len ≤ PATH }
+    requires fits { sought.now.len ≤ LONGEST }
     requires kept { KeepsSought sought.now kept.old.items }
     requires found { HasFound sought.now cap 0 (map (λ cycle. cycle.items) found.old.items) }
     ensures kept { OnOk result (KeepsSought sought.now kept.new.items) }
@@ -116,7 +116,7 @@ pub(crate) fn first_cycles(
     cap: usize,
 ) -> Result<Vec<Vec<usize>>, Memory>
     requires some { 0 < sought.now.len }
-    requires fits { sought.now.len ≤ PATH }
+    requires fits { sought.now.len ≤ LONGEST }
     ensures { IfOk result
         (λ found. map (λ cycle. cycle.items) found.items
         ≡ take cap
@@ -143,7 +143,7 @@ pub(crate) fn first_cycles_parallel(
     cap: usize,
 ) -> Result<Vec<Vec<usize>>, Memory>
     requires some { 0 < sought.now.len }
-    requires fits { sought.now.len ≤ PATH }
+    requires fits { sought.now.len ≤ LONGEST }
     ensures { IfOk result
         (λ found. map (λ cycle. cycle.items) found.items
         ≡ take cap

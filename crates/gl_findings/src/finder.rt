@@ -3,7 +3,7 @@ ghost use Rattle.std.specs.Prelude.{◌≡◌, ◌+◌, ◌-◌, ◌<◌, ◌≤
 ghost use Rattle.gl_segments.specs.Clocks.{is_before};
 ghost use Rattle.gl_filters.specs.declared.steps.Stop.TheVariants.{Memory};
 ghost use Rattle.gl_findings.specs.Findings.{findings};
-ghost use Rattle.gl_findings.specs.bodies.Finding.{IsReady, IsUnbound, finding_of, block_of, below_of, first_from};
+ghost use Rattle.gl_findings.specs.bodies.Finding.{AreAdded, IsReady, IsUnbound, finding_of, block_of, below_of, first_from};
 ghost use Rattle.gl_findings.specs.bodies.Told.{AreGrounds};
 
 use crate::grounds::Grounds;
@@ -178,10 +178,9 @@ impl Finder<'_> {
         requires unbound { IsUnbound self.now }
         requires room { length found.old.items ≤ self.now.cap }
         ensures { OnOk result
-            (map (λ cycle. cycle.items) found.new.items
-            ≡ take self.now.cap
-            (map (λ cycle. cycle.items) found.old.items ++ block_of self.now (self.now.len - 1)
-            (class ∷ []))) }
+            (AreAdded self.now (block_of self.now (self.now.len - 1) (class ∷ []))
+            (map (λ cycle. cycle.items) found.old.items)
+            (map (λ cycle. cycle.items) found.new.items)) }
     {
         let mut steps = 0;
         match self.grow_by(alloc, &[], class, &mut steps, found) {
@@ -206,10 +205,10 @@ impl Finder<'_> {
         requires ready { IsReady self.now }
         requires room { length found.old.items ≤ self.now.cap }
         ensures grown { OnOk result
-            (map (λ cycle. cycle.items) found.new.items
-            ≡ take self.now.cap
-            (map (λ cycle. cycle.items) found.old.items ++ block_of self.now
-            (self.now.len - length signature.now) signature.now)) }
+            (AreAdded self.now
+            (block_of self.now (self.now.len - length signature.now) signature.now)
+            (map (λ cycle. cycle.items) found.old.items)
+            (map (λ cycle. cycle.items) found.new.items)) }
         ensures stopped { IfErr result (λ stop. IsUnbound self.now → stop ≡ Memory) }
     {
         if found.len() >= self.cap {
@@ -242,10 +241,11 @@ impl Finder<'_> {
         requires ready { IsReady self.now }
         requires room { length found.old.items ≤ self.now.cap }
         ensures grown { OnOk result
-            (map (λ cycle. cycle.items) found.new.items
-            ≡ take self.now.cap
-            (map (λ cycle. cycle.items) found.old.items ++ below_of self.now
-            (self.now.len - length signature.now - 1) signature.now (length self.now.table.now))) }
+            (AreAdded self.now
+            (below_of self.now (self.now.len - length signature.now - 1) signature.now
+            (length self.now.table.now))
+            (map (λ cycle. cycle.items) found.old.items)
+            (map (λ cycle. cycle.items) found.new.items)) }
         ensures stopped { IfErr result (λ stop. IsUnbound self.now → stop ≡ Memory) }
     {
         let mut next = self.next[from];
@@ -272,10 +272,11 @@ impl Finder<'_> {
         requires ready { IsReady self.now }
         requires room { length found.old.items ≤ self.now.cap }
         ensures grown { OnOk result
-            (map (λ cycle. cycle.items) found.new.items
-            ≡ take self.now.cap
-            (map (λ cycle. cycle.items) found.old.items ++ block_of self.now
-            (self.now.len - length signature.now - 1) (signature.now ++ class ∷ []))) }
+            (AreAdded self.now
+            (block_of self.now (self.now.len - length signature.now - 1)
+            (signature.now ++ class ∷ []))
+            (map (λ cycle. cycle.items) found.old.items)
+            (map (λ cycle. cycle.items) found.new.items)) }
         ensures stopped { IfErr result (λ stop. IsUnbound self.now → stop ≡ Memory) }
     {
         let longer = longer(signature, class);

@@ -17,7 +17,6 @@ mod laws;
 mod listing;
 mod models;
 mod parallel;
-mod pieces;
 mod reports;
 mod roots;
 mod runners;

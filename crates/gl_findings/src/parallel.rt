@@ -1,13 +1,13 @@
 //! The search on several threads.
-ghost use Rattle.std.specs.Prelude.{◌≡◌, ◌-◌, ◌<◌, ◌≤◌, ◌++◌, length, map, take, All, IfOk, OnOk};
+ghost use Rattle.std.specs.Prelude.{◌≡◌, ◌-◌, ◌<◌, ◌≤◌, length, map, take, All, IfOk, OnOk};
 ghost use Rattle.std.specs.List.{flat_map, range_with_len};
 ghost use Rattle.gl_segments.specs.Clocks.{is_before};
 ghost use Rattle.gl_findings.specs.Findings.{findings};
-ghost use Rattle.gl_findings.specs.bodies.Finding.{IsReady, IsUnbound, first_of_root};
+ghost use Rattle.gl_findings.specs.bodies.Finding.{AreAdded, IsReady, IsUnbound, first_of_root};
 
 use crate::finder::Finder;
-use crate::pieces::add_pieces;
 use crate::roots::roots_of;
+use gl_cycles::{add_pieces, next_end};
 use gl_event::Memory;
 use rayon::prelude::*;
 use std::alloc::Global;
@@ -67,10 +67,10 @@ fn add_roots(
     requires within { to ≤ length roots.now }
     requires room { length found.old.items ≤ finder.now.cap }
     ensures { OnOk result
-        (map (λ cycle. cycle.items) found.new.items
-        ≡ take finder.now.cap
-        (map (λ cycle. cycle.items) found.old.items ++ flat_map
-        (first_of_root finder.now roots.now) (range_with_len from (to - from)))) }
+        (AreAdded finder.now
+        (flat_map (first_of_root finder.now roots.now) (range_with_len from (to - from)))
+        (map (λ cycle. cycle.items) found.old.items)
+        (map (λ cycle. cycle.items) found.new.items)) }
 {
     if found.len() >= finder.cap {
         return Ok(());
@@ -98,25 +98,15 @@ fn add_alone(
     requires within { to ≤ length roots.now }
     requires room { length found.old.items ≤ finder.now.cap }
     ensures { OnOk result
-        (map (λ cycle. cycle.items) found.new.items
-        ≡ take finder.now.cap
-        (map (λ cycle. cycle.items) found.old.items ++ flat_map
-        (first_of_root finder.now roots.now) (range_with_len from (to - from)))) }
+        (AreAdded finder.now
+        (flat_map (first_of_root finder.now roots.now) (range_with_len from (to - from)))
+        (map (λ cycle. cycle.items) found.old.items)
+        (map (λ cycle. cycle.items) found.new.items)) }
 {
     for i in from..to {
         finder.add_from(alloc, roots[i], found)?;
     }
     Ok(())
-}
-
-// Up to where classes are looked at next: there are as many as before, but not more than there are.
-fn next_end(done: usize, size: usize) -> usize
-    requires { done < size }
-    ensures later { done < result }
-    ensures within { result ≤ size }
-{
-    let left = size - done;
-    done + done.max(ALONE).min(left)
 }
 
 // The first findings that begin with these classes, up to the cap.
@@ -139,7 +129,7 @@ fn findings_by_roots(
     let mut found = Vec::new(alloc);
     let mut done = 0;
     while done < size {
-        let end = next_end(done, size);
+        let end = next_end(0, done, size, ALONE);
         add_roots(rt, alloc, finder, roots, done, end, &mut found)?;
         done = end;
     }

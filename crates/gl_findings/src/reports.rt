@@ -1,5 +1,5 @@
 //! Reports that list cycles or findings.
-ghost use Rattle.std.specs.Prelude.{◌≡◌, ◌<◌, ◌↔◌, ℕ, List, length, take, IfOk, IsTrue};
+ghost use Rattle.std.specs.Prelude.{◌≡◌, IfOk};
 ghost use Rattle.gl_segments.specs.Clocks.{is_before};
 ghost use Rattle.gl_findings.specs.Reports.{report_with, untrimmed};
 
@@ -15,9 +15,7 @@ use std::thread::Threads;
 
 // The report of what was found, without a trim order.
 fn untrimmed(edges: EdgeList, query: &Query, found: Found) -> Report
-    ensures { (all : List (List ℕ)) → found.cycles ≡ take query.now.max all
-        → IsTrue found.more ↔ (query.now.max < length all)
-        → result ≡ untrimmed query.now edges all }
+    ensures { result ≡ untrimmed query.now edges found }
 {
     Report {
         query: *query,

@@ -1,16 +1,17 @@
 //! The search for findings.
-ghost use Rattle.std.specs.Prelude.{◌≡◌, ◌↔◌, ◌<◌, ◌+◌, ℕ, List, length, map, take, IfOk, IfSome, IsTrue};
+ghost use Rattle.std.specs.Prelude.{◌≡◌, IfOk, IfSome};
 ghost use Rattle.gl_segments.specs.Clocks.{is_before};
-ghost use Rattle.gl_findings.specs.Findings.{findings};
+ghost use Rattle.gl_findings.specs.Listed.{listed_findings};
 ghost use Rattle.gl_findings.specs.bodies.Told.{AreGrounds};
 
 use crate::finder::Finder;
 use crate::grounds::Grounds;
 use crate::parallel::first_findings;
-use gl_cycles::{Cycles, Found, edges_on_loops, edges_sought, edges_sought_parallel};
+use gl_cycles::{Found, edges_sought, edges_sought_parallel};
 use gl_edges::EdgeList;
 use gl_event::Memory;
 use gl_filters::Query;
+use gl_pruning::Sought;
 use gl_segments::Order;
 use std::alloc::Global;
 use std::thread::Threads;
@@ -19,24 +20,6 @@ use std::thread::Threads;
 const STEPS_OF_EDGE: usize = 64;
 
 const STEPS: usize = 10_000;
-
-// The first of these findings, and whether there are more.
-fn listed(findings: Vec<Vec<usize>>, max: usize) -> Found
-    ensures cycles { (all : List (List ℕ))
-        → map (λ cycle. cycle.items) findings.items ≡ take (max + 1) all
-        → result.cycles ≡ take max all }
-    ensures more { (all : List (List ℕ))
-        → map (λ cycle. cycle.items) findings.items ≡ take (max + 1) all
-        → IsTrue result.more ↔ (max < length all) }
-{
-    let mut findings = findings;
-    let more = findings.len() > max;
-    findings.truncate(max);
-    Found {
-        cycles: Cycles::from_vec(findings),
-        more,
-    }
-}
 
 // How many steps the first search has.
 fn steps_of(edges: &EdgeList) -> usize {
@@ -57,43 +40,29 @@ fn found_within(
     grounds: &Grounds,
 ) -> Result<Option<Found>, Memory>
     requires { AreGrounds (is_before order.now) query.now.mode query.now.len edges.now grounds.now }
-    ensures cycles { IfOk result
+    ensures { IfOk result
         (λ soon. IfSome soon
-        (λ found. found.cycles
-        ≡ take query.now.max
-        (findings (is_before order.now) query.now.mode query.now.len edges.now))) }
-    ensures more { IfOk result
-        (λ soon. IfSome soon
-        (λ found. IsTrue found.more ↔
-        (query.now.max < length
-        (findings (is_before order.now) query.now.mode query.now.len edges.now)))) }
+        (λ found. found ≡ listed_findings query.now (is_before order.now) edges.now)) }
 {
     let finder = Finder::of(alloc, edges, order, query, grounds, true)?;
     match finder.findings_within(alloc, steps_of(edges))? {
-        Some(findings) => Ok(Some(listed(findings, query.max() as usize))),
+        Some(findings) => Ok(Some(Found::listed(findings, query.max() as usize))),
         None => Ok(None),
     }
 }
 
-// The same, where a search among the edges that lie on loops finds them so.
+// The same, where a search among the edges that are kept at first finds them so.
 fn found_soon(
     alloc: Global,
     edges: &EdgeList,
     order: &Order,
     query: &Query,
 ) -> Result<Option<Found>, Memory>
-    ensures cycles { IfOk result
+    ensures { IfOk result
         (λ soon. IfSome soon
-        (λ found. found.cycles
-        ≡ take query.now.max
-        (findings (is_before order.now) query.now.mode query.now.len edges.now))) }
-    ensures more { IfOk result
-        (λ soon. IfSome soon
-        (λ found. IsTrue found.more ↔
-        (query.now.max < length
-        (findings (is_before order.now) query.now.mode query.now.len edges.now)))) }
+        (λ found. found ≡ listed_findings query.now (is_before order.now) edges.now)) }
 {
-    let kept = edges_on_loops(alloc, edges.entries())?;
+    let kept = Sought::of(edges, order, query).kept_at_first(alloc)?;
     let grounds = Grounds::of(alloc, edges, kept)?;
     found_within(alloc, edges, order, query, &grounds)
 }
@@ -107,18 +76,12 @@ fn first_found(
     grounds: &Grounds,
 ) -> Result<Found, Memory>
     requires { AreGrounds (is_before order.now) query.now.mode query.now.len edges.now grounds.now }
-    ensures cycles { IfOk result
-        (λ found. found.cycles
-        ≡ take query.now.max
-        (findings (is_before order.now) query.now.mode query.now.len edges.now)) }
-    ensures more { IfOk result
-        (λ found. IsTrue found.more ↔
-        (query.now.max < length
-        (findings (is_before order.now) query.now.mode query.now.len edges.now))) }
+    ensures { IfOk result
+        (λ found. found ≡ listed_findings query.now (is_before order.now) edges.now) }
 {
     let finder = Finder::of(alloc, edges, order, query, grounds, false)?;
     let found = finder.first_findings(alloc)?;
-    Ok(listed(found, query.max() as usize))
+    Ok(Found::listed(found, query.max() as usize))
 }
 
 // The same, on several threads.
@@ -131,18 +94,12 @@ fn first_found_parallel(
     grounds: &Grounds,
 ) -> Result<Found, Memory>
     requires { AreGrounds (is_before order.now) query.now.mode query.now.len edges.now grounds.now }
-    ensures cycles { IfOk result
-        (λ found. found.cycles
-        ≡ take query.now.max
-        (findings (is_before order.now) query.now.mode query.now.len edges.now)) }
-    ensures more { IfOk result
-        (λ found. IsTrue found.more ↔
-        (query.now.max < length
-        (findings (is_before order.now) query.now.mode query.now.len edges.now))) }
+    ensures { IfOk result
+        (λ found. found ≡ listed_findings query.now (is_before order.now) edges.now) }
 {
     let finder = Finder::of(alloc, edges, order, query, grounds, false)?;
     let found = first_findings(rt, alloc, &finder)?;
-    Ok(listed(found, query.max() as usize))
+    Ok(Found::listed(found, query.max() as usize))
 }
 
 /// The first findings of a query over these edges, in the order of their signatures, each shown by the
@@ -154,8 +111,9 @@ fn first_found_parallel(
 /// each signature that begins where it is to be told from the first cycle is looked for, told from each of its
 /// places on.
 ///
-/// A search among all edges that lie on loops comes first, with a few steps for each edge. Where these don't
-/// suffice, what can be seen to be in no cycle is left out, and the search begins once more.
+/// A search among the edges that [are kept at first](Sought::kept_at_first) comes first, with a few steps for
+/// each edge. Where these don't suffice, what can be seen to be in no cycle is left out, and the search begins
+/// once more.
 ///
 /// There may be as many signatures as classes to the power of the greatest length of a cycle. Threads that
 /// run the same code add none.
@@ -167,14 +125,8 @@ pub fn findings(
     order: &Order,
     query: &Query,
 ) -> Result<Found, Memory>
-    ensures cycles { IfOk result
-        (λ found. found.cycles
-        ≡ take query.now.max
-        (findings (is_before order.now) query.now.mode query.now.len edges.now)) }
-    ensures more { IfOk result
-        (λ found. IsTrue found.more ↔
-        (query.now.max < length
-        (findings (is_before order.now) query.now.mode query.now.len edges.now))) }
+    ensures { IfOk result
+        (λ found. found ≡ listed_findings query.now (is_before order.now) edges.now) }
 {
     if let Some(found) = found_soon(alloc, edges, order, query)? {
         return Ok(found);
@@ -194,14 +146,8 @@ pub fn findings_parallel(
     order: &Order,
     query: &Query,
 ) -> Result<Found, Memory>
-    ensures cycles { IfOk result
-        (λ found. found.cycles
-        ≡ take query.now.max
-        (findings (is_before order.now) query.now.mode query.now.len edges.now)) }
-    ensures more { IfOk result
-        (λ found. IsTrue found.more ↔
-        (query.now.max < length
-        (findings (is_before order.now) query.now.mode query.now.len edges.now))) }
+    ensures { IfOk result
+        (λ found. found ≡ listed_findings query.now (is_before order.now) edges.now) }
 {
     if let Some(found) = found_soon(alloc, edges, order, query)? {
         return Ok(found);

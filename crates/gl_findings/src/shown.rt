@@ -6,7 +6,7 @@ ghost use Rattle.gl_filters.specs.Picked.{edges_of_table};
 ghost use Rattle.gl_filters.specs.declared.steps.Stop.TheVariants.{Memory};
 ghost use Rattle.gl_pruning.specs.OffCycles.{KeepsCycles};
 ghost use Rattle.gl_walks.specs.declared.purpose.Purpose.TheVariants.{Cycle};
-ghost use Rattle.gl_walks.specs.declared.walker.TheConstants.{LONGEST};
+ghost use Rattle.gl_filters.specs.declared.lengths.TheConstants.{LONGEST};
 ghost use Rattle.gl_findings.specs.Findings.{classes_of, first_with};
 ghost use Rattle.gl_findings.specs.bodies.Lesser.{lesser};
 

@@ -1,11 +1,11 @@
 //! Signatures told from another of their classes on.
 ghost use Rattle.std.specs.Prelude.{◌≡◌, ◌<◌, ◌≤◌, ◌+◌, ◌∷◌, ◌++◌, [], length};
 ghost use Rattle.arrayvec.specs.ArrayVec.{array_vec_len};
-ghost use Rattle.gl_walks.specs.declared.walker.TheConstants.{LONGEST};
+ghost use Rattle.gl_filters.specs.declared.lengths.TheConstants.{LONGEST};
 ghost use Rattle.gl_findings.specs.Findings.{begins_least, turned};
 
 use arrayvec::ArrayVec;
-use gl_walks::LONGEST;
+use gl_filters::LONGEST;
 
 /// A signature that a search looks at.
 pub(crate) type Signature = ArrayVec<usize, LONGEST>;

@@ -22,7 +22,6 @@ mod components;
 mod dead_ends;
 mod grains;
 mod kinds;
-mod lengths;
 mod loops;
 mod models;
 mod no_way;
@@ -38,7 +37,6 @@ mod sought;
 mod ways;
 
 pub use candidates::{edges_sought, edges_sought_parallel};
-pub use lengths::{PATH, longer_path};
 pub use loops::edges_on_loops;
 pub use parallel::leave_out_in_turn_parallel;
 pub use reasons::ALL_EFFORT;

@@ -2,15 +2,14 @@
 ghost use Rattle.std.specs.Prelude.{◌≡◌, ◌<◌, ◌≤◌, ◌∷◌, ◌++◌, [], ℕ, Some, false, length, slice_get};
 ghost use Rattle.gl_segments.specs.Clocks.{is_before};
 ghost use Rattle.gl_filters.specs.Picked.{edges_of_table};
-ghost use Rattle.gl_pruning.specs.declared.lengths.TheConstants.{PATH};
+ghost use Rattle.gl_filters.specs.declared.lengths.TheConstants.{LONGEST};
 ghost use Rattle.gl_pruning.specs.bodies.Kinds.{may_meet, HasModels, LastLeadsTo, MayMeetAll, AreWithin, NoneThrough};
 ghost use Rattle.gl_edges.specs.declared.edge.Edge.{Edge};
 
 use crate::grains::Grain;
-use crate::lengths::{PATH, longer_path};
 use crate::sought::Sought;
 use gl_edges::Edge;
-use gl_filters::{goes_with, kinds_go_together, leads_on};
+use gl_filters::{LONGEST, goes_with, kinds_go_together, leads_on, longer_path};
 use gl_index::Followers;
 
 /// A search for rounds of models: each one leads on to the next, and the last one to the first, and
@@ -105,7 +104,7 @@ impl Rounds<'_> {
         if path.len() >= self.sought.len {
             return false;
         }
-        if path.len() >= PATH {
+        if path.len() >= LONGEST {
             return true;
         }
         let last = path[path.len() - 1];
@@ -123,7 +122,7 @@ impl Rounds<'_> {
     #[cycle(rounds)]
     fn may_close_by(&self, path: &[usize], next: usize, tries: &mut usize) -> bool
         requires some { 0 < length path.now }
-        requires short { length path.now < PATH }
+        requires short { length path.now < LONGEST }
         requires within { AreWithin self.now path.now }
         requires there { next < length self.now.sought.table.now }
         requires models { HasModels self.now }

@@ -1,6 +1,6 @@
 //! What is looked for.
 ghost use Rattle.std.specs.Prelude.{◌≡◌, ◌<◌, ◌≤◌};
-ghost use Rattle.gl_pruning.specs.declared.lengths.TheConstants.{PATH};
+ghost use Rattle.gl_filters.specs.declared.lengths.TheConstants.{LONGEST};
 
 use gl_edges::{Edge, EdgeList, Sample};
 use gl_filters::{Mode, Query};
@@ -27,7 +27,7 @@ impl<'a> Sought<'a> {
         ensures mode { result.mode ≡ query.now.mode }
         ensures len { result.len ≡ query.now.len }
         ensures some { 0 < result.len }
-        ensures fits { result.len ≤ PATH }
+        ensures fits { result.len ≤ LONGEST }
     {
         Sought {
             table: edges.entries(),

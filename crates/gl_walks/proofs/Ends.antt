@@ -13,7 +13,7 @@ use Rattle.gl_walks.specs.declared.chains.Chain.{Chain}
 use Rattle.gl_walks.specs.declared.keys.Keyed.TheVariants.{ByClass, ByLock}
 use Rattle.gl_walks.specs.declared.purpose.Purpose.{Purpose}
 use Rattle.gl_walks.specs.declared.purpose.Purpose.TheVariants.{Cycle}
-use Rattle.gl_walks.specs.declared.walker.Ground.{Ground}
+use Rattle.gl_walks.specs.declared.ground.Ground.{Ground}
 use Rattle.gl_walks.specs.bodies.Listing.{Key, IsNext, key_at}
 use Rattle.gl_walks.specs.bodies.Fronts.{goes_by, stays_above, may_follow, may_end, Sought, sought_by, IsEven, IsIndexed, lock_after, key_after, key_behind}
 use Rattle.gl_walks.proofs.Places.{AreEnds, AreWithin, length-picked}

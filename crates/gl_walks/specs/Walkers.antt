@@ -1,7 +1,7 @@
 -- What a walker looks at.
 use Rattle.std.specs.Prelude.{Bool}
 use Rattle.gl_walks.specs.declared.purpose.Purpose.{Purpose}
-use Rattle.gl_walks.specs.declared.walker.Ground.{Ground}
+use Rattle.gl_walks.specs.declared.ground.Ground.{Ground}
 
 -- through what it walks, and for what; and whether it stops where its steps are taken
 pub record Walking : Type 0 where

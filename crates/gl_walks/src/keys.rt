@@ -5,7 +5,7 @@ ghost use Rattle.gl_walks.specs.bodies.Listing.{key_at};
 ghost use Rattle.gl_walks.specs.bodies.Fronts.{IsChainOf};
 
 use crate::chains::Chain;
-use crate::walker::Ground;
+use crate::ground::Ground;
 use gl_event::{LockId, Memory};
 use std::alloc::Global;
 

@@ -6,18 +6,17 @@ ghost use Rattle.gl_edges.specs.declared.edge.Edge.{Edge};
 ghost use Rattle.gl_filters.specs.Picked.{edges_of_table, picked};
 ghost use Rattle.gl_filters.specs.Test.{leads_back};
 ghost use Rattle.gl_filters.specs.declared.steps.Stop.TheVariants.{Memory};
-ghost use Rattle.gl_walks.specs.declared.walker.TheConstants.{LONGEST};
+ghost use Rattle.gl_filters.specs.declared.lengths.TheConstants.{LONGEST};
 ghost use Rattle.gl_walks.specs.bodies.Listing.{Key, IsNext};
 ghost use Rattle.gl_walks.specs.bodies.Fronts.{goes_by, stays_above, may_follow, may_end, sought_by, IsFront, NoneFrom, IsLeastFrom, key_after, key_behind, IsIndexed};
 
 use crate::chains::Chain;
+use crate::ground::Ground;
 use crate::keys::Keyed;
 use crate::purpose::Purpose;
-use crate::walker::{Ground, LONGEST};
-use arrayvec::ArrayVec;
 use gl_edges::Edge;
 use gl_event::Memory;
-use gl_filters::{Stop, goes_with, kinds_go_together, leads_on};
+use gl_filters::{Stop, goes_with, kinds_go_together, leads_on, longer_path, spend_step};
 use std::alloc::Global;
 
 /// What is looked at.
@@ -186,20 +185,6 @@ impl Search<'_> {
         self.by_lock.after(i)
     }
 
-    // Spends one of the steps. Err where none is left and the search is bound to them.
-    fn spend_step(&self, steps: &mut usize) -> Result<(), Stop>
-        ensures stopped { IfErr result (λ stop. self.now.is_bound ≡ false → stop ≡ Memory) }
-    {
-        if *steps > 0 {
-            *steps -= 1;
-            return Ok(());
-        }
-        if self.is_bound {
-            return Err(Stop::Spent);
-        }
-        Ok(())
-    }
-
     /// The first walk for a pattern. Each edge that may come next takes a step.
     pub(crate) fn first(
         &self,
@@ -281,24 +266,11 @@ impl Search<'_> {
             (path.now ++ next ∷ []) walk.items)) }
         ensures stopped { IfErr result (λ stop. self.now.is_bound ≡ false → stop ≡ Memory) }
     {
-        self.spend_step(steps)?;
+        spend_step(self.is_bound, steps)?;
         if !self.may_follow(path, next) {
             return Ok(None);
         }
         let longer = longer_path(path, next);
         self.grow(alloc, pattern, longer.as_slice(), steps)
     }
-}
-
-// The path with one more edge.
-fn longer_path(path: &[usize], next: usize) -> ArrayVec<usize, LONGEST>
-    requires { length path.now < LONGEST }
-    ensures { result.items ≡ path.now ++ next ∷ [] }
-{
-    let mut longer = ArrayVec::new();
-    for &i in path {
-        longer.push(i);
-    }
-    longer.push(next);
-    longer
 }

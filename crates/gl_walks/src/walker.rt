@@ -3,35 +3,16 @@ ghost use Rattle.std.specs.Prelude.{◌≡◌, ◌<◌, ◌≤◌, false, length
 ghost use Rattle.gl_segments.specs.Clocks.{is_before};
 ghost use Rattle.gl_filters.specs.Picked.{edges_of_table};
 ghost use Rattle.gl_filters.specs.declared.steps.Stop.TheVariants.{Memory};
-ghost use Rattle.gl_walks.specs.declared.walker.TheConstants.{LONGEST};
+ghost use Rattle.gl_filters.specs.declared.lengths.TheConstants.{LONGEST};
 ghost use Rattle.gl_walks.specs.Walks.{NoWalk, IsFirstWalk};
 
+use crate::ground::Ground;
 use crate::purpose::Purpose;
 use crate::search::Search;
-use gl_edges::{Edge, Sample};
 use gl_event::Memory;
-use gl_filters::{Mode, Stop};
-use gl_segments::Order;
+use gl_filters::Stop;
 use std::alloc::Global;
 use std::marker::Model;
-
-/// How many classes a pattern has at most.
-pub const LONGEST: usize = 16;
-
-/// What is walked through.
-#[derive(Clone, Copy, Drop)]
-pub struct Ground<'a> {
-    /// The edges.
-    pub table: &'a [(Edge, Sample)],
-    /// Which segment is before which.
-    pub order: &'a Order,
-    /// What is asked of two edges of a walk.
-    pub mode: Mode,
-    /// The class of each edge.
-    pub classes: &'a [usize],
-    /// Which edges may be walked along.
-    pub flags: &'a [bool],
-}
 
 /// Finds walks for a purpose through flagged edges of given classes. Contracts see the ground, the
 /// purpose, and whether it is bound to steps.

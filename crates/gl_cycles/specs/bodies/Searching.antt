@@ -9,12 +9,12 @@ use Rattle.gl_index.specs.Indexes.{IsIndexOf}
 use Rattle.gl_pruning.specs.OffCycles.{KeepsCycles}
 use Rattle.gl_pruning.specs.declared.sought.Sought.{Sought}
 use Rattle.gl_cycles.specs.declared.paths.Searcher.{Searcher}
-use Rattle.gl_pruning.specs.declared.lengths.TheConstants.{PATH}
+use Rattle.gl_filters.specs.declared.lengths.TheConstants.{LONGEST}
 
 -- the search can begin
 pub record IsReady (s : Searcher) : Type 0 where
   -- a path has room for the edges of a cycle
-  pub fits : s.len ≤ PATH
+  pub fits : s.len ≤ LONGEST
   -- what is left out is in no cycle that is looked for
   pub kept : KeepsCycles (is_before s.order.now) s.mode s.len (edges_of_table s.table.now) s.kept.items
   -- and the index leads through the rest

@@ -1,11 +1,11 @@
 -- What a search of signatures is told, and what it finds.
-use Rattle.std.specs.Prelude.{◌≡◌, ℕ, ◌<◌, ◌≤◌, ◌-◌, false, List, [], ◌∷◌, length, take, get_or}
+use Rattle.std.specs.Prelude.{◌≡◌, ℕ, ◌<◌, ◌≤◌, ◌-◌, false, List, [], ◌∷◌, ◌++◌, length, take, get_or}
 use Rattle.gl_segments.specs.Clocks.{is_before}
 use Rattle.gl_filters.specs.Picked.{edges_of_table}
 use Rattle.gl_pruning.specs.OffCycles.{KeepsCycles}
 use Rattle.gl_walks.specs.declared.purpose.Purpose.{Purpose}
 use Rattle.gl_walks.specs.declared.purpose.Purpose.TheVariants.{Cycle, Front}
-use Rattle.gl_walks.specs.declared.walker.TheConstants.{LONGEST}
+use Rattle.gl_filters.specs.declared.lengths.TheConstants.{LONGEST}
 use Rattle.gl_walks.specs.declared.walker.Walker.{Walker}
 use Rattle.gl_findings.specs.Findings.{classes_of}
 use Rattle.gl_findings.specs.bodies.Grounds.{AreModels, IsNextClass}
@@ -39,6 +39,10 @@ pub record IsReady (s : Finder) : Type 0 where
 -- no walk ends before it is through
 abbrev pub IsUnbound : Finder → Type 0
 IsUnbound s = (s.cycles.is_bound ≡ false) × (s.fronts.is_bound ≡ false)
+
+-- these were added behind those before, up to the cap
+abbrev pub AreAdded : Finder → (more before after : List (List ℕ)) → Type 0
+AreAdded s more before after = after ≡ take s.cap (before ++ more)
 
 -- the finding of a signature, where it has one
 abbrev pub finding_of : Finder → List ℕ → List (List ℕ)

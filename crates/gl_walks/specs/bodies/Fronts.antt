@@ -14,7 +14,7 @@ use Rattle.gl_walks.specs.declared.keys.Keyed.{Keyed}
 use Rattle.gl_walks.specs.declared.keys.Keyed.TheVariants.{ByClass, ByLock}
 use Rattle.gl_walks.specs.declared.purpose.Purpose.{Purpose}
 use Rattle.gl_walks.specs.declared.purpose.Purpose.TheVariants.{Cycle, Front}
-use Rattle.gl_walks.specs.declared.walker.Ground.{Ground}
+use Rattle.gl_walks.specs.declared.ground.Ground.{Ground}
 use Rattle.gl_walks.specs.Walks.{is_front, IsWalk}
 use Rattle.gl_walks.specs.bodies.Listing.{Key, key_at, IsChain}
 

@@ -15,7 +15,7 @@ returns-then-not-is_empty c =
     let asked = c.args.query.now in
     let edges = edges_of_table c.args.edges.now in
     let some : 0 < length (take asked.max (all_cycles before asked.mode asked.len edges)) =
-    omega (arith, some_from_test (length c.as_slice.result.now) c.if-not-is_empty.ensures, ap length (c.as_slice.ensures ∙ c.requires), length-map c.as_slice.result.now (λ cycle. cycle.items)) in
+    omega (arith, some_from_test (length c.as_slice.result.now) c.if-not-is_empty.ensures, ap length (c.as_slice.ensures ∙ ap (λ found. found.cycles) c.requires), length-map c.as_slice.result.now (λ cycle. cycle.items)) in
     let first = first_of_taken asked.max (all_cycles before asked.mode asked.len edges) some in
     sym (none_with_cycle before asked.mode edges asked.len first.0 first.1)
 

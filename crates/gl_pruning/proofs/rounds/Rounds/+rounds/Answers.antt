@@ -41,7 +41,7 @@ may_close-may_close_by-requires t c =
     let last = last_edge r c.args.path.now c.requires.within c.requires.some in
     let had : Tried r c.args.path.now last.0.wanted (Some c.in-Some.i) = subst (Tried r c.args.path.now last.0.wanted) c.in-Some.is (c.loop-next.invariant last.0 last.1) in
     let long = length-map r.sought.table.now (λ pair. pair.0) in
-    let short = c.if-path-ge-PATH.false in (
+    let short = c.if-path-ge-LONGEST.false in (
       search rules,
       (
         c.requires.some,

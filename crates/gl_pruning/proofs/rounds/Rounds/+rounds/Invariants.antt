@@ -2,17 +2,17 @@ use Rattle.std.proofs.Common.{◌≡◌, ◌+◌, ◌-◌, ◌*◌, Some, length
 use Rattle.std.specs.Prelude.{slice_get, unwrap_or}
 use Rattle.gl_edges.specs.declared.edge.Edge.{Edge}
 use Rattle.gl_segments.specs.Clocks.{is_before}
-use Rattle.gl_pruning.specs.declared.lengths.TheConstants.{PATH}
+use Rattle.gl_filters.specs.declared.lengths.TheConstants.{LONGEST}
 use Rattle.gl_filters.specs.Picked.{edges_of_table}
 use Rattle.gl_pruning.specs.bodies.Kinds.{AreTried}
 use Rattle.gl_pruning.proofs.rounds.Rounds.+rounds.Given as goal
 
 -- how many more models the path may have; a call for one of them comes between two lengths
 abbrev pub decreases-may_close : goal.decreases-may_close
-decreases-may_close l = 2 * (PATH - length l.path.now) + 1
+decreases-may_close l = 2 * (LONGEST - length l.path.now) + 1
 
 abbrev pub decreases-may_close_by : goal.decreases-may_close_by
-decreases-may_close_by l = 2 * (PATH - length l.path.now)
+decreases-may_close_by l = 2 * (LONGEST - length l.path.now)
 
 -- the models before the next one were tried
 abbrev pub invariant-may_close-loop-next : goal.invariant-may_close-loop-next

@@ -1,5 +1,5 @@
 use Rattle.std.proofs.Common.{◌≡◌, take}
-use Rattle.gl_pruning.proofs.lengths.longer_path.Given as goal
+use Rattle.gl_filters.proofs.lengths.longer_path.Given as goal
 
 -- the path so far
 abbrev pub invariant-loop-i : goal.invariant-loop-i

@@ -5,7 +5,7 @@ use Rattle.gl_filters.specs.Picked.{edges_of_table}
 use Rattle.gl_walks.specs.bodies.Listing.{key_at}
 use Rattle.gl_walks.proofs.Keying.{key_flagged, key_unflagged}
 use Rattle.gl_walks.proofs.Places.{edge_at, element_at}
-use Rattle.gl_walks.proofs.walker.Ground.key.Goals as goal
+use Rattle.gl_walks.proofs.ground.Ground.key.Goals as goal
 
 -- the edge isn't flagged
 pub returns-then-not-self-i : goal.returns-then-not-self-i

@@ -2,7 +2,7 @@ use Rattle.std.proofs.Common.{◌≡◌, ◌+◌, ◌-◌, length, sym, subst, a
 use Rattle.std.proofs.lemmas.List.{length-map}
 use Rattle.gl_filters.specs.Picked.{edges_of_table}
 use Rattle.gl_walks.specs.bodies.Listing.{IsChain, key_at}
-use Rattle.gl_walks.proofs.walker.Ground.chain.Goals as goal
+use Rattle.gl_walks.proofs.ground.Ground.chain.Goals as goal
 
 -- before any position is put into it
 pub loop-i-init : goal.loop-i-init
