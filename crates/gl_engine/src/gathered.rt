@@ -8,16 +8,20 @@ use std::marker::Model;
 
 /// What went wrong first in a run: nothing was collected or shipped after it.
 ///
-/// [`Collector::run`](crate::Collector::run) says so of `Gone`, by the edges that were shipped, and of
-/// `Broken`, by the notes that were collected. Memory may be refused at any time.
+/// [`Collector::run`](crate::Collector::run) says of each what was collected and shipped until then. Memory
+/// may be refused at any time.
 #[derive(Clone, Copy, Debug, PartialEq, Eq)]
 pub enum RunFault {
-    /// There was no memory for a note, for its edges or for the list of feeds.
+    /// There was no memory: for the list of feeds or for the edges of the pulls before, and the run did not
+    /// begin; or for a note or its edges, in a thread's turn. The edges of all notes before the turn were
+    /// shipped then, and none of the notes that the turn had pulled.
     Memory,
     /// The worker's end of this shard's feed was dropped: the next edge made is this shard's and could not
     /// be sent, or all were, and its feed is the first that could not be ended.
     Gone { shard: u32 },
-    /// A note of the thread's lane may not come next after those that were collected, for this reason.
+    /// A note of the thread's lane may not come next after those that were collected, for this reason. The
+    /// edges of all notes before the thread's turn were shipped, and none of the notes that the turn had
+    /// pulled before this one.
     Broken { thread: ThreadId, refused: Refused },
 }
 
