@@ -254,7 +254,7 @@ module _ (session : ℕ) (limits : Bounds) (inputs : List LaneInput) (receipts :
         none_to_blame limits thread stream is.taken is.note why r its (its_limits at r here) first is.told is.refused
 
     -- with its receipts, a run is left with no fault of a lane
-    pub memory_or_gone : (f : RunFault) → IsBlamed (λ shard. Unit {0}) limits inputs stream f → IsMemoryOrGone (told f)
+    pub memory_or_gone : (f : RunFault) → IsBlamed limits inputs stream f → IsMemoryOrGone (told f)
     memory_or_gone kept.Memory is = tt
     memory_or_gone (kept.Gone shard) is = tt
     memory_or_gone (kept.Broken thread why) is = absurd (never_broken thread why is)

@@ -14,9 +14,9 @@ use Rattle.gl_intake.specs.declared.notes.Refused.{Refused}
 use Rattle.gl_shards.specs.Feeds.{AllSent, FeedId, Sending}
 use Rattle.gl_world.proofs.Lists.{same_some}
 use Rattle.gl_engine.specs.Dealing.{dealt, made_by}
-use Rattle.gl_engine.specs.Collecting.{as_of}
-use Rattle.gl_engine.specs.Gathering.{Gathering, AreEnded, IsFoundBroken, IsFoundGone, IsStoppedAt}
-use Rattle.gl_engine.specs.bodies.Breaking.{first_of, HasStopped, IsBlamed, IsBroken}
+use Rattle.gl_engine.specs.Collecting.{Collecting, as_of}
+use Rattle.gl_engine.specs.Gathering.{Gathering, AreEnded, AreEndedAfter, HasCollectedAll, HasRunThrough, IsFoundBroken, IsFoundGone, IsLeftBy, IsStoppedAt, IsStoppedInTurn}
+use Rattle.gl_engine.specs.bodies.Breaking.{first_of, HasLagged, HasStopped, IsBlamed, IsBroken, StopsWith}
 use Rattle.gl_engine.specs.bodies.Whole.{KeepsUp}
 use Rattle.gl_engine.specs.declared.gathered.RunFault.{RunFault}
 use Rattle.gl_engine.specs.declared.gathered.RunFault.TheVariants as kept
@@ -131,21 +131,33 @@ module _ (feeds : List FeedId) (sent : List (List (Edge × Sample))) (kept : Lis
 pub none_ended : AreEnded [] [] [] None
 none_ended = record { each = []; feeds_are = refl; sent_are = refl; kept_are = refl; first = refl }
 
--- ---- how a run found a worker gone
+-- ---- how a run went
 
-module _ (g : Gathering) (inputs : List LaneInput) (given outlets : List Sending) (feeds : map (λ o. o.feed) outlets ≡ map (λ o. o.feed) given) (shard : ℕ) where
+module _ (c : Collecting) (g : Gathering) (inputs : List LaneInput) (given outlets : List Sending) (feeds : map (λ o. o.feed) outlets ≡ map (λ o. o.feed) given) (limits : Bounds) (same : limits ≡ g.limits) where
   many : length outlets ≡ length given
   many = as_long (λ (o : Sending). o.feed) (λ (o : Sending). o.feed) outlets given feeds
 
-  -- the feeds were ended after these edges were dealt
-  ended_with : (shipped : List (Edge × Sample)) (gone : Option ℕ) → map (λ o. o.sent) outlets ≡ dealt (length given) shipped → AreEnded (map (λ o. o.feed) outlets) (map (λ o. o.sent) outlets) g.sent gone
-      → AreEnded (map (λ o. o.feed) given) (dealt (length given) shipped) g.sent gone
-  ended_with shipped gone sent ended =
-      subst (λ fs. AreEnded fs (dealt (length given) shipped) g.sent gone) feeds (subst (λ xs. AreEnded (map (λ o. o.feed) outlets) xs g.sent gone) sent ended)
+  abbrev sent : List (List (Edge × Sample))
+  sent = map (λ o. o.sent) outlets
 
-  stopped_given : HasStopped (made_by g.stream) (map (λ o. o.sent) outlets) shard → (gone : Option ℕ) → AreEnded (map (λ o. o.feed) outlets) (map (λ o. o.sent) outlets) g.sent gone → IsFoundGone given g shard
-  stopped_given has gone ended =
-      let count : length (map (λ (o : Sending). o.sent) outlets) ≡ length given = length-map outlets (λ (o : Sending). o.sent) ∙ many in
+  -- the feeds were ended after these edges were dealt
+  ended_with : (shipped : List (Edge × Sample)) (gone : Option ℕ) → sent ≡ dealt (length given) shipped → AreEnded (map (λ o. o.feed) outlets) sent g.sent gone → AreEndedAfter given shipped g gone
+  ended_with shipped gone are ended =
+      subst (λ fs. AreEnded fs (dealt (length given) shipped) g.sent gone) feeds (subst (λ xs. AreEnded (map (λ o. o.feed) outlets) xs g.sent gone) are ended)
+
+  count : length sent ≡ length given
+  count = length-map outlets (λ (o : Sending). o.sent) ∙ many
+
+  -- all was collected
+  collected_all : KeepsUp limits inputs g.stream outlets → ((thread : ℕ) → thread < limits.threads → has_ended thread g.stream ≡ true) → HasCollectedAll g
+  collected_all keeps all = record {
+    in_order = subst (λ (b : Bounds). AreInOrder b g.stream) same keeps.collector.in_order;
+    all_ended = subst (λ (b : Bounds). (thread : ℕ) → thread < b.threads → has_ended thread g.stream ≡ true) same all;
+  }
+
+  -- shipping stopped at a worker that was gone
+  gone_shipping : (shard : ℕ) → HasStopped (made_by g.stream) sent shard → (gone : Option ℕ) → AreEnded (map (λ o. o.feed) outlets) sent g.sent gone → IsFoundGone given g shard
+  gone_shipping shard has gone ended =
       inl (record {
         shipped = has.shipped;
         stopped = subst (λ n. IsStoppedAt n (made_by g.stream) has.shipped shard) count has.stopped;
@@ -153,34 +165,90 @@ module _ (g : Gathering) (inputs : List LaneInput) (given outlets : List Sending
         ended = ended_with has.shipped gone (has.dealt_are ∙ ap (λ n. dealt n has.shipped) count) ended;
       })
 
-  pub found_gone : (limits : Bounds) → limits ≡ g.limits → (gathered : Result (Unit {0}) RunFault) (gone : Option ℕ) → OnOk gathered (KeepsUp limits inputs g.stream outlets) → OnOk gathered ((thread : ℕ) → thread < limits.threads → has_ended thread g.stream ≡ true)
-      → IfErr gathered (IsBlamed (HasStopped (made_by g.stream) (map (λ o. o.sent) outlets)) limits inputs g.stream) → AreEnded (map (λ o. o.feed) outlets) (map (λ o. o.sent) outlets) g.sent gone
-      → first_of gathered gone ≡ Some (kept.Gone shard) → IsFoundGone given g shard
-  found_gone limits same (Err fault) gone keeps all blamed ended is =
-      stopped_given (subst (IsBlamed (HasStopped (made_by g.stream) (map (λ o. o.sent) outlets)) limits inputs g.stream) (same_some fault (kept.Gone shard) is) blamed) gone ended
-  found_gone limits same (Ok done) None keeps all blamed ended is = absurd (let e : None ≡ Some (kept.Gone shard) = is in cc)
-  found_gone limits same (Ok done) (Some first) keeps all blamed ended is =
-      let its : first ≡ shard = (let e : Some (kept.Gone first) ≡ Some (kept.Gone shard) = is in cc) in
-      inr (record {
-        in_order = subst (λ (b : Bounds). AreInOrder b g.stream) same keeps.collector.in_order;
-        all_ended = subst (λ (b : Bounds). (thread : ℕ) → thread < b.threads → has_ended thread g.stream ≡ true) same all;
-        ended = subst (λ k. AreEnded (map (λ o. o.feed) given) (dealt (length given) (made_by g.stream)) g.sent (Some k)) its
-            (ended_with (made_by g.stream) (Some first) (keeps.shipped ∙ ap (λ n. dealt n (made_by g.stream)) many) ended);
-      })
+  -- a turn went wrong
+  stopped_turn : (thread : ℕ) → HasLagged c.stream g.stream sent thread → (gone : Option ℕ) → AreEnded (map (λ o. o.feed) outlets) sent g.sent gone → IsStoppedInTurn c given g thread
+  stopped_turn thread has gone ended = record {
+    before = has.before;
+    later = has.later;
+    turn = has.turn;
+    gone = gone;
+    ended = ended_with (made_by has.before) gone (has.dealt_are ∙ ap (λ n. dealt n (made_by has.before)) count) ended;
+  }
 
--- ---- how a run found a lane broken
-
-module _ (g : Gathering) (inputs : List LaneInput) (count : length inputs ≡ g.limits.threads) (thread : ℕ) (why : Refused) where
-  broken_at : (limits : Bounds) → limits ≡ g.limits → IsBroken limits inputs g.stream thread why → IsFoundBroken g thread why
-  broken_at limits same broken = record {
-    known = (let there = slice_get_within inputs thread broken.came.input broken.came.here in omega (arith, there, count));
+  -- a lane broke
+  broken_at : length inputs ≡ g.limits.threads → (thread : ℕ) (why : Refused) → IsBroken limits inputs g.stream thread why → IsStoppedInTurn c given g thread → IsFoundBroken c given g thread why
+  broken_at known thread why broken stopped = record {
+    known = (let there = slice_get_within inputs thread broken.came.input broken.came.here in omega (arith, there, known));
     note = as_of thread broken.note;
     whose = refl;
     refused = subst (λ (b : Bounds). IsRefusal b g.stream (as_of thread broken.note) why) same broken.refused;
+    stopped = stopped;
   }
 
-  pub found_broken : (IsGone : ℕ → Type 0) (limits : Bounds) → limits ≡ g.limits → (gathered : Result (Unit {0}) RunFault) (gone : Option ℕ) → IfErr gathered (IsBlamed IsGone limits inputs g.stream)
-      → first_of gathered gone ≡ Some (kept.Broken thread why) → IsFoundBroken g thread why
-  found_broken IsGone limits same (Err fault) gone blamed is = broken_at limits same (subst (IsBlamed IsGone limits inputs g.stream) (same_some fault (kept.Broken thread why) is) blamed)
-  found_broken IsGone limits same (Ok done) None blamed is = absurd (let e : None ≡ Some (kept.Broken thread why) = is in cc)
-  found_broken IsGone limits same (Ok done) (Some first) blamed is = absurd (let e : Some (kept.Gone first) ≡ Some (kept.Broken thread why) = is in cc)
+  module _ (left : IsLeftBy c g) (known : length inputs ≡ g.limits.threads) where
+    -- this went wrong as all was gathered
+    stopped_by : (fault : RunFault) → g.fault ≡ Some fault → IsBlamed limits inputs g.stream fault → StopsWith c.stream g.stream sent fault → (gone : Option ℕ) → AreEnded (map (λ o. o.feed) outlets) sent g.sent gone → HasRunThrough c given g
+    stopped_by kept.Memory is blamed stops gone ended = record {
+      left = left;
+      whole = λ none. absurd (let e : Some kept.Memory ≡ None = sym is ∙ none in cc);
+      short = λ it. inr (stops.0, stopped_turn stops.0 stops.1 gone ended);
+      gone = λ shard it. absurd (let e : kept.Memory ≡ kept.Gone shard = same_some _ _ (sym is ∙ it) in cc);
+      broken = λ thread why it. absurd (let e : kept.Memory ≡ kept.Broken thread why = same_some _ _ (sym is ∙ it) in cc);
+    }
+    stopped_by (kept.Gone shard) is blamed stops gone ended = record {
+      left = left;
+      whole = λ none. absurd (let e : Some (kept.Gone shard) ≡ None = sym is ∙ none in cc);
+      short = λ it. absurd (let e : kept.Gone shard ≡ kept.Memory = same_some _ _ (sym is ∙ it) in cc);
+      gone = λ other it. (let its : shard ≡ other = (let e : kept.Gone shard ≡ kept.Gone other = same_some _ _ (sym is ∙ it) in cc) in subst (IsFoundGone given g) its (gone_shipping shard stops gone ended));
+      broken = λ thread why it. absurd (let e : kept.Gone shard ≡ kept.Broken thread why = same_some _ _ (sym is ∙ it) in cc);
+    }
+    stopped_by (kept.Broken thread why) is blamed stops gone ended = record {
+      left = left;
+      whole = λ none. absurd (let e : Some (kept.Broken thread why) ≡ None = sym is ∙ none in cc);
+      short = λ it. absurd (let e : kept.Broken thread why ≡ kept.Memory = same_some _ _ (sym is ∙ it) in cc);
+      gone = λ shard it. absurd (let e : kept.Broken thread why ≡ kept.Gone shard = same_some _ _ (sym is ∙ it) in cc);
+      broken = λ other reason it.
+          (let e : kept.Broken thread why ≡ kept.Broken other reason = same_some _ _ (sym is ∙ it) in
+          let its : thread ≡ other = (cc) in
+          let so : why ≡ reason = (cc) in
+          subst (λ t. IsFoundBroken c given g t reason) its (subst (IsFoundBroken c given g thread) so (broken_at known thread why blamed (stopped_turn thread stops gone ended))));
+    }
+
+    -- nothing did
+    run_whole : g.fault ≡ None → KeepsUp limits inputs g.stream outlets → ((thread : ℕ) → thread < limits.threads → has_ended thread g.stream ≡ true) → AreEnded (map (λ o. o.feed) outlets) sent g.sent None → HasRunThrough c given g
+    run_whole is keeps all ended = record {
+      left = left;
+      whole = λ none. record {
+        collected = collected_all keeps all;
+        feeds = (all_ended _ _ _ ended).0 ∙ feeds;
+        shipped = (all_ended _ _ _ ended).1 ∙ keeps.shipped ∙ ap (λ n. dealt n (made_by g.stream)) many;
+      };
+      short = λ it. absurd (let e : None ≡ Some kept.Memory = sym is ∙ it in cc);
+      gone = λ shard it. absurd (let e : None ≡ Some (kept.Gone shard) = sym is ∙ it in cc);
+      broken = λ thread why it. absurd (let e : None ≡ Some (kept.Broken thread why) = sym is ∙ it in cc);
+    }
+
+    -- a worker was gone at the end
+    run_gone : (first : ℕ) → g.fault ≡ Some (kept.Gone first) → KeepsUp limits inputs g.stream outlets → ((thread : ℕ) → thread < limits.threads → has_ended thread g.stream ≡ true)
+        → AreEnded (map (λ o. o.feed) outlets) sent g.sent (Some first) → HasRunThrough c given g
+    run_gone first is keeps all ended = record {
+      left = left;
+      whole = λ none. absurd (let e : Some (kept.Gone first) ≡ None = sym is ∙ none in cc);
+      short = λ it. absurd (let e : kept.Gone first ≡ kept.Memory = same_some _ _ (sym is ∙ it) in cc);
+      gone = λ shard it.
+          (let its : first ≡ shard = (let e : kept.Gone first ≡ kept.Gone shard = same_some _ _ (sym is ∙ it) in cc) in
+          let found : IsFoundGone given g first =
+          inr (record {
+            collected = collected_all keeps all;
+            ended = ended_with (made_by g.stream) (Some first) (keeps.shipped ∙ ap (λ n. dealt n (made_by g.stream)) many) ended;
+          }) in
+          subst (IsFoundGone given g) its found);
+      broken = λ thread why it. absurd (let e : kept.Gone first ≡ kept.Broken thread why = same_some _ _ (sym is ∙ it) in cc);
+    }
+
+    pub run_through : (gathered : Result (Unit {0}) RunFault) (gone : Option ℕ) → g.fault ≡ first_of gathered gone → OnOk gathered (KeepsUp limits inputs g.stream outlets)
+        → OnOk gathered ((thread : ℕ) → thread < limits.threads → has_ended thread g.stream ≡ true) → IfErr gathered (IsBlamed limits inputs g.stream) → IfErr gathered (StopsWith c.stream g.stream sent)
+        → AreEnded (map (λ o. o.feed) outlets) sent g.sent gone → HasRunThrough c given g
+    run_through (Err fault) gone is keeps all blamed stops ended = stopped_by fault is blamed stops gone ended
+    run_through (Ok done) None is keeps all blamed stops ended = run_whole is keeps all ended
+    run_through (Ok done) (Some first) is keeps all blamed stops ended = run_gone first is keeps all ended

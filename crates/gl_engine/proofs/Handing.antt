@@ -1,16 +1,19 @@
--- What lanes hand over, note by note.
-use Rattle.std.proofs.Common.{◌≡◌, ℕ, ◌<◌, List, [], ◌∷◌, ◌++◌, length, set, Result, Ok, Err, get_or, sym, ap, ◌∙◌, subst, append_assoc, inl, inr}
+-- What lanes hand over, note by note, and what stops a run.
+use Rattle.std.proofs.Common.{◌≡◌, ℕ, ◌+◌, ◌<◌, ◌≤◌, List, [], ◌∷◌, ◌++◌, length, map, set, Result, Ok, Err, get_or, sym, ap, ◌∙◌, subst, append_assoc, arith, inl, inr}
 use Rattle.std.specs.Prelude.{slice_get, OnOk}
 use mathlib.Core.List.{IsPrefix}
 use Rattle.std.proofs.lemmas.Bool.{cases_eq}
-use Rattle.std.proofs.lemmas.List.{append-nil}
+use Rattle.std.proofs.lemmas.List.{append-nil, length-append, length-map, map-append}
 use Rattle.gl_event.specs.Bounds.{Bounds}
 use Rattle.gl_event.specs.declared.notes.Note.{Note}
 use Rattle.gl_edges.specs.declared.edge.Edge.{Edge}
 use Rattle.gl_edges.specs.declared.edge.Sample.{Sample}
 use Rattle.gl_lane.specs.Lanes.{Popping}
+use Rattle.gl_shards.specs.Feeds.{Sending}
 use Rattle.gl_world.proofs.Lists.{same_some, get_at, get_set_same, get_set_other}
-use Rattle.gl_engine.specs.bodies.Breaking.{handed, HandOver, HasStopped, IsBlamed, IsGoneAt}
+use Rattle.gl_engine.specs.bodies.Breaking.{handed, HandOver, HasLagged, HasStopped, IsBlamed, IsGoneAt, IsPullFault, StopsWith}
+use Rattle.gl_engine.specs.Collecting.{as_of, IsTurn}
+use Rattle.gl_engine.specs.Dealing.{dealt, made_by}
 use Rattle.gl_engine.specs.declared.gathered.RunFault.{RunFault}
 use Rattle.gl_engine.specs.declared.gathered.RunFault.TheVariants.{Memory, Gone, Broken}
 use Rattle.gl_engine.specs.declared.lane_input.LaneInput.{LaneInput}
@@ -59,39 +62,87 @@ hand_over_one inputs i was new within is more thread input at =
 
 -- ---- what is to blame
 
-module _ (IsGone : ℕ → Type 0) (limits : Bounds) where
-  -- whatever comes later, the same note is to blame
-  pub blamed_later : (before after : List LaneInput) (stream : List Note) (fault : RunFault) → HandOver before after → IsBlamed IsGone limits before stream fault → IsBlamed IsGone limits after stream fault
-  blamed_later before after stream Memory more is = tt
-  blamed_later before after stream (Gone shard) more is = is
-  blamed_later before after stream (Broken thread why) more is =
-      let later = more thread is.came.input is.came.here in
-      record {
-        taken = is.taken;
-        note = is.note;
-        told = is.told;
-        came = record { input = later.input; here = later.here; first = prefix_on (is.taken ++ is.note ∷ []) (handed is.came.input.lane) (handed later.input.lane) is.came.first later.first };
-        refused = is.refused;
-      }
+-- whatever comes later, the same note is to blame
+pub blamed_later : (limits : Bounds) (before after : List LaneInput) (stream : List Note) (fault : RunFault) → HandOver before after → IsBlamed limits before stream fault → IsBlamed limits after stream fault
+blamed_later limits before after stream Memory more is = tt
+blamed_later limits before after stream (Gone shard) more is = tt
+blamed_later limits before after stream (Broken thread why) more is =
+    let later = more thread is.came.input is.came.here in
+    record {
+      taken = is.taken;
+      note = is.note;
+      told = is.told;
+      came = record { input = later.input; here = later.here; first = prefix_on (is.taken ++ is.note ∷ []) (handed is.came.input.lane) (handed later.input.lane) is.came.first later.first };
+      refused = is.refused;
+    }
 
-  -- a pull finds no worker gone
-  pub blamed_pull : (inputs : List LaneInput) (stream : List Note) (fault : RunFault) → IsBlamed (λ shard. ⊥) limits inputs stream fault → IsBlamed IsGone limits inputs stream fault
-  blamed_pull inputs stream Memory is = tt
-  blamed_pull inputs stream (Gone shard) is = absurd is
-  blamed_pull inputs stream (Broken thread why) is = is
-
-  -- whichever worker it is
-  pub blamed_any : (inputs : List LaneInput) (stream : List Note) (fault : RunFault) → IsBlamed IsGone limits inputs stream fault → IsBlamed (λ shard. Unit {0}) limits inputs stream fault
-  blamed_any inputs stream Memory is = tt
-  blamed_any inputs stream (Gone shard) is = tt
-  blamed_any inputs stream (Broken thread why) is = is
+-- what goes wrong in a pull
+pub blamed_pull : (thread : ℕ) (limits : Bounds) (inputs : List LaneInput) (stream : List Note) (fault : RunFault) → IsPullFault thread limits inputs stream fault → IsBlamed limits inputs stream fault
+blamed_pull thread limits inputs stream Memory is = tt
+blamed_pull thread limits inputs stream (Gone shard) is = absurd is
+blamed_pull thread limits inputs stream (Broken number why) is = is.1
 
 -- no lane is to blame for a worker that is gone
-pub blamed_gone : (limits : Bounds) (inputs : List LaneInput) (stream : List Note) (made : List (Edge × Sample)) (sent : List (List (Edge × Sample))) (fault : RunFault) → IsGoneAt made sent fault
-    → IsBlamed (HasStopped made sent) limits inputs stream fault
-blamed_gone limits inputs stream made sent Memory is = absurd is
-blamed_gone limits inputs stream made sent (Gone shard) is = is
+pub blamed_gone : (limits : Bounds) (inputs : List LaneInput) (stream : List Note) (made : List (Edge × Sample)) (sent : List (List (Edge × Sample))) (fault : RunFault) → IsGoneAt made sent fault → IsBlamed limits inputs stream fault
+blamed_gone limits inputs stream made sent Memory is = tt
+blamed_gone limits inputs stream made sent (Gone shard) is = tt
 blamed_gone limits inputs stream made sent (Broken thread why) is = absurd is
+
+-- ---- what was sent
+
+-- where pulls go wrong, all was sent that was made before them
+pub stops_pull : (thread : ℕ) (limits : Bounds) (inputs : List LaneInput) (first stream : List Note) (outlets : List Sending) (fault : RunFault) → IsPullFault thread limits inputs stream fault
+    → IsTurn 64 thread first stream → map (λ o. o.sent) outlets ≡ dealt (length outlets) (made_by first) → StopsWith first stream (map (λ o. o.sent) outlets) fault
+stops_pull thread limits inputs first stream outlets fault is turn sent = by fault is
+  where
+    lagged : HasLagged first stream (map (λ o. o.sent) outlets) thread
+    lagged = record {
+      before = first;
+      later = prefix_same first;
+      turn = turn;
+      dealt_are = sent ∙ ap (λ n. dealt n (made_by first)) (sym (length-map outlets (λ (o : Sending). o.sent)));
+    }
+
+    by : (fault : RunFault) → IsPullFault thread limits inputs stream fault → StopsWith first stream (map (λ o. o.sent) outlets) fault
+    by Memory is = (thread, lagged)
+    by (Gone shard) is = absurd is
+    by (Broken number why) is = subst (HasLagged first stream (map (λ o. o.sent) outlets)) (sym is.0) lagged
+
+-- shipping stops at a worker that is gone
+pub stops_gone : (first stream : List Note) (made : List (Edge × Sample)) (sent : List (List (Edge × Sample))) (fault : RunFault) → made ≡ made_by stream → IsGoneAt made sent fault → StopsWith first stream sent fault
+stops_gone first stream made sent Memory same is = absurd is
+stops_gone first stream made sent (Gone shard) same is = subst (λ pairs. HasStopped pairs sent shard) same is
+stops_gone first stream made sent (Broken thread why) same is = absurd is
+
+-- and the run had begun with fewer notes
+lagged_since : (early first stream : List Note) (sent : List (List (Edge × Sample))) (thread : ℕ) → IsPrefix early first → HasLagged first stream sent thread → HasLagged early stream sent thread
+lagged_since early first stream sent thread more is = record { before = is.before; later = prefix_on early first is.before more is.later; turn = is.turn; dealt_are = is.dealt_are }
+
+pub stops_since : (early first stream : List Note) (sent : List (List (Edge × Sample))) → IsPrefix early first → (fault : RunFault) → StopsWith first stream sent fault → StopsWith early stream sent fault
+stops_since early first stream sent more Memory is = (is.0, lagged_since early first stream sent is.0 more is.1)
+stops_since early first stream sent more (Gone shard) is = is
+stops_since early first stream sent more (Broken thread why) is = lagged_since early first stream sent thread more is
+
+-- ---- pulls off one lane
+
+-- none yet
+pub pulled_none : (thread : ℕ) (stream : List Note) → IsTurn 0 thread stream stream
+pulled_none thread stream = record { notes = []; few = omega arith; joined = append-nil stream }
+
+-- some, and then some more
+pub pulled_on : (one two both thread : ℕ) (before between after : List Note) → one + two ≤ both → IsTurn one thread before between → IsTurn two thread between after → IsTurn both thread before after
+pulled_on one two both thread before between after within a b = record {
+  notes = a.notes ++ b.notes;
+  few = (let f = a.few in let g = b.few in omega (arith, length-append a.notes b.notes, f, g, within));
+  joined = ap (λ notes. before ++ notes) (map-append (as_of thread) a.notes b.notes)
+      ∙ sym (append_assoc before (map (as_of thread) a.notes) (map (as_of thread) b.notes))
+      ∙ ap (λ notes. notes ++ map (as_of thread) b.notes) a.joined
+      ∙ b.joined;
+}
+
+-- what was collected before comes first
+pub pulled_prefix : (most thread : ℕ) (before after : List Note) → IsTurn most thread before after → IsPrefix before after
+pulled_prefix most thread before after is = (map (as_of thread) is.notes, is.joined)
 
 -- what holds anyway holds after an Ok
 pub on_ok_anyway : {A E P : Type 0} (r : Result A E) → P → OnOk r P

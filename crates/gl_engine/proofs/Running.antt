@@ -17,9 +17,9 @@ use Rattle.gl_shards.specs.Feeds.{AllSent, Sending}
 use Rattle.gl_shards.specs.Shards.{shard_of}
 use Rattle.gl_shards.specs.Tables.{of_shard}
 use Rattle.gl_world.proofs.Lists.{same_some, get_at, get_set_same}
-use Rattle.gl_engine.specs.Collecting.{Pulling, Side, as_of, with_pulled, HasPulled, IsSidePull}
+use Rattle.gl_engine.specs.Collecting.{Pulling, Side, as_of, with_pulled, HasPulled, IsTurn, IsSidePull}
 use Rattle.gl_intake.specs.declared.notes.Refused.{Refused}
-use Rattle.gl_engine.specs.bodies.Breaking.{first_of, HasStopped, IsBlamed, IsKeptFor, TellsTaken}
+use Rattle.gl_engine.specs.bodies.Breaking.{first_of, HasStopped, IsBlamed, IsBroken, IsKeptFor, IsPullFault, TellsTaken}
 use Rattle.gl_engine.specs.Dealing.{dealt, made_by}
 use Rattle.gl_engine.specs.Keeping.{BreaksForCause, IsCollector, pulling_of}
 use Rattle.gl_engine.specs.bodies.Whole.{lane_of, HasMoved, KeepsUp, IsWhole, IsGathered}
@@ -32,7 +32,7 @@ use Rattle.gl_engine.specs.declared.pulled.PullFault.{PullFault}
 use Rattle.gl_engine.specs.declared.pulled.PullFault.TheVariants.{Broken, Memory as OutOfMemory}
 use Rattle.gl_engine.specs.declared.lane_input.LaneInput.{LaneInput}
 use Rattle.gl_engine.proofs.Dealt.{dealt_at, dealt_more}
-use Rattle.gl_engine.proofs.Handing.{prefix_behind, blamed_any}
+use Rattle.gl_engine.proofs.Handing.{prefix_behind}
 use Rattle.gl_engine.proofs.Sides.{collector_after, lane_same}
 
 -- the side with these edges made before its own
@@ -86,15 +86,21 @@ module _ (limits : Bounds) (inputs : List LaneInput) (stream : List Note) (is : 
   pub lanes_later : map lane_of (set inputs thread new) ≡ map lane_of inputs
   lanes_later = map-set_same lane_of inputs thread new was (lane_same limits inputs stream (made_by stream) limits is thread was new within here later (made_by stream ++ due) answer told_after ∙ ap lane_of here)
 
-  grown_by : (answer : Result Pulled PullFault) → IsSidePull limits thread (record { input = pulling_of was; stream = stream; made = [] }) answer (record { input = pulling_of new; stream = later; made = due }) → IsPrefix stream later
-  grown_by (Ok Empty) t = ([], append-nil stream ∙ sym (ap (λ (s : Side). s.stream) t.1))
-  grown_by (Ok (Answered place)) t = (as_of thread t.note ∷ [], sym (ap (λ (s : Side). s.stream) t.moved))
-  grown_by (Ok (Closing count)) t = (as_of thread t.note ∷ [], sym (ap (λ (s : Side). s.stream) t.moved))
-  grown_by (Err (Broken why)) (inl same) = ([], append-nil stream ∙ sym (ap (λ (s : Side). s.stream) same.1))
-  grown_by (Err (Broken why)) (inr has) = ([], append-nil stream ∙ sym (ap (λ (s : Side). s.stream) has.moved))
-  grown_by (Err OutOfMemory) t = ([], append-nil stream ∙ sym (ap (λ (s : Side). s.stream) t.1))
+  pulled_same : later ≡ stream → IsTurn 1 thread stream later
+  pulled_same same = record { notes = []; few = omega arith; joined = append-nil stream ∙ sym same }
 
-  pub grown_later : IsPrefix stream later
+  pulled_one : (note : Note) → later ≡ stream ++ as_of thread note ∷ [] → IsTurn 1 thread stream later
+  pulled_one note grown = record { notes = note ∷ []; few = omega arith; joined = sym grown }
+
+  grown_by : (answer : Result Pulled PullFault) → IsSidePull limits thread (record { input = pulling_of was; stream = stream; made = [] }) answer (record { input = pulling_of new; stream = later; made = due }) → IsTurn 1 thread stream later
+  grown_by (Ok Empty) t = pulled_same (ap (λ (s : Side). s.stream) t.1)
+  grown_by (Ok (Answered place)) t = pulled_one t.note (ap (λ (s : Side). s.stream) t.moved)
+  grown_by (Ok (Closing count)) t = pulled_one t.note (ap (λ (s : Side). s.stream) t.moved)
+  grown_by (Err (Broken why)) (inl same) = pulled_same (ap (λ (s : Side). s.stream) same.1)
+  grown_by (Err (Broken why)) (inr has) = pulled_same (ap (λ (s : Side). s.stream) has.moved)
+  grown_by (Err OutOfMemory) t = pulled_same (ap (λ (s : Side). s.stream) t.1)
+
+  pub grown_later : IsTurn 1 thread stream later
   grown_later = grown_by answer tells
 
   longer : (note : Note) → later ≡ stream ++ note ∷ [] → length stream < length later
@@ -112,21 +118,23 @@ module _ (limits : Bounds) (inputs : List LaneInput) (stream : List Note) (is : 
   moved_by taken told = moved_by_answer taken answer tells told
 
   -- where the pull broke the lane, its front note is to blame
-  pub blamed_now : (fault : RunFault) → IsKeptFor thread answer fault → IsBlamed (λ shard. ⊥) limits (set inputs thread new) later fault
+  pub blamed_now : (fault : RunFault) → IsKeptFor thread answer fault → IsPullFault thread limits (set inputs thread new) later fault
   blamed_now kept.Memory told = tt
   blamed_now (kept.Gone shard) told = absurd told
   blamed_now (kept.Broken number why) told =
       let broken : new.broken ≡ Some why = broken_by limits thread _ _ why (subst (λ a. IsSidePull limits thread (record { input = pulling_of was; stream = stream; made = [] }) a (record { input = pulling_of new; stream = later; made = due })) told.1 tells) in
       let stuck = cause why broken in
-      let there : slice_get (set inputs thread new) thread ≡ Some new = get_set_same inputs thread new within in
-      subst (λ t. IsBlamed (λ shard. ⊥) limits (set inputs thread new) later (kept.Broken t why)) (sym told.0)
-      (record {
-        taken = new.lane.popped;
-        note = stuck.note;
-        told = after.inputs_are.told thread new there;
-        came = record { input = new; here = there; first = prefix_behind new.lane.popped (stuck.note ∷ []) new.lane.left stuck.front };
-        refused = stuck.refused;
-      })
+      let there : slice_get (set inputs thread new) thread ≡ Some new = get_set_same inputs thread new within in (
+        told.0,
+        subst (λ t. IsBroken limits (set inputs thread new) later t why) (sym told.0)
+            (record {
+              taken = new.lane.popped;
+              note = stuck.note;
+              told = after.inputs_are.told thread new there;
+              came = record { input = new; here = there; first = prefix_behind new.lane.popped (stuck.note ∷ []) new.lane.left stuck.front };
+              refused = stuck.refused;
+            }),
+      )
 
 -- ---- whether notes were collected
 
@@ -145,6 +153,11 @@ moved_first before between later false then a b is = absurd (false≢true is)
 pub moved_then : (before between later : List Note) (first then : Bool) → HasMoved before between first → HasMoved between later then → first ≡ false → HasMoved before later then
 moved_then before between later false then a b is = subst (λ (notes : List Note). HasMoved notes later then) a b
 moved_then before between later true then a b is = absurd (false≢true (sym is))
+
+-- surely then, whatever was first
+pub moved_again : (before between later : List Note) (then : Bool) → IsPrefix before between → HasMoved between later then → then ≡ true → HasMoved before later true
+moved_again before between later true more b is = omega (arith, b, ap length more.1, length-append before more.0)
+moved_again before between later false more b is = absurd (false≢true is)
 
 -- ---- what was shipped
 
@@ -222,19 +235,19 @@ all_whole limits inputs stream outlets sent keeps ended some are =
 pub lanes_shown : (inputs : List LaneInput) → map (λ (p : Pulling). p.lane) (map pulling_of inputs) ≡ map lane_of inputs
 lanes_shown inputs = map-map (λ (p : Pulling). p.lane) pulling_of inputs
 
--- what went wrong is to blame, whichever worker was gone
-blamed_first : (IsGone : ℕ → Type 0) (limits : Bounds) (inputs : List LaneInput) (stream : List Note) (gathered : Result (Unit {0}) RunFault) (gone : Option ℕ) → IfErr gathered (IsBlamed IsGone limits inputs stream)
-    → IfSome (first_of gathered gone) (IsBlamed (λ shard. Unit {0}) limits inputs stream)
-blamed_first IsGone limits inputs stream (Err fault) at_end blamed = blamed_any IsGone limits inputs stream fault blamed
-blamed_first IsGone limits inputs stream (Ok done) None blamed = tt
-blamed_first IsGone limits inputs stream (Ok done) (Some shard) blamed = tt
+-- what went wrong first is to blame
+blamed_first : (limits : Bounds) (inputs : List LaneInput) (stream : List Note) (gathered : Result (Unit {0}) RunFault) (gone : Option ℕ) → IfErr gathered (IsBlamed limits inputs stream)
+    → IfSome (first_of gathered gone) (IsBlamed limits inputs stream)
+blamed_first limits inputs stream (Err fault) at_end blamed = blamed
+blamed_first limits inputs stream (Ok done) None blamed = tt
+blamed_first limits inputs stream (Ok done) (Some shard) blamed = tt
 
 -- what a run keeps at its end, whatever went wrong
-pub gathered_all : (IsGone : ℕ → Type 0) (limits collecting : Bounds) → collecting ≡ limits → (before inputs : List LaneInput) → length before ≡ limits.threads → map lane_of inputs ≡ map lane_of before → (stream : List Note) (given outlets : List Sending) (sent : List AllSent)
+pub gathered_all : (limits collecting : Bounds) → collecting ≡ limits → (before inputs : List LaneInput) → length before ≡ limits.threads → map lane_of inputs ≡ map lane_of before → (stream : List Note) (given outlets : List Sending) (sent : List AllSent)
     → 1 ≤ length given → map (λ o. o.feed) outlets ≡ map (λ o. o.feed) given → (gathered : Result (Unit {0}) RunFault) (gone : Option ℕ) → OnOk gathered (KeepsUp collecting inputs stream outlets)
     → OnOk gathered ((thread : ℕ) → thread < collecting.threads → has_ended thread stream ≡ true) → (gone ≡ None → map (λ s. s.sent) sent ≡ map (λ o. o.sent) outlets)
-    → IfErr gathered (IsBlamed IsGone collecting inputs stream) → (fault : Option RunFault) → fault ≡ first_of gathered gone → (fault ≡ None → IsOk gathered × (gone ≡ None)) → IsGathered limits inputs stream collecting sent fault
-gathered_all IsGone limits collecting same before inputs count lanes stream given outlets sent some feeds gathered gone keeps all kept blamed fault first none = record {
+    → IfErr gathered (IsBlamed collecting inputs stream) → (fault : Option RunFault) → fault ≡ first_of gathered gone → (fault ≡ None → IsOk gathered × (gone ≡ None)) → IsGathered limits inputs stream collecting sent fault
+gathered_all limits collecting same before inputs count lanes stream given outlets sent some feeds gathered gone keeps all kept blamed fault first none = record {
   count = as_long lane_of lane_of inputs before lanes ∙ count;
   same_limits = same;
   whole = λ is.
@@ -242,5 +255,5 @@ gathered_all IsGone limits collecting same before inputs count lanes stream give
       let many : length outlets ≡ length given = as_long (λ (o : Sending). o.feed) (λ (o : Sending). o.feed) outlets given feeds in
       subst (λ b. IsWhole b inputs stream sent) same
       (all_whole collecting inputs stream outlets sent (when_ok gathered _ ok keeps) (when_ok gathered _ ok all) (omega (arith, many, some)) (kept kept_ok)));
-  blamed = subst (λ b. IfSome fault (IsBlamed (λ shard. Unit {0}) b inputs stream)) same (subst (λ f. IfSome f (IsBlamed (λ shard. Unit {0}) collecting inputs stream)) (sym first) (blamed_first IsGone collecting inputs stream gathered gone blamed));
+  blamed = subst (λ b. IfSome fault (IsBlamed b inputs stream)) same (subst (λ f. IfSome f (IsBlamed collecting inputs stream)) (sym first) (blamed_first collecting inputs stream gathered gone blamed));
 }

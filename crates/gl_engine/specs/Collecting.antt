@@ -1,5 +1,5 @@
 -- The collector of all threads' notes, and what a pull does.
-use Rattle.std.specs.Prelude.{◌≡◌, ◌⊎◌, ℕ, List, [], ◌∷◌, ◌++◌, length, map, Option, Some, None, Result, Ok, Err, slice_get, slice_set}
+use Rattle.std.specs.Prelude.{◌≡◌, ◌⊎◌, ℕ, ◌≤◌, List, [], ◌∷◌, ◌++◌, length, map, Option, Some, None, Result, Ok, Err, slice_get, slice_set}
 use Rattle.gl_event.specs.Bounds.{Bounds}
 use Rattle.gl_event.specs.declared.notes.Note.{Note}
 use Rattle.gl_edges.specs.declared.edge.Edge.{Edge}
@@ -51,6 +51,12 @@ pub record IsOpened (session : ℕ) (limits : Bounds) (recorders : List Recordin
 -- the note as one of this thread, whichever it names
 abbrev pub as_of : ℕ → Note → Note
 as_of thread note = record note { thread = thread }
+
+-- a turn of the thread, with so many pulls at most: these notes were pulled off its lane, and joined those collected before
+pub record IsTurn (most thread : ℕ) (before after : List Note) : Type 0 where
+  pub notes : List Note
+  pub few : length notes ≤ most
+  pub joined : before ++ map (as_of thread) notes ≡ after
 
 -- the input with one note more popped
 abbrev pub pop_note : Pulling → Note → Pulling

@@ -1,7 +1,9 @@
 -- A thread's recorder, and what it leaves behind.
-use Rattle.std.specs.Prelude.{◌≡◌, ℕ, List, [], ◌∷◌, ◌++◌, length}
+use Rattle.std.specs.Prelude.{◌≡◌, ℕ, ◌+◌, ◌≤◌, List, [], ◌∷◌, ◌++◌, length, Option, None}
 use Rattle.gl_event.specs.Bounds.{Bounds}
+use Rattle.gl_event.specs.Lawful.{refusal}
 use Rattle.gl_event.specs.declared.events.Event.{Event}
+use Rattle.gl_event.specs.declared.events.Refusal.{Refusal}
 use Rattle.gl_event.specs.declared.notes.Note.{Note}
 use Rattle.gl_intake.specs.Stream.{events_of}
 use Rattle.gl_lane.specs.Lanes.{LaneId}
@@ -43,6 +45,17 @@ seen_full r = record r { room = 0 }
 -- the note of an event that the recorder takes next
 abbrev pub next_note : Recording → Event → Note
 next_note r event = event_note r.thread (recorded r) event
+
+-- why the event may not come next, if it may not
+abbrev pub refusal_of : Recording → Event → Option Refusal
+refusal_of r event = refusal r.limits r.thread (recorded r) event
+
+-- the recorder took this event: it may come next, this is its place, its note was pushed, and that took one of the certain room at most
+pub record HasTaken (old : Recording) (event : Event) (place : ℕ) (new : Recording) : Type 0 where
+  pub lawful : refusal_of old event ≡ None
+  pub in_place : place ≡ length (recorded old)
+  pub pushed : new ≡ with_pushed old (next_note old event) new.room
+  pub room : old.room ≤ new.room + 1
 
 -- the recorder's end mark
 abbrev pub last_note : Recording → Note

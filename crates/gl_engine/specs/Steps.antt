@@ -2,7 +2,6 @@
 --
 -- A recorder knows what was pushed into its lane, and a collector what was popped. The machine knows both, and what its threads wish.
 use Rattle.std.specs.Prelude.{◌≡◌, ℕ, true, false, Some, None, length, slice_get}
-use Rattle.gl_event.specs.Lawful.{refusal}
 use Rattle.gl_event.specs.declared.events.Event.{Event}
 use Rattle.gl_event.specs.declared.events.Refusal.{Refusal}
 use Rattle.gl_event.specs.declared.notes.Note.{Note}
@@ -12,7 +11,7 @@ use Rattle.gl_world.specs.Keeping.{IsSound}
 use Rattle.gl_world.specs.declared.steps.Step.TheVariants.{Pull}
 use Rattle.gl_world.specs.declared.steps.Did.TheVariants.{Taken, Passed, Ended, Pulled}
 use Rattle.gl_engine.specs.Collecting.{Collecting, Pulling, side_of, as_of, with_pulled}
-use Rattle.gl_engine.specs.Recording.{Recording, recorded, next_note, with_pushed, closed_of}
+use Rattle.gl_engine.specs.Recording.{Recording, recorded, refusal_of, next_note, with_pushed, closed_of}
 
 -- the machine's lane in which a running recorder's notes are, and no end mark; its thread wishes this event next
 pub record Wishes (r : Recording) (lane : Lane) (event : Event) : Type 0 where
@@ -23,11 +22,14 @@ pub record Wishes (r : Recording) (lane : Lane) (event : Event) : Type 0 where
 -- an event is recorded as the machine's thread takes its wish: where it is lawful next and there is room, its note is pushed; where it isn't
 -- lawful it is passed over; and where the lane is full nothing happens
 pub record RecordIsTake : Type 0 where
-  pub taken : (r : Recording) (lane : Lane) (event : Event) (room : ℕ) → Wishes r lane event → refusal r.limits r.thread (recorded r) event ≡ None → has_room r.limits lane ≡ true
+  pub taken : (r : Recording) (lane : Lane) (event : Event) (room : ℕ) → Wishes r lane event
+      → refusal_of r event ≡ None → has_room r.limits lane ≡ true
       → ((take_turn r.limits r.thread lane).did ≡ Taken (length (recorded r))) × ((take_turn r.limits r.thread lane).lane.pushed ≡ (with_pushed r (next_note r event) room).pushed)
-  pub refused : (r : Recording) (lane : Lane) (event : Event) (why : Refusal) → Wishes r lane event → refusal r.limits r.thread (recorded r) event ≡ Some why
+  pub refused : (r : Recording) (lane : Lane) (event : Event) (why : Refusal)
+      → Wishes r lane event → refusal_of r event ≡ Some why
       → ((take_turn r.limits r.thread lane).did ≡ Passed why) × ((take_turn r.limits r.thread lane).lane.pushed ≡ r.pushed)
-  pub full : (r : Recording) (lane : Lane) (event : Event) → Wishes r lane event → refusal r.limits r.thread (recorded r) event ≡ None → has_room r.limits lane ≡ false
+  pub full : (r : Recording) (lane : Lane) (event : Event) → Wishes r lane event
+      → refusal_of r event ≡ None → has_room r.limits lane ≡ false
       → take_turn r.limits r.thread lane ≡ rest lane
 
 -- a recorder closes as the machine's thread ends: where there is room its end mark is pushed, and else nothing happens

@@ -1,16 +1,12 @@
 //! The run of a collector: it collects all, ships all edges, and ends the feeds.
-ghost use Rattle.std.specs.Prelude.{◌≡◌, ◌<◌, ◌≤◌, ◌+◌, [], ◌∷◌, ◌++◌, ℕ, true, None, Some, List, map, length, slice_get, IsOk};
-ghost use mathlib.Core.List.{IsPrefix};
+ghost use Rattle.std.specs.Prelude.{◌≡◌, ◌<◌, ◌≤◌, ◌+◌, [], ◌∷◌, ◌++◌, ℕ, None, Some, List, map, length, slice_get, IsOk};
 ghost use Rattle.std.specs.Vec.{vec_len, vec_capacity};
 ghost use Rattle.gl_edges.specs.declared.edge.Edge.{Edge};
 ghost use Rattle.gl_edges.specs.declared.edge.Sample.{Sample};
-ghost use Rattle.gl_intake.specs.Stream.{has_ended, AreInOrder};
-ghost use Rattle.gl_intake.specs.declared.notes.Refused.{Refused};
 ghost use Rattle.gl_shards.specs.Feeds.{FeedId, Sending};
 ghost use Rattle.gl_shards.specs.declared.shard.TheConstants.{MAX_SHARDS};
 ghost use Rattle.gl_engine.specs.bodies.Breaking.{first_of};
-ghost use Rattle.gl_engine.specs.Dealing.{dealt, made_by};
-ghost use Rattle.gl_engine.specs.Gathering.{AreEnded, IsFoundBroken, IsFoundGone};
+ghost use Rattle.gl_engine.specs.Gathering.{AreEnded, HasNotBegun, HasRunThrough, IsLeftBy};
 ghost use Rattle.gl_engine.specs.declared.gathered.RunFault.TheVariants as kept;
 
 use crate::collector::Collector;
@@ -103,10 +99,15 @@ impl Collector {
     /// have been sent yet, and there is one for each shard, 1 to 16 of them.
     ///
     /// At the first thing that goes wrong, it ships no more, goes on popping and throws away until every end
-    /// mark came, and still ends the outlets: no recorder and no worker waits for ever. A worker that is gone
-    /// is found so by the first edge that can't be shipped, or, where all were, as the outlets are ended: then
-    /// it is the first such one. The feeds whose workers are there are kept in either case. A lane breaks at a
-    /// note that may not come next after all that was collected.
+    /// mark came, and still ends the outlets: no recorder and no worker waits for ever. Unless it could not begin,
+    /// the feeds whose workers are there are kept, with what was shipped through them until then:
+    ///
+    /// - A worker that is gone is found so by the first edge that can't be shipped, and the edges before that one
+    ///   were; or, where all were, as the outlets are ended: then it is the first such one.
+    /// - A lane breaks at a note that may not come next after all that was collected. The edges of all notes
+    ///   before the lane's turn were shipped, and none of the notes that the turn had pulled, 64 at most.
+    /// - Where there is no memory in a turn it is the same. Where there is none to begin, nothing is collected,
+    ///   and no feed is kept.
     ///
     /// It waits for the recorders and for the workers: it returns only if every recorder closes, and as
     /// long as a worker's feed is full it waits for that. It looks at the lanes in turn, up to 64 notes of each,
@@ -118,22 +119,7 @@ impl Collector {
         requires fit { length outlets.items ≤ MAX_SHARDS }
         requires unsent { (shard : ℕ) (o : Sending) → slice_get outlets.items shard ≡ Some o
             → o.sent ≡ [] }
-        ensures session { result.session ≡ self.session }
-        ensures limits { result.limits ≡ self.limits }
-        ensures lanes { result.lanes ≡ map (λ input. input.lane) self.inputs }
-        ensures grown { IsPrefix self.stream result.stream }
-        ensures ended { result.fault ≡ None → (thread : ℕ) → thread < self.limits.threads
-            → has_ended thread result.stream ≡ true }
-        ensures in_order { result.fault ≡ None → AreInOrder self.limits result.stream }
-        ensures feeds { result.fault ≡ None
-            → map (λ s. s.feed) result.sent ≡ map (λ o. o.feed) outlets.items }
-        ensures shipped { result.fault ≡ None
-            → map (λ s. s.sent) result.sent
-            ≡ dealt (length outlets.items) (made_by result.stream) }
-        ensures gone { (shard : ℕ) → result.fault ≡ Some (kept.Gone shard)
-            → IsFoundGone outlets.items result shard }
-        ensures broken { (thread : ℕ) (why : Refused)
-            → result.fault ≡ Some (kept.Broken thread why) → IsFoundBroken result thread why }
+        ensures { HasRunThrough self outlets.items result }
     {
         let Ok(sent) = Vec::with_capacity(self.alloc, outlets.len()) else {
             return self.run_unkept(rt, outlets);
@@ -159,22 +145,7 @@ impl Collector {
         requires empty { sent.items ≡ [] }
         requires room { vec_len sent + length outlets.items ≤ vec_capacity sent }
         requires made { made.items ≡ self.made }
-        ensures session { result.session ≡ self.session }
-        ensures limits { result.limits ≡ self.limits }
-        ensures lanes { result.lanes ≡ map (λ input. input.lane) self.inputs }
-        ensures grown { IsPrefix self.stream result.stream }
-        ensures ended { result.fault ≡ None → (thread : ℕ) → thread < self.limits.threads
-            → has_ended thread result.stream ≡ true }
-        ensures in_order { result.fault ≡ None → AreInOrder self.limits result.stream }
-        ensures feeds { result.fault ≡ None
-            → map (λ s. s.feed) result.sent ≡ map (λ o. o.feed) outlets.items }
-        ensures shipped { result.fault ≡ None
-            → map (λ s. s.sent) result.sent
-            ≡ dealt (length outlets.items) (made_by result.stream) }
-        ensures gone { (shard : ℕ) → result.fault ≡ Some (kept.Gone shard)
-            → IsFoundGone outlets.items result shard }
-        ensures broken { (thread : ℕ) (why : Refused)
-            → result.fault ≡ Some (kept.Broken thread why) → IsFoundBroken result thread why }
+        ensures { HasRunThrough self outlets.items result }
     {
         let Collector {
             alloc,
@@ -208,10 +179,8 @@ impl Collector {
 
     // The run, where there is no room for the feeds, or none for the edges of the pulls before.
     fn run_unkept<R: Wait>(self, rt: &R, outlets: Vec<Outlet>) -> Gathered
-        ensures session { result.session ≡ self.session }
-        ensures limits { result.limits ≡ self.limits }
-        ensures lanes { result.lanes ≡ map (λ input. input.lane) self.inputs }
-        ensures stream { result.stream ≡ self.stream }
+        ensures left { IsLeftBy self result }
+        ensures not_begun { HasNotBegun self result }
         ensures fault { result.fault ≡ Some kept.Memory }
     {
         let Collector {

@@ -1,5 +1,16 @@
 //! What a collector leaves behind that has run, and what went wrong in the run.
+ghost use Rattle.std.specs.Prelude.{◌≡◌, None, length, IfOk, IfErr, OnOk};
+ghost use Rattle.gl_intake.specs.Stream.{logs_of};
+ghost use Rattle.gl_engine.specs.Gathering.{AreOurs};
+ghost use Rattle.gl_engine.specs.Receipts.{AreOwnBelow, AreThereBelow};
+ghost use Rattle.gl_engine.specs.Settling as settling;
+ghost use Rattle.gl_engine.specs.Settling.{IsMemoryOrGone, IsSettleFault, IsSettled};
+
+use crate::faults::SettleFault;
 use crate::lane_input::LaneInput;
+use crate::receipt::Receipt;
+use crate::receipts::confirm_all;
+use crate::settled::Settled;
 use gl_event::{Limits, ThreadId};
 use gl_intake::{Intake, Refused};
 use gl_shards::Sent;
@@ -8,16 +19,20 @@ use std::marker::Model;
 
 /// What went wrong first in a run: nothing was collected or shipped after it.
 ///
-/// [`Collector::run`](crate::Collector::run) says so of `Gone`, by the edges that were shipped, and of
-/// `Broken`, by the notes that were collected. Memory may be refused at any time.
+/// [`Collector::run`](crate::Collector::run) says of each what was collected and shipped until then. Memory
+/// may be refused at any time.
 #[derive(Clone, Copy, Debug, PartialEq, Eq)]
 pub enum RunFault {
-    /// There was no memory for a note, for its edges or for the list of feeds.
+    /// There was no memory: for the list of feeds or for the edges of the pulls before, and the run did not
+    /// begin; or for a note or its edges, in a thread's turn. The edges of all notes before the turn were
+    /// shipped then, and none of the notes that the turn had pulled.
     Memory,
     /// The worker's end of this shard's feed was dropped: the next edge made is this shard's and could not
     /// be sent, or all were, and its feed is the first that could not be ended.
     Gone { shard: u32 },
-    /// A note of the thread's lane may not come next after those that were collected, for this reason.
+    /// A note of the thread's lane may not come next after those that were collected, for this reason. The
+    /// edges of all notes before the thread's turn were shipped, and none of the notes that the turn had
+    /// pulled before this one.
     Broken { thread: ThreadId, refused: Refused },
 }
 
@@ -25,7 +40,6 @@ pub enum RunFault {
 ///
 /// Contracts see the session and the limits, which lane each thread has, the notes collected, the feeds
 /// whose edges were all sent, and what went wrong in the run, if something did.
-#[derive(Drop)]
 pub struct Gathered {
     pub(crate) alloc: Global,
     pub(crate) session: u64,
@@ -34,6 +48,21 @@ pub struct Gathered {
     pub(crate) inputs: Vec<LaneInput>,
     pub(crate) sent: Vec<Sent>,
     pub(crate) fault: Option<RunFault>,
+}
+
+// Written out, so that it is proved once: a derived drop is proved again wherever one is let go.
+impl Drop for Gathered {
+    fn drop(self) {
+        let Gathered {
+            alloc,
+            session: _,
+            limits,
+            intake,
+            inputs,
+            sent,
+            fault,
+        } = self;
+    }
 }
 
 impl Model for Gathered {
@@ -54,4 +83,52 @@ impl Model for Gathered {
 
     ghost invariant = { λ g. IsGathered g.limits g.inputs.items g.intake.stream g.intake.limits
         g.sent.items g.fault };
+}
+
+// What the run answers for its fault.
+fn settle_fault(fault: RunFault) -> SettleFault
+    ensures { result ≡ settling.told fault }
+{
+    match fault {
+        RunFault::Memory => SettleFault::Memory,
+        RunFault::Gone { shard } => SettleFault::Gone { shard },
+        RunFault::Broken { thread, refused } => SettleFault::Broken { thread, refused },
+    }
+}
+
+impl Gathered {
+    /// Settles what was gathered, where there is one receipt of each thread and no other.
+    pub(crate) fn settle_all(
+        self,
+        receipts: &mut [Receipt],
+    ) -> Result<(Settled, Vec<Sent>), SettleFault>
+        requires ours { AreOurs self receipts.old }
+        requires own { AreOwnBelow self.session self.limits.threads receipts.old
+            (length receipts.old) }
+        requires all { AreThereBelow receipts.old self.limits.threads }
+        ensures receipts { receipts.new ≡ receipts.old }
+        ensures lists { IfOk result (λ settled. settled.0
+            ≡ logs_of self.limits.threads self.stream) }
+        ensures sent { IfOk result (λ settled. settled.1.items ≡ self.sent) }
+        ensures settled { IfOk result
+            (λ settled. IsSettled receipts.old settled.0 settled.1.items) }
+        ensures whole { OnOk result (self.fault ≡ None) }
+        ensures fault { IfErr result (λ fault. IsSettleFault self receipts.old fault) }
+        ensures complete { IfErr result IsMemoryOrGone }
+    {
+        let Gathered {
+            alloc,
+            session: _,
+            limits: _,
+            intake,
+            mut inputs,
+            sent,
+            fault,
+        } = self;
+        confirm_all(&mut inputs, receipts);
+        match fault {
+            None => Ok((Settled { alloc, intake }, sent)),
+            Some(fault) => Err(settle_fault(fault)),
+        }
+    }
 }

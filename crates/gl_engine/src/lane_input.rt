@@ -21,10 +21,16 @@ use gl_lane::LaneOut;
 use std::alloc::Global;
 
 /// The collector's end of a thread's lane, and why the lane's front note was refused, if it was.
-#[derive(Drop)]
 pub struct LaneInput {
     pub lane: LaneOut,
     pub broken: Option<Refused>,
+}
+
+// Written out, so that it is proved once: a derived drop is proved again wherever one is let go.
+impl Drop for LaneInput {
+    fn drop(self) {
+        let LaneInput { lane, broken } = self;
+    }
 }
 
 // What the pull of an accepted note is answered.

@@ -6,7 +6,7 @@ ghost use Rattle.gl_edges.specs.declared.edge.Sample.{Sample};
 ghost use Rattle.gl_intake.specs.Stream.{has_ended};
 ghost use Rattle.gl_shards.specs.Shards as shards_of;
 ghost use Rattle.gl_shards.specs.declared.shard.TheConstants.{MAX_SHARDS};
-ghost use Rattle.gl_engine.specs.bodies.Breaking.{HasStopped, IsBlamed, IsGoneAt, IsKeptFor, TellsTaken};
+ghost use Rattle.gl_engine.specs.bodies.Breaking.{IsGoneAt, IsKeptFor, TellsTaken};
 ghost use Rattle.gl_engine.specs.Dealing.{dealt, made_by};
 ghost use Rattle.gl_engine.specs.Keeping.{IsCollector};
 ghost use Rattle.gl_engine.specs.bodies.Whole.{GoesOn, HasMoved, KeepsUp, PullsOn};
@@ -105,8 +105,8 @@ fn pull_at(
     requires none { made.old.items ≡ [] }
     requires keeps { IsCollector intake.old.limits inputs.old.items intake.old.stream
         (made_by intake.old.stream) intake.old.limits }
-    ensures pulls_on { PullsOn intake.old intake.new inputs.old.items inputs.new.items
-        made.new.items result }
+    ensures pulls_on { PullsOn 1 thread intake.old intake.new inputs.old.items
+        inputs.new.items made.new.items result }
     ensures moved { IfOk result (HasMoved intake.old.stream intake.new.stream) }
 {
     let input = &mut inputs[thread.number() as usize];
@@ -127,8 +127,8 @@ fn pull_some(
     requires none { made.old.items ≡ [] }
     requires keeps { IsCollector intake.old.limits inputs.old.items intake.old.stream
         (made_by intake.old.stream) intake.old.limits }
-    ensures pulls_on { PullsOn intake.old intake.new inputs.old.items inputs.new.items
-        made.new.items result }
+    ensures pulls_on { PullsOn 64 thread intake.old intake.new inputs.old.items
+        inputs.new.items made.new.items result }
     ensures moved { IfOk result (HasMoved intake.old.stream intake.new.stream) }
 {
     let mut moved = false;

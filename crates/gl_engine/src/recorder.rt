@@ -1,11 +1,11 @@
 //! The recorder of a running thread.
-ghost use Rattle.std.specs.Prelude.{◌≡◌, ◌<◌, ◌≤◌, ◌+◌, ◌∷◌, ◌++◌, false, None, Some, [], length, IsOk, OnOk, OnErr, IfOk, IfErr};
-ghost use Rattle.gl_event.specs.Lawful.{refusal, IsLawful};
+ghost use Rattle.std.specs.Prelude.{◌≡◌, ◌<◌, ◌≤◌, ◌+◌, ◌∷◌, ◌++◌, false, None, [], length, IfOk, IfErr};
+ghost use Rattle.gl_event.specs.Lawful.{IsLawful};
 ghost use Rattle.gl_intake.specs.Stream.{has_ended};
 ghost use Rattle.gl_lane.specs.Rule.{IsPlaced};
-ghost use Rattle.gl_engine.specs.Recording.{recorded, next_note, with_pushed, seen_full, closed_of};
-ghost use Rattle.gl_engine.specs.declared.recorder.RecordFault.TheVariants.{Full};
-ghost use Rattle.gl_engine.specs.Faults.{IsNotRecorded, IsNotClosed, IsUnconfirmed};
+ghost use Rattle.gl_engine.specs.Recording.{recorded, refusal_of, next_note, closed_of, HasTaken};
+ghost use Rattle.gl_engine.specs.declared.recorder.RecordFault.TheVariants.{Refused};
+ghost use Rattle.gl_engine.specs.Faults.{HasTried, IsNotRecorded, IsNotClosed, IsUnconfirmed};
 
 use crate::receipt::Receipt;
 use gl_event::{Event, Limits, Note, Refusal, ThreadId};
@@ -38,12 +38,23 @@ pub enum CloseFault {
 ///
 /// Contracts see the session, thread and limits, which lane it is of, the notes that were pushed into
 /// it, and for how many more there is certainly room.
-#[derive(Drop)]
 pub struct Recorder {
     pub(crate) session: u64,
     pub(crate) limits: Limits,
     pub(crate) taker: Taker,
     pub(crate) lane: LaneIn,
+}
+
+// Written out, so that it is proved once: a derived drop is proved again wherever one is let go.
+impl Drop for Recorder {
+    fn drop(self) {
+        let Recorder {
+            session: _,
+            limits,
+            taker,
+            lane,
+        } = self;
+    }
 }
 
 impl Model for Recorder {
@@ -124,16 +135,7 @@ impl Recorder {
     /// It waits for nobody and takes no memory. It looks through the at most 64 locks that the thread
     /// holds.
     pub fn record(&mut self, event: Event) -> Result<u32, RecordFault>
-        ensures lawful { OnOk result
-            (refusal self.old.limits self.old.thread (recorded self.old) event ≡ None) }
-        ensures place { IfOk result (λ place. place ≡ length (recorded self.old)) }
-        ensures pushed { OnOk result
-            (self.new ≡ with_pushed self.old (next_note self.old event) self.new.room) }
-        ensures room { OnOk result (self.old.room ≤ self.new.room + 1) }
-        ensures fault { IfErr result (λ fault. IsNotRecorded self.old event fault self.new) }
-        ensures succeeds { 0 < self.old.room
-            → refusal self.old.limits self.old.thread (recorded self.old) event ≡ None
-            → IsOk result }
+        ensures { HasTried self.old event result self.new }
     {
         self.try_record(&event)
     }
@@ -144,15 +146,9 @@ impl Recorder {
     /// While the lane is full it spins or sleeps for a moment and tries again, so that it returns only if the
     /// collector pulls. It takes no memory.
     pub fn record_wait<R: Wait>(&mut self, rt: &R, event: Event) -> Result<u32, Refusal>
-        ensures lawful { OnOk result
-            (refusal self.old.limits self.old.thread (recorded self.old) event ≡ None) }
-        ensures place { IfOk result (λ place. place ≡ length (recorded self.old)) }
-        ensures pushed { OnOk result
-            (self.new ≡ with_pushed self.old (next_note self.old event) self.new.room) }
+        ensures taken { IfOk result (λ place. HasTaken self.old event place self.new) }
         ensures refused { IfErr result
-            (λ why. refusal self.old.limits self.old.thread (recorded self.old) event
-            ≡ Some why) }
-        ensures unchanged { OnErr result (self.new ≡ record self.old { room = self.new.room }) }
+            (λ why. IsNotRecorded self.old event (Refused why) self.new) }
     {
         let mut looks: u32 = 0;
         for _ in rt.forever() {
@@ -204,16 +200,7 @@ impl Recorder {
 
     // Records the event, where it may come next and there is room for it.
     fn try_record(&mut self, event: &Event) -> Result<u32, RecordFault>
-        ensures lawful { OnOk result
-            (refusal self.old.limits self.old.thread (recorded self.old) event.now ≡ None) }
-        ensures place { IfOk result (λ place. place ≡ length (recorded self.old)) }
-        ensures pushed { OnOk result
-            (self.new ≡ with_pushed self.old (next_note self.old event.now) self.new.room) }
-        ensures room { OnOk result (self.old.room ≤ self.new.room + 1) }
-        ensures fault { IfErr result (λ fault. IsNotRecorded self.old event.now fault self.new) }
-        ensures succeeds { 0 < self.old.room
-            → refusal self.old.limits self.old.thread (recorded self.old) event.now ≡ None
-            → IsOk result }
+        ensures { HasTried self.old event.now result self.new }
     {
         if self.lane.has_room() {
             return self.record_known(event);
@@ -228,16 +215,7 @@ impl Recorder {
     // looked through once.
     fn record_known(&mut self, event: &Event) -> Result<u32, RecordFault>
         requires known { 0 < self.old.room }
-        ensures lawful { OnOk result
-            (refusal self.old.limits self.old.thread (recorded self.old) event.now ≡ None) }
-        ensures place { IfOk result (λ place. place ≡ length (recorded self.old)) }
-        ensures pushed { OnOk result
-            (self.new ≡ with_pushed self.old (next_note self.old event.now) self.new.room) }
-        ensures room { OnOk result (self.old.room ≤ self.new.room + 1) }
-        ensures fault { IfErr result (λ fault. IsNotRecorded self.old event.now fault self.new) }
-        ensures succeeds { refusal self.old.limits self.old.thread
-            (recorded self.old) event.now ≡ None
-            → IsOk result }
+        ensures { HasTried self.old event.now result self.new }
     {
         match self.taker.take(*event) {
             Ok(note) => {
@@ -250,15 +228,9 @@ impl Recorder {
 
     // Pushes the event's note, where there is room for it. The event may come next.
     fn push(&mut self, event: &Event, note: &Note) -> Result<u32, RecordFault>
-        requires lawful { refusal self.old.limits self.old.thread (recorded self.old) event.now
-            ≡ None }
+        requires lawful { refusal_of self.old event.now ≡ None }
         requires its_note { note.now ≡ next_note self.old event.now }
-        ensures place { IfOk result (λ place. place ≡ length (recorded self.old)) }
-        ensures pushed { OnOk result (self.new ≡ with_pushed self.old note.now self.new.room) }
-        ensures room { OnOk result (self.old.room ≤ self.new.room + 1) }
-        ensures full { IfErr result
-            (λ fault. (fault ≡ Full event.now) × (self.new ≡ seen_full self.old)) }
-        ensures succeeds { 0 < self.old.room → IsOk result }
+        ensures { HasTried self.old event.now result self.new }
     {
         let Ok(()) = self.lane.push(*note) else {
             return Err(RecordFault::Full(*event));

@@ -23,10 +23,16 @@ use std::thread::Threads;
 /// The lists of all threads' events, from a session whose receipts were settled.
 ///
 /// Contracts see the lists, in the order of thread numbers.
-#[derive(Drop)]
 pub struct Settled {
     pub(crate) alloc: Global,
     pub(crate) intake: Intake,
+}
+
+// Written out, so that it is proved once: a derived drop is proved again wherever one is let go.
+impl Drop for Settled {
+    fn drop(self) {
+        let Settled { alloc, intake } = self;
+    }
 }
 
 impl Model for Settled {

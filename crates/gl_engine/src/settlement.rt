@@ -4,29 +4,17 @@ ghost use Rattle.gl_intake.specs.Stream.{logs_of};
 ghost use Rattle.gl_engine.specs.Collecting.{lanes_of};
 ghost use Rattle.gl_engine.specs.Gathering.{AreOurs};
 ghost use Rattle.gl_engine.specs.Receipts.{AreComplete, AreOfRecorders, AreOwnBelow, AreThereBelow};
-ghost use Rattle.gl_engine.specs.Settling as settling;
 ghost use Rattle.gl_engine.specs.Settling.{AreListsOf, HaveEndedBelow, IsFirstUnended, IsMemoryOrGone, IsSettleFault, IsSettled, IsUnsettledFault};
 
 use crate::collector::Collector;
 use crate::faults::{SettleFault, UnsettledFault};
-use crate::gathered::{Gathered, RunFault};
+use crate::gathered::Gathered;
 use crate::receipt::Receipt;
 use crate::receipts::{confirm_all, first_missing, first_strange};
 use crate::settled::Settled;
 use gl_event::ThreadId;
 use gl_intake::Intake;
 use gl_shards::Sent;
-
-// What the run answers for its fault.
-fn settle_fault(fault: RunFault) -> SettleFault
-    ensures { result ≡ settling.told fault }
-{
-    match fault {
-        RunFault::Memory => SettleFault::Memory,
-        RunFault::Gone { shard } => SettleFault::Gone { shard },
-        RunFault::Broken { thread, refused } => SettleFault::Broken { thread, refused },
-    }
-}
 
 // The first of so many threads whose end mark wasn't collected.
 fn first_unended(threads: u32, intake: &Intake) -> Option<ThreadId>
@@ -81,37 +69,6 @@ impl Gathered {
             });
         }
         self.settle_all(receipts)
-    }
-
-    // Settles what was gathered, where there is one receipt of each thread and no other.
-    fn settle_all(self, receipts: &mut [Receipt]) -> Result<(Settled, Vec<Sent>), SettleFault>
-        requires ours { AreOurs self receipts.old }
-        requires own { AreOwnBelow self.session self.limits.threads receipts.old
-            (length receipts.old) }
-        requires all { AreThereBelow receipts.old self.limits.threads }
-        ensures receipts { receipts.new ≡ receipts.old }
-        ensures lists { IfOk result (λ settled. settled.0
-            ≡ logs_of self.limits.threads self.stream) }
-        ensures sent { IfOk result (λ settled. settled.1.items ≡ self.sent) }
-        ensures settled { IfOk result
-            (λ settled. IsSettled receipts.old settled.0 settled.1.items) }
-        ensures whole { OnOk result (self.fault ≡ None) }
-        ensures fault { IfErr result (λ fault. IsSettleFault self receipts.old fault) }
-        ensures complete { IfErr result IsMemoryOrGone }
-    {
-        let Gathered {
-            alloc,
-            intake,
-            mut inputs,
-            sent,
-            fault,
-            ..
-        } = self;
-        confirm_all(&mut inputs, receipts);
-        match fault {
-            None => Ok((Settled { alloc, intake }, sent)),
-            Some(fault) => Err(settle_fault(fault)),
-        }
     }
 }
 

@@ -1,4 +1,4 @@
--- Why a lane breaks in a run, and that whatever comes off it later changes nothing of that.
+-- Why a run stops: what was sent until then, and that whatever comes off a broken lane later changes nothing of its fault.
 use Rattle.std.specs.Prelude.{◌≡◌, ℕ, Bool, true, false, List, [], ◌∷◌, ◌++◌, length, map, Option, Some, Result, Ok, Err, slice_get}
 use Rattle.std.specs.Option.{option_map}
 use mathlib.Core.List.{IsPrefix}
@@ -10,8 +10,8 @@ use Rattle.gl_intake.specs.Stream.{note_refusal}
 use Rattle.gl_intake.specs.declared.notes.Refused.{Refused}
 use Rattle.gl_lane.specs.Lanes.{Popping}
 use Rattle.gl_world.specs.Keeping.{notes_of}
-use Rattle.gl_engine.specs.Collecting.{as_of}
-use Rattle.gl_engine.specs.Dealing.{dealt}
+use Rattle.gl_engine.specs.Collecting.{as_of, IsTurn}
+use Rattle.gl_engine.specs.Dealing.{dealt, made_by}
 use Rattle.gl_engine.specs.Gathering.{IsStoppedAt}
 use Rattle.gl_engine.specs.declared.gathered.RunFault.{RunFault}
 use Rattle.gl_engine.specs.declared.gathered.RunFault.TheVariants as kept
@@ -43,11 +43,18 @@ pub record IsBroken (limits : Bounds) (inputs : List LaneInput) (stream : List N
   pub came : HasHanded inputs thread (taken ++ note ∷ [])
   pub refused : note_refusal limits stream (as_of thread note) ≡ Some why
 
--- where a lane is broken, there is a note to blame, and where a worker is gone, this holds of its shard
-abbrev pub IsBlamed : (ℕ → Type 0) → Bounds → List LaneInput → List Note → RunFault → Type 0
-IsBlamed IsGone limits inputs stream kept.Memory = Unit {0}
-IsBlamed IsGone limits inputs stream (kept.Gone shard) = IsGone shard
-IsBlamed IsGone limits inputs stream (kept.Broken thread why) = IsBroken limits inputs stream thread why
+-- where a lane is broken, there is a note to blame
+abbrev pub IsBlamed : Bounds → List LaneInput → List Note → RunFault → Type 0
+IsBlamed limits inputs stream kept.Memory = Unit {0}
+IsBlamed limits inputs stream (kept.Gone shard) = Unit {0}
+IsBlamed limits inputs stream (kept.Broken thread why) = IsBroken limits inputs stream thread why
+
+-- what goes wrong in pulls off the thread's lane: it is broken, and there is a note to blame, or there is no memory
+abbrev pub IsPullFault : ℕ → Bounds → List LaneInput → List Note → RunFault → Type 0
+IsPullFault thread limits inputs stream kept.Memory = Unit {0}
+IsPullFault thread limits inputs stream (kept.Gone shard) = ⊥
+IsPullFault thread limits inputs stream (kept.Broken number why) =
+    (number ≡ thread) × IsBroken limits inputs stream number why
 
 -- the edges made were shipped up to one whose shard this is, and through each outlet this was sent
 pub record HasStopped (made : List (Edge × Sample)) (sent : List (List (Edge × Sample))) (shard : ℕ) : Type 0 where
@@ -60,6 +67,20 @@ abbrev pub IsGoneAt : List (Edge × Sample) → List (List (Edge × Sample)) →
 IsGoneAt made sent kept.Memory = ⊥
 IsGoneAt made sent (kept.Gone shard) = HasStopped made sent shard
 IsGoneAt made sent (kept.Broken thread why) = ⊥
+
+-- through each outlet this was sent: the edges of all notes but of those that a turn of the thread had pulled last, after these first notes
+pub record HasLagged (first stream : List Note) (sent : List (List (Edge × Sample))) (thread : ℕ)
+    : Type 0 where
+  pub before : List Note
+  pub later : IsPrefix first before
+  pub turn : IsTurn 64 thread before stream
+  pub dealt_are : sent ≡ dealt (length sent) (made_by before)
+
+-- through each outlet this was sent where the run stopped with this fault, which began with these first notes
+abbrev pub StopsWith : List Note → List Note → List (List (Edge × Sample)) → RunFault → Type 0
+StopsWith first stream sent kept.Memory = (thread : ℕ) × HasLagged first stream sent thread
+StopsWith first stream sent (kept.Gone shard) = HasStopped (made_by stream) sent shard
+StopsWith first stream sent (kept.Broken thread why) = HasLagged first stream sent thread
 
 -- what went wrong first: what did as all was gathered, or else the first worker that was gone as the feeds were ended
 abbrev pub first_of : Result (Unit {0}) RunFault → Option ℕ → Option RunFault

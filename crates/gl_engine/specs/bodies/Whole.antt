@@ -9,8 +9,8 @@ use Rattle.gl_intake.specs.Stream.{has_ended, AreInOrder, Collected}
 use Rattle.gl_lane.specs.Lanes.{LaneId}
 use Rattle.gl_shards.specs.Feeds.{AllSent, Sending}
 use Rattle.gl_world.specs.Keeping.{notes_of, AreMade}
-use Rattle.gl_engine.specs.bodies.Breaking.{IsBlamed, HasStopped}
-use Rattle.gl_engine.specs.Collecting.{as_of}
+use Rattle.gl_engine.specs.bodies.Breaking.{IsBlamed, IsPullFault, StopsWith}
+use Rattle.gl_engine.specs.Collecting.{as_of, IsTurn}
 use Rattle.gl_engine.specs.Keeping.{AreNotesOf, IsCollector}
 use Rattle.gl_engine.specs.Recording.{Closed}
 use Rattle.gl_engine.specs.Dealing.{dealt, made_by}
@@ -31,25 +31,29 @@ abbrev pub HasMoved : List Note → List Note → Bool → Type 0
 HasMoved before after true = length before < length after
 HasMoved before after false = after ≡ before
 
--- pulls went on from there: the collector's inputs and edges are those of what was collected, these edges were made; lanes and limits
--- stay, what was collected stays, and where something goes wrong that is to blame: never a worker
-pub record PullsOn {A : Type 0} (before after : Collected) (inputs later : List LaneInput) (pairs : List (Edge × Sample)) (result : Result A RunFault) : Type 0 where
+-- pulls off the thread's lane, at most so many, went on from there: the collector's inputs and edges are those of what was collected, these
+-- edges were made; lanes and limits stay, what was collected stays, and where something goes wrong that is to blame: never a worker
+pub record PullsOn {A : Type 0} (most thread : ℕ) (before after : Collected)
+    (inputs later : List LaneInput) (pairs : List (Edge × Sample)) (result : Result A RunFault)
+    : Type 0 where
   pub keeps : IsCollector before.limits later after.stream (made_by after.stream) before.limits
   pub made : OnOk result (made_by before.stream ++ pairs ≡ made_by after.stream)
   pub limits : after.limits ≡ before.limits
   pub lanes : map lane_of later ≡ map lane_of inputs
-  pub grown : IsPrefix before.stream after.stream
-  pub blamed : IfErr result (IsBlamed (λ shard. ⊥) before.limits later after.stream)
+  pub grown : IsTurn most thread before.stream after.stream
+  pub blamed : IfErr result (IsPullFault thread before.limits later after.stream)
 
 -- a run went on from there: as long as nothing goes wrong it keeps up; lanes, feeds and limits stay, what was collected stays, and
--- where something goes wrong that is to blame: of a worker that is gone, it is known where shipping stopped
-pub record GoesOn {A : Type 0} (before after : Collected) (inputs later : List LaneInput) (outlets shipped : List Sending) (result : Result A RunFault) : Type 0 where
+-- where something goes wrong that is to blame, and it is known what was sent until then
+pub record GoesOn {A : Type 0} (before after : Collected) (inputs later : List LaneInput)
+    (outlets shipped : List Sending) (result : Result A RunFault) : Type 0 where
   pub keeps : OnOk result (KeepsUp before.limits later after.stream shipped)
   pub limits : after.limits ≡ before.limits
   pub lanes : map lane_of later ≡ map lane_of inputs
   pub feeds : map (λ o. o.feed) shipped ≡ map (λ o. o.feed) outlets
   pub grown : IsPrefix before.stream after.stream
-  pub blamed : IfErr result (IsBlamed (HasStopped (made_by after.stream) (map (λ o. o.sent) shipped)) before.limits later after.stream)
+  pub blamed : IfErr result (IsBlamed before.limits later after.stream)
+  pub stopped : IfErr result (StopsWith before.stream after.stream (map (λ o. o.sent) shipped))
 
 -- all was collected: each thread's notes in order and as they were popped, up to its end mark
 pub record IsCollected (limits : Bounds) (inputs : List LaneInput) (stream : List Note) : Type 0 where
@@ -69,7 +73,7 @@ pub record IsGathered (limits : Bounds) (inputs : List LaneInput) (stream : List
   pub count : length inputs ≡ limits.threads
   pub same_limits : collecting ≡ limits
   pub whole : fault ≡ None → IsWhole limits inputs stream sent
-  pub blamed : IfSome fault (IsBlamed (λ shard. Unit {0}) limits inputs stream)
+  pub blamed : IfSome fault (IsBlamed limits inputs stream)
 
 -- a receipt's notes are its thread's, in order, and what its lane has handed over begins them
 pub record IsConfirmed (came : List Note) (r : Closed) : Type 0 where

@@ -1,6 +1,6 @@
-use Rattle.std.proofs.Common.{rules, ◌∙◌}
+use Rattle.std.proofs.Common.{rules, [], ◌∙◌}
 use Rattle.std.proofs.lemmas.Result.{err_from_is_err_and}
-use Rattle.gl_engine.proofs.Handing.{prefix_on}
+use Rattle.gl_engine.proofs.Handing.{prefix_on, blamed_gone, stops_gone, stops_since}
 use Rattle.gl_engine.proofs.pull_and_ship.gather.Goals as goal
 
 pub round-requires-clause-kept : goal.round-requires-clause-kept
@@ -37,7 +37,8 @@ returns-in_err-ship-clause-goes_on g c =
       lanes = search rules;
       feeds = search rules;
       grown = search rules;
-      blamed = search rules;
+      blamed = rw (p.1, p.2) (blamed_gone c.args.intake.now.limits c.args.inputs.now.items c.args.intake.now.stream _ _ c.in_err-ship.field-0.0 (c.in_err-ship.ensures.stopped [] c.requires.unsent));
+      stopped = rw (p.1, p.2) (stops_gone c.args.intake.now.stream c.args.intake.now.stream _ _ c.in_err-ship.field-0.0 c.requires.collector.made_is (c.in_err-ship.ensures.stopped [] c.requires.unsent));
     }
 
 pub returns-in_err-ship-clause-ended : goal.returns-in_err-ship-clause-ended
@@ -55,6 +56,7 @@ returns-in_err-round-clause-goes_on g c =
       feeds = c.round.ensures.goes_on.feeds ∙ c.loop.invariant.feeds;
       grown = prefix_on _ _ _ c.loop.invariant.grown c.round.ensures.goes_on.grown;
       blamed = search rules;
+      stopped = rw (p.1, p.2) (stops_since _ _ _ _ c.loop.invariant.grown c.in_err-round.field-0.0 c.in_err-round.ensures.goes_on.stopped);
     }
 
 pub returns-in_err-round-clause-ended : goal.returns-in_err-round-clause-ended

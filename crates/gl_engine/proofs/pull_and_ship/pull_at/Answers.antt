@@ -1,7 +1,7 @@
 use Rattle.std.proofs.Common.{◌<◌, length, arith}
 use Rattle.std.proofs.lemmas.Result.{IfOk-weaker, IfErr-weaker}
 use Rattle.gl_world.proofs.Lists.{get_at}
-use Rattle.gl_engine.specs.bodies.Breaking.{IsBlamed, IsKeptFor, TellsTaken}
+use Rattle.gl_engine.specs.bodies.Breaking.{IsKeptFor, IsPullFault, TellsTaken}
 use Rattle.gl_engine.specs.bodies.Whole.{HasMoved}
 use Rattle.gl_engine.proofs.Handing.{on_ok_anyway}
 use Rattle.gl_engine.proofs.Running.{due_later, kept_later, lanes_later, grown_later, blamed_now, moved_by}
@@ -28,7 +28,7 @@ returns-clause-pulls_on c =
       grown = grown_later c.args.intake.now.limits c.args.inputs.now.items c.args.intake.now.stream c.requires.keeps c.args.thread c.index_mut-input.result.now c.pull_with_edges-pulled.new.self within here
           c.pull_with_edges-pulled.new.intake.stream c.pull_with_edges-pulled.new.made.items cause c.pull_with_edges-pulled.result tells;
       blamed = rw c.number.ensures
-          (IfErr-weaker c.has_pulled.result (IsKeptFor c.args.thread c.pull_with_edges-pulled.result) (IsBlamed (λ shard. ⊥) c.args.intake.now.limits _ c.pull_with_edges-pulled.new.intake.stream)
+          (IfErr-weaker c.has_pulled.result (IsKeptFor c.args.thread c.pull_with_edges-pulled.result) (IsPullFault c.args.thread c.args.intake.now.limits _ c.pull_with_edges-pulled.new.intake.stream)
           (blamed_now c.args.intake.now.limits c.args.inputs.now.items c.args.intake.now.stream c.requires.keeps c.args.thread c.index_mut-input.result.now c.pull_with_edges-pulled.new.self within here
           c.pull_with_edges-pulled.new.intake.stream c.pull_with_edges-pulled.new.made.items cause c.pull_with_edges-pulled.result tells)
           c.has_pulled.ensures.fault);

@@ -1,7 +1,7 @@
-use Rattle.std.proofs.Common.{rules, ◌∙◌}
+use Rattle.std.proofs.Common.{rules, ◌+◌, ◌∙◌, arith}
 use Rattle.std.proofs.lemmas.Result.{err_from_is_err_and}
-use Rattle.gl_engine.proofs.Handing.{prefix_on, made_on}
-use Rattle.gl_engine.proofs.Running.{moved_still}
+use Rattle.gl_engine.proofs.Handing.{made_on, pulled_on, pulled_prefix}
+use Rattle.gl_engine.proofs.Running.{moved_again, moved_still}
 use Rattle.gl_engine.proofs.pull_and_ship.pull_some.Goals as goal
 
 pub pull_at-requires-clause-known : goal.pull_at-requires-clause-known
@@ -9,6 +9,18 @@ pull_at-requires-clause-known c = rw (c.loop.invariant.limits) c.requires.known
 
 pub pull_at-requires-clause-keeps : goal.pull_at-requires-clause-keeps
 pull_at-requires-clause-keeps c = rw (c.loop.invariant.limits) c.loop.invariant.keeps
+
+pub loop-preserved : goal.loop-preserved
+loop-preserved c =
+    record {
+      keeps = rw (c.loop.invariant.limits) at c.pull_at.ensures.pulls_on.keeps;
+      made = made_on _ _ _ _ _ _ c.in-Ok.ensures.items c.loop.invariant.made c.in_ok-pulled.ensures.pulls_on.made;
+      limits = c.pull_at.ensures.pulls_on.limits ∙ c.loop.invariant.limits;
+      lanes = c.pull_at.ensures.pulls_on.lanes ∙ c.loop.invariant.lanes;
+      grown = pulled_on c.loop.counter 1 (c.loop.counter + 1) c.args.thread _ _ _ (omega arith) c.loop.invariant.grown c.pull_at.ensures.pulls_on.grown;
+      none = c.in-Ok.ensures.other_items;
+      moved = moved_again _ _ _ c.in_ok-pulled.pulled (pulled_prefix _ _ _ _ c.loop.invariant.grown) c.in_ok-pulled.ensures.moved c.if-not-pulled.false;
+    }
 
 pub returns-in_err-pulled-clause-pulls_on : goal.returns-in_err-pulled-clause-pulls_on
 returns-in_err-pulled-clause-pulls_on c =
@@ -18,7 +30,7 @@ returns-in_err-pulled-clause-pulls_on c =
       made = rw p.1 tt;
       limits = c.pull_at.ensures.pulls_on.limits ∙ c.loop.invariant.limits;
       lanes = c.pull_at.ensures.pulls_on.lanes ∙ c.loop.invariant.lanes;
-      grown = prefix_on _ _ _ c.loop.invariant.grown c.pull_at.ensures.pulls_on.grown;
+      grown = pulled_on c.loop.counter 1 64 c.args.thread _ _ _ (omega (arith, c.loop-test.true)) c.loop.invariant.grown c.pull_at.ensures.pulls_on.grown;
       blamed = search rules;
     }
 
@@ -29,7 +41,7 @@ returns-in_default-clause-pulls_on c =
       made = tt;
       limits = c.pull_at.ensures.pulls_on.limits ∙ c.loop.invariant.limits;
       lanes = c.pull_at.ensures.pulls_on.lanes ∙ c.loop.invariant.lanes;
-      grown = prefix_on _ _ _ c.loop.invariant.grown c.pull_at.ensures.pulls_on.grown;
+      grown = pulled_on c.loop.counter 1 64 c.args.thread _ _ _ (omega (arith, c.loop-test.true)) c.loop.invariant.grown c.pull_at.ensures.pulls_on.grown;
       blamed = tt;
     }
 
@@ -40,7 +52,7 @@ returns-then-not-pulled-clause-pulls_on c =
       made = made_on _ _ _ _ _ _ c.in-Ok.ensures.items c.loop.invariant.made c.in_ok-pulled.ensures.pulls_on.made;
       limits = c.pull_at.ensures.pulls_on.limits ∙ c.loop.invariant.limits;
       lanes = c.pull_at.ensures.pulls_on.lanes ∙ c.loop.invariant.lanes;
-      grown = prefix_on _ _ _ c.loop.invariant.grown c.pull_at.ensures.pulls_on.grown;
+      grown = pulled_on c.loop.counter 1 64 c.args.thread _ _ _ (omega (arith, c.loop-test.true)) c.loop.invariant.grown c.pull_at.ensures.pulls_on.grown;
       blamed = tt;
     }
 

@@ -1,5 +1,5 @@
 use Rattle.std.proofs.Common.{◌≡◌, [], ◌++◌, map}
-use mathlib.Core.List.{IsPrefix}
+use Rattle.gl_engine.specs.Collecting.{IsTurn}
 use Rattle.gl_engine.specs.Dealing.{made_by}
 use Rattle.gl_engine.specs.Keeping.{IsCollector}
 use Rattle.gl_engine.specs.bodies.Whole.{lane_of, HasMoved}
@@ -12,7 +12,7 @@ invariant-loop l = record {
   made : made_by l.fn.intake.stream ++ l.made.items ≡ made_by l.intake.stream;
   limits : l.intake.limits ≡ l.fn.intake.limits;
   lanes : map lane_of l.inputs.items ≡ map lane_of l.fn.inputs.items;
-  grown : IsPrefix l.fn.intake.stream l.intake.stream;
+  grown : IsTurn l.counter l.thread l.fn.intake.stream l.intake.stream;
   none : l.next.items ≡ [];
   moved : HasMoved l.fn.intake.stream l.intake.stream l.moved;
 }

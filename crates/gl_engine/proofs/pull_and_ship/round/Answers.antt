@@ -1,7 +1,7 @@
 use Rattle.std.proofs.Common.{rules, sym, ◌∙◌, subst}
 use Rattle.std.proofs.lemmas.Result.{err_from_is_err_and}
 use Rattle.gl_engine.specs.bodies.Whole.{HasMoved}
-use Rattle.gl_engine.proofs.Handing.{prefix_on}
+use Rattle.gl_engine.proofs.Handing.{prefix_on, stops_since}
 use Rattle.gl_engine.proofs.Running.{moved_first, moved_then}
 use Rattle.gl_engine.proofs.pull_and_ship.round.Goals.{then-moved, else-moved}
 use Rattle.gl_engine.proofs.pull_and_ship.round.Goals as goal
@@ -19,6 +19,7 @@ returns-in_err-pulled-clause-goes_on g c =
       feeds = c.turn.ensures.goes_on.feeds ∙ c.loop-number.invariant.feeds;
       grown = prefix_on _ _ _ c.loop-number.invariant.grown c.turn.ensures.goes_on.grown;
       blamed = search rules;
+      stopped = rw (p.1, p.2) (stops_since _ _ _ _ c.loop-number.invariant.grown c.in_err-pulled.field-0.0 c.in_err-pulled.ensures.goes_on.stopped);
     }
 
 pub loop-number-preserved : goal.loop-number-preserved

@@ -1,6 +1,6 @@
 use Rattle.std.proofs.Common.{rules}
 use Rattle.std.proofs.lemmas.Result.{err_from_is_err_and}
-use Rattle.gl_engine.proofs.Handing.{blamed_gone, blamed_pull}
+use Rattle.gl_engine.proofs.Handing.{blamed_gone, blamed_pull, pulled_prefix, stops_gone, stops_pull}
 use Rattle.gl_engine.proofs.pull_and_ship.turn.Goals as goal
 
 pub returns-in_err-pulled-clause-goes_on : goal.returns-in_err-pulled-clause-goes_on
@@ -11,9 +11,12 @@ returns-in_err-pulled-clause-goes_on g c =
       limits = search rules;
       lanes = search rules;
       feeds = search rules;
-      grown = search rules;
+      grown = pulled_prefix 64 c.args.thread _ _ c.pull_some.ensures.pulls_on.grown;
       blamed = rw (p.1, p.2)
-          (blamed_pull _ c.args.intake.now.limits c.pull_some.new.inputs.items c.pull_some.new.intake.stream c.in_err-pulled.field-0.0 c.in_err-pulled.ensures.pulls_on.blamed);
+          (blamed_pull c.args.thread c.args.intake.now.limits c.pull_some.new.inputs.items c.pull_some.new.intake.stream c.in_err-pulled.field-0.0 c.in_err-pulled.ensures.pulls_on.blamed);
+      stopped = rw (p.1, p.2)
+          (stops_pull c.args.thread c.args.intake.now.limits c.pull_some.new.inputs.items c.args.intake.now.stream c.pull_some.new.intake.stream c.args.outlets.now.items c.in_err-pulled.field-0.0
+          c.in_err-pulled.ensures.pulls_on.blamed c.pull_some.ensures.pulls_on.grown c.requires.kept.shipped);
     }
 
 pub returns-in_err-ship-clause-goes_on : goal.returns-in_err-ship-clause-goes_on
@@ -24,8 +27,11 @@ returns-in_err-ship-clause-goes_on g c =
       limits = search rules;
       lanes = search rules;
       feeds = search rules;
-      grown = search rules;
+      grown = pulled_prefix 64 c.args.thread _ _ c.pull_some.ensures.pulls_on.grown;
       blamed = rw (p.1, p.2)
           (blamed_gone c.args.intake.now.limits c.pull_some.new.inputs.items c.pull_some.new.intake.stream _ _ c.in_err-ship.field-0.0
-          (rw c.in_ok-pulled.ensures.pulls_on.made at (c.in_err-ship.ensures.stopped _ c.requires.kept.shipped)));
+          (c.in_err-ship.ensures.stopped _ c.requires.kept.shipped));
+      stopped = rw (p.1, p.2)
+          (stops_gone c.args.intake.now.stream c.pull_some.new.intake.stream _ _ c.in_err-ship.field-0.0 c.in_ok-pulled.ensures.pulls_on.made
+          (c.in_err-ship.ensures.stopped _ c.requires.kept.shipped));
     }

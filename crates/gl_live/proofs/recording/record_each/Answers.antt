@@ -10,9 +10,9 @@ loop-event-preserved g c =
     let was = c.loop-event in
     let event = c.event-item.result in
     let list = c.args.list.now in record {
-      identity = ap identity_of c.in-Ok.ensures.pushed ∙ was.invariant.identity;
+      identity = ap identity_of c.in-Ok.ensures.taken.pushed ∙ was.invariant.identity;
       all =
-          recorded_more was.recorder c.record_wait.new.self event c.record_wait.new.self.room c.in-Ok.ensures.pushed
+          recorded_more was.recorder c.record_wait.new.self event c.record_wait.new.self.room c.in-Ok.ensures.taken.pushed
           ∙ ap (λ es. es ++ event ∷ []) was.invariant.all
           ∙ append_assoc (recorded c.args.recorder.now) (take was.event-index list) (event ∷ [])
           ∙ ap (λ es. recorded c.args.recorder.now ++ es) (sym (take_more list was.event-index event (get_at list was.event-index event (omega (arith, c.loop-event-test.true)) c.event-item.is)));

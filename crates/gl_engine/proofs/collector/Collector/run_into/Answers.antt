@@ -1,8 +1,11 @@
-use Rattle.std.proofs.Common.{map, sym, ap, ◌∙◌}
-use Rattle.gl_engine.specs.Collecting.{Collecting, Pulling}
+use Rattle.std.proofs.Common.{map, refl, sym, ◌∙◌, subst}
+use Rattle.gl_engine.specs.Collecting.{Collecting}
+use Rattle.gl_engine.specs.Dealing.{made_by}
+use Rattle.gl_engine.specs.Gathering.{Gathering, HasRunThrough}
 use Rattle.gl_engine.specs.bodies.Whole.{lane_of}
-use Rattle.gl_engine.proofs.Ending.{found_broken, found_gone}
+use Rattle.gl_engine.proofs.Ending.{run_through}
 use Rattle.gl_engine.proofs.Running.{as_long, lanes_shown, unsent_dealt, gathered_all}
+use Rattle.gl_engine.proofs.Sides.{collecting_of}
 use Rattle.gl_engine.proofs.collector.Collector.run_into.Goals as goal
 
 pub collect_all-gathered-requires-clause-unsent : goal.collect_all-gathered-requires-clause-unsent
@@ -11,23 +14,27 @@ collect_all-gathered-requires-clause-unsent g c = unsent_dealt c.args.outlets.it
 pub invariant_of-result : goal.invariant_of-result
 invariant_of-result g c =
     rw c.collect_all-gathered.ensures.goes_on.limits
-    (gathered_all _ c.self.inside.limits c.self.inside.intake.limits c.self.invariant.same_limits c.self.inside.inputs.items c.collect_all-gathered.new.inputs.items c.self.invariant.inputs_are.count c.collect_all-gathered.ensures.goes_on.lanes
+    (gathered_all c.self.inside.limits c.self.inside.intake.limits c.self.invariant.same_limits c.self.inside.inputs.items c.collect_all-gathered.new.inputs.items c.self.invariant.inputs_are.count c.collect_all-gathered.ensures.goes_on.lanes
     c.collect_all-gathered.new.intake.stream c.args.outlets.items c.collect_all-gathered.new.outlets.items c.end_all-gone.new.sent.items c.requires.some c.collect_all-gathered.ensures.goes_on.feeds
     c.collect_all-gathered.result c.end_all-gone.result c.collect_all-gathered.ensures.goes_on.keeps c.collect_all-gathered.ensures.ended c.end_all-gone.ensures.sent c.collect_all-gathered.ensures.goes_on.blamed c.first_fault.result c.first_fault.ensures.first c.first_fault.ensures.none)
 
-pub returns-clause-lanes : goal.returns-clause-lanes
-returns-clause-lanes g c =
-    c.collect_all-gathered.ensures.goes_on.lanes ∙ sym (lanes_shown c.self.inside.inputs.items) ∙ ap (λ (s : Collecting). map (λ (input : Pulling). input.lane) s.inputs) c.self.view_is
-
-pub returns-clause-gone : goal.returns-clause-gone
-returns-clause-gone g c shard is =
-    found_gone _ c.collect_all-gathered.new.inputs.items c.args.outlets.items c.collect_all-gathered.new.outlets.items c.collect_all-gathered.ensures.goes_on.feeds shard
-    c.self.inside.intake.limits c.self.invariant.same_limits c.collect_all-gathered.result c.end_all-gone.result c.collect_all-gathered.ensures.goes_on.keeps c.collect_all-gathered.ensures.ended
-    c.collect_all-gathered.ensures.goes_on.blamed c.end_all-gone.ensures.ended (sym c.first_fault.ensures.first ∙ is)
-
-pub returns-clause-broken : goal.returns-clause-broken
-returns-clause-broken g c thread why is =
-    found_broken _ c.collect_all-gathered.new.inputs.items
-    (as_long lane_of lane_of c.collect_all-gathered.new.inputs.items c.self.inside.inputs.items c.collect_all-gathered.ensures.goes_on.lanes ∙ c.self.invariant.inputs_are.count)
-    thread why _ c.self.inside.intake.limits c.self.invariant.same_limits c.collect_all-gathered.result c.end_all-gone.result
-    c.collect_all-gathered.ensures.goes_on.blamed (sym c.first_fault.ensures.first ∙ is)
+pub returns : goal.returns
+returns g c =
+    let went = c.collect_all-gathered.ensures.goes_on in
+    let before = c.self.inside.inputs.items in
+    let after = c.collect_all-gathered.new.inputs.items in
+    let gathered : Gathering = record {
+      session = c.self.inside.session;
+      limits = c.self.inside.limits;
+      lanes = map lane_of after;
+      stream = c.collect_all-gathered.new.intake.stream;
+      sent = c.end_all-gone.new.sent.items;
+      fault = c.first_fault.result;
+    } in
+    let stream = c.self.inside.intake.stream in
+    subst (λ (s : Collecting). HasRunThrough s c.args.outlets.items gathered) c.self.view_is
+    (run_through (collecting_of c.self.inside.session c.self.inside.limits before stream (made_by stream)) gathered after c.args.outlets.items c.collect_all-gathered.new.outlets.items went.feeds
+    c.self.inside.intake.limits c.self.invariant.same_limits
+    (record { session = refl; limits = refl; lanes = went.lanes ∙ sym (lanes_shown before); grown = went.grown })
+    (as_long lane_of lane_of after before went.lanes ∙ c.self.invariant.inputs_are.count)
+    c.collect_all-gathered.result c.end_all-gone.result c.first_fault.ensures.first went.keeps c.collect_all-gathered.ensures.ended went.blamed went.stopped c.end_all-gone.ensures.ended)

@@ -37,4 +37,4 @@ returns-in-Some-clause-complete c =
     c.self.inside.intake.stream
     (subst (λ (g : Gathering). AreThereBelow c.args.receipts.now g.limits.threads) (sym c.self.view_is) c.requires.all)
     c.confirm_all.ensures.confirmed c.in-Some.fault
-    (subst (λ f. IfSome f (IsBlamed (λ shard. Unit {0}) c.self.inside.limits c.self.inside.inputs.items c.self.inside.intake.stream)) c.in-Some.is c.self.invariant.blamed))
+    (subst (λ f. IfSome f (IsBlamed c.self.inside.limits c.self.inside.inputs.items c.self.inside.intake.stream)) c.in-Some.is c.self.invariant.blamed))
