@@ -1,6 +1,6 @@
 -- What lists of events tell, whatever numbers their locks and places have; and the lists that tell the same with locks and
 -- places numbered by first mention: thread 0's list first, event by event, then thread 1's, and so on.
-use Rattle.std.specs.Prelude.{◌≡◌, ℕ, Bool, ◌&&◌, List, [], ◌∷◌, Option, Some, None, length, map, nat_lt, slice_get}
+use Rattle.std.specs.Prelude.{◌≡◌, ℕ, Bool, ◌&&◌, List, [], Option, Some, None, length, map, nat_lt, slice_get}
 use Rattle.std.specs.List.{filter_map, flat_map, fold, list_all}
 use Rattle.gl_event.specs.Bounds.{Bounds}
 use Rattle.gl_event.specs.Lawful.{IsLawful}

@@ -1,5 +1,5 @@
 -- What is heard of a text that is read ahead.
-use Rattle.std.proofs.Common.{◌≡◌, ℕ, ◌*◌, ◌≤◌, Bool, true, List, [], ◌∷◌, ◌++◌, drop, length, take, Result, Ok, Err, refl, sym, ap, subst, ◌∙◌, arith}
+use Rattle.std.proofs.Common.{◌≡◌, ℕ, ◌*◌, ◌≤◌, Bool, true, false, List, [], ◌∷◌, ◌++◌, drop, length, take, Result, Ok, Err, refl, sym, ap, subst, ◌∙◌, arith}
 use Rattle.std.specs.Prelude.{vec_len, IfOk}
 use Rattle.std.specs.declared.alloc.AllocError.{AllocError}
 use Rattle.gl_event.specs.Bounds.{Bounds}
@@ -10,7 +10,7 @@ use Rattle.gl_std.specs.Heard.{HasHeard}
 use Rattle.gl_std.specs.LineReading.{HasGiven}
 use Rattle.gl_std.specs.Pieces.{IsFaulty}
 use Rattle.gl_std.specs.Trace.{nothing}
-use Rattle.gl_std.specs.bodies.Ahead.{text_of, AreCut, AreShort, CanJudge, CanReadAhead, FailsPiece, GivesOn, HasGoneOn, HasReadOn, HasReadPieces, HasReadTo, HearsPieces, HearsRest, OnlyJudges, ReadsAhead, TakesPiece}
+use Rattle.gl_std.specs.bodies.Ahead.{text_of, AreCut, AreShort, CanJudge, CanReadAhead, FailsPiece, GivesOn, HasGoneOn, HasReadOn, HasReadPieces, HasReadTo, HearsEnding, HearsFault, HearsPieces, HearsRest, IsStillAhead, OnlyJudges, ReadsAhead, TakesPiece}
 use Rattle.gl_std.specs.bodies.Hearing.{Hears, HearsOn, IsReading}
 use Rattle.gl_std.specs.bodies.States.{left_of, IsFit, IsSound, Reaches, ReadsOn}
 use Rattle.gl_std.specs.declared.faults.ReadFault.{ReadFault}
@@ -195,3 +195,41 @@ heard_rest now later failed f j j2 new lists lists2 pieces (Ok h) hears takes sa
 pub heard_after : (limits : Bounds) (turns : ℕ) (start now later : Position) (failed : Bool) (f j : LineReader) (lists : List (List Event)) (pieces : List ℕ) (r : Result Heard AllocError) → IfOk r (HearsRest now f j lists pieces later failed) → ReadsAhead limits turns start now f j lists pieces → IfOk r (HasHeard limits turns start later failed)
 heard_after limits turns start now later failed f j lists pieces (Err e) hears ahead = tt
 heard_after limits turns start now later failed f j lists pieces (Ok h) hears ahead = hears limits turns start ahead
+
+-- ---- rounds of reading ahead
+
+-- one thread goes on alone
+pub ending_more : (now later : Position) (failed failed2 : Bool) (f j : LineReader) (lists : List (List Event)) (pieces : List ℕ) (ending : Ending) (r : Result Heard AllocError) → IfOk r (HearsRest now f j lists pieces later failed2) → ending ≡ More → IfOk r (HearsEnding ending now failed f j lists pieces later failed2)
+ending_more now later failed failed2 f j lists pieces ending (Err e) hears is = tt
+ending_more now later failed failed2 f j lists pieces ending (Ok h) hears is = λ limits turns start seen told read same reaches listed.
+    hears limits turns start (record { seen = seen; told = told; given = subst (λ e. HasReadTo e turns start now failed f.turns (seen ++ pieces)) is read; same = same; reaches = reaches; listed = listed })
+
+-- the source has ended
+pub ending_end : (now : Position) (failed : Bool) (f j : LineReader) (lists : List (List Event)) (pieces : List ℕ) (ending : Ending) (r : Result Heard AllocError) → IfOk r (HearsPieces j lists pieces true) → ending ≡ End → IfOk r (HearsEnding ending now failed f j lists pieces now failed)
+ending_end now failed f j lists pieces ending (Err e) hears is = tt
+ending_end now failed f j lists pieces ending (Ok h) hears is = λ limits turns start seen told read same reaches listed.
+    hears limits turns start now failed seen told (subst (λ e. HasReadTo e turns start now failed f.turns (seen ++ pieces)) is read) same reaches listed
+
+-- a read failed, or no turn was left
+pub ending_broke : (now : Position) (failed : Bool) (f j : LineReader) (lists : List (List Event)) (pieces : List ℕ) (ending : Ending) (r : Result Heard AllocError) → IfOk r (HearsPieces j lists pieces false) → ending ≡ Broke → IfOk r (HearsEnding ending now failed f j lists pieces now failed)
+ending_broke now failed f j lists pieces ending (Err e) hears is = tt
+ending_broke now failed f j lists pieces ending (Ok h) hears is = λ limits turns start seen told read same reaches listed.
+    hears limits turns start now failed seen told (subst (λ e. HasReadTo e turns start now failed f.turns (seen ++ pieces)) is read) same reaches listed
+
+-- what is heard after the last round is what is heard of the source
+pub rest_last : (now later mid last : Position) (failed failed2 : Bool) (f0 j0 : LineReader) (lists0 : List (List Event)) (pieces0 : List ℕ) (f f2 j j2 : LineReader) (lists lists2 : List (List Event)) (front pieces : List ℕ) (ending : Ending) (r : Result Heard AllocError) → IsStillAhead now f0 j0 lists0 pieces0 later f j lists front → HasReadOn later f [] mid failed f2 pieces ending → TakesPiece j lists front j2 lists2 → j2.judge.limits ≡ j.judge.limits → IfOk r (HearsEnding ending mid failed f2 j2 lists2 pieces last failed2) → IfOk r (HearsRest now f0 j0 lists0 pieces0 last failed2)
+rest_last now later mid last failed failed2 f0 j0 lists0 pieces0 f f2 j j2 lists lists2 front pieces ending (Err e) still on takes same hears = tt
+rest_last now later mid last failed failed2 f0 j0 lists0 pieces0 f f2 j j2 lists lists2 front pieces ending (Ok h) still on takes same hears = λ limits turns start was.
+    let ahead = still limits turns start was in
+    let at = reached_ahead limits turns start later f j j2 lists lists2 front ahead takes in
+    hears limits turns start (ahead.seen ++ front) at.0
+    (subst (λ t. HasReadTo ending turns start mid failed f2.turns ((ahead.seen ++ front) ++ t)) (sym on.text) (read_to ending turns start later mid failed f f2 (ahead.seen ++ front) on.gave on.gives ahead.given))
+    (same ∙ ahead.same) at.1 at.2
+
+-- and so it is where a line of what was read ahead is at fault
+pub rest_faulty : (now later mid last : Position) (failed failed2 : Bool) (f0 j0 : LineReader) (lists0 : List (List Event)) (pieces0 : List ℕ) (f f2 j : LineReader) (lists : List (List Event)) (front pieces : List ℕ) (ending : Ending) (r : Result (Unit {0}) ReadFault) (number number2 : ℕ) (kind kind2 : StdKind) (h : Heard) → IsStillAhead now f0 j0 lists0 pieces0 later f j lists front → HasReadOn later f [] mid failed f2 pieces ending → FailsPiece j lists front r → r ≡ Err (Line number kind) → number2 ≡ number → kind2 ≡ kind → HearsFault ending mid failed f2.turns number2 kind2 last failed2 h → HearsRest now f0 j0 lists0 pieces0 last failed2 h
+rest_faulty now later mid last failed failed2 f0 j0 lists0 pieces0 f f2 j lists front pieces ending r number number2 kind kind2 h still on fails is a b hears = λ limits turns start was.
+    let ahead = still limits turns start was in
+    let text = (ahead.seen ++ front) ++ on.gave in
+    hears limits turns start text (read_to ending turns start later mid failed f f2 (ahead.seen ++ front) on.gave on.gives ahead.given)
+    (faulty_parts limits text number number2 kind kind2 a b (failed_ahead limits turns start later f j lists front on.gave r number kind ahead fails is))

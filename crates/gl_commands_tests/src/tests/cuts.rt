@@ -10,6 +10,7 @@ use super::{NO_CYCLES, OPPOSITE_ORDER};
 use gl_commands::Ended;
 use gl_io::FromStd;
 use gl_options::Command;
+use std::alloc::Global;
 use std::io::Cursor;
 use std::process::Abort;
 use std::sync::Wait;
@@ -127,18 +128,27 @@ pub(super) fn is_failed(ended: &Ended, count: usize) -> bool {
     }
 }
 
-// The writer is full, and holds what it is to hold.
-fn expect_full<R: Abort + AllocGlobal + Threads + Wait + Sync>(rt: &R, full: &Full) {
-    let command = command_of(full.ask, 2).expect(rt, full.name);
-    let held = vec![in rt.alloc(); 0u8; full.held.len()];
-    let mut held = held.ok().expect(rt, full.name);
-    let ended = run_into(rt, &command, full.text, held.as_mut_slice());
+// So many zeros.
+fn zeros(alloc: Global, count: usize) -> Option<Vec<u8>> {
+    vec![in alloc; 0u8; count].ok()
+}
+
+// The writer failed when it was full, and this is what it is to hold.
+fn expect_held(rt: &impl Abort, full: &Full, ended: &Ended, held: &[u8]) {
     assert!(rt;
-        is_failed(&ended, full.held.len()),
+        is_failed(ended, full.held.len()),
         "{}: {ended:?}",
         full.name
     );
-    assert_eq!(rt; held.as_slice(), full.held, "{}", full.name);
+    assert_eq!(rt; held, full.held, "{}", full.name);
+}
+
+// The writer is full, and holds what it is to hold.
+fn expect_full<R: Abort + AllocGlobal + Threads + Wait + Sync>(rt: &R, full: &Full) {
+    let command = command_of(full.ask, 2).expect(rt, full.name);
+    let mut held = zeros(rt.alloc(), full.held.len()).expect(rt, full.name);
+    let ended = run_into(rt, &command, full.text, held.as_mut_slice());
+    expect_held(rt, full, &ended, &held);
 }
 
 #[test]

@@ -143,6 +143,19 @@ impl Gate for Count {
     }
 }
 
+// No cycle is found.
+fn expect_clean(rt: &impl Abort, ended: &Ended, printed: &[u8]) {
+    assert!(rt; matches!(ended, Ended::Clean), "{ended:?}");
+    assert_eq!(rt; printed, NO_CYCLES);
+}
+
+// All edges were counted, and what was told of each is so.
+fn expect_counts(rt: &impl Abort, gate: &Count) {
+    assert_eq!(rt; gate.first.load(Ordering::SeqCst), 9);
+    assert_eq!(rt; gate.second.load(Ordering::SeqCst), 6);
+    assert_eq!(rt; gate.wrong.load(Ordering::SeqCst), 0);
+}
+
 // Each edge passes the gate once, at its own shard, with the number of those before it.
 fn expect_each_edge<R: AllocGlobal + Abort + Threads + Wait + Sync>(rt: &R, ask: Ask) {
     let gate = Count {
@@ -152,11 +165,8 @@ fn expect_each_edge<R: AllocGlobal + Abort + Threads + Wait + Sync>(rt: &R, ask:
     };
     let mut input = FromStd::new(NESTED);
     let (ended, printed) = gated(rt, ask, &mut input, &gate).expect(rt, "a session");
-    assert!(rt; matches!(ended, Ended::Clean), "{ended:?}");
-    assert_eq!(rt; printed.as_slice(), NO_CYCLES);
-    assert_eq!(rt; gate.first.load(Ordering::SeqCst), 9);
-    assert_eq!(rt; gate.second.load(Ordering::SeqCst), 6);
-    assert_eq!(rt; gate.wrong.load(Ordering::SeqCst), 0);
+    expect_clean(rt, &ended, &printed);
+    expect_counts(rt, &gate);
 }
 
 #[test]

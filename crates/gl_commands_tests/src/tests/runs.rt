@@ -53,8 +53,43 @@ pub(super) struct Case {
     pub(super) printed: &'static [u8],
 }
 
-// How `predict` ends, of which nothing is told: what is asked then stands among few facts, and the prover takes it
-// quickly. So it is with the others.
+// How `replay` ends, of which nothing is told: what is asked then stands among few facts, and the prover takes it
+// quickly. So it is with the others. A proof that is the first to call a command reads what stands behind that, so
+// these go from the command with least behind it to the one with most.
+fn run_replay<R: AllocGlobal + Threads + Sync, I: Source, O: Sink>(
+    rt: &R,
+    input: &mut I,
+    output: &mut O,
+    reading: &Reading,
+) -> Ended
+    requires ready { AreReady reading.now.turns (I.failed input.old) (O.failed output.old) }
+{
+    replay(rt, input, output, reading)
+}
+
+fn run_check<R: AllocGlobal + Threads + Sync, I: Source, O: Sink>(
+    rt: &R,
+    input: &mut I,
+    output: &mut O,
+    reading: &Reading,
+) -> Ended
+    requires ready { AreReady reading.now.turns (I.failed input.old) (O.failed output.old) }
+{
+    check_input(rt, input, output, reading)
+}
+
+fn run_stats<R: AllocGlobal + Threads + Sync, I: Source, O: Sink>(
+    rt: &R,
+    input: &mut I,
+    output: &mut O,
+    reading: &Reading,
+    query: &Query,
+) -> Ended
+    requires ready { AreReady reading.now.turns (I.failed input.old) (O.failed output.old) }
+{
+    stats(rt, input, output, reading, query)
+}
+
 fn run_predict<R: AllocGlobal + Threads + Sync, I: Source, O: Sink>(
     rt: &R,
     input: &mut I,
@@ -94,40 +129,6 @@ fn run_live<R: AllocGlobal + Threads + Wait + Sync, I: Source, O: Sink>(
     live(rt, input, output, reading, options)
 }
 
-fn run_stats<R: AllocGlobal + Threads + Sync, I: Source, O: Sink>(
-    rt: &R,
-    input: &mut I,
-    output: &mut O,
-    reading: &Reading,
-    query: &Query,
-) -> Ended
-    requires ready { AreReady reading.now.turns (I.failed input.old) (O.failed output.old) }
-{
-    stats(rt, input, output, reading, query)
-}
-
-fn run_replay<R: AllocGlobal + Threads + Sync, I: Source, O: Sink>(
-    rt: &R,
-    input: &mut I,
-    output: &mut O,
-    reading: &Reading,
-) -> Ended
-    requires ready { AreReady reading.now.turns (I.failed input.old) (O.failed output.old) }
-{
-    replay(rt, input, output, reading)
-}
-
-fn run_check<R: AllocGlobal + Threads + Sync, I: Source, O: Sink>(
-    rt: &R,
-    input: &mut I,
-    output: &mut O,
-    reading: &Reading,
-) -> Ended
-    requires ready { AreReady reading.now.turns (I.failed input.old) (O.failed output.old) }
-{
-    check_input(rt, input, output, reading)
-}
-
 // How the command ends over a reader and a writer.
 pub(super) fn run<R: AllocGlobal + Threads + Wait + Sync, I: Source, O: Sink>(
     rt: &R,
@@ -147,6 +148,9 @@ pub(super) fn run<R: AllocGlobal + Threads + Wait + Sync, I: Source, O: Sink>(
         jobs: command.jobs(),
     };
     match command {
+        Command::Replay { .. } => run_replay(rt, input, output, &reading),
+        Command::Check { .. } => run_check(rt, input, output, &reading),
+        Command::Stats { query, .. } => run_stats(rt, input, output, &reading, query),
         Command::Predict { query, form, .. } => run_predict(
             rt, input, output, &reading, query, *form,
         ),
@@ -154,9 +158,6 @@ pub(super) fn run<R: AllocGlobal + Threads + Wait + Sync, I: Source, O: Sink>(
             run_findings(rt, input, output, &reading, query, *form)
         }
         Command::Live(options) => run_live(rt, input, output, &reading, options),
-        Command::Stats { query, .. } => run_stats(rt, input, output, &reading, query),
-        Command::Replay { .. } => run_replay(rt, input, output, &reading),
-        Command::Check { .. } => run_check(rt, input, output, &reading),
     }
 }
 

@@ -149,8 +149,19 @@ fn expect_answer<R: Abort + AllocGlobal + Threads + Wait + Sync>(
     requires { CanRun command.now }
 {
     let (ended, output) = tried(rt, command, once);
+    expect_tried(rt, once, &ended, &output, wanted);
+}
+
+// It is what is wanted.
+fn expect_tried<R: Abort + AllocGlobal>(
+    rt: &R,
+    once: &Try<'_>,
+    ended: &Ended,
+    output: &Narrow,
+    wanted: &Wanted<'_>,
+) {
     assert!(rt;
-        is_answer(rt.alloc(), &ended, &output, wanted),
+        is_answer(rt.alloc(), ended, output, wanted),
         "{}: {} bytes, {} turns, {:?}, room for {}: {ended:?}, {} calls, {:?}",
         once.name,
         once.text.len(),
@@ -258,9 +269,14 @@ fn expect_full<R: Abort + AllocGlobal + Threads + Wait + Sync>(
     requires { CanRun command.now }
 {
     let (ended, output) = tried(rt, command, once);
+    expect_stopped(rt, once, &ended, &output, printed);
+}
+
+// It has stopped so.
+fn expect_stopped(rt: &impl Abort, once: &Try<'_>, ended: &Ended, output: &Narrow, printed: &[u8]) {
     let room = once.room;
     assert!(rt;
-        is_failed(&ended, room)
+        is_failed(ended, room)
             && printed.get(..room) == Some(output.held.as_slice())
             && output.calls == room.saturating_add(1),
         "{}: room for {room}: {ended:?}, {} calls, {:?}",

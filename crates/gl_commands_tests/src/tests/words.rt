@@ -228,14 +228,18 @@ fn words_that_ask_for_nothing(rt: HostRuntime) {
     expect_rows(&rt, rt.alloc(), "session faults", SESSION_USAGE_FAULTS);
 }
 
-// Whether each command that reads a trace asks for so many threads, with this value of `--jobs`.
-fn take_jobs(alloc: Global, value: &str, jobs: u32) -> bool {
+// Whether each command that prints a report asks for so many threads, with this value of `--jobs`.
+fn reports_take_jobs(alloc: Global, value: &str, jobs: u32) -> bool {
     let session = Live(FULL, Text, [false, false], [4, 4, 256, 64, jobs]);
     let findings = ["goodlock", "predict", "--jobs", value, "--findings"];
     request_in(alloc, &["goodlock", "predict", "--jobs", value]) == Predict(FULL, Text, jobs)
         && request_in(alloc, &findings) == Findings(FULL, Text, jobs)
         && request_in(alloc, &["goodlock", "live", "--jobs", value]) == session
-        && request_in(alloc, &["goodlock", "stats", "--jobs", value]) == Stats(FULL, jobs)
+}
+
+// And each other one that reads a trace.
+fn others_take_jobs(alloc: Global, value: &str, jobs: u32) -> bool {
+    request_in(alloc, &["goodlock", "stats", "--jobs", value]) == Stats(FULL, jobs)
         && request_in(alloc, &["goodlock", "replay", "--jobs", value]) == Replay(jobs)
         && request_in(alloc, &["goodlock", "check", "--jobs", value]) == Check(jobs)
 }
@@ -243,7 +247,9 @@ fn take_jobs(alloc: Global, value: &str, jobs: u32) -> bool {
 #[test]
 fn jobs_words(rt: HostRuntime) {
     for (value, jobs) in [("0", 0), ("1", 1), ("64", 64)] {
-        assert!(rt; take_jobs(rt.alloc(), value, jobs), "--jobs {value}");
+        let alloc = rt.alloc();
+        assert!(rt; reports_take_jobs(alloc, value, jobs), "--jobs {value}");
+        assert!(rt; others_take_jobs(alloc, value, jobs), "--jobs {value}");
     }
 }
 

@@ -201,3 +201,22 @@ abbrev pub HearsRest : Position → LineReader → LineReader → List (List Eve
 HearsRest now f j lists pieces later failed heard = (limits : Bounds) (turns : ℕ) (start : Position)
     → ReadsAhead limits turns start now f j lists pieces
     → HasHeard limits turns start later failed heard
+
+-- ---- rounds of reading ahead
+
+-- reading goes on, and did so where the pair of readers began, wherever the text began
+abbrev pub IsStillAhead : Position → LineReader → LineReader → List (List Event) → List ℕ → Position
+    → LineReader → LineReader → List (List Event) → List ℕ → Type 0
+IsStillAhead now f j lists pieces later f_later j_later lists_later pieces_later =
+    (limits : Bounds) (turns : ℕ) (start : Position)
+    → ReadsAhead limits turns start now f j lists pieces
+    → ReadsAhead limits turns start later f_later j_later lists_later pieces_later
+
+-- this was heard of the source, which was read to this ending, where these pieces of it weren't judged
+abbrev pub HearsEnding : Ending → Position → Bool → LineReader → LineReader → List (List Event)
+    → List ℕ → Position → Bool → Heard → Type 0
+HearsEnding ending now failed f j lists pieces later failed_later heard =
+    (limits : Bounds) (turns : ℕ) (start : Position) (seen : List ℕ) (told : Trace)
+    → HasReadTo ending turns start now failed f.turns (seen ++ pieces) → j.judge.limits ≡ limits
+    → Reaches j.judge j.unfinished.items seen told → lists ≡ told.lists
+    → HasHeard limits turns start later failed_later heard

@@ -11,7 +11,7 @@ ghost use Rattle.std.specs.Prelude.{◌≡◌, ◌^◌, ◌<◌, ◌≤◌, [], 
 ghost use Rattle.gl_io.specs.declared.source.TheConstants.{CHUNK};
 ghost use Rattle.gl_std.specs.Heard.{HasHeard};
 ghost use Rattle.gl_std.specs.Trace.{IsTraceOver};
-ghost use Rattle.gl_std.specs.bodies.Ahead.{bytes_of, text_of, AreCut, AreShort, CanJudge, CanReadAhead, HasReadPieces, HasTakenPieces, HearsFault, HearsFaulty, HearsPieces, HearsRest, IsCut, IsShort};
+ghost use Rattle.gl_std.specs.bodies.Ahead.{bytes_of, text_of, AreCut, AreShort, CanJudge, CanReadAhead, HasReadPieces, HasTakenPieces, HearsEnding, HearsFault, HearsFaulty, HearsPieces, HearsRest, IsCut, IsShort};
 ghost use Rattle.gl_std.specs.declared.line_reader.pieces.Ending.TheVariants.{More};
 
 use super::{Heard, finish, read_on, read_source};
@@ -261,6 +261,98 @@ fn read_alone<R: Source>(
     }
 }
 
+// Whether reading ahead goes on after these pieces: there may be more, and cutting it pays.
+fn goes_on(ending: Ending, pieces: &[Piece]) -> bool
+    ensures { result ≡ true → ending ≡ More }
+{
+    match ending {
+        Ending::More => pay(pieces),
+        Ending::End => false,
+        Ending::Broke => false,
+    }
+}
+
+// What is heard, where nothing more is read ahead: these pieces are judged, and the rest is read by this thread alone.
+#[inline(never)]
+fn leave<R: Source>(
+    alloc: Global,
+    reader: LineReader,
+    judge: LineReader,
+    lists: Lists,
+    pieces: &[Piece],
+    input: &mut R,
+    ending: Ending,
+) -> Result<Heard, AllocError>
+    requires can { CanJudge judge pieces.now }
+    requires on { ending ≡ More → CanReadAhead reader judge (text_of pieces.now) }
+    requires not_failed { ending ≡ More → R.failed input.old ≡ false }
+    ensures { IfOk result
+        (HearsEnding ending (R.position input.old) (R.failed input.old) reader judge lists
+        (text_of pieces.now) (R.position input.new) (R.failed input.new)) }
+{
+    match ending {
+        Ending::More => read_alone(alloc, reader, judge, lists, pieces, input),
+        Ending::End => finish_ahead(alloc, judge, lists, pieces, true),
+        Ending::Broke => finish_ahead(alloc, judge, lists, pieces, false),
+    }
+}
+
+// What is heard where two readers read ahead to the end of the source: the one judges what the other has read.
+fn read_ahead<T: Threads + Sync, R: Source>(
+    rt: &T,
+    cutters: Cutters,
+    mut reader: LineReader,
+    mut judge: LineReader,
+    mut lists: Lists,
+    input: &mut R,
+) -> Result<Heard, AllocError>
+    requires threads { 0 < cutters.threads }
+    requires can { CanReadAhead reader judge [] }
+    requires not_failed { R.failed input.old ≡ false }
+    ensures { IfOk result
+        (HearsRest (R.position input.old) reader judge lists [] (R.position input.new)
+        (R.failed input.new)) }
+{
+    let alloc = cutters.alloc;
+    let mut ahead = Vec::new(alloc);
+    let mut spare = Vec::new(alloc);
+    loop {
+        let mut pieces = Vec::new(alloc);
+        let (taken, read) = take_and_read(
+            rt,
+            cutters,
+            &mut judge,
+            &mut lists,
+            ahead.as_slice(),
+            &mut reader,
+            input,
+            &mut spare,
+            &mut pieces,
+        );
+        let ending = read?;
+        match taken {
+            Ok(()) => {}
+            Err(ReadFault::Line { line, kind }) => {
+                return Ok(stop_ahead(reader, input, ending, line, kind));
+            }
+            Err(ReadFault::Memory) => return Err(AllocError),
+        }
+        if !goes_on(ending, pieces.as_slice()) {
+            return leave(
+                alloc,
+                reader,
+                judge,
+                lists,
+                pieces.as_slice(),
+                input,
+                ending,
+            );
+        }
+        spare = ahead;
+        ahead = pieces;
+    }
+}
+
 /// As [`read_source`], in so many threads: what is heard doesn't depend on their number. With fewer than three the
 /// calling thread reads, cuts and judges line by line, since two would wait for each other. So it does where the text
 /// ends in its first half megabyte, and from where it is seen that most names are new.
@@ -287,43 +379,8 @@ pub fn read_source_parallel<T: Threads + Sync, R: Source>(
         return read_source(alloc, input, turns, limits, seed);
     }
     let cutters = Cutters::beside_judge(alloc, seed, jobs);
-    // the one judges what the other has read
-    let mut reader = LineReader::new(alloc, limits, turns, seed)?;
-    let mut judge = LineReader::new(alloc, limits, turns, seed)?;
-    let mut lists = Lists::new(Vec::new(alloc));
-    let mut ahead = Vec::new(alloc);
-    let mut spare = Vec::new(alloc);
-    loop {
-        let mut pieces = Vec::new(alloc);
-        let (taken, read) = take_and_read(
-            rt,
-            cutters,
-            &mut judge,
-            &mut lists,
-            ahead.as_slice(),
-            &mut reader,
-            input,
-            &mut spare,
-            &mut pieces,
-        );
-        let ending = read?;
-        match taken {
-            Ok(()) => {}
-            Err(ReadFault::Line { line, kind }) => {
-                return Ok(stop_ahead(reader, input, ending, line, kind));
-            }
-            Err(ReadFault::Memory) => return Err(AllocError),
-        }
-        match ending {
-            Ending::More => {
-                if !pay(pieces.as_slice()) {
-                    return read_alone(alloc, reader, judge, lists, pieces.as_slice(), input);
-                }
-                spare = ahead;
-                ahead = pieces;
-            }
-            Ending::End => return finish_ahead(alloc, judge, lists, pieces.as_slice(), true),
-            Ending::Broke => return finish_ahead(alloc, judge, lists, pieces.as_slice(), false),
-        }
-    }
+    let reader = LineReader::new(alloc, limits, turns, seed)?;
+    let judge = LineReader::new(alloc, limits, turns, seed)?;
+    let lists = Lists::new(Vec::new(alloc));
+    read_ahead(rt, cutters, reader, judge, lists, input)
 }

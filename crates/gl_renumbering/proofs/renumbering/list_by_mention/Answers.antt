@@ -1,9 +1,17 @@
-use Rattle.std.proofs.Common.{◌≡◌, [], ◌∷◌, ◌++◌, take, map, sym, ap, subst, ◌∙◌, arith}
+use Rattle.std.proofs.Common.{length, take, map, refl, sym, ap, subst, ◌∙◌, arith}
 use Rattle.std.proofs.lemmas.List.{take_all}
-use Rattle.gl_renumbering.specs.Tales.{mentioned, told}
+use Rattle.std.proofs.lemmas.Option.{slice_get_read}
+use Rattle.gl_renumbering.specs.Tales.{has_names, mentioned, told}
 use Rattle.gl_renumbering.specs.bodies.Tables.{StayToldBy}
-use Rattle.gl_renumbering.proofs.Telling.{front_more, names_push, stay_push}
+use Rattle.gl_renumbering.proofs.Telling.{front_more, names_push, one_passes, stay_push}
 use Rattle.gl_renumbering.proofs.renumbering.list_by_mention.Goals as goal
+
+pub event-requires-clause-named : goal.event-requires-clause-named
+event-requires-clause-named c =
+    let es = c.args.events.now in
+    let i = c.loop-event.event-index in
+    let e = c.event-item.result in
+    one_passes (has_names c.args.old.now) es i e (slice_get_read es (length es) i e refl c.loop-event-test.true c.event-item.is) c.requires.named
 
 pub loop-event-preserved : goal.loop-event-preserved
 loop-event-preserved c =

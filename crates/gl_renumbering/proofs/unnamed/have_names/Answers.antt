@@ -1,4 +1,4 @@
-use Rattle.std.proofs.Common.{◌≡◌, Vec, Global, false, length, map, sym, ap, ◌∙◌}
+use Rattle.std.proofs.Common.{Vec, Global, map, sym, ap, ◌∙◌}
 use Rattle.std.specs.List.{list_all}
 use Rattle.gl_event.specs.declared.events.Event.{Event}
 use Rattle.gl_renumbering.specs.Tales.{has_names}
