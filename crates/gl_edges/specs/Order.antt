@@ -27,10 +27,6 @@ sample_cmp =
     then_cmp (on (λ s. s.place) nat_cmp)
     (then_cmp (on (λ s. s.held_loc) nat_cmp) (on (λ s. s.wanted_loc) nat_cmp))
 
--- an edge and a sample: by the edges, and then by the samples
-abbrev pub pair_cmp : Edge × Sample → Edge × Sample → Ordering
-pair_cmp = then_cmp (on (λ pair. pair.0) edge_cmp) (on (λ pair. pair.1) sample_cmp)
-
 -- each edge is below those after it
 abbrev pub AreAscending : List (Edge × Sample) → Type 0
 AreAscending pairs = IsStrictlySortedBy edge_cmp (map (λ pair. pair.0) pairs)

@@ -1,4 +1,5 @@
 -- The words of loops and private functions. No public contract cites them.
+pub mod Batches
 pub mod Clashing
 pub mod Gatherers
 pub mod Numberers

@@ -8,7 +8,8 @@ ghost use Rattle.std.specs.Ordering.{eq_by_cmp, is_le};
 ghost use Rattle.std.specs.List.Sorted.{IsPermutation, IsSorted};
 ghost use Rattle.gl_edges.specs.Edges.{once};
 ghost use Rattle.gl_edges.specs.declared.edge.Sample.{Sample};
-ghost use Rattle.gl_edges.specs.Order.{edge_cmp, pair_cmp, sample_cmp, AreAscending};
+ghost use Rattle.gl_edges.specs.Order.{edge_cmp, sample_cmp, AreAscending};
+ghost use Rattle.gl_edges.specs.bodies.Batches.{pair_cmp};
 
 use crate::edge::{Edge, Sample};
 use crate::list::EdgeList;

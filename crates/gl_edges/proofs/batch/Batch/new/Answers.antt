@@ -1,4 +1,4 @@
-use Rattle.std.proofs.Common.{◌++◌, ◌∙◌, ap}
+use Rattle.std.proofs.Common.{◌++◌, ◌∙◌}
 use Rattle.gl_edges.specs.Edges.{once}
 use Rattle.gl_edges.proofs.Filling.{once_of_none}
 use Rattle.gl_edges.proofs.batch.Batch.new.Goals as goal
