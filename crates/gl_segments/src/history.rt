@@ -3,10 +3,11 @@
 //! Along a thread, what is before its segments only grows, and most of its segments add nothing to
 //! it. So a clock is kept for the first segment alone, and then each growth: from which segment on
 //! how many segments of which thread are before.
-ghost use Rattle.std.specs.Prelude.{◌≡◌, ℕ, ◌+◌, ◌<◌, ◌≤◌, ◌^◌, List, [], ◌∷◌, ◌++◌, length, slice_index, slice_index_or, slice_set, IfOk, OnOk};
+ghost use Rattle.std.specs.Prelude.{◌≡◌, ℕ, ◌+◌, ◌<◌, ◌≤◌, ◌^◌, List, [], ◌∷◌, ◌++◌, length, max, slice_index, slice_index_or, slice_set, IfOk, OnOk};
 ghost use Rattle.std.specs.List.Sorted.{IsNonDecreasingBy};
 ghost use Rattle.gl_segments.specs.bodies.Histories.{count_at, AreOrdered, IsNoted};
 ghost use Rattle.gl_segments.specs.bodies.Search.{IsAmong, GrowsBy};
+ghost use Rattle.gl_segments.specs.bodies.Merging.{IsMerged};
 
 use crate::clock::Clock;
 use crate::growths::{Growth, Growths};
@@ -143,8 +144,21 @@ impl Growing {
             → IsNoted self.new (clocks ++ clock.now ∷ [])) }
     {
         self.keep(alloc, clock, found)?;
-        self.segments += 1;
+        self.next();
         Ok(())
+    }
+
+    /// Takes the latest counts as the clock of the thread's next segment.
+    pub fn next(&mut self)
+        requires room { self.old.segments + 1 < 2 ^ 32 }
+        ensures thread { self.new.thread ≡ self.old.thread }
+        ensures latest { self.new.latest ≡ self.old.latest }
+        ensures segments { self.new.segments ≡ self.old.segments + 1 }
+        ensures noted { (clocks : List (List ℕ)) → IsNoted self.old clocks
+            → slice_index self.old.latest self.old.thread ≡ length clocks
+            → IsNoted self.new (clocks ++ self.old.latest ∷ []) }
+    {
+        self.segments += 1;
     }
 
     // Makes the next clock the latest one, and keeps what is new in it.
@@ -197,8 +211,8 @@ impl Growing {
         Ok(())
     }
 
-    // Notes the next count of a thread.
-    fn note_count(&mut self, thread: ThreadId, count: u32) -> Result<(), AllocError>
+    /// Notes the next count of a thread.
+    pub fn note_count(&mut self, thread: ThreadId, count: u32) -> Result<(), AllocError>
         requires { thread < length self.old.latest }
         ensures thread { self.new.thread ≡ self.old.thread }
         ensures segments { self.new.segments ≡ self.old.segments }
@@ -219,6 +233,43 @@ impl Growing {
             from: self.segments,
             count,
         })?;
+        Ok(())
+    }
+
+    /// Notes the next count of a thread, where it is greater than the latest one.
+    pub fn raise(&mut self, thread: ThreadId, count: u32) -> Result<(), AllocError>
+        requires { thread < length self.old.latest }
+        ensures thread { self.new.thread ≡ self.old.thread }
+        ensures segments { self.new.segments ≡ self.old.segments }
+        ensures latest { OnOk result
+            (self.new.latest ≡ slice_set self.old.latest thread
+            (max (slice_index self.old.latest thread) count)) }
+        ensures noted { OnOk result
+            ((clocks : List (List ℕ)) → 0 < length clocks → IsNoted self.old clocks
+            → IsNoted self.new clocks) }
+    {
+        if count <= self.latest.ahead(thread) {
+            return Ok(());
+        }
+        self.note_count(thread, count)
+    }
+
+    /// Raises the latest counts to those of a clock of another thread.
+    pub fn merge(&mut self, other: &History, index: u32) -> Result<(), AllocError>
+        requires { length self.old.latest < 2 ^ 32 }
+        ensures thread { self.new.thread ≡ self.old.thread }
+        ensures segments { self.new.segments ≡ self.old.segments }
+        ensures latest { OnOk result
+            (IsMerged self.old.latest (slice_index_or other.now index []) self.new.latest
+            (length self.old.latest)) }
+        ensures noted { OnOk result
+            ((clocks : List (List ℕ)) → 0 < length clocks → IsNoted self.old clocks
+            → IsNoted self.new clocks) }
+    {
+        for thread in 0..self.latest.threads() {
+            let thread = ThreadId::new(thread as u32);
+            self.raise(thread, other.ahead(index, thread))?;
+        }
         Ok(())
     }
 

@@ -17,13 +17,16 @@ mod clock;
 mod faults;
 mod forked;
 mod growths;
+mod halts;
 mod history;
 mod laws;
 mod order;
 mod packed;
+mod rows;
 mod search;
 mod starts;
 mod steps;
+mod sweep;
 
 pub use faults::OrderFault;
 pub use laws::{

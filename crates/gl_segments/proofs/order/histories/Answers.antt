@@ -1,7 +1,7 @@
 use Rattle.std.proofs.Common.{◌≡◌, length, subst, arith}
 use Rattle.std.proofs.lemmas.Result.{err_from_is_err_and}
-use Rattle.gl_segments.specs.bodies.Rows.{AreClocksOf, IsThreadFault}
-use Rattle.gl_segments.proofs.Ordering.{AreClocksTo, threads_more, fault_of, consistent, orders}
+use Rattle.gl_segments.specs.bodies.Rows.{AreClocksOf, AreClocksTo, IsThreadFault}
+use Rattle.gl_segments.proofs.Ordering.{threads_more, fault_of, consistent, orders}
 use Rattle.gl_segments.proofs.order.histories.Goals as goal
 
 pub loop-thread-preserved : goal.loop-thread-preserved

@@ -1,5 +1,5 @@
 use Rattle.gl_segments.specs.bodies.Starts.{AreStarts}
-use Rattle.gl_segments.proofs.Ordering.{AreClocksTo}
+use Rattle.gl_segments.specs.bodies.Rows.{AreClocksTo}
 use Rattle.gl_segments.proofs.order.histories.Given as goal
 
 -- the clocks of the threads so far, and the starts of the later ones
