@@ -176,14 +176,28 @@ module _ (steps : Sources) (sound : IsSound steps) where
   part_whole clock target part all a = (part.before a, λ p. complete steps target clock all part.closed a p.0 p.1)
 
   -- one more clock of a thread
-  pub growing_more : (thread : ℕ) (g : Growing) (old_clocks : List (List ℕ)) (n : ℕ) → g.thread ≡ thread → g.segments ≡ n + 1 → n < length (row steps thread)
-      → IsNoted g (old_clocks ++ g.latest ∷ []) → AreClocksBelow steps thread old_clocks n → length g.latest ≡ length steps
-      → IsClockOf steps g.latest (record { thread = thread; index = n }) → (Counts g.latest (record { thread = thread; index = n }) → ⊥) → IsGrowing steps thread g
-  growing_more thread g old_clocks n same more below noted clocks width is apart = record {
+  pub growing_more : (thread : ℕ) (g : Growing) (clocks : List (List ℕ)) (n : ℕ) (clock : List ℕ) → g.thread ≡ thread → g.segments ≡ n + 1 → g.latest ≡ clock → n < length (row steps thread)
+      → IsNoted g (clocks ++ clock ∷ []) → AreClocksBelow steps thread clocks n → length clock ≡ length steps
+      → IsClockOf steps clock (record { thread = thread; index = n }) → (Counts clock (record { thread = thread; index = n }) → ⊥) → IsGrowing steps thread g
+  growing_more thread g clocks n clock same more latest below noted so_far width is apart = record {
     same_thread = same;
-    width = width;
+    width = ap length latest ∙ width;
     begun = omega arith;
     within = omega arith;
-    clocks = (old_clocks ++ g.latest ∷ [], noted, rw more (clocks_more steps thread old_clocks n g.latest is apart clocks));
-    latest = let last : n ≡ g.segments - 1 = omega arith in subst (λ i. IsClockOf steps g.latest (record { thread = thread; index = i })) last is;
+    clocks = (clocks ++ clock ∷ [], noted, rw more (clocks_more steps thread clocks n clock is apart so_far));
+    latest =
+        let last : n ≡ g.segments - 1 = omega arith in
+        subst (λ c. IsClockOf steps c (record { thread = thread; index = g.segments - 1 })) (sym latest) (subst (λ i. IsClockOf steps clock (record { thread = thread; index = i })) last is);
   }
+
+  -- the last clock of a thread, with its segment, is a part of the next one
+  pub part_next : (thread : ℕ) (g : Growing) → IsGrowing steps thread g → g.segments < length (row steps thread) → IsPart steps (slice_set g.latest thread g.segments) (record { thread = thread; index = g.segments })
+  part_next thread g growing below =
+      let last : Segment = record { thread = thread; index = g.segments - 1 } in
+      let next : Segment = record { thread = thread; index = g.segments } in
+      let begun = growing.begun in
+      let one_later : g.segments ≡ g.segments - 1 + 1 = omega arith in
+      let has : Has steps last = omega arith in
+      let apart : Counts g.latest last → ⊥ = λ counted. growing.clocks.2.apart (g.segments - 1) (omega arith) ((growing.latest last).0 counted) in
+      let part = part_after g.latest last has growing.latest apart growing.width next (sound.next last next below refl one_later) in
+      subst (λ n. IsPart steps (slice_set g.latest thread n) next) (sym one_later) part

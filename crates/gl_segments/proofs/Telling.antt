@@ -35,3 +35,9 @@ rows_push steps rows r is so_far t u here =
           let that : r ≡ u = same_Some r u (sym (slice_get_last rows r) ∙ ap (slice_get (rows ++ r ∷ [])) (sym last) ∙ here) in
           subst (λ i. IsRow steps i u) (sym last) (subst (IsRow steps (length rows)) that is)
     ]
+
+-- the row that comes next is the one after those that came
+pub row_here : (yielded rest : List Row) (r : Row) (all : List Row) → (yielded ++ r ∷ []) ++ rest ≡ all → slice_get all (length yielded) ≡ Some r
+row_here yielded rest r all is =
+    let one = length_push yielded r in
+    ap (λ rs. slice_get rs (length yielded)) (sym is) ∙ slice_get_before (yielded ++ r ∷ []) rest (length yielded) (omega arith) ∙ slice_get_last yielded r

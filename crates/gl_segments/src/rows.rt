@@ -123,6 +123,7 @@ impl Rows {
         clock: &Clock,
     ) -> Result<(), AllocError>
         requires fit { FrontsFit self.old (length clock.now) }
+        requires threads { length clock.now < 2 ^ 32 }
         requires within { from.thread < length clock.now }
         requires small { from.index + 1 < 2 ^ 32 }
         ensures size { length self.new ≡ length self.old }
@@ -138,7 +139,7 @@ impl Rows {
         }
         if let Row::Waiting(front) = &self.rows[place] {
             let front = raised(alloc, front, from, clock)?.front(alloc)?;
-            self.rows[place] = Row::Waiting(front);
+            self.put(thread, Row::Waiting(front));
         }
         Ok(())
     }

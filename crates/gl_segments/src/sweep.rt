@@ -242,7 +242,10 @@ impl Sweep {
         let from = Segment { thread, index };
         let place = self.forks.partition_point(|s: &Spawn| -> bool { s.from < from });
         match self.forks.get(place) {
-            Some(fork) if fork.from == from => self.rows.tell(alloc, fork.thread, from, clock),
+            Some(fork) if fork.from == from => {
+                self.rows.tell(alloc, fork.thread, from, clock)?;
+                Ok(())
+            }
             _ => Ok(()),
         }
     }

@@ -9,7 +9,7 @@ abbrev pub invariant-loop-source : goal.invariant-loop-source
 invariant-loop-source l = record {
   same_thread : l.growing.thread ≡ l.fn.growing.thread;
   same_segments : l.growing.segments ≡ l.fn.growing.segments;
-  items : l.source-items ≡ sources l.steps l.at;
-  part : IsPart l.steps l.growing.latest l.at;
+  items : l.source-items ≡ sources l.steps l.fn.at;
+  part : IsPart l.steps l.growing.latest l.fn.at;
   noted : (clocks : List (List ℕ)) → 0 < length clocks → IsNoted l.fn.growing clocks → IsNoted l.growing clocks;
 }
