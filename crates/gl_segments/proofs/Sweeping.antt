@@ -201,3 +201,10 @@ module _ (steps : Sources) (sound : IsSound steps) where
       let apart : Counts g.latest last → ⊥ = λ counted. growing.clocks.2.apart (g.segments - 1) (omega arith) ((growing.latest last).0 counted) in
       let part = part_after g.latest last has growing.latest apart growing.width next (sound.next last next below refl one_later) in
       subst (λ n. IsPart steps (slice_set g.latest thread n) next) (sym one_later) part
+
+-- the last segment with a clock isn't before itself
+pub last_apart : (steps : Sources) (thread n : ℕ) (g : Growing) → IsGrowing steps thread g → g.segments ≡ n + 1 → Counts g.latest (record { thread = thread; index = n }) → ⊥
+last_apart steps thread n g growing more counted =
+    let last : g.segments - 1 ≡ n = omega arith in
+    let is : IsClockOf steps g.latest (record { thread = thread; index = n }) = subst (λ i. IsClockOf steps g.latest (record { thread = thread; index = i })) last growing.latest in
+    growing.clocks.2.apart n (omega arith) ((is (record { thread = thread; index = n })).0 counted)

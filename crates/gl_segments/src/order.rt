@@ -9,10 +9,12 @@ ghost use Rattle.gl_segments.specs.bodies.Starts.{AreStarts};
 ghost use Rattle.std.specs.Prelude.{◌≡◌, ℕ, ◌<◌, ◌≤◌, List, length, slice_get, Some, IfOk, OnOk, IfErr};
 
 use crate::faults::OrderFault;
+use crate::halts::Halt;
 use crate::history::{Growing, History};
 use crate::search::Search;
 use crate::starts::Starts;
 use crate::steps::Steps;
+use crate::sweep::clocks;
 use gl_event::{Event, Segment, ThreadId};
 use std::alloc::Global;
 use std::marker::Model;
@@ -91,6 +93,25 @@ impl Order {
 
 // The clocks of all segments, or the least segment that is before itself, with a ring.
 fn histories(alloc: Global, steps: &Steps) -> Result<Vec<History>, OrderFault>
+    requires { IsSound steps.now }
+    ensures ok { IfOk result
+        (λ v. (lists : List (List Event)) → ShowsSteps lists steps.now
+        → OrdersBy lists v.items) }
+    ensures consistent { OnOk result
+        ((lists : List (List Event)) → ShowsSteps lists steps.now → IsConsistent lists) }
+    ensures fault { IfErr result
+        (λ fault. (lists : List (List Event)) → ShowsSteps lists steps.now
+        → IsFaultOf lists fault) }
+{
+    match clocks(alloc, steps) {
+        Ok(histories) => Ok(histories),
+        Err(Halt::Stuck) => searched(alloc, steps),
+        Err(Halt::Memory) => Err(OrderFault::Memory),
+    }
+}
+
+// The same by searches, which find the segment where a sweep doesn't come to its end.
+fn searched(alloc: Global, steps: &Steps) -> Result<Vec<History>, OrderFault>
     requires { IsSound steps.now }
     ensures ok { IfOk result
         (λ v. (lists : List (List Event)) → ShowsSteps lists steps.now

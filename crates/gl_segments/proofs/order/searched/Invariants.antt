@@ -1,6 +1,6 @@
 use Rattle.gl_segments.specs.bodies.Starts.{AreStarts}
 use Rattle.gl_segments.specs.bodies.Rows.{AreClocksTo}
-use Rattle.gl_segments.proofs.order.histories.Given as goal
+use Rattle.gl_segments.proofs.order.searched.Given as goal
 
 -- the clocks of the threads so far, and the starts of the later ones
 abbrev pub invariant-loop-thread : goal.invariant-loop-thread
