@@ -16,3 +16,7 @@ pub record IsMerged (old other new : List ℕ) (n : ℕ) : Type 0 where
   pub covers : (k : ℕ) → k < n → slice_index other k ≤ slice_index new k
   -- each is as before, or no more than the other clock's
   pub only : (k : ℕ) → (slice_index new k ≡ slice_index old k) ⊎ (slice_index new k ≤ slice_index other k)
+
+-- the thread's count is this one or a greater one, or no less than the other clock's; unless there is no such thread
+abbrev pub IsReached : List ℕ → List ℕ → ℕ → ℕ → Type 0
+IsReached other new k count = (count ≤ slice_index new k) ⊎ ((slice_index other k ≤ slice_index new k) ⊎ (length new ≤ k))
