@@ -8,6 +8,5 @@ pub mod Merging
 pub mod Packing
 pub mod Rows
 pub mod Search
-pub mod Starts
 pub mod Sweeps
 pub mod Tables

@@ -24,7 +24,6 @@ mod order;
 mod packed;
 mod rows;
 mod search;
-mod starts;
 mod steps;
 mod sweep;
 

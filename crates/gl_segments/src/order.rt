@@ -5,14 +5,12 @@ ghost use Rattle.gl_segments.specs.Orders.{IsFaultOf};
 ghost use Rattle.gl_segments.specs.Segments.{IsConsistent};
 ghost use Rattle.gl_segments.specs.bodies.Tables.{IsSound, ShowsSteps};
 ghost use Rattle.gl_segments.specs.bodies.Rows.{AreClocksOf, IsThreadFault};
-ghost use Rattle.gl_segments.specs.bodies.Starts.{AreStarts};
 ghost use Rattle.std.specs.Prelude.{◌≡◌, ℕ, ◌<◌, ◌≤◌, List, length, slice_get, Some, IfOk, OnOk, IfErr};
 
 use crate::faults::OrderFault;
 use crate::halts::Halt;
 use crate::history::{Growing, History};
 use crate::search::Search;
-use crate::starts::Starts;
 use crate::steps::Steps;
 use crate::sweep::clocks;
 use gl_event::{Event, Segment, ThreadId};
@@ -122,32 +120,23 @@ fn searched(alloc: Global, steps: &Steps) -> Result<Vec<History>, OrderFault>
         (λ fault. (lists : List (List Event)) → ShowsSteps lists steps.now
         → IsFaultOf lists fault) }
 {
-    let mut starts = Starts::new(alloc, steps)?;
     let mut histories = Vec::new(alloc);
     for thread in 0..steps.threads() {
         let thread = ThreadId::new(thread as u32);
-        histories.push(history(alloc, steps, &mut starts, thread)?)?;
+        histories.push(history(alloc, steps, thread)?)?;
     }
     Ok(histories)
 }
 
 // The clocks of a thread's segments, or the first of them that is before itself, with a ring.
-fn history(
-    alloc: Global,
-    steps: &Steps,
-    starts: &mut Starts,
-    thread: ThreadId,
-) -> Result<History, OrderFault>
+fn history(alloc: Global, steps: &Steps, thread: ThreadId) -> Result<History, OrderFault>
     requires sound { IsSound steps.now }
     requires within { thread < length steps.now }
-    requires starts { AreStarts steps.now starts.old }
-    ensures starts { OnOk result (AreStarts steps.now starts.new) }
     ensures ok { IfOk result (λ h. AreClocksOf steps.now thread h) }
     ensures fault { IfErr result (λ fault. IsThreadFault steps.now thread fault) }
 {
     let first = Segment { thread, index: 0 };
-    let mut search = Search::new(alloc, steps.threads(), starts.front(thread), first)?;
-    starts.forget(alloc, thread);
+    let mut search = Search::new(alloc, steps.threads(), first)?;
     let mut growing = Growing::new(alloc, thread, steps.threads())?;
     for index in 0..steps.segments(thread) {
         let index = index as u32;
@@ -158,7 +147,6 @@ fn history(
             return Err(OrderFault::Inconsistent { at, ring });
         }
         growing.push(alloc, &search.clock, &search.found)?;
-        starts.note(alloc, at, &search.clock)?;
     }
     Ok(growing.finish(alloc)?)
 }

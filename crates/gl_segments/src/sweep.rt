@@ -42,7 +42,7 @@ pub fn clocks(alloc: Global, steps: &Steps) -> Result<Vec<History>, Halt>
 {
     let mut sweep = Sweep::new(alloc, steps)?;
     let limit = limit(steps, sweep.forks.len());
-    for thread in 0..steps.threads() {
+    for thread in (0..steps.threads()).rev() {
         sweep.end(alloc, steps, ThreadId::new(thread as u32), limit)?;
     }
     sweep.finish(alloc)
