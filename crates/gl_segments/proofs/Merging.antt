@@ -1,5 +1,5 @@
 -- How counts are raised to those of another clock.
-use Rattle.std.proofs.Common.{◌≡◌, ℕ, zero, suc, ◌+◌, ◌<◌, ◌≤◌, ◌⊎◌, Bool, true, false, cond, List, [], ◌∷◌, length, max, set, Some, refl, sym, ap, subst, ◌∙◌, inl, inr, arith}
+use Rattle.std.proofs.Common.{◌≡◌, ℕ, suc, ◌+◌, ◌<◌, ◌≤◌, ◌⊎◌, Bool, true, false, cond, List, [], ◌∷◌, length, max, Some, refl, sym, ap, subst, ◌∙◌, inl, inr, arith}
 use Rattle.std.specs.Prelude.{filter, slice_get, slice_index, slice_index_or, slice_set}
 use Rattle.std.proofs.lemmas.Bool.{cases_eq, cases_lt}
 use Rattle.std.proofs.lemmas.List.{length-set, get_or_past, get_or-set_other}
@@ -129,9 +129,11 @@ kept_among index k base (g ∷ gs) = by (is_past index k g) refl (kept_among ind
   where
     rest : List Growth
     rest = filter (is_past index k) gs
+
     later : (b count : ℕ) → IsAmong k b gs count → (count ≡ b → IsAmong k base (g ∷ gs) count) → IsAmong k base (g ∷ gs) count
     later b count (inl is) here = here is
     later b count (inr (p, h, at, same, is)) here = inr (suc p, h, at, same, is)
+
     by : (b : Bool) → is_past index k g ≡ b → IsAmong k g.count gs (last_count g.count rest) → IsAmong k base gs (last_count base rest) → IsAmong k base (g ∷ gs) (last_count base (cond b (g ∷ rest) rest))
     by true past this other = later g.count (last_count g.count rest) this (λ is. inr (0, g, refl, past_thread g index k past, is))
     by false not_past this other = later base (last_count base rest) other (λ is. inl is)

@@ -1,12 +1,12 @@
 -- From which counts a search may start, and what is kept of them.
-use Rattle.std.proofs.Common.{◌≡◌, ℕ, ◌<◌, ◌≤◌, List, [], ◌∷◌, ◌++◌, length, replicate, refl, sym, ap, subst, ◌∙◌, inl, inr, arith}
-use Rattle.std.specs.Prelude.{Contains, slice_index}
+use Rattle.std.proofs.Common.{◌≡◌, ℕ, List, [], ◌∷◌, ◌++◌, length, replicate, refl, ap, subst, ◌∙◌, inl, inr, arith}
+use Rattle.std.specs.Prelude.{slice_index}
 use Rattle.std.proofs.lemmas.List.{length-replicate, get_or_past}
 use Rattle.std.proofs.lemmas.List.Elements.{Contains-push_cases}
 use Rattle.gl_event.specs.declared.events.Segment.{Segment}
 use Rattle.gl_segments.specs.declared.forked.Spawn.{Spawn}
-use Rattle.gl_segments.specs.bodies.Tables.{Sources, LeadsTo, Precedes}
-use Rattle.gl_segments.specs.bodies.Search.{Counts, IsClockOf, MayStart}
+use Rattle.gl_segments.specs.bodies.Tables.{Sources, LeadsTo}
+use Rattle.gl_segments.specs.bodies.Search.{Counts, MayStart}
 use Rattle.gl_segments.specs.bodies.Fronts.{first_of, AreStarting, IsFront}
 use Rattle.gl_segments.proofs.Clocking.{none_counted}
 

@@ -1,14 +1,14 @@
 -- How the clock of a segment is put together from those of the segments one step before it.
-use Rattle.std.proofs.Common.{◌≡◌, ℕ, ◌+◌, ◌-◌, ◌<◌, ◌≤◌, ◌⊎◌, List, [], ◌∷◌, ◌++◌, length, set, max, refl, sym, ap, subst, ◌∙◌, inl, inr, arith}
-use Rattle.std.specs.Prelude.{◌^◌, Contains, slice_index, slice_index_or, slice_set}
+use Rattle.std.proofs.Common.{◌≡◌, ℕ, ◌+◌, ◌-◌, ◌<◌, ◌≤◌, ◌⊎◌, List, [], ◌∷◌, ◌++◌, length, max, refl, sym, ap, subst, ◌∙◌, inl, inr, arith}
+use Rattle.std.specs.Prelude.{slice_index, slice_set}
 use Rattle.std.proofs.lemmas.Bool.{cases_eq, cases_lt}
 use Rattle.std.proofs.lemmas.List.{length-set, get_or_past, get_or-set_same, get_or-set_other}
 use Rattle.gl_event.specs.declared.events.Segment.{Segment}
 use Rattle.gl_segments.specs.declared.history.Growing.{Growing}
-use Rattle.gl_segments.specs.bodies.Fronts.{first_of, IsFront}
+use Rattle.gl_segments.specs.bodies.Fronts.{IsFront}
 use Rattle.gl_segments.specs.bodies.Histories.{IsNoted}
 use Rattle.gl_segments.specs.bodies.Merging.{raised_to, IsMerged}
-use Rattle.gl_segments.specs.bodies.Rows.{AreClocksBelow, AreClocksOf}
+use Rattle.gl_segments.specs.bodies.Rows.{AreClocksBelow}
 use Rattle.gl_segments.specs.bodies.Search.{Counts, IsClockOf, CountsSources}
 use Rattle.gl_segments.specs.bodies.Sweeps.{IsPart, IsGrowing}
 use Rattle.gl_segments.specs.bodies.Tables.{Sources, row, Has, LeadsTo, Precedes, IsSound}
@@ -57,21 +57,24 @@ module _ (steps : Sources) (sound : IsSound steps) where
               ]
           | inr below ↦ inr (inl ((is x).0 (omega arith)))
         ] in
-        let old_kept : (x : Segment) → Counts now x → Counts new x = λ x counted. kept x (counts_more steps sound target now a x a_within counted) in
-        (record {
-          width = merged.width ∙ length-set now a.thread (max (slice_index now a.thread) (a.index + 1)) ∙ part.width;
-          before = λ x counted.
-              elim (only x counted) [
-                | inl old ↦ part.before x old
-                | inr (inl before) ↦ precedes_trans steps x a target before (precedes_step steps a target step)
-                | inr (inr same) ↦ subst (λ s. Precedes steps s target) (sym same) (precedes_step steps a target step)
-              ];
-          closed = λ x counted y leads.
-              elim (only x counted) [
-                | inl old ↦ old_kept y (part.closed x old y leads)
-                | inr at_most ↦ covers y (up_to_closed x y at_most leads)
-              ];
-        }, old_kept, itself)
+        let old_kept : (x : Segment) → Counts now x → Counts new x = λ x counted. kept x (counts_more steps sound target now a x a_within counted) in (
+          record {
+            width = merged.width ∙ length-set now a.thread (max (slice_index now a.thread) (a.index + 1)) ∙ part.width;
+            before = λ x counted.
+                elim (only x counted) [
+                  | inl old ↦ part.before x old
+                  | inr (inl before) ↦ precedes_trans steps x a target before (precedes_step steps a target step)
+                  | inr (inr same) ↦ subst (λ s. Precedes steps s target) (sym same) (precedes_step steps a target step)
+                ];
+            closed = λ x counted y leads.
+                elim (only x counted) [
+                  | inl old ↦ old_kept y (part.closed x old y leads)
+                  | inr at_most ↦ covers y (up_to_closed x y at_most leads)
+                ];
+          },
+          old_kept,
+          itself,
+        )
 
     module _ (width : length clock ≡ length steps) where
       -- a clock of a segment that isn't before itself, with the segment itself

@@ -255,8 +255,8 @@ impl Growing {
         self.note_count(thread, count)
     }
 
-    /// Raises the latest counts to those of a clock of another thread. It looks at each count that
-    /// is kept of that thread, and asks for those that may be greater than the latest ones.
+    /// Raises the latest counts to those of a clock of another thread. It looks at each number that
+    /// is kept of that one, and asks for the clock's count only where it may be the greater one.
     pub fn merge(&mut self, other: &History, index: u32) -> Result<(), AllocError>
         requires { length self.old.latest < 2 ^ 32 }
         ensures thread { self.new.thread ≡ self.old.thread }
@@ -274,13 +274,8 @@ impl Growing {
         Ok(())
     }
 
-    // The same for each thread that has a count in the other thread's first clock.
-    fn reach_first(
-        &mut self,
-        other: &History,
-        index: u32,
-        first: &[u32],
-    ) -> Result<(), AllocError>
+    // The same for each thread that the other thread's first clock counts.
+    fn reach_first(&mut self, other: &History, index: u32, first: &[u32]) -> Result<(), AllocError>
         requires { length self.old.latest < 2 ^ 32 }
         ensures thread { self.new.thread ≡ self.old.thread }
         ensures segments { self.new.segments ≡ self.old.segments }
@@ -327,7 +322,7 @@ impl Growing {
         Ok(())
     }
 
-    // Raises the latest count of a thread to the other clock's, where that may be so great.
+    // Raises the latest count of a thread to the other clock's, where that may be as great as this.
     fn reach(
         &mut self,
         other: &History,

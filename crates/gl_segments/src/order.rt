@@ -41,11 +41,12 @@ impl Order {
     ///
     /// It errs with [`OrderFault::Inconsistent`] exactly where some segment is before itself, and
     /// with [`OrderFault::Memory`] only where a growth was refused. It reads each event once, and
-    /// sorts the forks; otherwise it takes time as there are segments and pairs of threads, and for
-    /// each thread as there are segments that are before it and not before the one that forks it,
-    /// where that is of a lesser thread. It takes memory as there are forks and joins, as there are
-    /// pairs of threads, and as there are places along threads from which more segments of another
-    /// thread are before.
+    /// sorts the forks; otherwise it takes time as there are segments and pairs of threads, for each
+    /// fork as there are threads, and for each join that tells something as there are threads and
+    /// places along the joined one from which more segments of another thread are before. Where some
+    /// segment is before itself, it takes time for each thread as there are segments before it. It
+    /// takes memory as there are forks and joins, as there are pairs of threads, and as there are
+    /// places along threads from which more segments of another thread are before.
     pub fn of(alloc: Global, lists: &[Vec<Event>]) -> Result<Order, OrderFault>
         requires few { length lists.now ≤ 1024 }
         requires lawful { (thread : ℕ) (es : List Event)
@@ -108,7 +109,7 @@ fn histories(alloc: Global, steps: &Steps) -> Result<Vec<History>, OrderFault>
     }
 }
 
-// The same by searches, which find the segment where a sweep doesn't come to its end.
+// The same by a search for each thread, which finds a segment that is before itself, with its ring.
 fn searched(alloc: Global, steps: &Steps) -> Result<Vec<History>, OrderFault>
     requires { IsSound steps.now }
     ensures ok { IfOk result

@@ -181,12 +181,7 @@ fn joined(growing: &mut Growing, history: &History, source: Segment) -> Result<(
 }
 
 // The counts of a segment's clock, with the segment itself, raised to these.
-fn raised(
-    alloc: Global,
-    front: &[u32],
-    from: Segment,
-    clock: &Clock,
-) -> Result<Clock, AllocError>
+fn raised(alloc: Global, front: &[u32], from: Segment, clock: &Clock) -> Result<Clock, AllocError>
     requires few { length front.now ≤ length clock.now }
     requires threads { length clock.now < 2 ^ 32 }
     requires within { from.thread < length clock.now }

@@ -1,7 +1,10 @@
 //! Clocks made forwards: each from those of the segments one step before it.
 //!
 //! A thread goes on as far as it can. Where it must wait for another thread, that one goes on first:
-//! until it ends, or until it must wait itself.
+//! until it ends, or until it must wait itself. So a thread waits for a segment at most once, unless
+//! segments wait for each other, and then some segment is before itself. Of this nothing is proved: a
+//! clock is taken only where it counts all that is one step before its segment, and not the segment
+//! itself.
 ghost use Rattle.std.specs.Prelude.{◌≡◌, ℕ, ◌+◌, ◌<◌, ◌≤◌, ◌^◌, List, None, length, Contains, IfOk, IfSome, OnOk};
 ghost use Rattle.gl_segments.specs.bodies.Fronts.{first_of, AreStarting, IsFront};
 ghost use Rattle.gl_segments.specs.bodies.Histories.{IsNoted};
@@ -34,8 +37,7 @@ impl Drop for Sweep {
     }
 }
 
-/// The clocks of all segments. It takes time as there are segments and, for each fork and each join
-/// that tells something, threads.
+/// The clocks of all segments, unless some segment is before itself.
 pub fn clocks(alloc: Global, steps: &Steps) -> Result<Vec<History>, Halt>
     requires { IsSound steps.now }
     ensures { IfOk result (λ v. AreClocksTo steps.now v.items (length steps.now)) }
@@ -240,7 +242,9 @@ impl Sweep {
         ensures { OnOk result (AreSwept steps.now self.new) }
     {
         let from = Segment { thread, index };
-        let place = self.forks.partition_point(|s: &Spawn| -> bool { s.from < from });
+        let place = self
+            .forks
+            .partition_point(|s: &Spawn| -> bool { s.from < from });
         match self.forks.get(place) {
             Some(fork) if fork.from == from => {
                 self.rows.tell(alloc, fork.thread, from, clock)?;
@@ -264,11 +268,7 @@ fn all_starting(alloc: Global, steps: &Steps) -> Result<Vec<Spawn>, AllocError>
 }
 
 // Adds the forks of one thread.
-fn add_starting(
-    forks: &mut Vec<Spawn>,
-    steps: &Steps,
-    thread: ThreadId,
-) -> Result<(), AllocError>
+fn add_starting(forks: &mut Vec<Spawn>, steps: &Steps, thread: ThreadId) -> Result<(), AllocError>
     requires sound { IsSound steps.now }
     requires within { thread < length steps.now }
     ensures { OnOk result (AreStarting steps.now forks.old.items
@@ -318,12 +318,7 @@ fn begun(
 }
 
 // Makes the clock of a thread's next segment.
-fn next(
-    steps: &Steps,
-    rows: &Rows,
-    thread: ThreadId,
-    growing: &mut Growing,
-) -> Result<(), Halt>
+fn next(steps: &Steps, rows: &Rows, thread: ThreadId, growing: &mut Growing) -> Result<(), Halt>
     requires sound { IsSound steps.now }
     requires has { growing.old.segments < length (row steps.now thread) }
     requires growing { IsGrowing steps.now thread growing.old }
@@ -346,12 +341,7 @@ fn next(
 }
 
 // Takes into the latest counts what is before the segment.
-fn gather(
-    steps: &Steps,
-    rows: &Rows,
-    growing: &mut Growing,
-    at: Segment,
-) -> Result<(), AllocError>
+fn gather(steps: &Steps, rows: &Rows, growing: &mut Growing, at: Segment) -> Result<(), AllocError>
     requires sound { IsSound steps.now }
     requires has { Has steps.now at }
     requires part { IsPart steps.now growing.old.latest at }

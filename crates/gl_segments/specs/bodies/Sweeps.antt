@@ -10,7 +10,7 @@ use Rattle.gl_segments.specs.bodies.Fronts.{first_of, AreStarting, IsFront}
 use Rattle.gl_segments.specs.bodies.Histories.{IsNoted}
 use Rattle.gl_segments.specs.bodies.Rows.{AreClocksBelow, AreClocksOf}
 use Rattle.gl_segments.specs.bodies.Search.{Counts, IsClockOf, CountsSources}
-use Rattle.gl_segments.specs.bodies.Tables.{Sources, row, LeadsTo, Precedes}
+use Rattle.gl_segments.specs.bodies.Tables.{Sources, row, Precedes}
 
 -- a clock that counts a part of what is before the target
 pub record IsPart (steps : Sources) (clock : List ℕ) (target : Segment) : Type 0 where
@@ -32,7 +32,7 @@ pub record IsGrowing (steps : Sources) (thread : ℕ) (g : Growing) : Type 0 whe
   -- there are no more than segments
   pub within : g.segments ≤ length (row steps thread)
   -- they were noted, and none of these segments is before itself
-  pub clocks : (clocks : List (List ℕ)) × IsNoted g clocks × AreClocksBelow steps thread clocks g.segments
+  pub clocks : (cs : List (List ℕ)) × IsNoted g cs × AreClocksBelow steps thread cs g.segments
   -- the latest counts are the last one
   pub latest : IsClockOf steps g.latest (record { thread = thread; index = g.segments - 1 })
 
@@ -48,7 +48,7 @@ HaveRows steps rows = (thread : ℕ) (r : Row) → slice_get rows thread ≡ Som
 
 -- no front has more counts than so many
 abbrev pub FrontsFit : List Row → ℕ → Type 0
-FrontsFit rows n = (thread : ℕ) (front : Vec ℕ) → slice_get rows thread ≡ Some (Waiting front) → length front.items ≤ n
+FrontsFit rows n = (t : ℕ) (v : Vec ℕ) → slice_get rows t ≡ Some (Waiting v) → length v.items ≤ n
 
 -- each of these segments is counted
 abbrev pub CountsAll : List ℕ → List Segment → Type 0

@@ -1,4 +1,4 @@
-use Rattle.std.proofs.Common.{◌+◌, ◌<◌, ◌^◌, length}
+use Rattle.std.proofs.Common.{◌+◌}
 use Rattle.std.specs.Prelude.{slice_set}
 use Rattle.gl_segments.specs.bodies.Merging.{IsMerged}
 use Rattle.gl_segments.proofs.rows.raised.Given as goal

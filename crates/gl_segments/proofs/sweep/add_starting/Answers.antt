@@ -1,6 +1,5 @@
 use Rattle.std.proofs.Common.{sym, subst}
 use Rattle.std.specs.Prelude.{Contains}
-use Rattle.gl_segments.specs.bodies.Fronts.{first_of}
 use Rattle.gl_segments.proofs.Starting.{starting_more}
 use Rattle.gl_segments.proofs.sweep.add_starting.Goals as goal
 

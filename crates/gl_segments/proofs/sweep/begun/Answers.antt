@@ -1,4 +1,4 @@
-use Rattle.std.proofs.Common.{◌≡◌, ℕ, ◌+◌, [], List, length, refl, ap, sym, ◌∙◌, arith}
+use Rattle.std.proofs.Common.{◌≡◌, ℕ, ◌+◌, [], List, length, refl, ap, ◌∙◌, arith}
 use Rattle.std.specs.Prelude.{slice_index}
 use Rattle.gl_event.specs.declared.events.Segment.{Segment}
 use Rattle.gl_segments.specs.bodies.Fronts.{first_of}
@@ -24,6 +24,8 @@ returns c =
     let thread = c.in_ok-growing.ensures.thread in
     let none = c.in_ok-growing.ensures.noted in
     let noted = c.in_ok-push.ensures.noted [] none (ap (slice_index clock) thread ∙ own) in
-    let one : c.push.new.self.segments ≡ 1 = c.in_ok-push.ensures.segments ∙ ap (λ n. n + 1) none.size in
-    (growing_more steps sound c.args.thread c.push.new.self [] 0 clock (c.push.ensures.thread ∙ thread) one c.in_ok-push.ensures.latest has noted
-    (record { size = refl; each = λ i below. absurd (omega arith); apart = λ i below. absurd (omega arith) }) width is start.fresh, one)
+    let one : c.push.new.self.segments ≡ 1 = c.in_ok-push.ensures.segments ∙ ap (λ n. n + 1) none.size in (
+      growing_more steps sound c.args.thread c.push.new.self [] 0 clock (c.push.ensures.thread ∙ thread) one c.in_ok-push.ensures.latest has noted
+          (record { size = refl; each = λ i below. absurd (omega arith); apart = λ i below. absurd (omega arith) }) width is start.fresh,
+      one,
+    )

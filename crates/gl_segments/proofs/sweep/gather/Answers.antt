@@ -1,4 +1,4 @@
-use Rattle.std.proofs.Common.{◌<◌, length, ◌∙◌, arith}
+use Rattle.std.proofs.Common.{◌∙◌, arith}
 use Rattle.gl_segments.proofs.Chains.{thread_inside}
 use Rattle.gl_segments.proofs.Searching.{item_leads, item_small}
 use Rattle.gl_segments.proofs.sweep.gather.Goals as goal

@@ -1,9 +1,9 @@
-use Rattle.std.proofs.Common.{◌≡◌, ◌+◌, ◌∷◌, ◌++◌, [], ℕ, List, None, false, length, refl, ap, sym, subst, ◌∙◌, rules, arith}
+use Rattle.std.proofs.Common.{◌≡◌, ◌+◌, ℕ, List, None, ap, subst, ◌∙◌, rules, arith}
 use Rattle.std.specs.Prelude.{slice_index}
 use Rattle.gl_event.specs.declared.events.Segment.{Segment}
 use Rattle.gl_segments.specs.bodies.Search.{Counts, IsClockOf, CountsSources}
 use Rattle.gl_segments.specs.bodies.Sweeps.{IsPart, CountsAll}
-use Rattle.gl_segments.specs.bodies.Tables.{Has, sources}
+use Rattle.gl_segments.specs.bodies.Tables.{sources}
 use Rattle.gl_segments.proofs.Chains.{thread_inside}
 use Rattle.gl_segments.proofs.Clocking.{own_count}
 use Rattle.gl_segments.proofs.Sweeping.{part_next, part_whole, growing_more}

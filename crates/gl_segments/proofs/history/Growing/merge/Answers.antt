@@ -1,4 +1,4 @@
-use Rattle.std.proofs.Common.{◌≡◌, ◌<◌, ℕ, List, [], length, sym, ap, subst}
+use Rattle.std.proofs.Common.{◌<◌, ℕ, List, [], length, sym, ap, subst}
 use Rattle.std.specs.Prelude.{slice_index, slice_index_or}
 use Rattle.gl_segments.specs.bodies.Merging.{IsReached}
 use Rattle.gl_segments.proofs.Merging.{merged_twice, reached_still, merged_all}

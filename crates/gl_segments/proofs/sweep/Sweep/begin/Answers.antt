@@ -1,4 +1,3 @@
-use Rattle.std.proofs.Common.{◌+◌}
 use Rattle.gl_segments.proofs.Sweeping.{last_apart}
 use Rattle.gl_segments.proofs.sweep.Sweep.begin.Goals as goal
 

@@ -1,4 +1,4 @@
-use Rattle.std.proofs.Common.{◌≡◌, ◌<◌, length, Some, refl, sym, ap, subst, ◌∙◌, arith, rules}
+use Rattle.std.proofs.Common.{◌≡◌, sym, subst, ◌∙◌, arith, rules}
 use Rattle.std.specs.Prelude.{Contains}
 use Rattle.gl_segments.specs.declared.rows.Row.TheVariants.{Waiting}
 use Rattle.gl_event.specs.declared.events.Segment.{Segment}

@@ -1,4 +1,4 @@
-use Rattle.std.proofs.Common.{◌≡◌, ◌-◌, length}
+use Rattle.std.proofs.Common.{◌-◌, length}
 use Rattle.gl_segments.specs.bodies.Sweeps.{AreSwept, IsGrowing}
 use Rattle.gl_segments.specs.bodies.Tables.{row}
 use Rattle.gl_segments.proofs.sweep.Sweep.grow.Given as goal
