@@ -80,36 +80,6 @@ merged_twice old other now new a b = record {
       ];
 }
 
--- one count was raised to the other clock's
-pub merged_one : (old other : List ℕ) (t count : ℕ) → t < length old → count ≡ slice_index other t → IsMerged old other (slice_set old t (max (slice_index old t) count)) 0
-merged_one old other t count within is =
-    let new : List ℕ = slice_set old t (max (slice_index old t) count) in
-    record {
-      width = length-set old t (max (slice_index old t) count);
-      kept = λ k.
-          elim (cases_eq k t) [
-            | inl same ↦ let b = get_or-set_at old t k (max (slice_index old t) count) 0 same within in let c = ap (slice_index old) same in omega arith
-            | inr apart ↦ let b = get_or-set_other old t k (max (slice_index old t) count) 0 apart in omega arith
-          ];
-      covers = λ k below. absurd (omega arith);
-      only = λ k.
-          elim (cases_eq k t) [
-            | inl same ↦
-                let b = get_or-set_at old t k (max (slice_index old t) count) 0 same within in
-                let c = ap (slice_index old) same in
-                let d = ap (slice_index other) same in
-                elim (cases_lt (slice_index old t) count) [
-                  | inl less ↦ inr (omega arith)
-                  | inr most ↦ inl (omega arith)
-                ]
-            | inr apart ↦ inl (get_or-set_other old t k (max (slice_index old t) count) 0 apart)
-          ];
-    }
-
--- it is reached then
-pub reached_one : (old other : List ℕ) (t count asked : ℕ) → t < length old → count ≡ slice_index other t → IsReached other (slice_set old t (max (slice_index old t) count)) t asked
-reached_one old other t count asked within is = let b = get_or-set_at old t t (max (slice_index old t) count) 0 refl within in inr (inl (omega arith))
-
 -- what was reached stays so
 pub reached_still : (old other now new : List ℕ) (k count : ℕ) → IsMerged now other new 0 → IsReached other now k count → IsReached other new k count
 reached_still old other now new k count merged (inl a) = let b = merged.kept k in inl (omega arith)
