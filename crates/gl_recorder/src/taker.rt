@@ -61,7 +61,8 @@ impl Taker {
         ensures answers { ForEachTracked self.old
             (λ limits thread es. result ≡ answer_to limits thread es event) }
         ensures tracks { ForEachTracked self.old
-            (λ limits thread es. OnOk result (Tracks limits thread (es ++ event ∷ []) self.new)) }
+            (λ limits thread es. OnOk result
+            (Tracks limits thread (es ++ event ∷ []) self.new)) }
         ensures unchanged { OnErr result (self.new ≡ self.old) }
     {
         if let Some(refusal) = self.refusal_beside_locks(&event) {
@@ -154,7 +155,8 @@ impl Taker {
             (λ limits thread es. refusal limits thread es event.now ≡ Some r)) }
         ensures left { IfNone result
             (ForEachTracked self.now
-            (λ limits thread es. refusal limits thread es event.now ≡ lock_refusal es event.now)) }
+            (λ limits thread es. refusal limits thread es event.now
+            ≡ lock_refusal es event.now)) }
         ensures room { IfNone result (self.now.state.events < MAX_EVENTS) }
     {
         if self.state.events() >= self.limits.events() {

@@ -13,7 +13,7 @@ use Rattle.gl_segments.specs.bodies.Rows.{AreClocksBelow}
 use Rattle.gl_segments.proofs.Chains.{precedes_cons, precedes_step, precedes_trans}
 
 -- a clock that counts the sources of the target and of what it counts counts all that is before the target
-complete : (steps : Sources) (target : Segment) (clock : List ℕ) → CountsSources steps clock target → ((s : Segment) → Counts clock s → CountsSources steps clock s)
+pub complete : (steps : Sources) (target : Segment) (clock : List ℕ) → CountsSources steps clock target → ((s : Segment) → Counts clock s → CountsSources steps clock s)
     → (a : Segment) (via : List Segment) → Leads (LeadsTo steps) a via target → Counts clock a
 complete steps target clock first closed a [] h = first a h
 complete steps target clock first closed a (c ∷ via) h = closed c (complete steps target clock first closed c via h.1) a h.0

@@ -15,4 +15,7 @@ pub mod Sorting
 pub mod Bisecting
 pub mod Shortening
 pub mod Along
+pub mod Merging
 pub mod Unpacking
+pub mod Sweeping
+pub mod Telling

@@ -10,17 +10,10 @@ use Rattle.gl_segments.specs.Clocks.{Clocks, ahead, OrdersBy, CountsBefore}
 use Rattle.gl_segments.specs.Orders.{IsFaultOf}
 use Rattle.gl_segments.specs.bodies.Tables.{Sources, Has, LeadsTo, Precedes, IsSound, ShowsSteps}
 use Rattle.gl_segments.specs.bodies.Search.{IsClockOf}
-use Rattle.gl_segments.specs.bodies.Rows.{AreClocksOf, IsFirstOfThread, IsThreadFault}
+use Rattle.gl_segments.specs.bodies.Rows.{AreClocksOf, AreClocksTo, IsFirstOfThread, IsThreadFault}
 use Rattle.gl_segments.specs.declared.faults.OrderFault.{OrderFault}
 use Rattle.gl_segments.specs.declared.faults.OrderFault.TheVariants.{Inconsistent, Memory}
 use Rattle.gl_segments.proofs.Chains.{leads_weaker, precedes_has, thread_inside}
-
--- the clocks of the first n threads
-pub record AreClocksTo (steps : Sources) (clocks : Clocks) (n : ℕ) : Type 0 where
-  -- there are n of them
-  pub size : length clocks ≡ n
-  -- each is its thread's
-  pub each : (t : ℕ) → t < n → AreClocksOf steps t (slice_index_or clocks t [])
 
 -- clocks that order the lists count the segments that are before each
 pub counted : (lists : List (List Event)) (clocks : Clocks) (a : Segment) (thread : ℕ) → OrdersBy lists clocks → CountsBefore lists a thread (ahead clocks a thread)

@@ -117,7 +117,7 @@ module _ (steps : Sources) (sound : IsSound steps) (target : Segment) where
   raised clock a = set clock a.thread (max (slice_index clock a.thread) (a.index + 1))
 
   -- what is counted was counted before, or is new
-  counts_cases : (clock : List ℕ) (a s : Segment) → a.thread < length clock → Counts (raised clock a) s
+  pub counts_cases : (clock : List ℕ) (a s : Segment) → a.thread < length clock → Counts (raised clock a) s
       → Counts clock s ⊎ ((s.thread ≡ a.thread) × (slice_index clock a.thread ≤ s.index) × (s.index ≤ a.index))
   counts_cases clock a s within h =
       elim (cases_eq s.thread a.thread) [
@@ -159,7 +159,7 @@ module _ (steps : Sources) (sound : IsSound steps) (target : Segment) where
       ]
 
   -- what was counted stays counted
-  counts_more : (clock : List ℕ) (a s : Segment) → a.thread < length clock → Counts clock s → Counts (raised clock a) s
+  pub counts_more : (clock : List ℕ) (a s : Segment) → a.thread < length clock → Counts clock s → Counts (raised clock a) s
   counts_more clock a s within h =
       elim (cases_eq s.thread a.thread) [
         | inl same ↦
@@ -170,7 +170,7 @@ module _ (steps : Sources) (sound : IsSound steps) (target : Segment) where
       ]
 
   -- the segment is counted now
-  counts_itself : (clock : List ℕ) (a : Segment) → a.thread < length clock → Counts (raised clock a) a
+  pub counts_itself : (clock : List ℕ) (a : Segment) → a.thread < length clock → Counts (raised clock a) a
   counts_itself clock a within = let now = get_or-set_same clock a.thread (max (slice_index clock a.thread) (a.index + 1)) 0 within in omega arith
 
   -- what was found stays found

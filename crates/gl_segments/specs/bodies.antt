@@ -4,8 +4,9 @@ pub mod Forked
 pub mod Fronts
 pub mod Growths
 pub mod Histories
+pub mod Merging
 pub mod Packing
 pub mod Rows
 pub mod Search
-pub mod Starts
+pub mod Sweeps
 pub mod Tables

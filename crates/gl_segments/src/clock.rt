@@ -1,5 +1,5 @@
 //! Clocks: of each thread, how many of its segments are before a segment.
-ghost use Rattle.std.specs.Prelude.{◌≡◌, ℕ, ◌<◌, ◌≤◌, List, length, replicate, slice_index, slice_set, IfOk};
+ghost use Rattle.std.specs.Prelude.{◌≡◌, ℕ, ◌<◌, ◌≤◌, List, length, max, replicate, slice_index, slice_set, IfOk};
 
 use gl_event::ThreadId;
 use std::alloc::{AllocError, Global};
@@ -74,6 +74,23 @@ impl Clock {
         let place = thread.number() as usize;
         self.ahead[place] = count;
         self.end = self.end.max(place + 1);
+    }
+
+    /// Raises how many segments of the thread are before the segment, where this is more.
+    pub fn raise(&mut self, thread: ThreadId, count: u32)
+        requires { thread < length self.old }
+        ensures { self.new ≡ slice_set self.old thread (max (slice_index self.old thread) count) }
+    {
+        if count > self.ahead(thread) {
+            self.set(thread, count);
+        }
+    }
+
+    /// The counts.
+    pub fn counts(&self) -> &[u32]
+        ensures { result.now ≡ self.now }
+    {
+        &self.ahead
     }
 
     /// The same clock once more.

@@ -80,6 +80,16 @@ impl Growths {
         })
     }
 
+    /// How many there are.
+    pub fn len(&self) -> usize
+        ensures { result ≡ length self.now }
+    {
+        match &self.kept {
+            Kept::Short(growths) => growths.len(),
+            Kept::Long(growths) => growths.len(),
+        }
+    }
+
     /// The growth at a position.
     pub fn get(&self, at: usize) -> Growth
         requires { at < length self.now }

@@ -3,10 +3,12 @@
 //! Along a thread, what is before its segments only grows, and most of its segments add nothing to
 //! it. So a clock is kept for the first segment alone, and then each growth: from which segment on
 //! how many segments of which thread are before.
-ghost use Rattle.std.specs.Prelude.{◌≡◌, ℕ, ◌+◌, ◌<◌, ◌≤◌, ◌^◌, List, [], ◌∷◌, ◌++◌, length, slice_index, slice_index_or, slice_set, IfOk, OnOk};
+ghost use Rattle.std.specs.Prelude.{◌≡◌, ℕ, ◌+◌, ◌<◌, ◌≤◌, ◌^◌, List, [], ◌∷◌, ◌++◌, length, max, slice_get, slice_index, slice_index_or, slice_set, Some, IfOk, OnOk};
 ghost use Rattle.std.specs.List.Sorted.{IsNonDecreasingBy};
+ghost use Rattle.gl_segments.specs.declared.growths.Growth.{Growth};
 ghost use Rattle.gl_segments.specs.bodies.Histories.{count_at, AreOrdered, IsNoted};
 ghost use Rattle.gl_segments.specs.bodies.Search.{IsAmong, GrowsBy};
+ghost use Rattle.gl_segments.specs.bodies.Merging.{IsMerged, IsReached};
 
 use crate::clock::Clock;
 use crate::growths::{Growth, Growths};
@@ -143,8 +145,21 @@ impl Growing {
             → IsNoted self.new (clocks ++ clock.now ∷ [])) }
     {
         self.keep(alloc, clock, found)?;
-        self.segments += 1;
+        self.next();
         Ok(())
+    }
+
+    /// Takes the latest counts as the clock of the thread's next segment.
+    pub fn next(&mut self)
+        requires room { self.old.segments + 1 < 2 ^ 32 }
+        ensures thread { self.new.thread ≡ self.old.thread }
+        ensures latest { self.new.latest ≡ self.old.latest }
+        ensures segments { self.new.segments ≡ self.old.segments + 1 }
+        ensures noted { (clocks : List (List ℕ)) → IsNoted self.old clocks
+            → slice_index self.old.latest self.old.thread ≡ length clocks
+            → IsNoted self.new (clocks ++ self.old.latest ∷ []) }
+    {
+        self.segments += 1;
     }
 
     // Makes the next clock the latest one, and keeps what is new in it.
@@ -197,8 +212,8 @@ impl Growing {
         Ok(())
     }
 
-    // Notes the next count of a thread.
-    fn note_count(&mut self, thread: ThreadId, count: u32) -> Result<(), AllocError>
+    /// Notes the next count of a thread.
+    pub fn note_count(&mut self, thread: ThreadId, count: u32) -> Result<(), AllocError>
         requires { thread < length self.old.latest }
         ensures thread { self.new.thread ≡ self.old.thread }
         ensures segments { self.new.segments ≡ self.old.segments }
@@ -219,6 +234,119 @@ impl Growing {
             from: self.segments,
             count,
         })?;
+        Ok(())
+    }
+
+    /// Notes the next count of a thread, where it is greater than the latest one.
+    pub fn raise(&mut self, thread: ThreadId, count: u32) -> Result<(), AllocError>
+        requires { thread < length self.old.latest }
+        ensures thread { self.new.thread ≡ self.old.thread }
+        ensures segments { self.new.segments ≡ self.old.segments }
+        ensures latest { OnOk result
+            (self.new.latest ≡ slice_set self.old.latest thread
+            (max (slice_index self.old.latest thread) count)) }
+        ensures noted { OnOk result
+            ((clocks : List (List ℕ)) → 0 < length clocks → IsNoted self.old clocks
+            → IsNoted self.new clocks) }
+    {
+        if count <= self.latest.ahead(thread) {
+            return Ok(());
+        }
+        self.note_count(thread, count)
+    }
+
+    /// Raises the latest counts to those of a clock of another thread. It looks at each number that
+    /// is kept of that one, and asks for the clock's count only where it may be the greater one.
+    pub fn merge(&mut self, other: &History, index: u32) -> Result<(), AllocError>
+        requires { length self.old.latest < 2 ^ 32 }
+        ensures thread { self.new.thread ≡ self.old.thread }
+        ensures segments { self.new.segments ≡ self.old.segments }
+        ensures latest { OnOk result
+            (IsMerged self.old.latest (slice_index_or other.now index []) self.new.latest
+            (length self.old.latest)) }
+        ensures noted { OnOk result
+            ((clocks : List (List ℕ)) → 0 < length clocks → IsNoted self.old clocks
+            → IsNoted self.new clocks) }
+    {
+        self.reach(other, index, other.thread, index)?;
+        self.reach_first(other, index, &other.first)?;
+        self.reach_growths(other, index, &other.growths)?;
+        Ok(())
+    }
+
+    // The same for each thread that the other thread's first clock counts.
+    fn reach_first(&mut self, other: &History, index: u32, first: &[u32]) -> Result<(), AllocError>
+        requires { length self.old.latest < 2 ^ 32 }
+        ensures thread { self.new.thread ≡ self.old.thread }
+        ensures segments { self.new.segments ≡ self.old.segments }
+        ensures latest { OnOk result
+            (IsMerged self.old.latest (slice_index_or other.now index []) self.new.latest 0) }
+        ensures reached { OnOk result
+            ((k : ℕ) → k < length first.now
+            → IsReached (slice_index_or other.now index []) self.new.latest k
+            (slice_index first.now k)) }
+        ensures noted { OnOk result
+            ((clocks : List (List ℕ)) → 0 < length clocks → IsNoted self.old clocks
+            → IsNoted self.new clocks) }
+    {
+        let threads = first.len().min(self.latest.threads());
+        for place in 0..threads {
+            let thread = ThreadId::new(place as u32);
+            self.reach(other, index, thread, first[place])?;
+        }
+        Ok(())
+    }
+
+    // The same for each thread that has a growth of the other thread.
+    fn reach_growths(
+        &mut self,
+        other: &History,
+        index: u32,
+        growths: &Growths,
+    ) -> Result<(), AllocError>
+        ensures thread { self.new.thread ≡ self.old.thread }
+        ensures segments { self.new.segments ≡ self.old.segments }
+        ensures latest { OnOk result
+            (IsMerged self.old.latest (slice_index_or other.now index []) self.new.latest 0) }
+        ensures reached { OnOk result
+            ((p : ℕ) (g : Growth) → slice_get growths.now p ≡ Some g
+            → IsReached (slice_index_or other.now index []) self.new.latest g.thread g.count) }
+        ensures noted { OnOk result
+            ((clocks : List (List ℕ)) → 0 < length clocks → IsNoted self.old clocks
+            → IsNoted self.new clocks) }
+    {
+        for at in 0..growths.len() {
+            let growth = growths.get(at);
+            self.reach(other, index, growth.thread, growth.count)?;
+        }
+        Ok(())
+    }
+
+    // Raises the latest count of a thread to the other clock's, where that may be as great as this.
+    fn reach(
+        &mut self,
+        other: &History,
+        index: u32,
+        thread: ThreadId,
+        count: u32,
+    ) -> Result<(), AllocError>
+        ensures thread { self.new.thread ≡ self.old.thread }
+        ensures segments { self.new.segments ≡ self.old.segments }
+        ensures latest { OnOk result
+            (IsMerged self.old.latest (slice_index_or other.now index []) self.new.latest 0) }
+        ensures reached { OnOk result
+            (IsReached (slice_index_or other.now index []) self.new.latest thread count) }
+        ensures noted { OnOk result
+            ((clocks : List (List ℕ)) → 0 < length clocks → IsNoted self.old clocks
+            → IsNoted self.new clocks) }
+    {
+        if count <= self.latest.ahead(thread) {
+            return Ok(());
+        }
+        if thread.number() as usize >= self.latest.threads() {
+            return Ok(());
+        }
+        self.raise(thread, other.ahead(index, thread))?;
         Ok(())
     }
 

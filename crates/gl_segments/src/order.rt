@@ -5,14 +5,14 @@ ghost use Rattle.gl_segments.specs.Orders.{IsFaultOf};
 ghost use Rattle.gl_segments.specs.Segments.{IsConsistent};
 ghost use Rattle.gl_segments.specs.bodies.Tables.{IsSound, ShowsSteps};
 ghost use Rattle.gl_segments.specs.bodies.Rows.{AreClocksOf, IsThreadFault};
-ghost use Rattle.gl_segments.specs.bodies.Starts.{AreStarts};
 ghost use Rattle.std.specs.Prelude.{◌≡◌, ℕ, ◌<◌, ◌≤◌, List, length, slice_get, Some, IfOk, OnOk, IfErr};
 
 use crate::faults::OrderFault;
+use crate::halts::Halt;
 use crate::history::{Growing, History};
 use crate::search::Search;
-use crate::starts::Starts;
 use crate::steps::Steps;
+use crate::sweep::clocks;
 use gl_event::{Event, Segment, ThreadId};
 use std::alloc::Global;
 use std::marker::Model;
@@ -41,11 +41,12 @@ impl Order {
     ///
     /// It errs with [`OrderFault::Inconsistent`] exactly where some segment is before itself, and
     /// with [`OrderFault::Memory`] only where a growth was refused. It reads each event once, and
-    /// sorts the forks; otherwise it takes time as there are segments and pairs of threads, and for
-    /// each thread as there are segments that are before it and not before the one that forks it,
-    /// where that is of a lesser thread. It takes memory as there are forks and joins, as there are
-    /// pairs of threads, and as there are places along threads from which more segments of another
-    /// thread are before.
+    /// sorts the forks; otherwise it takes time as there are segments and pairs of threads, for each
+    /// fork as there are threads, and for each join that tells something as there are threads and
+    /// places along the joined one from which more segments of another thread are before. Where some
+    /// segment is before itself, it takes time for each thread as there are segments before it. It
+    /// takes memory as there are forks and joins, as there are pairs of threads, and as there are
+    /// places along threads from which more segments of another thread are before.
     pub fn of(alloc: Global, lists: &[Vec<Event>]) -> Result<Order, OrderFault>
         requires few { length lists.now ≤ 1024 }
         requires lawful { (thread : ℕ) (es : List Event)
@@ -101,32 +102,42 @@ fn histories(alloc: Global, steps: &Steps) -> Result<Vec<History>, OrderFault>
         (λ fault. (lists : List (List Event)) → ShowsSteps lists steps.now
         → IsFaultOf lists fault) }
 {
-    let mut starts = Starts::new(alloc, steps)?;
+    match clocks(alloc, steps) {
+        Ok(histories) => Ok(histories),
+        Err(Halt::Stuck) => searched(alloc, steps),
+        Err(Halt::Memory) => Err(OrderFault::Memory),
+    }
+}
+
+// The same by a search for each thread, which finds a segment that is before itself, with its ring.
+fn searched(alloc: Global, steps: &Steps) -> Result<Vec<History>, OrderFault>
+    requires { IsSound steps.now }
+    ensures ok { IfOk result
+        (λ v. (lists : List (List Event)) → ShowsSteps lists steps.now
+        → OrdersBy lists v.items) }
+    ensures consistent { OnOk result
+        ((lists : List (List Event)) → ShowsSteps lists steps.now → IsConsistent lists) }
+    ensures fault { IfErr result
+        (λ fault. (lists : List (List Event)) → ShowsSteps lists steps.now
+        → IsFaultOf lists fault) }
+{
     let mut histories = Vec::new(alloc);
     for thread in 0..steps.threads() {
         let thread = ThreadId::new(thread as u32);
-        histories.push(history(alloc, steps, &mut starts, thread)?)?;
+        histories.push(history(alloc, steps, thread)?)?;
     }
     Ok(histories)
 }
 
 // The clocks of a thread's segments, or the first of them that is before itself, with a ring.
-fn history(
-    alloc: Global,
-    steps: &Steps,
-    starts: &mut Starts,
-    thread: ThreadId,
-) -> Result<History, OrderFault>
+fn history(alloc: Global, steps: &Steps, thread: ThreadId) -> Result<History, OrderFault>
     requires sound { IsSound steps.now }
     requires within { thread < length steps.now }
-    requires starts { AreStarts steps.now starts.old }
-    ensures starts { OnOk result (AreStarts steps.now starts.new) }
     ensures ok { IfOk result (λ h. AreClocksOf steps.now thread h) }
     ensures fault { IfErr result (λ fault. IsThreadFault steps.now thread fault) }
 {
     let first = Segment { thread, index: 0 };
-    let mut search = Search::new(alloc, steps.threads(), starts.front(thread), first)?;
-    starts.forget(alloc, thread);
+    let mut search = Search::new(alloc, steps.threads(), first)?;
     let mut growing = Growing::new(alloc, thread, steps.threads())?;
     for index in 0..steps.segments(thread) {
         let index = index as u32;
@@ -137,7 +148,6 @@ fn history(
             return Err(OrderFault::Inconsistent { at, ring });
         }
         growing.push(alloc, &search.clock, &search.found)?;
-        starts.note(alloc, at, &search.clock)?;
     }
     Ok(growing.finish(alloc)?)
 }

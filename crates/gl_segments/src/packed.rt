@@ -62,6 +62,14 @@ impl Packed {
         Ok(())
     }
 
+    /// Lets go the memory that was taken for more lists.
+    pub fn shrink(&mut self)
+        ensures { self.new ≡ self.old }
+    {
+        self.bounds.shrink_to_fit();
+        self.segments.shrink_to_fit();
+    }
+
     /// The list at a position.
     pub fn get(&self, at: usize) -> &[Segment]
         requires { at < length self.now }

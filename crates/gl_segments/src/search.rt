@@ -1,5 +1,5 @@
 //! A search backwards, over the steps, from one segment to all that are before it.
-ghost use Rattle.std.specs.Prelude.{◌≡◌, ℕ, ◌+◌, ◌-◌, ◌<◌, ◌≤◌, ◌++◌, ◌^◌, List, [], ◌∷◌, length, max, slice_get, slice_index, slice_set, Some, IfOk, OnOk};
+ghost use Rattle.std.specs.Prelude.{◌≡◌, ℕ, ◌+◌, ◌-◌, ◌<◌, ◌≤◌, ◌++◌, ◌^◌, List, [], ◌∷◌, length, max, replicate, slice_get, slice_index, slice_set, Some, IfOk, OnOk};
 ghost use Rattle.gl_segments.specs.bodies.Search.{links_back, FollowsLinks};
 
 use crate::clock::Clock;
@@ -16,8 +16,7 @@ pub struct Link {
 }
 
 /// A search for all that is before one segment of a thread. The clock is kept from the thread's
-/// segment before it, and the first one's comes from the segment that forks the thread, so that
-/// nothing is looked at twice for one thread.
+/// segment before it, so that nothing is looked at twice for one thread.
 pub struct Search {
     pub target: Segment,
     /// What was found so far, as a clock: a thread's earlier segments are before its later ones.
@@ -41,21 +40,13 @@ impl Search {
     ghost use Rattle.gl_segments.specs.bodies.Tables.{IsSound, Has};
     ghost use Rattle.gl_segments.specs.bodies.Search.{Counts, MayStart, Explores, IsFound, GrowsBy, unseen};
 
-    /// A search among these many threads that has found as many segments as these counts say.
-    pub fn new(
-        alloc: Global,
-        threads: usize,
-        front: &[u32],
-        target: Segment,
-    ) -> Result<Search, AllocError>
-        requires { length front.now ≤ threads }
-        ensures width { IfOk result (λ s. length s.clock ≡ threads) }
-        ensures counts { IfOk result
-            (λ s. (thread : ℕ) → slice_index s.clock thread ≡ slice_index front.now thread) }
+    /// A search among these many threads that has found nothing.
+    pub fn new(alloc: Global, threads: usize, target: Segment) -> Result<Search, AllocError>
+        ensures { IfOk result (λ s. s.clock ≡ replicate threads 0) }
     {
         Ok(Search {
             target,
-            clock: Clock::from_front(alloc, front, threads)?,
+            clock: Clock::new(alloc, threads)?,
             found: Vec::new(alloc),
         })
     }

@@ -110,6 +110,7 @@ fn row(
         };
         row.push(&after(alloc, cuts, closed, *cut)?)?;
     }
+    row.shrink();
     Ok(row)
 }
 

@@ -1,6 +1,7 @@
 -- The clocks of one thread's segments.
 use Rattle.std.specs.Prelude.{◌≡◌, ℕ, ◌<◌, List, [], ◌∷◌, length, slice_index_or}
 use Rattle.gl_event.specs.declared.events.Segment.{Segment}
+use Rattle.gl_segments.specs.Clocks.{Clocks}
 use Rattle.gl_segments.specs.Segments.{Leads}
 use Rattle.gl_segments.specs.bodies.Tables.{Sources, row, LeadsTo, Precedes}
 use Rattle.gl_segments.specs.bodies.Search.{IsClockOf}
@@ -19,6 +20,13 @@ pub record AreClocksBelow (steps : Sources) (thread : ℕ) (clocks : List (List 
 -- the clocks of the segments of a thread, none of which is before itself
 abbrev pub AreClocksOf : Sources → ℕ → List (List ℕ) → Type 0
 AreClocksOf steps thread clocks = AreClocksBelow steps thread clocks (length (row steps thread))
+
+-- the clocks of the first n threads
+pub record AreClocksTo (steps : Sources) (clocks : Clocks) (n : ℕ) : Type 0 where
+  -- there are n of them
+  pub size : length clocks ≡ n
+  -- each is its thread's
+  pub each : (t : ℕ) → t < n → AreClocksOf steps t (slice_index_or clocks t [])
 
 -- this segment of the thread is before itself, along the ring that begins with it, and none of the thread's earlier ones is
 pub record IsFirstOfThread (steps : Sources) (thread : ℕ) (at : Segment) (ring : List Segment) : Type 0 where

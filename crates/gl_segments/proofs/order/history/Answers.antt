@@ -7,7 +7,7 @@ use Rattle.gl_segments.specs.bodies.Search.{Counts, IsClockOf}
 use Rattle.gl_segments.specs.bodies.Rows.{AreClocksBelow}
 use Rattle.gl_segments.proofs.Clocking.{explored_clock, may_start_next, chain_of_links, clocks_more, own_count}
 use Rattle.gl_segments.proofs.Searching.{found_among}
-use Rattle.gl_segments.proofs.Starting.{may_start_front, starts_inside}
+use Rattle.gl_segments.proofs.Starting.{may_start_zeros}
 use Rattle.gl_segments.proofs.order.history.Goals as goal
 
 pub loop-index-init : goal.loop-index-init
@@ -16,10 +16,7 @@ loop-index-init c = record {
   width = c.in_ok-growing.ensures.threads ∙ c.threads-2.ensures;
   latest = λ some. absurd (omega arith);
   clocks = ([], c.in_ok-growing.ensures.noted, record { size = refl; each = λ i below. absurd (omega arith); apart = λ i below. absurd (omega arith) });
-  starts = c.forget.ensures c.args.steps.now c.requires.starts;
-  ready = λ _.
-      let front = c.front.ensures c.args.steps.now c.requires.starts in
-      may_start_front c.args.steps.now c.in_ok-search.search.clock _ (record { thread = c.args.thread; index = 0 }) (c.in_ok-search.ensures.width ∙ c.threads.ensures) c.in_ok-search.ensures.counts front;
+  ready = λ _. may_start_zeros c.args.steps.now (record { thread = c.args.thread; index = 0 }) c.in_ok-search.search.clock c.threads.result c.in_ok-search.ensures c.threads.ensures;
 }
 
 -- the entries of the search are of the table's threads
@@ -38,9 +35,6 @@ push-requires-clause-grown c =
     λ some.
     let later : 0 < c.loop-index.index = let a = inv.clocks.1.size in let b = inv.clocks.2.size in omega arith in
     rw (c.deref.ensures.value, inv.latest later) c.in_ok-run.ensures.grown
-
-pub note-requires : goal.note-requires
-note-requires c = starts_inside c.args.steps.now _ c.loop-index.invariant.starts
 
 pub loop-index-preserved : goal.loop-index-preserved
 loop-index-preserved c =
@@ -61,7 +55,6 @@ loop-index-preserved c =
       width = ap length c.in_ok-push.ensures.latest ∙ explored.width;
       latest = λ _. c.in_ok-push.ensures.latest;
       clocks = (inv.clocks.0 ++ clock ∷ [], c.in_ok-push.ensures.noted inv.clocks.0 inv.clocks.1 own_here, more);
-      starts = c.in_ok-note.ensures steps explored.width is apart inv.starts;
       ready = λ has_next. may_start_next steps c.requires.sound clock at next explored.width is apart refl refl has_next;
     }
 

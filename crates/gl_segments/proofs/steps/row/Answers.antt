@@ -36,5 +36,6 @@ returns c =
     let at = items_at c.args.cuts.now c.number.result c.index-cuts-number.result (rw number c.requires.within) c.index-cuts-number.is in
     λ es there.
     let same : c.deref-cut-items.result.now ≡ es = c.deref-cut-items.ensures.value ∙ same_Some _ es (sym at ∙ ap (slice_get (lists_of c.args.cuts.now)) number ∙ there) in
-    subst (λ xs. IsRowOf (lists_of c.args.cuts.now) c.args.thread xs c.loop-index.row) same
-    (row_all (lists_of c.args.cuts.now) c.args.thread c.deref-cut-items.result.now c.loop-index.row c.loop-index.index (omega arith) c.loop-index.invariant)
+    rw c.shrink.ensures
+    (subst (λ xs. IsRowOf (lists_of c.args.cuts.now) c.args.thread xs c.loop-index.row) same
+    (row_all (lists_of c.args.cuts.now) c.args.thread c.deref-cut-items.result.now c.loop-index.row c.loop-index.index (omega arith) c.loop-index.invariant))

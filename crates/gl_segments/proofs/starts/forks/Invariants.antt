@@ -1,6 +1,0 @@
-use Rattle.gl_segments.specs.bodies.Fronts.{AreStarting}
-use Rattle.gl_segments.proofs.starts.forks.Given as goal
-
--- those of the threads so far
-abbrev pub invariant-loop-thread : goal.invariant-loop-thread
-invariant-loop-thread l = AreStarting l.steps l.forks.items

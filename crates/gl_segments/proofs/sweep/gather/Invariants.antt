@@ -1,0 +1,15 @@
+use Rattle.std.proofs.Common.{◌≡◌, ℕ, ◌<◌, List, length}
+use Rattle.gl_segments.specs.bodies.Histories.{IsNoted}
+use Rattle.gl_segments.specs.bodies.Sweeps.{IsPart}
+use Rattle.gl_segments.specs.bodies.Tables.{sources}
+use Rattle.gl_segments.proofs.sweep.gather.Given as goal
+
+-- the counts are a part of the segment's clock
+abbrev pub invariant-loop-source : goal.invariant-loop-source
+invariant-loop-source l = record {
+  same_thread : l.growing.thread ≡ l.fn.growing.thread;
+  same_segments : l.growing.segments ≡ l.fn.growing.segments;
+  items : l.source-items ≡ sources l.steps l.fn.at;
+  part : IsPart l.steps l.growing.latest l.fn.at;
+  noted : (clocks : List (List ℕ)) → 0 < length clocks → IsNoted l.fn.growing clocks → IsNoted l.growing clocks;
+}

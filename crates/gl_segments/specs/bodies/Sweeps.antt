@@ -1,0 +1,64 @@
+-- What a sweep over the steps knows of each thread.
+use Rattle.std.specs.Prelude.{◌≡◌, ℕ, ◌-◌, ◌<◌, ◌≤◌, List, Some, length, Contains, slice_get}
+use Rattle.std.specs.Global.{Vec}
+use Rattle.gl_event.specs.declared.events.Segment.{Segment}
+use Rattle.gl_segments.specs.declared.history.Growing.{Growing}
+use Rattle.gl_segments.specs.declared.rows.Row.{Row}
+use Rattle.gl_segments.specs.declared.rows.Row.TheVariants.{Waiting, Begun, Ended}
+use Rattle.gl_segments.specs.declared.sweep.Sweep.{Sweep}
+use Rattle.gl_segments.specs.bodies.Fronts.{first_of, AreStarting, IsFront}
+use Rattle.gl_segments.specs.bodies.Histories.{IsNoted}
+use Rattle.gl_segments.specs.bodies.Rows.{AreClocksBelow, AreClocksOf}
+use Rattle.gl_segments.specs.bodies.Search.{Counts, IsClockOf, CountsSources}
+use Rattle.gl_segments.specs.bodies.Tables.{Sources, row, Precedes}
+
+-- a clock that counts a part of what is before the target
+pub record IsPart (steps : Sources) (clock : List ℕ) (target : Segment) : Type 0 where
+  -- it has a count for each thread
+  pub width : length clock ≡ length steps
+  -- what it counts is before the target
+  pub before : (s : Segment) → Counts clock s → Precedes steps s target
+  -- it counts what is before a segment that it counts
+  pub closed : (s : Segment) → Counts clock s → CountsSources steps clock s
+
+-- the clocks of one or more of the thread's first segments were made
+pub record IsGrowing (steps : Sources) (thread : ℕ) (g : Growing) : Type 0 where
+  -- they are this thread's
+  pub same_thread : g.thread ≡ thread
+  -- they have a count for each thread
+  pub width : length g.latest ≡ length steps
+  -- there is one
+  pub begun : 0 < g.segments
+  -- there are no more than segments
+  pub within : g.segments ≤ length (row steps thread)
+  -- they were noted, and none of these segments is before itself
+  pub clocks : (cs : List (List ℕ)) × IsNoted g cs × AreClocksBelow steps thread cs g.segments
+  -- the latest counts are the last one
+  pub latest : IsClockOf steps g.latest (record { thread = thread; index = g.segments - 1 })
+
+-- what is known of a thread
+abbrev pub IsRow : Sources → ℕ → Row → Type 0
+IsRow steps thread (Waiting front) = IsFront steps front.items (first_of thread)
+IsRow steps thread (Begun growing) = IsGrowing steps thread growing
+IsRow steps thread (Ended history) = AreClocksOf steps thread history
+
+-- what is known of each thread
+abbrev pub HaveRows : Sources → List Row → Type 0
+HaveRows steps rows = (thread : ℕ) (r : Row) → slice_get rows thread ≡ Some r → IsRow steps thread r
+
+-- no front has more counts than so many
+abbrev pub FrontsFit : List Row → ℕ → Type 0
+FrontsFit rows n = (t : ℕ) (v : Vec ℕ) → slice_get rows t ≡ Some (Waiting v) → length v.items ≤ n
+
+-- each of these segments is counted
+abbrev pub CountsAll : List ℕ → List Segment → Type 0
+CountsAll clock segments = (s : Segment) → Contains segments s → Counts clock s
+
+-- how far a sweep over the steps has come
+pub record AreSwept (steps : Sources) (sweep : Sweep) : Type 0 where
+  -- the forks are such
+  pub forks : AreStarting steps sweep.forks.items
+  -- there is a row for each thread
+  pub size : length sweep.rows ≡ length steps
+  -- they are known
+  pub rows : HaveRows steps sweep.rows
