@@ -94,7 +94,7 @@ pub struct Growing {
     pub segments: u32,
     /// The first clock, without the zeros at its end.
     pub first: Vec<u32>,
-    /// The last clock.
+    /// The last clock, which is raised to the next one.
     pub latest: Clock,
     /// Where other threads' counts changed after the first clock, by segment.
     pub growths: Vec<Growth>,
