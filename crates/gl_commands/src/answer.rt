@@ -19,7 +19,7 @@ ghost use Rattle.gl_commands.specs.bodies.Stops.{IfRefused, IsFaultIn, IsLoopOf,
 use crate::ended::{Ended, Outcome};
 use crate::refusal_lines::{fault_line, inconsistent_line};
 use gl_cycles::Report;
-use gl_edges::edges_of_parallel;
+use gl_edges::{EdgeList, edges_of_parallel};
 use gl_event::Memory;
 use gl_filters::Query;
 use gl_findings::{Contents, Listing, report_with_parallel};
@@ -138,6 +138,19 @@ pub(crate) fn contents_for(listing: Listing, form: Form) -> Contents
     }
 }
 
+// The edges of a trace. So many threads look for them.
+fn edges_in(
+    rt: &(impl Threads + Sync),
+    alloc: Global,
+    trace: &Trace,
+    threads: usize,
+) -> Result<EdgeList, Memory>
+    requires { IsTraceOver greatest trace.now }
+    ensures { IfOk result (λ es. es ≡ edges trace.now.lists) }
+{
+    edges_of_parallel(rt, alloc, trace.lists.as_slice(), threads)
+}
+
 // The report of a trace whose segments have this order. So many threads look for its edges.
 fn report_by(
     rt: &(impl Threads + Sync),
@@ -153,7 +166,7 @@ fn report_by(
         (λ r. r
         ≡ report_with contents query.now (is_before order.now) (edges trace.now.lists)) }
 {
-    let edges = edges_of_parallel(rt, alloc, trace.lists.as_slice(), threads)?;
+    let edges = edges_in(rt, alloc, trace, threads)?;
     report_with_parallel(rt, alloc, contents, edges, order, query)
 }
 

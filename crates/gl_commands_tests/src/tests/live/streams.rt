@@ -9,7 +9,7 @@ ghost use Rattle.gl_std.specs.Streaming.{CanBeAsked};
 use super::lists::reported;
 use super::meeting::Meeting;
 use super::wanted::{Listed, TWO_EDGES, Wanted, is_wanted, query_for};
-use crate::texts::unread_items;
+use crate::unread::unread_items;
 use gl_cycles::Report;
 use gl_event::{MAX_RING, MAX_THREADS, Segment, ThreadId};
 use gl_filters::Query;
