@@ -5,3 +5,4 @@ pub mod Lawful
 pub mod Modes
 pub mod Standing
 pub mod States
+pub mod bodies

@@ -4,6 +4,7 @@ use Rattle.gl_event.specs.Events.{acquired_lock, lock_mode, location, depth, seg
 use Rattle.gl_event.specs.Lawful.{HasLawfulLocks, acquire_refusal}
 use Rattle.gl_event.specs.declared.events.Event.TheVariants.{Release}
 use Rattle.gl_event.specs.declared.events.LockMode.{LockMode}
+use Rattle.gl_event.specs.declared.events.Refusal.{Refusal}
 use Rattle.gl_event.specs.declared.events.Refusal.TheVariants.{HeldFull as NoRoom, DepthFull as TooDeep, Upgrade as IsUpgrade}
 use Rattle.gl_event.specs.declared.held.HeldFault.{HeldFault}
 use Rattle.gl_event.specs.declared.held.HeldFault.TheVariants.{HeldFull, DepthFull, Upgrade}
@@ -42,6 +43,12 @@ pub record IsAt (es : List Event) (e : Event) (place seg loc : ℕ) : Type 0 whe
   pub here : place ≡ length es
   pub within : seg ≡ segment es
   pub stands_at : loc ≡ location e
+
+-- why an event is refused whose lock can't be acquired
+abbrev pub as_refusal : HeldFault → Refusal
+as_refusal HeldFull = NoRoom
+as_refusal DepthFull = TooDeep
+as_refusal Upgrade = IsUpgrade
 
 -- what an acquire answers a thread whose events were these, and what it holds then
 pub record AnswersAcquire (es : List Event) (lock : ℕ) (mode : LockMode) (loc place seg : ℕ) (new : List HeldEntry) (answer : Result Bool HeldFault) : Type 0 where

@@ -1,5 +1,5 @@
 //! The locks that one thread holds.
-ghost use Rattle.std.specs.Prelude.{◌≡◌, ◌≢◌, ◌<◌, ◌↔◌, List, [], length, slice_get, slice_set, Some, IsTrue, IfSome, IfNone, OnErr};
+ghost use Rattle.std.specs.Prelude.{◌≡◌, ◌<◌, ◌↔◌, ℕ, List, [], length, slice_set, IsTrue, IfNone, OnErr};
 
 use crate::events::LockMode;
 use crate::ids::{LocId, LockId};
@@ -54,9 +54,11 @@ impl Model for Held {
 }
 
 impl Held {
-    ghost use Rattle.std.specs.Prelude.{remove, All};
+    ghost use Rattle.std.specs.Option.{option_map};
     ghost use Rattle.gl_event.specs.Events.{depth};
-    ghost use Rattle.gl_event.specs.Standing.{StandsFor, AnswersAcquire, AnswersRelease};
+    ghost use Rattle.gl_event.specs.Lawful.{acquire_refusal};
+    ghost use Rattle.gl_event.specs.Standing.{StandsFor, AnswersAcquire, AnswersRelease, as_refusal};
+    ghost use Rattle.gl_event.specs.bodies.Finding.{IsFound, HasRoom};
     ghost use Rattle.gl_event.specs.declared.events.Event.{Event};
 
     /// No lock is held.
@@ -90,6 +92,7 @@ impl Held {
     /// the lock wasn't held.
     ///
     /// A refused acquire changes nothing.
+    #[inline(always)]
     pub fn acquire(
         &mut self,
         lock: LockId,
@@ -102,22 +105,17 @@ impl Held {
             → AnswersAcquire es lock mode loc place seg self.new result }
         ensures unchanged { OnErr result (self.new ≡ self.old) }
     {
-        match self.find(lock) {
+        let found = self.find(lock);
+        if let Some(fault) = self.fault(&found, mode) {
+            return Err(fault);
+        }
+        match found {
             Some((i, entry)) => {
-                if entry.depth >= MAX_DEPTH {
-                    return Err(HeldFault::DepthFull);
-                }
-                if mode.upgrades(entry.mode) {
-                    return Err(HeldFault::Upgrade);
-                }
                 let depth = entry.depth + 1;
                 self.put(i, HeldEntry { depth, ..entry });
                 Ok(false)
             }
             None => {
-                if self.entries.is_full() {
-                    return Err(HeldFault::HeldFull);
-                }
                 self.entries.push(HeldEntry {
                     lock,
                     mode,
@@ -131,9 +129,19 @@ impl Held {
         }
     }
 
+    /// Why `acquire` would refuse the lock in this mode, where it would.
+    #[inline(always)]
+    pub(crate) fn acquire_fault(&self, lock: LockId, mode: LockMode) -> Option<HeldFault>
+        ensures { (es : List Event) → StandsFor es self.now
+            → option_map as_refusal result ≡ acquire_refusal es lock mode }
+    {
+        self.fault(&self.find(lock), mode)
+    }
+
     /// Releases the lock once. The answer is `true` where the lock is then no longer held.
     ///
     /// A refused release changes nothing.
+    #[inline(always)]
     pub fn release(&mut self, lock: LockId) -> Result<bool, NotHeld>
         ensures answers { (es : List Event) → StandsFor es self.old
             → AnswersRelease es lock self.new result }
@@ -153,12 +161,34 @@ impl Held {
         }
     }
 
+    // Why the lock of which this was found can't be acquired in this mode.
+    #[inline(always)]
+    fn fault(&self, found: &Option<(usize, HeldEntry)>, mode: LockMode) -> Option<HeldFault>
+        ensures refusal { (es : List Event) (lock : ℕ) → StandsFor es self.now
+            → IsFound self.now lock found.now
+            → option_map as_refusal result ≡ acquire_refusal es lock mode }
+        ensures room { IfNone result (HasRoom self.now found.now) }
+    {
+        let Some((_, entry)) = found else {
+            if self.entries.is_full() {
+                return Some(HeldFault::HeldFull);
+            }
+            return None;
+        };
+        if entry.depth >= MAX_DEPTH {
+            return Some(HeldFault::DepthFull);
+        }
+        if mode.upgrades(entry.mode) {
+            return Some(HeldFault::Upgrade);
+        }
+        None
+    }
+
     // The place and the entry of the lock, if it has one. At most 64 entries are looked at, the newest
     // first: most releases are of these.
+    #[inline(always)]
     fn find(&self, lock: LockId) -> Option<(usize, HeldEntry)>
-        ensures found { IfSome result
-            (λ r. (slice_get self.now r.0 ≡ Some r.1) × (r.1.lock ≡ lock)) }
-        ensures absent { IfNone result (All (λ h. h.lock ≢ lock) self.now) }
+        ensures { IsFound self.now lock result }
     {
         let entries = self.entries.as_slice();
         for i in (0..entries.len()).rev() {
@@ -171,6 +201,7 @@ impl Held {
     }
 
     // Replaces the entry at a place.
+    #[inline(always)]
     fn put(&mut self, i: usize, entry: HeldEntry)
         requires { i < length self.old }
         ensures { self.new ≡ slice_set self.old i entry }

@@ -1,14 +1,14 @@
 //! What is known of a thread after its events so far.
-ghost use Rattle.std.specs.Prelude.{◌≡◌, ◌↔◌, ◌+◌, ◌^◌, ◌<◌, ℕ, true, None, Some, List, [], ◌∷◌, ◌++◌, OnOk, OnErr, IfErr, IfSome, IfNone, IsTrue};
-ghost use Rattle.gl_event.specs.Events.{depth, entry_of};
-ghost use Rattle.gl_event.specs.Lawful.{acquire_refusal, lock_refusal};
-ghost use Rattle.gl_event.specs.Standing.{StandsFor};
+ghost use Rattle.std.specs.Prelude.{◌≡◌, ◌↔◌, ◌+◌, ◌^◌, ◌<◌, ℕ, true, None, Some, List, [], ◌∷◌, ◌++◌, OnOk, OnErr, IfErr, IsTrue};
+ghost use Rattle.gl_event.specs.Events.{depth};
+ghost use Rattle.gl_event.specs.Lawful.{lock_refusal};
+ghost use Rattle.gl_event.specs.Standing.{StandsFor, as_refusal};
 ghost use Rattle.gl_event.specs.declared.events.Event.{Event};
 ghost use Rattle.gl_event.specs.declared.events.Event.TheVariants.{Release};
 ghost use Rattle.gl_event.specs.declared.events.LockMode.{LockMode};
 
 use crate::events::{Effect, Event, LockMode, Refusal};
-use crate::held::{Held, HeldEntry, HeldFault, MAX_DEPTH, MAX_HELD};
+use crate::held::{Held, HeldEntry, HeldFault};
 use crate::ids::{LocId, LockId};
 use std::marker::Model;
 
@@ -38,42 +38,16 @@ impl Model for ThreadState {
     ghost invariant = { λ s. s.segments ≤ s.events };
 }
 
-// What is known of the lock, where it is held. The newest are looked at first: most releases are of
-// these.
-fn entry_of(held: &Held, lock: LockId) -> Option<HeldEntry>
-    ensures found { (es : List Event) → StandsFor es held.now
-        → IfSome result (λ entry. (entry ≡ entry_of es lock) × (0 < depth es lock)) }
-    ensures absent { (es : List Event) → StandsFor es held.now
-        → IfNone result (depth es lock ≡ 0) }
+// Why an event is refused whose lock can't be acquired.
+#[inline(always)]
+fn as_refusal(fault: HeldFault) -> Refusal
+    ensures { result ≡ as_refusal fault }
 {
-    let entries = held.entries();
-    for i in (0..entries.len()).rev() {
-        let entry = &entries[i];
-        if entry.lock == lock {
-            return Some(*entry);
-        }
+    match fault {
+        HeldFault::HeldFull => Refusal::HeldFull,
+        HeldFault::DepthFull => Refusal::DepthFull,
+        HeldFault::Upgrade => Refusal::Upgrade,
     }
-    None
-}
-
-// Why the lock can't be acquired in this mode.
-fn acquire_refusal(held: &Held, lock: LockId, mode: LockMode) -> Option<Refusal>
-    ensures { (es : List Event) → StandsFor es held.now
-        → result ≡ acquire_refusal es lock mode }
-{
-    let Some(entry) = entry_of(held, lock) else {
-        if held.entries().len() >= MAX_HELD {
-            return Some(Refusal::HeldFull);
-        }
-        return None;
-    };
-    if entry.depth >= MAX_DEPTH {
-        return Some(Refusal::DepthFull);
-    }
-    if mode.upgrades(entry.mode) {
-        return Some(Refusal::Upgrade);
-    }
-    None
 }
 
 // Why the lock can't be released.
@@ -134,12 +108,15 @@ impl ThreadState {
     }
 
     /// Why the locks don't let the event come next. It looks through the at most 64 held locks.
+    #[inline(always)]
     pub fn refusal(&self, event: &Event) -> Option<Refusal>
         ensures { (es : List Event) → StandsAfter es self.now
             → result ≡ lock_refusal es event.now }
     {
         match event.effect() {
-            Effect::Acquires { lock, mode, .. } => acquire_refusal(&self.held, lock, mode),
+            Effect::Acquires { lock, mode, .. } => {
+                self.held.acquire_fault(lock, mode).map(as_refusal)
+            }
             Effect::Releases { lock } => release_refusal(&self.held, lock),
             Effect::Closes { .. } => None,
         }
@@ -149,6 +126,7 @@ impl ThreadState {
     /// answer says why.
     ///
     /// It looks through the at most 64 held locks once, and takes no memory.
+    #[inline(always)]
     pub fn take(&mut self, event: Event) -> Result<(), Refusal>
         requires fits { self.old.events + 1 < 2 ^ 32 }
         ensures refused { IfErr result
@@ -170,6 +148,7 @@ impl ThreadState {
     }
 
     // `take`, for an acquire of this lock in this mode, tried or not.
+    #[inline(always)]
     fn acquire(
         &mut self,
         event: Event,
@@ -193,15 +172,14 @@ impl ThreadState {
             .acquire(lock, mode, loc, self.events, self.segments)
         {
             Ok(_) => {}
-            Err(HeldFault::HeldFull) => return Err(Refusal::HeldFull),
-            Err(HeldFault::DepthFull) => return Err(Refusal::DepthFull),
-            Err(HeldFault::Upgrade) => return Err(Refusal::Upgrade),
+            Err(fault) => return Err(as_refusal(fault)),
         }
         self.events += 1;
         Ok(())
     }
 
     // `take`, for a release of this lock.
+    #[inline(always)]
     fn release(&mut self, event: Event, lock: LockId) -> Result<(), Refusal>
         requires fits { self.old.events + 1 < 2 ^ 32 }
         requires releases { event ≡ Release (lock_mode event) lock (location event) }
@@ -222,6 +200,7 @@ impl ThreadState {
     }
 
     // `take`, for a fork or a join.
+    #[inline(always)]
     fn close(&mut self, event: Event)
         requires fits { self.old.events + 1 < 2 ^ 32 }
         requires closes { closes event ≡ true }

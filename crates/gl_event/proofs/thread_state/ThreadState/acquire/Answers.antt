@@ -1,26 +1,17 @@
-use Rattle.std.proofs.Common.{◌≡◌, false, refl, ◌∙◌, sym, subst, arith}
+use Rattle.std.proofs.Common.{◌≡◌, false, Some, refl, ◌∙◌, sym, ap, subst, arith}
 use Rattle.std.proofs.lemmas.List.{length_push}
 use Rattle.gl_event.specs.Events.{closes}
 use Rattle.gl_event.specs.Standing.{IsAt}
 use Rattle.gl_event.specs.States.{StandsAfter}
+use Rattle.gl_event.proofs.HeldAnswers.{refused_as}
 use Rattle.gl_event.proofs.Lawfulness.{closes-of, lock_refusal-of}
 use Rattle.gl_event.proofs.States.{segment_kept}
 use Rattle.gl_event.proofs.thread_state.ThreadState.acquire.Goals as goal
 
-pub returns-in-Err-HeldFull-clause-refused : goal.returns-in-Err-HeldFull-clause-refused
-returns-in-Err-HeldFull-clause-refused c = λ es stands.
+pub returns-in-Err-clause-refused : goal.returns-in-Err-clause-refused
+returns-in-Err-clause-refused c = λ es stands.
     let own : StandsAfter es (record { held = c.self.inside.held; events = c.self.inside.events; segments = c.self.inside.segments }) = subst (StandsAfter es) (sym c.self.view_is) stands in
-    lock_refusal-of c.args.lock c.args.mode es c.args.event c.requires.acquires ∙ (c.in-Err-HeldFull.ensures.answers es own.held).full.0 (cc)
-
-pub returns-in-Err-DepthFull-clause-refused : goal.returns-in-Err-DepthFull-clause-refused
-returns-in-Err-DepthFull-clause-refused c = λ es stands.
-    let own : StandsAfter es (record { held = c.self.inside.held; events = c.self.inside.events; segments = c.self.inside.segments }) = subst (StandsAfter es) (sym c.self.view_is) stands in
-    lock_refusal-of c.args.lock c.args.mode es c.args.event c.requires.acquires ∙ (c.in-Err-DepthFull.ensures.answers es own.held).deep.0 (cc)
-
-pub returns-in-Err-Upgrade-clause-refused : goal.returns-in-Err-Upgrade-clause-refused
-returns-in-Err-Upgrade-clause-refused c = λ es stands.
-    let own : StandsAfter es (record { held = c.self.inside.held; events = c.self.inside.events; segments = c.self.inside.segments }) = subst (StandsAfter es) (sym c.self.view_is) stands in
-    lock_refusal-of c.args.lock c.args.mode es c.args.event c.requires.acquires ∙ (c.in-Err-Upgrade.ensures.answers es own.held).upgrade.0 (cc)
+    lock_refusal-of c.args.lock c.args.mode es c.args.event c.requires.acquires ∙ refused_as es _ _ _ _ _ _ c.in-Err.fault (c.in-Err.ensures.answers es own.held) ∙ ap Some (sym c.as_refusal.ensures)
 
 pub returns-clause-allowed : goal.returns-clause-allowed
 returns-clause-allowed c = λ es stands.
