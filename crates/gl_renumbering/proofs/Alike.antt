@@ -74,33 +74,33 @@ fronts R (suc n) (x ∷ xs) (y ∷ ys) all = (all.0, fronts R n xs ys all.1)
 abbrev IsPlaced : List (List ℕ) → List ℕ → Type 0
 IsPlaced names name = (i : ℕ) × (position (bytes_eq name) names ≡ Some i)
 
--- so have the lock and the place of the tale
+-- so have the lock and the location of the tale
 abbrev AreIn : NameLists → Tale → Type 0
-AreIn names (Acquires lock mode place) = IsPlaced names.locks lock × IsPlaced names.locs place
-AreIn names (Releases lock mode place) = IsPlaced names.locks lock × IsPlaced names.locs place
-AreIn names (TryAcquires lock mode place) = IsPlaced names.locks lock × IsPlaced names.locs place
-AreIn names (Forks thread place) = IsPlaced names.locs place
-AreIn names (Joins thread place) = IsPlaced names.locs place
+AreIn names (Acquires lock mode location) = IsPlaced names.locks lock × IsPlaced names.locs location
+AreIn names (Releases lock mode location) = IsPlaced names.locks lock × IsPlaced names.locs location
+AreIn names (TryAcquires lock mode location) = IsPlaced names.locks lock × IsPlaced names.locs location
+AreIn names (Forks thread location) = IsPlaced names.locs location
+AreIn names (Joins thread location) = IsPlaced names.locs location
 
 placed_more : (names more : List (List ℕ)) (name : List ℕ) → IsPlaced names name → IsPlaced (names ++ more) name
 placed_more names more name is = (is.0, position-append names more name is.0 is.1)
 
 in_more : (names more : NameLists) (tale : Tale) → AreIn names tale → AreIn (with_more names more) tale
-in_more names more (Acquires lock mode place) are = (placed_more names.locks more.locks lock are.0, placed_more names.locs more.locs place are.1)
-in_more names more (Releases lock mode place) are = (placed_more names.locks more.locks lock are.0, placed_more names.locs more.locs place are.1)
-in_more names more (TryAcquires lock mode place) are = (placed_more names.locks more.locks lock are.0, placed_more names.locs more.locs place are.1)
-in_more names more (Forks thread place) are = placed_more names.locs more.locs place are
-in_more names more (Joins thread place) are = placed_more names.locs more.locs place are
+in_more names more (Acquires lock mode location) are = (placed_more names.locks more.locks lock are.0, placed_more names.locs more.locs location are.1)
+in_more names more (Releases lock mode location) are = (placed_more names.locks more.locks lock are.0, placed_more names.locs more.locs location are.1)
+in_more names more (TryAcquires lock mode location) are = (placed_more names.locks more.locks lock are.0, placed_more names.locs more.locs location are.1)
+in_more names more (Forks thread location) are = placed_more names.locs more.locs location are
+in_more names more (Joins thread location) are = placed_more names.locs more.locs location are
 
 new_placed : (names : List (List ℕ)) (name : List ℕ) → IsPlaced (with_new names name) name
 new_placed names name = (number_of names name, placed names name)
 
 one_in : (names : NameLists) (tale : Tale) → AreIn (mentioned names (tale ∷ [])) tale
-one_in names (Acquires lock mode place) = (new_placed names.locks lock, new_placed names.locs place)
-one_in names (Releases lock mode place) = (new_placed names.locks lock, new_placed names.locs place)
-one_in names (TryAcquires lock mode place) = (new_placed names.locks lock, new_placed names.locs place)
-one_in names (Forks thread place) = new_placed names.locs place
-one_in names (Joins thread place) = new_placed names.locs place
+one_in names (Acquires lock mode location) = (new_placed names.locks lock, new_placed names.locs location)
+one_in names (Releases lock mode location) = (new_placed names.locks lock, new_placed names.locs location)
+one_in names (TryAcquires lock mode location) = (new_placed names.locks lock, new_placed names.locs location)
+one_in names (Forks thread location) = new_placed names.locs location
+one_in names (Joins thread location) = new_placed names.locs location
 
 all_in : (names : NameLists) (list : List Tale) → Each (AreIn (mentioned names list)) list
 all_in names [] = tt
@@ -125,11 +125,11 @@ name_back names name is =
     ap (λ r. name_at names (unwrap_or r (length names))) is.1 ∙ ap (λ o. unwrap_or o []) there
 
 told_back : (names : NameLists) (tale : Tale) → AreIn names tale → told names (event_by names tale) ≡ tale
-told_back names (Acquires lock mode place) are = λ i. Acquires (name_back names.locks lock are.0 i) mode (name_back names.locs place are.1 i)
-told_back names (Releases lock mode place) are = λ i. Releases (name_back names.locks lock are.0 i) mode (name_back names.locs place are.1 i)
-told_back names (TryAcquires lock mode place) are = λ i. TryAcquires (name_back names.locks lock are.0 i) mode (name_back names.locs place are.1 i)
-told_back names (Forks thread place) are = ap (Forks thread) (name_back names.locs place are)
-told_back names (Joins thread place) are = ap (Joins thread) (name_back names.locs place are)
+told_back names (Acquires lock mode location) are = λ i. Acquires (name_back names.locks lock are.0 i) mode (name_back names.locs location are.1 i)
+told_back names (Releases lock mode location) are = λ i. Releases (name_back names.locks lock are.0 i) mode (name_back names.locs location are.1 i)
+told_back names (TryAcquires lock mode location) are = λ i. TryAcquires (name_back names.locks lock are.0 i) mode (name_back names.locs location are.1 i)
+told_back names (Forks thread location) are = ap (Forks thread) (name_back names.locs location are)
+told_back names (Joins thread location) are = ap (Joins thread) (name_back names.locs location are)
 
 pub told_again : ListsByMentionTellTheSame
 told_again names lists =
@@ -192,22 +192,22 @@ module _ (names new : NameLists) (differ : AllPairs (λ a b. a ≢ b) names.lock
   Same = IsSame names.locks new.locks
 
   renumbered : (e : Event) → has_names names e ≡ true → AreIn new (told names e) → Renumbered Same e (again e)
-  renumbered (Acquire mode lock place) has are = acquire lock _ mode place _ (same_lock names.locks new.locks lock (left_of _ _ has) are.0)
-  renumbered (Release mode lock place) has are = release lock _ mode place _ (same_lock names.locks new.locks lock (left_of _ _ has) are.0)
-  renumbered (TryAcquire mode lock place) has are = try_acquire lock _ mode place _ (same_lock names.locks new.locks lock (left_of _ _ has) are.0)
-  renumbered (Fork thread place) has are = fork thread thread place _
-  renumbered (Join thread place) has are = join thread thread place _
+  renumbered (Acquire mode lock loc) has are = acquire lock _ mode loc _ (same_lock names.locks new.locks lock (left_of _ _ has) are.0)
+  renumbered (Release mode lock loc) has are = release lock _ mode loc _ (same_lock names.locks new.locks lock (left_of _ _ has) are.0)
+  renumbered (TryAcquire mode lock loc) has are = try_acquire lock _ mode loc _ (same_lock names.locks new.locks lock (left_of _ _ has) are.0)
+  renumbered (Fork thread loc) has are = fork thread thread loc _
+  renumbered (Join thread loc) has are = join thread thread loc _
 
   all_renumbered : (es : List Event) → list_all (has_names names) es ≡ true → Each (AreIn new) (map (told names) es) → AllZip (Renumbered Same) es (map again es)
   all_renumbered [] has are = tt
   all_renumbered (e ∷ es) has are = (renumbered e (left_of _ _ has) are.0, all_renumbered es (right_of _ _ has) are.1)
 
   same_partner : (e : Event) → partner (again e) ≡ partner e
-  same_partner (Acquire mode lock place) = refl
-  same_partner (Release mode lock place) = refl
-  same_partner (TryAcquire mode lock place) = refl
-  same_partner (Fork thread place) = refl
-  same_partner (Join thread place) = refl
+  same_partner (Acquire mode lock loc) = refl
+  same_partner (Release mode lock loc) = refl
+  same_partner (TryAcquire mode lock loc) = refl
+  same_partner (Fork thread loc) = refl
+  same_partner (Join thread loc) = refl
 
   -- the same event may come next
   same_refusal_again : (limits : Bounds) (thread : ℕ) (es : List Event) (e : Event) → AllZip (Renumbered Same) es (map again es) → Renumbered Same e (again e) → refusal limits thread (map again es) (again e) ≡ refusal limits thread es e

@@ -15,7 +15,7 @@ use Rattle.std.proofs.lemmas.Slice.Eq.{bytes_eq-Decides}
 use Rattle.gl_std.specs.Names.{NameLists, number_of, with_new}
 use Rattle.gl_std.proofs.NameBytes.{list_any-absent}
 use Rattle.gl_std.proofs.Places.{position-push, place_after, itself, number_of as stands_at}
-use Rattle.gl_renumbering.specs.Tales.{Tale, lock_in, place_in, mentioned}
+use Rattle.gl_renumbering.specs.Tales.{Tale, lock_in, location_in, mentioned}
 use Rattle.gl_renumbering.specs.bodies.Tables.{with_more}
 
 -- ---- one list of names
@@ -71,12 +71,12 @@ fold-adds names [] = sym (append-nil names)
 fold-adds names (name ∷ more) =
     fold-adds (with_new names name) more ∙ ap (λ ns. ns ++ all_added (with_new names name) more) (with_new-adds names name) ∙ append_assoc names (added (position (bytes_eq name) names) name) (all_added (with_new names name) more)
 
--- ---- names of locks and of places
+-- ---- names of locks and of locations
 
 pub mentioned_adds : (names : NameLists) (list : List Tale) → (more : NameLists) × (mentioned names list ≡ with_more names more)
 mentioned_adds names list = (
-  record { threads = []; locks = all_added names.locks (filter_map lock_in list); locs = all_added names.locs (map place_in list) },
-  λ i. record { threads = names.threads; locks = fold-adds names.locks (filter_map lock_in list) i; locs = fold-adds names.locs (map place_in list) i },
+  record { threads = []; locks = all_added names.locks (filter_map lock_in list); locs = all_added names.locs (map location_in list) },
+  λ i. record { threads = names.threads; locks = fold-adds names.locks (filter_map lock_in list) i; locs = fold-adds names.locs (map location_in list) i },
 )
 
 pub map_append : {X Y : Type 0} (f : X → Y) (xs ys : List X) → map f (xs ++ ys) ≡ map f xs ++ map f ys
@@ -88,7 +88,7 @@ pub mentioned-append : (names : NameLists) (list other : List Tale) → mentione
 mentioned-append names list other = λ i. record {
   threads = names.threads;
   locks = (ap (fold with_new names.locks) (filter_map-append lock_in list other) ∙ fold-append with_new names.locks (filter_map lock_in list) (filter_map lock_in other)) i;
-  locs = (ap (fold with_new names.locs) (map_append place_in list other) ∙ fold-append with_new names.locs (map place_in list) (map place_in other)) i;
+  locs = (ap (fold with_new names.locs) (map_append location_in list other) ∙ fold-append with_new names.locs (map location_in list) (map location_in other)) i;
 }
 
 pub with_more-twice : (names some more : NameLists) → with_more (with_more names some) more ≡ with_more names (with_more some more)

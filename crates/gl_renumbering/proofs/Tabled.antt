@@ -75,19 +75,19 @@ table_read old new table is n place number result entry within same read some go
     table_number old new table is n (get_or old n []) (slice_get-get_or old n [] within) number at ∙ ap Some (sym got)
 
 -- both tables, after a lock was mentioned for the first time
-pub lock_stands : (old names after : NameLists) (table places : List (Option ℕ)) → StandsFor old names table places → (n place number : ℕ) (name : List ℕ) → slice_get old.locks n ≡ Some name → place ≡ n
-    → after ≡ record names { locks = with_new names.locks name } → position (bytes_eq name) after.locks ≡ Some number → StandsFor old after (slice_set table place (Some number)) places
-lock_stands old names after table places stands n place number name named same is has =
+pub lock_stands : (old names after : NameLists) (table locations : List (Option ℕ)) → StandsFor old names table locations → (n place number : ℕ) (name : List ℕ) → slice_get old.locks n ≡ Some name → place ≡ n
+    → after ≡ record names { locks = with_new names.locks name } → position (bytes_eq name) after.locks ≡ Some number → StandsFor old after (slice_set table place (Some number)) locations
+lock_stands old names after table locations stands n place number name named same is has =
     let here : position (bytes_eq name) (with_new names.locks name) ≡ Some number = ap (λ ns. position (bytes_eq name) ns.locks) (sym is) ∙ has in
     let next = table_next old.locks names.locks table stands.locks n name named number here in
-    subst (λ ns. StandsFor old ns (slice_set table place (Some number)) places) (sym is)
-    (record { locks = subst (λ k. IsTable old.locks (with_new names.locks name) (slice_set table k (Some number))) (sym same) next; places = stands.places })
+    subst (λ ns. StandsFor old ns (slice_set table place (Some number)) locations) (sym is)
+    (record { locks = subst (λ k. IsTable old.locks (with_new names.locks name) (slice_set table k (Some number))) (sym same) next; locations = stands.locations })
 
--- and after a place was
-pub place_stands : (old names after : NameLists) (locks table : List (Option ℕ)) → StandsFor old names locks table → (n place number : ℕ) (name : List ℕ) → slice_get old.locs n ≡ Some name → place ≡ n
+-- and after a location was
+pub location_stands : (old names after : NameLists) (locks table : List (Option ℕ)) → StandsFor old names locks table → (n place number : ℕ) (name : List ℕ) → slice_get old.locs n ≡ Some name → place ≡ n
     → after ≡ record names { locs = with_new names.locs name } → position (bytes_eq name) after.locs ≡ Some number → StandsFor old after locks (slice_set table place (Some number))
-place_stands old names after locks table stands n place number name named same is has =
+location_stands old names after locks table stands n place number name named same is has =
     let here : position (bytes_eq name) (with_new names.locs name) ≡ Some number = ap (λ ns. position (bytes_eq name) ns.locs) (sym is) ∙ has in
-    let next = table_next old.locs names.locs table stands.places n name named number here in
+    let next = table_next old.locs names.locs table stands.locations n name named number here in
     subst (λ ns. StandsFor old ns locks (slice_set table place (Some number))) (sym is)
-    (record { locks = stands.locks; places = subst (λ k. IsTable old.locs (with_new names.locs name) (slice_set table k (Some number))) (sym same) next })
+    (record { locks = stands.locks; locations = subst (λ k. IsTable old.locs (with_new names.locs name) (slice_set table k (Some number))) (sym same) next })

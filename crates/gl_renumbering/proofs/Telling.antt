@@ -62,13 +62,13 @@ tales_more names items rows i row within is = ap (tales names) (front_more items
 pub all_told : (old names : NameLists) (lists all : List (List Event)) → names ≡ names_by_mention old lists → AllStayToldBy names (tales old lists) all → all ≡ lists_by_mention old lists
 all_told old names lists all is stay = stay (record { threads = []; locks = []; locs = [] }) ∙ ap (λ ns. map (map (event_by ns)) (tales old lists)) (with_more-none names ∙ is)
 
--- the numbers of a lock and of a place, once more names are mentioned
-module _ (before after : NameLists) (lock_name place_name : List ℕ) (lock : ℕ) (is : after ≡ record before { locs = with_new before.locs place_name }) (has_lock : position (bytes_eq lock_name) before.locks ≡ Some lock) where
+-- the numbers of a lock and of a location, once more names are mentioned
+module _ (before after : NameLists) (lock_name location_name : List ℕ) (lock : ℕ) (is : after ≡ record before { locs = with_new before.locs location_name }) (has_lock : position (bytes_eq lock_name) before.locks ≡ Some lock) where
   pub lock_told : (more : NameLists) → lock ≡ number_of (after.locks ++ more.locks) lock_name
   lock_told more = sym (number_stays after.locks more.locks lock_name lock (ap (λ ns. position (bytes_eq lock_name) ns.locks) is ∙ has_lock))
 
-pub place_told : (after : NameLists) (place_name : List ℕ) (place : ℕ) → position (bytes_eq place_name) after.locs ≡ Some place → (more : NameLists) → place ≡ number_of (after.locs ++ more.locs) place_name
-place_told after place_name place has more = sym (number_stays after.locs more.locs place_name place has)
+pub location_told : (after : NameLists) (location_name : List ℕ) (location : ℕ) → position (bytes_eq location_name) after.locs ≡ Some location → (more : NameLists) → location ≡ number_of (after.locs ++ more.locs) location_name
+location_told after location_name location has more = sym (number_stays after.locs more.locs location_name location has)
 
 -- a list of which one element fails
 pub all_fails : {X : Type 0} (p : X → Bool) (xs : List X) (i : ℕ) (x : X) → slice_get xs i ≡ Some x → p x ≡ false → list_all p xs ≡ false

@@ -1,5 +1,5 @@
--- What lists of events tell, whatever numbers their locks and places have; and the lists that tell the same with locks and
--- places numbered by first mention: thread 0's list first, event by event, then thread 1's, and so on.
+-- What lists of events tell, whatever numbers their locks and locations have; and the lists that tell the same with locks and
+-- locations numbered by first mention: thread 0's list first, event by event, then thread 1's, and so on.
 use Rattle.std.specs.Prelude.{◌≡◌, ℕ, Bool, ◌&&◌, List, [], Option, Some, None, length, map, nat_lt, slice_get}
 use Rattle.std.specs.List.{filter_map, flat_map, fold, list_all}
 use Rattle.gl_event.specs.Bounds.{Bounds}
@@ -10,45 +10,45 @@ use Rattle.gl_event.specs.declared.events.LockMode.{LockMode}
 use Rattle.gl_std.specs.Names.{NameLists, number_of, with_new}
 use Rattle.gl_writing.specs.Written.{name_at}
 
--- what an event tells: its operation, on the lock with this name, at the place with this name. Threads are told by number
+-- what an event tells: its operation, on the lock with this name, at the location with this name. Threads are told by number
 pub data Tale : Type 0 where
-  Acquires : (lock : List ℕ) (mode : LockMode) (place : List ℕ) → Tale
-  Releases : (lock : List ℕ) (mode : LockMode) (place : List ℕ) → Tale
-  TryAcquires : (lock : List ℕ) (mode : LockMode) (place : List ℕ) → Tale
-  Forks : (thread : ℕ) (place : List ℕ) → Tale
-  Joins : (thread : ℕ) (place : List ℕ) → Tale
+  Acquires : (lock : List ℕ) (mode : LockMode) (location : List ℕ) → Tale
+  Releases : (lock : List ℕ) (mode : LockMode) (location : List ℕ) → Tale
+  TryAcquires : (lock : List ℕ) (mode : LockMode) (location : List ℕ) → Tale
+  Forks : (thread : ℕ) (location : List ℕ) → Tale
+  Joins : (thread : ℕ) (location : List ℕ) → Tale
 
--- the tale of an event: each number of a lock or of a place gives way to its name
+-- the tale of an event: each number of a lock or of a location gives way to its name
 abbrev pub told : NameLists → Event → Tale
-told names (Acquire mode lock place) = Acquires (name_at names.locks lock) mode (name_at names.locs place)
-told names (Release mode lock place) = Releases (name_at names.locks lock) mode (name_at names.locs place)
-told names (TryAcquire mode lock place) = TryAcquires (name_at names.locks lock) mode (name_at names.locs place)
-told names (Fork thread place) = Forks thread (name_at names.locs place)
-told names (Join thread place) = Joins thread (name_at names.locs place)
+told names (Acquire mode lock loc) = Acquires (name_at names.locks lock) mode (name_at names.locs loc)
+told names (Release mode lock loc) = Releases (name_at names.locks lock) mode (name_at names.locs loc)
+told names (TryAcquire mode lock loc) = TryAcquires (name_at names.locks lock) mode (name_at names.locs loc)
+told names (Fork thread loc) = Forks thread (name_at names.locs loc)
+told names (Join thread loc) = Joins thread (name_at names.locs loc)
 
--- the event of a tale: each name of a lock or of a place gives way to its number
+-- the event of a tale: each name of a lock or of a location gives way to its number
 abbrev pub event_by : NameLists → Tale → Event
-event_by names (Acquires lock mode place) = Acquire mode (number_of names.locks lock) (number_of names.locs place)
-event_by names (Releases lock mode place) = Release mode (number_of names.locks lock) (number_of names.locs place)
-event_by names (TryAcquires lock mode place) = TryAcquire mode (number_of names.locks lock) (number_of names.locs place)
-event_by names (Forks thread place) = Fork thread (number_of names.locs place)
-event_by names (Joins thread place) = Join thread (number_of names.locs place)
+event_by names (Acquires lock mode location) = Acquire mode (number_of names.locks lock) (number_of names.locs location)
+event_by names (Releases lock mode location) = Release mode (number_of names.locks lock) (number_of names.locs location)
+event_by names (TryAcquires lock mode location) = TryAcquire mode (number_of names.locks lock) (number_of names.locs location)
+event_by names (Forks thread location) = Fork thread (number_of names.locs location)
+event_by names (Joins thread location) = Join thread (number_of names.locs location)
 
 -- the lock that a tale mentions, if it does
 abbrev pub lock_in : Tale → Option (List ℕ)
-lock_in (Acquires lock mode place) = Some lock
-lock_in (Releases lock mode place) = Some lock
-lock_in (TryAcquires lock mode place) = Some lock
-lock_in (Forks thread place) = None
-lock_in (Joins thread place) = None
+lock_in (Acquires lock mode location) = Some lock
+lock_in (Releases lock mode location) = Some lock
+lock_in (TryAcquires lock mode location) = Some lock
+lock_in (Forks thread location) = None
+lock_in (Joins thread location) = None
 
--- the place that a tale mentions
-abbrev pub place_in : Tale → List ℕ
-place_in (Acquires lock mode place) = place
-place_in (Releases lock mode place) = place
-place_in (TryAcquires lock mode place) = place
-place_in (Forks thread place) = place
-place_in (Joins thread place) = place
+-- the location that a tale mentions
+abbrev pub location_in : Tale → List ℕ
+location_in (Acquires lock mode location) = location
+location_in (Releases lock mode location) = location
+location_in (TryAcquires lock mode location) = location
+location_in (Forks thread location) = location
+location_in (Joins thread location) = location
 
 -- what the threads' lists tell
 abbrev pub tales : NameLists → List (List Event) → List (List Tale)
@@ -56,9 +56,9 @@ tales names lists = map (map (told names)) lists
 
 -- the names, and those that the tales mention, in the order of their first mention
 abbrev pub mentioned : NameLists → List Tale → NameLists
-mentioned names list = record names { locks = fold with_new names.locks (filter_map lock_in list); locs = fold with_new names.locs (map place_in list) }
+mentioned names list = record names { locks = fold with_new names.locks (filter_map lock_in list); locs = fold with_new names.locs (map location_in list) }
 
--- the names of the same threads, and of locks and places by first mention, one thread's list after the other
+-- the names of the same threads, and of locks and locations by first mention, one thread's list after the other
 abbrev pub names_by_mention : NameLists → List (List Event) → NameLists
 names_by_mention names lists = mentioned (record names { locks = []; locs = [] }) (flat_map (λ list. list) (tales names lists))
 
@@ -70,15 +70,15 @@ lists_by_mention names lists = map (map (event_by (names_by_mention names lists)
 abbrev pub is_named : List (List ℕ) → ℕ → Bool
 is_named names number = nat_lt number (length names)
 
--- the lock and the place of the event have names
+-- the lock and the location of the event have names
 abbrev pub has_names : NameLists → Event → Bool
-has_names names (Acquire mode lock place) = is_named names.locks lock && is_named names.locs place
-has_names names (Release mode lock place) = is_named names.locks lock && is_named names.locs place
-has_names names (TryAcquire mode lock place) = is_named names.locks lock && is_named names.locs place
-has_names names (Fork thread place) = is_named names.locs place
-has_names names (Join thread place) = is_named names.locs place
+has_names names (Acquire mode lock loc) = is_named names.locks lock && is_named names.locs loc
+has_names names (Release mode lock loc) = is_named names.locks lock && is_named names.locs loc
+has_names names (TryAcquire mode lock loc) = is_named names.locks lock && is_named names.locs loc
+has_names names (Fork thread loc) = is_named names.locs loc
+has_names names (Join thread loc) = is_named names.locs loc
 
--- the locks and places of all events have names
+-- the locks and locations of all events have names
 abbrev pub have_names : NameLists → List (List Event) → Bool
 have_names names lists = list_all (list_all (has_names names)) lists
 

@@ -2,7 +2,7 @@
 ghost use Rattle.gl_renumbering.specs.Tales.{ListsByMentionTellTheSame, SameTalesSameLists};
 
 /// Lists that tell the same, of the same threads, are the same by mention, and so are their names: whatever
-/// numbers their locks and places had.
+/// numbers their locks and locations had.
 pub fn same_tales_same_lists()
     ensures { SameTalesSameLists }
 {}

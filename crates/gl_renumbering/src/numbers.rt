@@ -11,13 +11,13 @@ use gl_event::{Event, LocId, LockId, Memory, append};
 use gl_std::{Names, NamesFault};
 use std::alloc::{AllocError, Global};
 
-/// What was mentioned so far: the names by their new numbers, and the new numbers of locks and of places by their
-/// old ones.
+/// What was mentioned so far: the names by their new numbers, and the new numbers of locks and of locations by
+/// their old ones.
 #[derive(Drop)]
 pub(crate) struct Numbers {
     pub(crate) names: Names,
     pub(crate) locks: Vec<Option<u32>>,
-    pub(crate) places: Vec<Option<u32>>,
+    pub(crate) locations: Vec<Option<u32>>,
 }
 
 // A table of so many numbers, none of them known yet.
@@ -49,8 +49,8 @@ fn number_lock(alloc: Global, names: &mut Names, name: &[u8]) -> Result<u32, Mem
     }
 }
 
-// The number of the place's name among these.
-fn number_place(alloc: Global, names: &mut Names, name: &[u8]) -> Result<u32, Memory>
+// The number of the location's name among these.
+fn number_location(alloc: Global, names: &mut Names, name: &[u8]) -> Result<u32, Memory>
     requires room { position (bytes_eq name.now) names.old.locs ≡ None
         → length names.old.locs + 1 < 2 ^ 32 }
     ensures number { IfOk result
@@ -71,7 +71,7 @@ impl Numbers {
     /// None yet. It knows the names of the threads.
     pub(crate) fn new(alloc: Global, names: &Names) -> Result<Numbers, Memory>
         ensures stands { IfOk result (λ numbers. StandsFor names.now numbers.names
-            numbers.locks.items numbers.places.items) }
+            numbers.locks.items numbers.locations.items) }
         ensures names { IfOk result
             (λ numbers. numbers.names ≡ record names.now { locks = []; locs = [] }) }
         ensures differ { OnOk result (AllPairs (λ a b. a ≢ b) names.now.locks) }
@@ -80,17 +80,17 @@ impl Numbers {
         Ok(Numbers {
             names: alone,
             locks: blank_table(alloc, names.locks())?,
-            places: blank_table(alloc, names.locs())?,
+            locations: blank_table(alloc, names.locs())?,
         })
     }
 
     // The lock's number. One look-up by hash at its first mention, and a look at the table later.
     fn lock(&mut self, alloc: Global, old: &Names, lock: LockId) -> Result<LockId, Memory>
         requires stands { StandsFor old.now self.old.names
-            self.old.locks.items self.old.places.items }
+            self.old.locks.items self.old.locations.items }
         requires named { lock < length old.now.locks }
         ensures stands { OnOk result (StandsFor old.now self.new.names
-            self.new.locks.items self.new.places.items) }
+            self.new.locks.items self.new.locations.items) }
         ensures number { IfOk result (λ number. position (bytes_eq (name_at old.now.locks lock))
             self.new.names.locks ≡ Some number) }
         ensures names { OnOk result
@@ -109,28 +109,28 @@ impl Numbers {
         Ok(LockId::new(number))
     }
 
-    // The place's number, likewise.
-    fn place(&mut self, alloc: Global, old: &Names, place: LocId) -> Result<LocId, Memory>
+    // The location's number, likewise.
+    fn location(&mut self, alloc: Global, old: &Names, location: LocId) -> Result<LocId, Memory>
         requires stands { StandsFor old.now self.old.names
-            self.old.locks.items self.old.places.items }
-        requires named { place < length old.now.locs }
+            self.old.locks.items self.old.locations.items }
+        requires named { location < length old.now.locs }
         ensures stands { OnOk result (StandsFor old.now self.new.names
-            self.new.locks.items self.new.places.items) }
-        ensures number { IfOk result (λ number. position (bytes_eq (name_at old.now.locs place))
+            self.new.locks.items self.new.locations.items) }
+        ensures number { IfOk result (λ number. position (bytes_eq (name_at old.now.locs location))
             self.new.names.locs ≡ Some number) }
         ensures names { OnOk result
             (self.new.names
             ≡ record self.old.names {
               locs =
-                  with_new self.old.names.locs (name_at old.now.locs place);
+                  with_new self.old.names.locs (name_at old.now.locs location);
             }) }
     {
-        let at = place.number() as usize;
-        if let Some(number) = self.places[at] {
+        let place = location.number() as usize;
+        if let Some(number) = self.locations[place] {
             return Ok(LocId::new(number));
         }
-        let number = number_place(alloc, &mut self.names, old.loc(place))?;
-        self.places[at] = Some(number);
+        let number = number_location(alloc, &mut self.names, old.loc(location))?;
+        self.locations[place] = Some(number);
         Ok(LocId::new(number))
     }
 
@@ -142,10 +142,10 @@ impl Numbers {
         event: &Event,
     ) -> Result<Event, Memory>
         requires stands { StandsFor old.now self.old.names
-            self.old.locks.items self.old.places.items }
+            self.old.locks.items self.old.locations.items }
         requires named { has_names old.now event.now ≡ true }
         ensures stands { OnOk result (StandsFor old.now self.new.names
-            self.new.locks.items self.new.places.items) }
+            self.new.locks.items self.new.locations.items) }
         ensures names { OnOk result
             (self.new.names ≡ mentioned self.old.names (told old.now event.now ∷ [])) }
         ensures event { IfOk result (StaysToldBy self.new.names (told old.now event.now)) }
@@ -153,25 +153,25 @@ impl Numbers {
         match *event {
             Event::Acquire { lock, mode, loc } => {
                 let lock = self.lock(alloc, old, lock)?;
-                let loc = self.place(alloc, old, loc)?;
+                let loc = self.location(alloc, old, loc)?;
                 Ok(Event::Acquire { lock, mode, loc })
             }
             Event::Release { lock, mode, loc } => {
                 let lock = self.lock(alloc, old, lock)?;
-                let loc = self.place(alloc, old, loc)?;
+                let loc = self.location(alloc, old, loc)?;
                 Ok(Event::Release { lock, mode, loc })
             }
             Event::TryAcquire { lock, mode, loc } => {
                 let lock = self.lock(alloc, old, lock)?;
-                let loc = self.place(alloc, old, loc)?;
+                let loc = self.location(alloc, old, loc)?;
                 Ok(Event::TryAcquire { lock, mode, loc })
             }
             Event::Fork { thread, loc } => {
-                let loc = self.place(alloc, old, loc)?;
+                let loc = self.location(alloc, old, loc)?;
                 Ok(Event::Fork { thread, loc })
             }
             Event::Join { thread, loc } => {
-                let loc = self.place(alloc, old, loc)?;
+                let loc = self.location(alloc, old, loc)?;
                 Ok(Event::Join { thread, loc })
             }
         }

@@ -1,4 +1,4 @@
-//! Lists of events with locks and places numbered by first mention.
+//! Lists of events with locks and locations numbered by first mention.
 ghost use Rattle.std.specs.Prelude.{◌≡◌, ◌↔◌, true, false, Err, map, IfOk, OnOk};
 ghost use Rattle.std.specs.List.{list_all};
 ghost use Rattle.gl_renumbering.specs.Tales.{has_names, have_names, lists_by_mention, mentioned, names_by_mention, told, StayLawful};
@@ -11,20 +11,20 @@ use gl_event::{Event, Memory, append};
 use gl_std::Names;
 use std::alloc::Global;
 
-/// Lists of events, by thread, whose locks and places are numbered by first mention, and the names by these
+/// Lists of events, by thread, whose locks and locations are numbered by first mention, and the names by these
 /// numbers.
 #[derive(Drop)]
 pub struct ByMention {
     /// The events of each thread, in the order of thread numbers.
     pub lists: Vec<Vec<Event>>,
-    /// The names of threads, which have the numbers that they had, and of locks and of places.
+    /// The names of threads, which have the numbers that they had, and of locks and of locations.
     pub names: Names,
 }
 
 /// Why lists weren't numbered by first mention.
 #[derive(Clone, Copy, Debug, PartialEq, Eq, Hash)]
 pub enum RenumberingFault {
-    /// A lock or a place of an event has no name.
+    /// A lock or a location of an event has no name.
     Unnamed,
     /// Memory was refused.
     Memory,
@@ -38,10 +38,10 @@ fn list_by_mention(
     events: &[Event],
 ) -> Result<Vec<Event>, Memory>
     requires stands { StandsFor old.now numbers.old.names
-        numbers.old.locks.items numbers.old.places.items }
+        numbers.old.locks.items numbers.old.locations.items }
     requires named { list_all (has_names old.now) events.now ≡ true }
     ensures stands { OnOk result (StandsFor old.now numbers.new.names
-        numbers.new.locks.items numbers.new.places.items) }
+        numbers.new.locks.items numbers.new.locations.items) }
     ensures names { OnOk result (numbers.new.names
         ≡ mentioned numbers.old.names (map (told old.now) events.now)) }
     ensures events { IfOk result
@@ -79,14 +79,14 @@ fn all_by_mention(alloc: Global, old: &Names, lists: &[Vec<Event>]) -> Result<By
     })
 }
 
-/// The same lists, with locks and places numbered by first mention: thread 0's list first, event by event, then
-/// thread 1's, and so on; of an event its lock is mentioned first, then its place. Each new name gets the next
-/// number. Threads keep their numbers.
+/// The same lists, with locks and locations numbered by first mention: thread 0's list first, event by event,
+/// then thread 1's, and so on; of an event its lock is mentioned first, then its location. Each new name gets the
+/// next number. Threads keep their numbers.
 ///
 /// Where a list is lawful, so is the one by mention.
 ///
-/// Err `Unnamed` where a lock or a place of an event has no name, whether or not there is memory. Err `Memory` where
-/// memory was refused.
+/// Err `Unnamed` where a lock or a location of an event has no name, whether or not there is memory. Err `Memory`
+/// where memory was refused.
 ///
 /// Takes memory for the lists and the names. Time grows with the events and the names; a name is looked up by
 /// hash at its first mention alone.

@@ -13,27 +13,27 @@ fn is_lock_named(names: &Names, lock: LockId) -> bool
     lock.number() < names.locks()
 }
 
-// Whether the place has a name.
-fn is_place_named(names: &Names, place: LocId) -> bool
-    ensures { result ≡ is_named names.now.locs place }
+// Whether the location has a name.
+fn is_location_named(names: &Names, location: LocId) -> bool
+    ensures { result ≡ is_named names.now.locs location }
 {
-    place.number() < names.locs()
+    location.number() < names.locs()
 }
 
-// Whether the event's lock and place have names.
+// Whether the event's lock and location have names.
 fn has_names(names: &Names, event: &Event) -> bool
     ensures { result ≡ has_names names.now event.now }
 {
     match *event {
         Event::Acquire { lock, loc, .. } => is_lock_named(names, lock)
-            && is_place_named(names, loc),
+            && is_location_named(names, loc),
         Event::Release { lock, loc, .. } => is_lock_named(names, lock)
-            && is_place_named(names, loc),
+            && is_location_named(names, loc),
         Event::TryAcquire { lock, loc, .. } => {
-            is_lock_named(names, lock) && is_place_named(names, loc)
+            is_lock_named(names, lock) && is_location_named(names, loc)
         }
-        Event::Fork { loc, .. } => is_place_named(names, loc),
-        Event::Join { loc, .. } => is_place_named(names, loc),
+        Event::Fork { loc, .. } => is_location_named(names, loc),
+        Event::Join { loc, .. } => is_location_named(names, loc),
     }
 }
 
@@ -49,7 +49,7 @@ fn list_has_names(names: &Names, events: &[Event]) -> bool
     true
 }
 
-/// Whether the locks and places of all events have names. A step for each event.
+/// Whether the locks and locations of all events have names. A step for each event.
 pub(crate) fn have_names(names: &Names, lists: &[Vec<Event>]) -> bool
     ensures { result ≡ have_names names.now (map (λ list. list.items) lists.now) }
 {

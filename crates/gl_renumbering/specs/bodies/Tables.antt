@@ -22,9 +22,9 @@ pub record IsBlank (count : ℕ) (table : List (Option ℕ)) : Type 0 where
   pub none : All (λ number. number ≡ None) table
 
 -- both tables have the numbers in these names
-pub record StandsFor (old new : NameLists) (lock_table place_table : List (Option ℕ)) : Type 0 where
+pub record StandsFor (old new : NameLists) (lock_table loc_table : List (Option ℕ)) : Type 0 where
   pub locks : IsTable old.locks new.locks lock_table
-  pub places : IsTable old.locs new.locs place_table
+  pub locations : IsTable old.locs new.locs loc_table
 
 -- the names, and more of them
 abbrev pub with_more : NameLists → NameLists → NameLists

@@ -8,6 +8,6 @@ use Rattle.gl_renumbering.proofs.renumbering.all_by_mention.Given as goal
 -- the lists so far are numbered
 abbrev pub invariant-loop-list : goal.invariant-loop-list
 invariant-loop-list l =
-    StandsFor l.old l.numbers.names l.numbers.locks.items l.numbers.places.items
+    StandsFor l.old l.numbers.names l.numbers.locks.items l.numbers.locations.items
     × (l.numbers.names ≡ mentioned (record l.old { locks = []; locs = [] }) (flat_map (λ list. list) (tales l.old (map (λ (list : Vec Event Global). list.items) (take l.list-index l.lists)))))
     × AllStayToldBy l.numbers.names (tales l.old (map (λ (list : Vec Event Global). list.items) (take l.list-index l.lists))) (map (λ (list : Vec Event Global). list.items) l.by_mention.items)

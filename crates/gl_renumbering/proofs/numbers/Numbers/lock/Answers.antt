@@ -20,4 +20,4 @@ number_lock-requires c = record { room = table_room c.args.old.now.locks c.args.
 
 pub returns-clause-stands : goal.returns-clause-stands
 returns-clause-stands c =
-    lock_stands c.args.old.now c.args.self.now.names c.number_lock.new.names c.args.self.now.locks.items c.args.self.now.places.items c.requires.stands c.args.lock c.number-place.result c.in_ok-number.number c.lock.result.now c.lock.ensures c.number-place.ensures c.in_ok-number.ensures.names c.in_ok-number.ensures.number
+    lock_stands c.args.old.now c.args.self.now.names c.number_lock.new.names c.args.self.now.locks.items c.args.self.now.locations.items c.requires.stands c.args.lock c.number-place.result c.in_ok-number.number c.lock.result.now c.lock.ensures c.number-place.ensures c.in_ok-number.ensures.names c.in_ok-number.ensures.number
