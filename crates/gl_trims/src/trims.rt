@@ -172,7 +172,7 @@ impl Trimming<'_> {
 
     // Where to begin to look for an edge that may come beside the one at a position. There is none where only
     // edges of its own thread have their lock.
-    fn start(&self, hints: &Hints, side: Side, i: usize) -> Option<usize>
+    fn first_candidate(&self, hints: &Hints, side: Side, i: usize) -> Option<usize>
         requires here { i < length self.now.table.now }
         requires users { AreUsers (opposite side) (edges_of_table self.now.table.now) []
             (length self.now.table.now) hints.now.users }
@@ -201,7 +201,7 @@ impl Trimming<'_> {
         ensures left { IfSome result (λ p. slice_get gone.now p ≡ Some false) }
     {
         let Some(hint) = hints.found[i] else {
-            let first = self.start(hints, side, i);
+            let first = self.first_candidate(hints, side, i);
             return self.next_beside(gone, &hints.chain, side, i, first);
         };
         self.next_beside(gone, &hints.chain, side, i, Some(hint))

@@ -7,7 +7,7 @@ use Rattle.gl_index.specs.Sides.{opposite, lock_towards}
 use Rattle.gl_index.specs.Users.{MayUse, AreUsers}
 use Rattle.gl_index.proofs.Tables.{edge_at}
 use Rattle.gl_trims.proofs.Beside.{start_first, none_of_other}
-use Rattle.gl_trims.proofs.trims.Trimming.start.Goals as goal
+use Rattle.gl_trims.proofs.trims.Trimming.first_candidate.Goals as goal
 
 -- all that have the lock are of its own thread
 pub returns-then-has_only : goal.returns-then-has_only
