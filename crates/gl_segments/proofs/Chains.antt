@@ -4,7 +4,7 @@ use Rattle.std.proofs.lemmas.Bool.{cases_lt}
 use Rattle.std.proofs.lemmas.List.{get_or_past}
 use Rattle.gl_event.specs.declared.events.Segment.{Segment}
 use Rattle.gl_segments.specs.Segments.{Leads}
-use Rattle.gl_segments.specs.bodies.Tables.{Sources, row, sources, Has, LeadsTo, Precedes, IsSound}
+use Rattle.gl_segments.specs.bodies.Tables.{Sources, steps_of_thread, sources, Has, LeadsTo, Precedes, IsSound}
 
 -- two chains end to end
 pub leads_append : (S : Segment → Segment → Type 0) (a : Segment) (v : List Segment) (b : Segment) (w : List Segment) (c : Segment) → Leads S a v b → Leads S b w c → Leads S a (v ++ b ∷ w) c
@@ -42,15 +42,15 @@ pub thread_inside : (steps : Sources) (a : Segment) → Has steps a → a.thread
 thread_inside steps a has =
     elim (cases_lt a.thread (length steps)) [
       | inl below ↦ below
-      | inr past ↦ let none : row steps a.thread ≡ [] = get_or_past steps a.thread [] past in absurd (omega (arith, ap length none))
+      | inr past ↦ let none : steps_of_thread steps a.thread ≡ [] = get_or_past steps a.thread [] past in absurd (omega (arith, ap length none))
     ]
 
 -- a segment to which a step leads has its place in the table
 pub leads_has : (steps : Sources) (a b : Segment) → LeadsTo steps a b → Has steps b
 leads_has steps a b h =
-    elim (cases_lt b.index (length (row steps b.thread))) [
+    elim (cases_lt b.index (length (steps_of_thread steps b.thread))) [
       | inl below ↦ below
-      | inr past ↦ let none : sources steps b ≡ [] = get_or_past (row steps b.thread) b.index [] past in absurd (let w = h.1 in let e = ap length none in omega arith)
+      | inr past ↦ let none : sources steps b ≡ [] = get_or_past (steps_of_thread steps b.thread) b.index [] past in absurd (let w = h.1 in let e = ap length none in omega arith)
     ]
 
 -- a chain ends at a segment of the table

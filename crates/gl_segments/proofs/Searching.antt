@@ -7,7 +7,7 @@ use Rattle.std.proofs.lemmas.Option.{same_Some, slice_get_within, slice_get_read
 use Rattle.gl_event.specs.declared.events.Segment.{Segment}
 use Rattle.gl_event.proofs.Depths.{slice_get_before, slice_get_last}
 use Rattle.gl_segments.specs.declared.search.Link.{Link}
-use Rattle.gl_segments.specs.bodies.Tables.{Sources, row, sources, Has, LeadsTo, Precedes, IsSound}
+use Rattle.gl_segments.specs.bodies.Tables.{Sources, steps_of_thread, sources, Has, LeadsTo, Precedes, IsSound}
 use Rattle.gl_segments.specs.bodies.Search.{Counts, IsFound, MayStart, AreLinks, Explores, IsAmong, HasThread, GrowsBy, links_back, unseen}
 use Rattle.gl_segments.proofs.Chains.{precedes_cons, precedes_step, precedes_inside, thread_inside}
 
@@ -90,7 +90,7 @@ links_back_finds (suc n) s next p j low high =
     ]
 
 -- a count that grows leaves that many fewer unseen
-unseen-set : (steps : Sources) (clock : List ℕ) (t v : ℕ) → length clock ≡ length steps → t < length clock → slice_index clock t ≤ v → v ≤ length (row steps t)
+unseen-set : (steps : Sources) (clock : List ℕ) (t v : ℕ) → length clock ≡ length steps → t < length clock → slice_index clock t ≤ v → v ≤ length (steps_of_thread steps t)
     → unseen steps (set clock t v) + (v - slice_index clock t) ≡ unseen steps clock
 unseen-set [] [] t v same within low high = absurd (omega arith)
 unseen-set [] (c ∷ clock) t v same within low high = absurd (omega arith)
@@ -222,7 +222,7 @@ module _ (steps : Sources) (sound : IsSound steps) (target : Segment) where
       }
 
   -- a clock counts no more segments of a thread than there are
-  pub clock_fits : (clock : List ℕ) → ((s : Segment) → Counts clock s → Precedes steps s target) → (thread : ℕ) → slice_index clock thread ≤ length (row steps thread)
+  pub clock_fits : (clock : List ℕ) → ((s : Segment) → Counts clock s → Precedes steps s target) → (thread : ℕ) → slice_index clock thread ≤ length (steps_of_thread steps thread)
   clock_fits clock before thread =
       elim (cases_lt 0 (slice_index clock thread)) [
         | inl some ↦

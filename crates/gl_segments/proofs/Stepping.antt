@@ -1,4 +1,4 @@
--- The table of rows shows exactly the steps of the lists.
+-- The steps of the threads are exactly the steps of the lists.
 use Rattle.std.proofs.Common.{◌≡◌, ℕ, zero, suc, ◌+◌, ◌<◌, true, List, [], ◌∷◌, length, Option, Some, None, refl, sym, ap, subst, ◌∙◌, ◌⊎◌, inl, inr, arith}
 use Rattle.std.specs.Prelude.{Contains, filter, slice_get, slice_index_or}
 use Rattle.std.specs.Option.{option_map, option_map_or}
@@ -11,7 +11,7 @@ use Rattle.gl_event.specs.declared.events.Event.TheVariants.{Acquire, Release, T
 use Rattle.gl_event.specs.declared.events.Segment.{Segment}
 use Rattle.gl_segments.specs.Orders.{AreLawful}
 use Rattle.gl_segments.specs.Segments.{IsSegment, StandsIn, IsNext, IsFork, IsJoin, IsStep}
-use Rattle.gl_segments.specs.bodies.Tables.{Sources, row, sources, Has, LeadsTo, IsSound, ShowsSteps, cuts_of, AreSmall, joined_last, IsRowOf}
+use Rattle.gl_segments.specs.bodies.Tables.{Sources, steps_of_thread, sources, Has, LeadsTo, IsSound, ShowsSteps, cuts_of, AreSmall, joined_last, AreStepsOfThread}
 use Rattle.gl_segments.proofs.Cutting.{place_to_cut, cut_to_place, segment_is_length, segment_at_most, segment_take, lawful_length, some_at}
 use Rattle.gl_segments.proofs.Tabling.{cut_at_is, cut_within}
 
@@ -121,10 +121,10 @@ joined_cases lists (Fork thread loc) a h = absurd (contains_nil a h)
 joined_cases lists (Join thread loc) a h = joined_join lists thread loc a (slice_get (cuts_of lists) thread) refl h
 
 module _ (lists : List (List Event)) (steps : Sources) (long : length steps ≡ length lists)
-    (rows : (t : ℕ) (cs : List Event) → slice_get (cuts_of lists) t ≡ Some cs → IsRowOf (cuts_of lists) t cs (row steps t)) where
-  -- a row has as many segments as the list
-  row_length : (t : ℕ) (es : List Event) → slice_get lists t ≡ Some es → length (row steps t) ≡ segment es + 1
-  row_length t es at = (rows t _ (cuts_at lists t es at)).size ∙ ap (λ n. n + 1) (sym (segment_is_length es))
+    (each : (t : ℕ) (cs : List Event) → slice_get (cuts_of lists) t ≡ Some cs → AreStepsOfThread (cuts_of lists) t cs (steps_of_thread steps t)) where
+  -- a thread has as many segments as its list
+  segment_count : (t : ℕ) (es : List Event) → slice_get lists t ≡ Some es → length (steps_of_thread steps t) ≡ segment es + 1
+  segment_count t es at = (each t _ (cuts_at lists t es at)).size ∙ ap (λ n. n + 1) (sym (segment_is_length es))
 
   -- the table has the steps to next segments
   next_shown : (a b : Segment) → IsNext lists a b → LeadsTo steps a b
@@ -133,8 +133,8 @@ module _ (lists : List (List Event)) (steps : Sources) (long : length steps ≡ 
       let cs = filter closes es in
       let within : a.index < length cs = let w = h.real.within in let i = h.one_later in let n = segment_is_length es in omega arith in
       let cut = some_at cs a.index within in
-      let r = (rows b.thread cs (cuts_at lists b.thread es h.real.of_thread)).later a.index cut.0 cut.1 in
-      let here : sources steps b ≡ record { thread = b.thread; index = a.index } ∷ joined_last (cuts_of lists) cut.0 = ap (λ i. slice_index_or (row steps b.thread) i []) h.one_later ∙ r in
+      let r = (each b.thread cs (cuts_at lists b.thread es h.real.of_thread)).later a.index cut.0 cut.1 in
+      let here : sources steps b ≡ record { thread = b.thread; index = a.index } ∷ joined_last (cuts_of lists) cut.0 = ap (λ i. slice_index_or (steps_of_thread steps b.thread) i []) h.one_later ∙ r in
       contains_head _ _ (record { thread = b.thread; index = a.index }) a here (ap (λ t. let s : Segment = record { thread = t; index = a.index } in s) h.same_thread)
 
   -- the table has the steps of forks
@@ -142,18 +142,18 @@ module _ (lists : List (List Event)) (steps : Sources) (long : length steps ≡ 
   fork_shown a b h =
       let cut = stands_cut lists a (Fork b.thread h.loc) refl h.forks in
       let at = cut_at_is (cuts_of lists) (filter closes h.forks.list) a (cuts_at lists a.thread h.forks.list h.forks.of_thread) in
-      let r = (rows b.thread _ (cuts_at lists b.thread h.real.list h.real.of_thread)).first a in
-      subst (λ i. Contains (slice_index_or (row steps b.thread) i []) a) (sym h.first) (r.1 (h.loc, at ∙ cut))
+      let r = (each b.thread _ (cuts_at lists b.thread h.real.list h.real.of_thread)).first a in
+      subst (λ i. Contains (slice_index_or (steps_of_thread steps b.thread) i []) a) (sym h.first) (r.1 (h.loc, at ∙ cut))
 
   -- the table has the steps of joins
   join_shown : (a b : Segment) → IsJoin lists a b → LeadsTo steps a b
   join_shown a b h =
       let joining : Segment = record { thread = b.thread; index = h.joining } in
       let cut = stands_cut lists joining (Join a.thread h.loc) refl h.joins in
-      let r = (rows b.thread _ (cuts_at lists b.thread h.joins.list h.joins.of_thread)).later h.joining _ cut in
+      let r = (each b.thread _ (cuts_at lists b.thread h.joins.list h.joins.of_thread)).later h.joining _ cut in
       let last : Segment = record { thread = a.thread; index = length (filter closes h.real.list) } in
       let joined : joined_last (cuts_of lists) (Join a.thread h.loc) ≡ last ∷ [] = ap (λ o. option_map_or (λ (es : List Event). let s : Segment = record { thread = a.thread; index = length es } in s ∷ []) o []) (cuts_at lists a.thread h.real.list h.real.of_thread) in
-      let here : sources steps b ≡ joining ∷ last ∷ [] = ap (λ i. slice_index_or (row steps b.thread) i []) h.one_later ∙ r ∙ ap (λ xs. joining ∷ xs) joined in
+      let here : sources steps b ≡ joining ∷ last ∷ [] = ap (λ i. slice_index_or (steps_of_thread steps b.thread) i []) h.one_later ∙ r ∙ ap (λ xs. joining ∷ xs) joined in
       contains_second _ joining last a here (ap (λ i. let s : Segment = record { thread = a.thread; index = i } in s) (sym (segment_is_length h.real.list) ∙ sym h.last))
 
   -- the table has all steps
@@ -168,22 +168,22 @@ module _ (lists : List (List Event)) (steps : Sources) (long : length steps ≡ 
       let within : s.thread < length lists =
       elim (cases_lt s.thread (length steps)) [
         | inl below ↦ omega arith
-        | inr past ↦ let none : row steps s.thread ≡ [] = get_or_past steps s.thread [] past in absurd (omega (arith, ap length none))
+        | inr past ↦ let none : steps_of_thread steps s.thread ≡ [] = get_or_past steps s.thread [] past in absurd (omega (arith, ap length none))
       ] in
       let es = some_at lists s.thread within in
-      let size = row_length s.thread es.0 es.1 in
+      let size = segment_count s.thread es.0 es.1 in
       record { list = es.0; of_thread = es.1; within = omega arith }
 
   -- a segment of the lists has its place in the table
   list_has : (s : Segment) → IsSegment lists s → Has steps s
-  list_has s h = let size = row_length s.thread h.list h.of_thread in let w = h.within in omega arith
+  list_has s h = let size = segment_count s.thread h.list h.of_thread in let w = h.within in omega arith
 
   -- a segment to which a step leads has its place in the table
   source_has : (a b : Segment) → LeadsTo steps a b → Has steps b
   source_has a b h =
-      elim (cases_lt b.index (length (row steps b.thread))) [
+      elim (cases_lt b.index (length (steps_of_thread steps b.thread))) [
         | inl below ↦ below
-        | inr past ↦ let none : sources steps b ≡ [] = get_or_past (row steps b.thread) b.index [] past in absurd (contains_nil a (subst (λ xs. Contains xs a) none h))
+        | inr past ↦ let none : sources steps b ≡ [] = get_or_past (steps_of_thread steps b.thread) b.index [] past in absurd (contains_nil a (subst (λ xs. Contains xs a) none h))
       ]
 
   -- the segment after a fork or join has only the steps of the lists
@@ -192,9 +192,9 @@ module _ (lists : List (List Event)) (steps : Sources) (long : length steps ≡ 
       let cs = filter closes real.list in
       let within : i < length cs = let w = real.within in let n = segment_is_length real.list in omega arith in
       let cut = some_at cs i within in
-      let r = (rows t cs (cuts_at lists t real.list real.of_thread)).later i cut.0 cut.1 in
+      let r = (each t cs (cuts_at lists t real.list real.of_thread)).later i cut.0 cut.1 in
       let one : suc i ≡ i + 1 = omega arith in
-      let among : Contains (record { thread = t; index = i } ∷ joined_last (cuts_of lists) cut.0) a = subst (λ xs. Contains xs a) (ap (λ k. slice_index_or (row steps t) k []) one ∙ r) h in
+      let among : Contains (record { thread = t; index = i } ∷ joined_last (cuts_of lists) cut.0) a = subst (λ xs. Contains xs a) (ap (λ k. slice_index_or (steps_of_thread steps t) k []) one ∙ r) h in
       elim (contains_cons _ a _ among) [
         | inl same ↦
             let index : i ≡ a.index = ap (λ s. s.index) same in
@@ -208,7 +208,7 @@ module _ (lists : List (List Event)) (steps : Sources) (long : length steps ≡ 
   -- a first segment has only the steps of forks
   first_back : (a : Segment) (t : ℕ) → IsSegment lists (record { thread = t; index = zero }) → LeadsTo steps a (record { thread = t; index = zero }) → IsStep lists a (record { thread = t; index = zero })
   first_back a t real h =
-      let f = ((rows t _ (cuts_at lists t real.list real.of_thread)).first a).0 h in
+      let f = ((each t _ (cuts_at lists t real.list real.of_thread)).first a).0 h in
       let c = cut_within (slice_get (cuts_of lists) a.thread) a.index _ f.1 in
       let l = cuts_from lists a.thread c.0 c.1 in
       let cut : slice_get (filter closes l.0) a.index ≡ Some (Fork t f.0) = ap (λ xs. slice_get xs a.index) l.2 ∙ sym (cut_at_is (cuts_of lists) c.0 a c.1) ∙ f.1 in
@@ -221,7 +221,7 @@ module _ (lists : List (List Event)) (steps : Sources) (long : length steps ≡ 
 
   -- it has exactly the steps of the lists
   pub shows_steps : ShowsSteps lists steps
-  shows_steps = record { threads = long; segments = row_length; forward = shown; back = λ a b h. back_at a b.thread b.index h }
+  shows_steps = record { threads = long; segments = segment_count; forward = shown; back = λ a b h. back_at a b.thread b.index h }
 
   -- its steps lead from its segments
   pub shows_inside : (a b : Segment) → LeadsTo steps a b → Has steps a
@@ -235,15 +235,15 @@ module _ (lists : List (List Event)) (steps : Sources) (long : length steps ≡ 
         elim (cases_lt t (length lists)) [
           | inl below ↦
               let es = some_at lists t below in
-              let size = row_length t es.0 es.1 in
+              let size = segment_count t es.0 es.1 in
               let most = segment_at_most es.0 in
               let short = lawful_length t es.0 (lawful.each t es.0 es.1) in
               omega arith
-          | inr past ↦ let none : row steps t ≡ [] = get_or_past steps t [] (omega arith) in let zero_long = ap length none in omega arith
+          | inr past ↦ let none : steps_of_thread steps t ≡ [] = get_or_past steps t [] (omega arith) in let zero_long = ap length none in omega arith
         ];
     some = λ t below.
         let es = some_at lists t (omega arith) in
-        let size = row_length t es.0 es.1 in
+        let size = segment_count t es.0 es.1 in
         omega arith;
     inside = shows_inside;
     next = λ a b has thread index. shown a b (inl (record { real = has_list b has; same_thread = thread; one_later = index }));

@@ -11,7 +11,7 @@ use Rattle.gl_segments.specs.bodies.Merging.{raised_to, IsMerged}
 use Rattle.gl_segments.specs.bodies.Rows.{AreClocksBelow}
 use Rattle.gl_segments.specs.bodies.Search.{Counts, IsClockOf, CountsSources}
 use Rattle.gl_segments.specs.bodies.Sweeps.{IsPart, IsGrowing}
-use Rattle.gl_segments.specs.bodies.Tables.{Sources, row, Has, LeadsTo, Precedes, IsSound}
+use Rattle.gl_segments.specs.bodies.Tables.{Sources, steps_of_thread, Has, LeadsTo, Precedes, IsSound}
 use Rattle.gl_segments.proofs.Chains.{precedes_cons, precedes_step, precedes_trans, precedes_inside, thread_inside}
 use Rattle.gl_segments.proofs.Clocking.{complete, own_count, clocks_more}
 use Rattle.gl_segments.proofs.Searching.{counts_cases, counts_more, counts_itself}
@@ -179,7 +179,7 @@ module _ (steps : Sources) (sound : IsSound steps) where
   part_whole clock target part all a = (part.before a, λ p. complete steps target clock all part.closed a p.0 p.1)
 
   -- one more clock of a thread
-  pub growing_more : (thread : ℕ) (g : Growing) (clocks : List (List ℕ)) (n : ℕ) (clock : List ℕ) → g.thread ≡ thread → g.segments ≡ n + 1 → g.latest ≡ clock → n < length (row steps thread)
+  pub growing_more : (thread : ℕ) (g : Growing) (clocks : List (List ℕ)) (n : ℕ) (clock : List ℕ) → g.thread ≡ thread → g.segments ≡ n + 1 → g.latest ≡ clock → n < length (steps_of_thread steps thread)
       → IsNoted g (clocks ++ clock ∷ []) → AreClocksBelow steps thread clocks n → length clock ≡ length steps
       → IsClockOf steps clock (record { thread = thread; index = n }) → (Counts clock (record { thread = thread; index = n }) → ⊥) → IsGrowing steps thread g
   growing_more thread g clocks n clock same more latest below noted so_far width is apart = record {
@@ -194,7 +194,7 @@ module _ (steps : Sources) (sound : IsSound steps) where
   }
 
   -- the last clock of a thread, with its segment, is a part of the next one
-  pub part_next : (thread : ℕ) (g : Growing) → IsGrowing steps thread g → g.segments < length (row steps thread) → IsPart steps (slice_set g.latest thread g.segments) (record { thread = thread; index = g.segments })
+  pub part_next : (thread : ℕ) (g : Growing) → IsGrowing steps thread g → g.segments < length (steps_of_thread steps thread) → IsPart steps (slice_set g.latest thread g.segments) (record { thread = thread; index = g.segments })
   part_next thread g growing below =
       let last : Segment = record { thread = thread; index = g.segments - 1 } in
       let next : Segment = record { thread = thread; index = g.segments } in

@@ -10,7 +10,7 @@ use Rattle.gl_event.specs.declared.events.Event.{Event}
 use Rattle.gl_event.specs.declared.events.Event.TheVariants.{Acquire, Release, TryAcquire, Fork, Join}
 use Rattle.gl_event.specs.declared.events.Segment.{Segment}
 use Rattle.gl_segments.specs.Orders.{lists_of}
-use Rattle.gl_segments.specs.bodies.Tables.{row, Forks, cut_at, joined_last, IsRowOf}
+use Rattle.gl_segments.specs.bodies.Tables.{steps_of_thread, Forks, cut_at, joined_last, AreStepsOfThread}
 
 -- a place below i + 1 is below i, or is i
 pub place_cases : (n k : ℕ) → k < n + 1 → (k < n) ⊎ (k ≡ n)
@@ -43,8 +43,8 @@ pub cut_within : (o : Option (List Event)) (i : ℕ) (e : Event) → option_and_
 cut_within (Some es) i e h = (es, refl)
 cut_within None i e h = cc
 
--- the row of a thread, for the first n of its forks and joins
-pub record RowBelow (cuts : List (List Event)) (thread : ℕ) (es : List Event) (built : List (List Segment)) (n : ℕ) : Type 0 where
+-- the steps of a thread, for the first n of its forks and joins
+pub record AreStepsBelow (cuts : List (List Event)) (thread : ℕ) (es : List Event) (built : List (List Segment)) (n : ℕ) : Type 0 where
   -- one more than forks and joins
   pub size : length built ≡ n + 1
   -- those of the first segment
@@ -52,18 +52,18 @@ pub record RowBelow (cuts : List (List Event)) (thread : ℕ) (es : List Event) 
   -- those of the later ones
   pub later : (i : ℕ) (e : Event) → i < n → slice_get es i ≡ Some e → slice_index_or built (i + 1) [] ≡ record { thread = thread; index = i } ∷ joined_last cuts e
 
--- the row of the first segment
-pub row_begins : (cuts : List (List Event)) (thread : ℕ) (es : List Event) (none : List (List Segment)) (w : List Segment) → none ≡ [] → ((a : Segment) → Contains w a ↔ Forks cuts thread a) → RowBelow cuts thread es (none ++ w ∷ []) 0
-row_begins cuts thread es none w empty forks = rw empty (record {
+-- those to the first segment
+pub steps_begin : (cuts : List (List Event)) (thread : ℕ) (es : List Event) (none : List (List Segment)) (w : List Segment) → none ≡ [] → ((a : Segment) → Contains w a ↔ Forks cuts thread a) → AreStepsBelow cuts thread es (none ++ w ∷ []) 0
+steps_begin cuts thread es none w empty forks = rw empty (record {
   size = omega arith;
   first = forks;
   later = λ i e below. absurd (omega arith);
 })
 
 -- one more segment's
-pub row_more : (cuts : List (List Event)) (thread : ℕ) (es : List Event) (built : List (List Segment)) (n : ℕ) (w : List Segment) (e : Event) → slice_get es n ≡ Some e → w ≡ record { thread = thread; index = n } ∷ joined_last cuts e
-    → RowBelow cuts thread es built n → RowBelow cuts thread es (built ++ w ∷ []) (n + 1)
-row_more cuts thread es built n w e at is so_far =
+pub steps_more : (cuts : List (List Event)) (thread : ℕ) (es : List Event) (built : List (List Segment)) (n : ℕ) (w : List Segment) (e : Event) → slice_get es n ≡ Some e → w ≡ record { thread = thread; index = n } ∷ joined_last cuts e
+    → AreStepsBelow cuts thread es built n → AreStepsBelow cuts thread es (built ++ w ∷ []) (n + 1)
+steps_more cuts thread es built n w e at is so_far =
     record {
       size = length_push built w ∙ ap (λ k. k + 1) so_far.size;
       first = λ a.
@@ -81,24 +81,24 @@ row_more cuts thread es built n w e at is so_far =
           ];
     }
 
--- the whole row
-pub row_all : (cuts : List (List Event)) (thread : ℕ) (es : List Event) (built : List (List Segment)) (n : ℕ) → n ≡ length es → RowBelow cuts thread es built n → IsRowOf cuts thread es built
-row_all cuts thread es built n all so_far = record {
+-- all steps of the thread
+pub steps_all : (cuts : List (List Event)) (thread : ℕ) (es : List Event) (built : List (List Segment)) (n : ℕ) → n ≡ length es → AreStepsBelow cuts thread es built n → AreStepsOfThread cuts thread es built
+steps_all cuts thread es built n all so_far = record {
   size = so_far.size ∙ ap (λ k. k + 1) all;
   first = so_far.first;
   later = λ i e here. let w = slice_get_within es i e here in so_far.later i e (omega arith) here;
 }
 
--- one more row
-pub rows_more : (cuts : List (List Event)) (built : List (List (List Segment))) (n : ℕ) (r : List (List Segment)) → length built ≡ n → ((es : List Event) → slice_get cuts n ≡ Some es → IsRowOf cuts n es r)
-    → ((t : ℕ) (es : List Event) → t < n → slice_get cuts t ≡ Some es → IsRowOf cuts t es (row built t))
-    → (t : ℕ) (es : List Event) → t < n + 1 → slice_get cuts t ≡ Some es → IsRowOf cuts t es (row (built ++ r ∷ []) t)
-rows_more cuts built n r size last before t es below at =
+-- those of one thread more
+pub threads_more : (cuts : List (List Event)) (built : List (List (List Segment))) (n : ℕ) (r : List (List Segment)) → length built ≡ n → ((es : List Event) → slice_get cuts n ≡ Some es → AreStepsOfThread cuts n es r)
+    → ((t : ℕ) (es : List Event) → t < n → slice_get cuts t ≡ Some es → AreStepsOfThread cuts t es (steps_of_thread built t))
+    → (t : ℕ) (es : List Event) → t < n + 1 → slice_get cuts t ≡ Some es → AreStepsOfThread cuts t es (steps_of_thread (built ++ r ∷ []) t)
+threads_more cuts built n r size last before t es below at =
     elim (place_cases n t below) [
-      | inl lower ↦ subst (IsRowOf cuts t es) (sym (get_or_append_left built (r ∷ []) [] t (omega arith))) (before t es lower at)
+      | inl lower ↦ subst (AreStepsOfThread cuts t es) (sym (get_or_append_left built (r ∷ []) [] t (omega arith))) (before t es lower at)
       | inr is ↦
-          let here : row (built ++ r ∷ []) t ≡ r = get_or_push built r [] t (omega arith) in
-          subst (IsRowOf cuts t es) (sym here) (subst (λ k. IsRowOf cuts k es r) (sym is) (last es (ap (slice_get cuts) (sym is) ∙ at)))
+          let here : steps_of_thread (built ++ r ∷ []) t ≡ r = get_or_push built r [] t (omega arith) in
+          subst (AreStepsOfThread cuts t es) (sym here) (subst (λ k. AreStepsOfThread cuts k es r) (sym is) (last es (ap (slice_get cuts) (sym is) ∙ at)))
     ]
 
 -- the last segment of a joined thread, where it has a list and where it has none

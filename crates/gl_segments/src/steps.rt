@@ -2,7 +2,7 @@
 ghost use Rattle.std.specs.Prelude.{◌≡◌, ◌<◌, List, ◌∷◌, filter, length, slice_get, Some, IfOk};
 ghost use Rattle.gl_event.specs.Events.{closes};
 ghost use Rattle.gl_segments.specs.bodies.Forked.{AreAllForks};
-ghost use Rattle.gl_segments.specs.bodies.Tables.{cuts_of, AreSmall, joined_last, IsRowOf};
+ghost use Rattle.gl_segments.specs.bodies.Tables.{cuts_of, AreSmall, joined_last, AreStepsOfThread};
 ghost use Rattle.gl_segments.specs.Orders.{lists_of};
 
 use crate::forked::Forked;
@@ -14,7 +14,7 @@ use std::marker::Model;
 /// For each segment of each thread, the segments that are one step before it.
 #[derive(Drop)]
 pub struct Steps {
-    rows: Vec<Packed>,
+    by_thread: Vec<Packed>,
 }
 
 impl Model for Steps {
@@ -22,12 +22,12 @@ impl Model for Steps {
 
     ghost Value = { Sources };
 
-    ghost view = { λ s. s.rows.items };
+    ghost view = { λ s. s.by_thread.items };
 }
 
 impl Steps {
     ghost use Rattle.gl_segments.specs.Orders.{AreLawful};
-    ghost use Rattle.gl_segments.specs.bodies.Tables.{Has, IsSound, ShowsSteps, row, sources};
+    ghost use Rattle.gl_segments.specs.bodies.Tables.{Has, IsSound, ShowsSteps, steps_of_thread, sources};
 
     /// The steps between the segments of these lists. It reads each event once, and sorts the forks;
     /// otherwise it takes time and memory as there are threads, forks and joins.
@@ -38,26 +38,26 @@ impl Steps {
     {
         let cuts = cuts(alloc, lists)?;
         let forked = Forked::of(alloc, &cuts)?;
-        let mut rows = Vec::new(alloc);
+        let mut by_thread = Vec::new(alloc);
         for thread in 0..cuts.len() {
-            rows.push(row(alloc, &cuts, &forked, ThreadId::new(thread as u32))?)?;
+            by_thread.push(steps_of_thread(alloc, &cuts, &forked, ThreadId::new(thread as u32))?)?;
         }
-        Ok(Steps { rows })
+        Ok(Steps { by_thread })
     }
 
     /// How many threads there are.
     pub fn threads(&self) -> usize
         ensures { result ≡ length self.now }
     {
-        self.rows.len()
+        self.by_thread.len()
     }
 
     /// How many segments the thread has.
     pub fn segments(&self, thread: ThreadId) -> usize
         requires { thread < length self.now }
-        ensures { result ≡ length (row self.now thread) }
+        ensures { result ≡ length (steps_of_thread self.now thread) }
     {
-        self.rows[thread.number() as usize].len()
+        self.by_thread[thread.number() as usize].len()
     }
 
     /// The segments that are one step before this one.
@@ -65,7 +65,7 @@ impl Steps {
         requires { Has self.now segment }
         ensures { result.now ≡ sources self.now segment }
     {
-        self.rows[segment.thread.number() as usize].get(segment.index as usize)
+        self.by_thread[segment.thread.number() as usize].get(segment.index as usize)
     }
 }
 
@@ -88,7 +88,7 @@ fn closers(alloc: Global, list: &[Event]) -> Result<Vec<Event>, AllocError>
 }
 
 // What is one step before each segment of the thread.
-fn row(
+fn steps_of_thread(
     alloc: Global,
     cuts: &[Vec<Event>],
     forked: &Forked,
@@ -99,19 +99,19 @@ fn row(
     requires within { thread < length cuts.now }
     ensures { IfOk result
         (λ v. (es : List Event) → slice_get (lists_of cuts.now) thread ≡ Some es
-        → IsRowOf (lists_of cuts.now) thread es v) }
+        → AreStepsOfThread (lists_of cuts.now) thread es v) }
 {
-    let mut row = Packed::new(alloc)?;
-    row.push(&forked.segments(alloc, thread)?)?;
+    let mut steps = Packed::new(alloc)?;
+    steps.push(&forked.segments(alloc, thread)?)?;
     for (index, cut) in cuts[thread.number() as usize].iter().enumerate() {
         let closed = Segment {
             thread,
             index: index as u32,
         };
-        row.push(&after(alloc, cuts, closed, *cut)?)?;
+        steps.push(&after(alloc, cuts, closed, *cut)?)?;
     }
-    row.shrink();
-    Ok(row)
+    steps.shrink();
+    Ok(steps)
 }
 
 // What is one step before the segment that follows `closed`, which the fork or join `cut` closes.

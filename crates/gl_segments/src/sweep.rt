@@ -11,7 +11,7 @@ ghost use Rattle.gl_segments.specs.bodies.Histories.{IsNoted};
 ghost use Rattle.gl_segments.specs.bodies.Rows.{AreClocksTo};
 ghost use Rattle.gl_segments.specs.bodies.Search.{Counts, IsClockOf, CountsSources};
 ghost use Rattle.gl_segments.specs.bodies.Sweeps.{AreSwept, CountsAll, HaveRows, IsGrowing, IsPart};
-ghost use Rattle.gl_segments.specs.bodies.Tables.{Sources, row, Has, IsSound, LeadsTo};
+ghost use Rattle.gl_segments.specs.bodies.Tables.{Sources, steps_of_thread, Has, IsSound, LeadsTo};
 
 use crate::clock::Clock;
 use crate::forked::Spawn;
@@ -193,7 +193,7 @@ impl Sweep {
         growing: &mut Growing,
     ) -> Result<Option<ThreadId>, Halt>
         requires sound { IsSound steps.now }
-        requires has { growing.old.segments < length (row steps.now thread) }
+        requires has { growing.old.segments < length (steps_of_thread steps.now thread) }
         requires growing { IsGrowing steps.now thread growing.old }
         requires swept { AreSwept steps.now self.old }
         ensures swept { OnOk result (AreSwept steps.now self.new) }
@@ -234,7 +234,7 @@ impl Sweep {
         clock: &Clock,
     ) -> Result<(), AllocError>
         requires sound { IsSound steps.now }
-        requires has { index < length (row steps.now thread) }
+        requires has { index < length (steps_of_thread steps.now thread) }
         requires width { length clock.now ≡ length steps.now }
         requires clock { IsClockOf steps.now clock.now (record { thread = thread; index = index }) }
         requires apart { ¬ Counts clock.now (record { thread = thread; index = index }) }
@@ -320,7 +320,7 @@ fn begun(
 // Makes the clock of a thread's next segment.
 fn next(steps: &Steps, rows: &Rows, thread: ThreadId, growing: &mut Growing) -> Result<(), Halt>
     requires sound { IsSound steps.now }
-    requires has { growing.old.segments < length (row steps.now thread) }
+    requires has { growing.old.segments < length (steps_of_thread steps.now thread) }
     requires growing { IsGrowing steps.now thread growing.old }
     requires rows { HaveRows steps.now rows.now }
     ensures growing { OnOk result (IsGrowing steps.now thread growing.new) }

@@ -3,7 +3,7 @@ use Rattle.std.specs.Prelude.{◌≡◌, ℕ, ◌<◌, List, [], ◌∷◌, leng
 use Rattle.gl_event.specs.declared.events.Segment.{Segment}
 use Rattle.gl_segments.specs.Clocks.{Clocks}
 use Rattle.gl_segments.specs.Segments.{Leads}
-use Rattle.gl_segments.specs.bodies.Tables.{Sources, row, LeadsTo, Precedes}
+use Rattle.gl_segments.specs.bodies.Tables.{Sources, steps_of_thread, LeadsTo, Precedes}
 use Rattle.gl_segments.specs.bodies.Search.{IsClockOf}
 use Rattle.gl_segments.specs.declared.faults.OrderFault.{OrderFault}
 use Rattle.gl_segments.specs.declared.faults.OrderFault.TheVariants.{Inconsistent, Memory}
@@ -19,7 +19,8 @@ pub record AreClocksBelow (steps : Sources) (thread : ℕ) (clocks : List (List 
 
 -- the clocks of the segments of a thread, none of which is before itself
 abbrev pub AreClocksOf : Sources → ℕ → List (List ℕ) → Type 0
-AreClocksOf steps thread clocks = AreClocksBelow steps thread clocks (length (row steps thread))
+AreClocksOf steps thread clocks =
+    AreClocksBelow steps thread clocks (length (steps_of_thread steps thread))
 
 -- the clocks of the first n threads
 pub record AreClocksTo (steps : Sources) (clocks : Clocks) (n : ℕ) : Type 0 where

@@ -10,7 +10,7 @@ use Rattle.gl_segments.specs.bodies.Fronts.{first_of, AreStarting, IsFront}
 use Rattle.gl_segments.specs.bodies.Histories.{IsNoted}
 use Rattle.gl_segments.specs.bodies.Rows.{AreClocksBelow, AreClocksOf}
 use Rattle.gl_segments.specs.bodies.Search.{Counts, IsClockOf, CountsSources}
-use Rattle.gl_segments.specs.bodies.Tables.{Sources, row, Precedes}
+use Rattle.gl_segments.specs.bodies.Tables.{Sources, steps_of_thread, Precedes}
 
 -- a clock that counts a part of what is before the target
 pub record IsPart (steps : Sources) (clock : List ℕ) (target : Segment) : Type 0 where
@@ -30,7 +30,7 @@ pub record IsGrowing (steps : Sources) (thread : ℕ) (g : Growing) : Type 0 whe
   -- there is one
   pub begun : 0 < g.segments
   -- there are no more than segments
-  pub within : g.segments ≤ length (row steps thread)
+  pub within : g.segments ≤ length (steps_of_thread steps thread)
   -- they were noted, and none of these segments is before itself
   pub clocks : (cs : List (List ℕ)) × IsNoted g cs × AreClocksBelow steps thread cs g.segments
   -- the latest counts are the last one

@@ -12,17 +12,17 @@ use Rattle.gl_segments.specs.Segments.{IsStep, Leads}
 abbrev pub Sources : Type 0
 Sources = List (List (List Segment))
 
--- the segments of a thread
-abbrev pub row : Sources → ℕ → List (List Segment)
-row steps thread = slice_index_or steps thread []
+-- for each segment of a thread, the segments that are one step before it
+abbrev pub steps_of_thread : Sources → ℕ → List (List Segment)
+steps_of_thread steps thread = slice_index_or steps thread []
 
 -- the segments that are one step before this one
 abbrev pub sources : Sources → Segment → List Segment
-sources steps s = slice_index_or (row steps s.thread) s.index []
+sources steps s = slice_index_or (steps_of_thread steps s.thread) s.index []
 
 -- the table has the segment
 abbrev pub Has : Sources → Segment → Type 0
-Has steps s = s.index < length (row steps s.thread)
+Has steps s = s.index < length (steps_of_thread steps s.thread)
 
 -- a is one step before b, by the table
 abbrev pub LeadsTo : Sources → Segment → Segment → Type 0
@@ -37,9 +37,9 @@ pub record IsSound (steps : Sources) : Type 0 where
   -- it has few threads
   pub few : length steps ≤ MAX_THREADS
   -- the segments of a thread can be counted by a u32
-  pub small : (thread : ℕ) → length (row steps thread) < 2 ^ 32
+  pub small : (thread : ℕ) → length (steps_of_thread steps thread) < 2 ^ 32
   -- each thread has a segment
-  pub some : (thread : ℕ) → thread < length steps → 0 < length (row steps thread)
+  pub some : (thread : ℕ) → thread < length steps → 0 < length (steps_of_thread steps thread)
   -- a step leads from a segment of the table
   pub inside : (a b : Segment) → LeadsTo steps a b → Has steps a
   -- a thread's segment is one step before its next one
@@ -50,7 +50,7 @@ pub record ShowsSteps (lists : List (List Event)) (steps : Sources) : Type 0 whe
   -- it has the threads of the lists
   pub threads : length steps ≡ length lists
   -- it has the segments of the lists
-  pub segments : (thread : ℕ) (es : List Event) → slice_get lists thread ≡ Some es → length (row steps thread) ≡ segment es + 1
+  pub segments : (thread : ℕ) (es : List Event) → slice_get lists thread ≡ Some es → length (steps_of_thread steps thread) ≡ segment es + 1
   -- each step of the lists is one of the table
   pub forward : (a b : Segment) → IsStep lists a b → LeadsTo steps a b
   -- each step of the table is one of the lists
@@ -83,8 +83,8 @@ joined_last cuts (TryAcquire mode lock loc) = []
 joined_last cuts (Fork thread loc) = []
 joined_last cuts (Join thread loc) = option_map_or (λ es. record { thread = thread; index = length es } ∷ []) (slice_get cuts thread) []
 
--- the row of a thread with these forks and joins: what is one step before each of its segments
-pub record IsRowOf (cuts : List (List Event)) (thread : ℕ) (es : List Event) (sources : List (List Segment)) : Type 0 where
+-- these are the steps of a thread with these forks and joins: what is one step before each of its segments
+pub record AreStepsOfThread (cuts : List (List Event)) (thread : ℕ) (es : List Event) (sources : List (List Segment)) : Type 0 where
   -- one for each segment
   pub size : length sources ≡ length es + 1
   -- before the first: the segments that forks of the thread close

@@ -2,7 +2,7 @@ use Rattle.std.proofs.Common.{◌≡◌, ℕ, ◌+◌, ◌<◌, ◌++◌, ◌∷
 use Rattle.std.specs.Prelude.{slice_index}
 use Rattle.gl_event.specs.declared.events.Segment.{Segment}
 use Rattle.gl_segments.specs.Segments.{Leads}
-use Rattle.gl_segments.specs.bodies.Tables.{row, Has, LeadsTo}
+use Rattle.gl_segments.specs.bodies.Tables.{steps_of_thread, Has, LeadsTo}
 use Rattle.gl_segments.specs.bodies.Search.{Counts, IsClockOf}
 use Rattle.gl_segments.specs.bodies.Rows.{AreClocksBelow}
 use Rattle.gl_segments.proofs.Clocking.{explored_clock, may_start_next, chain_of_links, clocks_more, own_count}
@@ -80,6 +80,6 @@ finish-requires c = record { rising = c.loop-index.invariant.clocks.1.tells.risi
 pub returns-clause-ok : goal.returns-clause-ok
 returns-clause-ok c =
     let inv = c.loop-index.invariant in
-    let all : c.loop-index.index ≡ length (row c.args.steps.now c.args.thread) = let e = c.segments-index-end.ensures in omega arith in
+    let all : c.loop-index.index ≡ length (steps_of_thread c.args.steps.now c.args.thread) = let e = c.segments-index-end.ensures in omega arith in
     let is = c.in_ok-finish.ensures inv.clocks.0 inv.clocks.1 in
     subst (λ n. AreClocksBelow c.args.steps.now c.args.thread c.in_ok-finish.field-0 n) all (subst (λ cs. AreClocksBelow c.args.steps.now c.args.thread cs c.loop-index.index) (sym is) inv.clocks.2)

@@ -7,14 +7,14 @@ use Rattle.gl_event.specs.Events.{closes}
 use Rattle.gl_event.specs.declared.events.Event.{Event}
 use Rattle.gl_event.specs.declared.events.Segment.{Segment}
 use Rattle.gl_segments.specs.Orders.{lists_of}
-use Rattle.gl_segments.specs.bodies.Tables.{cuts_of, AreSmall, IsRowOf, row}
+use Rattle.gl_segments.specs.bodies.Tables.{cuts_of, AreSmall, AreStepsOfThread, steps_of_thread}
 use Rattle.gl_segments.specs.bodies.Forked.{AreAllForks}
-use Rattle.gl_segments.proofs.Tabling.{rows_more}
+use Rattle.gl_segments.proofs.Tabling.{threads_more}
 use Rattle.gl_segments.proofs.Stepping.{cuts_small, shows_steps, steps_sound}
 use Rattle.gl_segments.proofs.steps.Steps.of.Goals as goal
 
-pub row-requires-clause-small : goal.row-requires-clause-small
-row-requires-clause-small c =
+pub steps_of_thread-requires-clause-small : goal.steps_of_thread-requires-clause-small
+steps_of_thread-requires-clause-small c =
     let is = ap lists_of c.deref-in-loop-thread.ensures.value ∙ c.in_ok-cuts.ensures in
     subst AreSmall (sym is) (cuts_small _ c.requires)
 
@@ -23,44 +23,44 @@ of-requires c =
     let is = ap lists_of c.deref.ensures.value ∙ c.in_ok-cuts.ensures in
     subst AreSmall (sym is) (cuts_small _ c.requires)
 
-pub row-requires-clause-forked : goal.row-requires-clause-forked
-row-requires-clause-forked c = subst (λ xs. AreAllForks (lists_of xs) c.in_ok-forked.forked) (c.deref.ensures.value ∙ sym c.deref-in-loop-thread.ensures.value) c.in_ok-forked.ensures
+pub steps_of_thread-requires-clause-forked : goal.steps_of_thread-requires-clause-forked
+steps_of_thread-requires-clause-forked c = subst (λ xs. AreAllForks (lists_of xs) c.in_ok-forked.forked) (c.deref.ensures.value ∙ sym c.deref-in-loop-thread.ensures.value) c.in_ok-forked.ensures
 
 pub loop-thread-preserved : goal.loop-thread-preserved
 loop-thread-preserved c =
     let cuts : List (List Event) = lists_of c.in_ok-cuts.cuts.items in
-    let old = c.loop-thread.rows.items in
-    let new : (es : List Event) → slice_get cuts c.loop-thread.thread ≡ Some es → IsRowOf cuts c.loop-thread.thread es c.in_ok-row.field-0
-    = rw (c.deref-in-loop-thread.ensures.value, c.new.ensures) at c.in_ok-row.ensures in
+    let old = c.loop-thread.by_thread.items in
+    let new : (es : List Event) → slice_get cuts c.loop-thread.thread ≡ Some es → AreStepsOfThread cuts c.loop-thread.thread es c.in_ok-steps_of_thread.field-0
+    = rw (c.deref-in-loop-thread.ensures.value, c.new.ensures) at c.in_ok-steps_of_thread.ensures in
     record {
       size = rw (c.in_ok-push.ensures.items, length_push) (ap (λ n. n + 1) c.loop-thread.invariant.size);
-      each = rw c.in_ok-push.ensures.items (rows_more cuts old c.loop-thread.thread c.in_ok-row.field-0 c.loop-thread.invariant.size new c.loop-thread.invariant.each);
+      each = rw c.in_ok-push.ensures.items (threads_more cuts old c.loop-thread.thread c.in_ok-steps_of_thread.field-0 c.loop-thread.invariant.size new c.loop-thread.invariant.each);
     }
 
--- the rows of all threads, for the lists' own forks and joins
-all_rows : (lists : List (List Event)) (cuts : List (Vec Event)) (rows : List (List (List Segment))) (n : ℕ) → lists_of cuts ≡ cuts_of lists → length rows ≡ n → n ≡ length cuts
-    → ((t : ℕ) (es : List Event) → t < n → slice_get (lists_of cuts) t ≡ Some es → IsRowOf (lists_of cuts) t es (row rows t))
-    → (length rows ≡ length lists) × ((t : ℕ) (es : List Event) → slice_get (cuts_of lists) t ≡ Some es → IsRowOf (cuts_of lists) t es (row rows t))
-all_rows lists cuts rows n is size all each =
+-- the steps of all threads, for the lists' own forks and joins
+all_threads : (lists : List (List Event)) (cuts : List (Vec Event)) (built : List (List (List Segment))) (n : ℕ) → lists_of cuts ≡ cuts_of lists → length built ≡ n → n ≡ length cuts
+    → ((t : ℕ) (es : List Event) → t < n → slice_get (lists_of cuts) t ≡ Some es → AreStepsOfThread (lists_of cuts) t es (steps_of_thread built t))
+    → (length built ≡ length lists) × ((t : ℕ) (es : List Event) → slice_get (cuts_of lists) t ≡ Some es → AreStepsOfThread (cuts_of lists) t es (steps_of_thread built t))
+all_threads lists cuts built n is size all each =
     let listed = length-map cuts (λ (v : Vec Event). v.items) in
     let kept = length-map lists (filter closes) in
     let same = ap length is in (
       omega arith,
       λ t es at.
           let within = slice_get_within (cuts_of lists) t es at in
-          subst (λ k. IsRowOf k t es (row rows t)) is (each t es (omega arith) (ap (λ k. slice_get k t) is ∙ at)),
+          subst (λ k. AreStepsOfThread k t es (steps_of_thread built t)) is (each t es (omega arith) (ap (λ k. slice_get k t) is ∙ at)),
     )
 
 pub returns-clause-shows : goal.returns-clause-shows
 returns-clause-shows c =
     let lists = lists_of c.args.lists.now in
     let all : c.loop-thread.thread ≡ length c.in_ok-cuts.cuts.items = search rules in
-    let r = all_rows lists c.in_ok-cuts.cuts.items c.loop-thread.rows.items c.loop-thread.thread c.in_ok-cuts.ensures c.loop-thread.invariant.size all c.loop-thread.invariant.each in
-    shows_steps lists c.loop-thread.rows.items r.0 r.1
+    let r = all_threads lists c.in_ok-cuts.cuts.items c.loop-thread.by_thread.items c.loop-thread.thread c.in_ok-cuts.ensures c.loop-thread.invariant.size all c.loop-thread.invariant.each in
+    shows_steps lists c.loop-thread.by_thread.items r.0 r.1
 
 pub returns-clause-sound : goal.returns-clause-sound
 returns-clause-sound c =
     let lists = lists_of c.args.lists.now in
     let all : c.loop-thread.thread ≡ length c.in_ok-cuts.cuts.items = search rules in
-    let r = all_rows lists c.in_ok-cuts.cuts.items c.loop-thread.rows.items c.loop-thread.thread c.in_ok-cuts.ensures c.loop-thread.invariant.size all c.loop-thread.invariant.each in
-    steps_sound lists c.loop-thread.rows.items r.0 r.1 c.requires
+    let r = all_threads lists c.in_ok-cuts.cuts.items c.loop-thread.by_thread.items c.loop-thread.thread c.in_ok-cuts.ensures c.loop-thread.invariant.size all c.loop-thread.invariant.each in
+    steps_sound lists c.loop-thread.by_thread.items r.0 r.1 c.requires

@@ -1,6 +1,6 @@
 use Rattle.std.proofs.Common.{◌-◌, length}
 use Rattle.gl_segments.specs.bodies.Sweeps.{AreSwept, IsGrowing}
-use Rattle.gl_segments.specs.bodies.Tables.{row}
+use Rattle.gl_segments.specs.bodies.Tables.{steps_of_thread}
 use Rattle.gl_segments.proofs.sweep.Sweep.grow.Given as goal
 
 -- what was made is known
@@ -12,4 +12,4 @@ invariant-loop-growing l = record {
 
 -- the segments without a clock
 abbrev pub decreases-loop-growing : goal.decreases-loop-growing
-decreases-loop-growing l = length (row l.steps l.thread) - l.growing.segments
+decreases-loop-growing l = length (steps_of_thread l.steps l.thread) - l.growing.segments

@@ -2,14 +2,14 @@ use Rattle.std.proofs.Common.{◌≡◌, length, refl, sym, ap, subst, ◌∙◌
 use Rattle.std.specs.Prelude.{slice_get}
 use Rattle.std.proofs.lemmas.Option.{slice_get_read, same_Some}
 use Rattle.gl_segments.specs.Orders.{lists_of}
-use Rattle.gl_segments.specs.bodies.Tables.{IsRowOf}
-use Rattle.gl_segments.proofs.Tabling.{items_at, row_begins, row_more, row_all}
-use Rattle.gl_segments.proofs.steps.row.Goals as goal
+use Rattle.gl_segments.specs.bodies.Tables.{AreStepsOfThread}
+use Rattle.gl_segments.proofs.Tabling.{items_at, steps_begin, steps_more, steps_all}
+use Rattle.gl_segments.proofs.steps.steps_of_thread.Goals as goal
 
 pub loop-index-init : goal.loop-index-init
 loop-index-init c =
     rw (c.in_ok-push.ensures, c.deref.ensures.value)
-    (row_begins (lists_of c.args.cuts.now) c.args.thread c.deref-cut-items.result.now c.in_ok-row.row c.in_ok-segments.field-0.items c.in_ok-row.ensures
+    (steps_begin (lists_of c.args.cuts.now) c.args.thread c.deref-cut-items.result.now c.in_ok-steps.steps c.in_ok-segments.field-0.items c.in_ok-steps.ensures
     (λ a.
     let forks = c.requires.forked (record { thread = c.args.thread; from = a }) in
     let segments = c.in_ok-segments.ensures a in
@@ -27,7 +27,7 @@ pub loop-index-preserved : goal.loop-index-preserved
 loop-index-preserved c =
     let items = c.deref-cut-items.result.now in
     rw (c.in_ok-push-2.ensures, c.deref-in-loop-index.ensures.value)
-    (row_more (lists_of c.args.cuts.now) c.args.thread items c.loop-index.row c.loop-index.index c.in_ok-after.field-0.items c.cut-item.result
+    (steps_more (lists_of c.args.cuts.now) c.args.thread items c.loop-index.steps c.loop-index.index c.in_ok-after.field-0.items c.cut-item.result
     (slice_get_read items (length items) c.loop-index.index c.cut-item.result refl c.loop-index-test.true c.cut-item.is) c.in_ok-after.ensures c.loop-index.invariant)
 
 pub returns : goal.returns
@@ -37,5 +37,5 @@ returns c =
     λ es there.
     let same : c.deref-cut-items.result.now ≡ es = c.deref-cut-items.ensures.value ∙ same_Some _ es (sym at ∙ ap (slice_get (lists_of c.args.cuts.now)) number ∙ there) in
     rw c.shrink.ensures
-    (subst (λ xs. IsRowOf (lists_of c.args.cuts.now) c.args.thread xs c.loop-index.row) same
-    (row_all (lists_of c.args.cuts.now) c.args.thread c.deref-cut-items.result.now c.loop-index.row c.loop-index.index (omega arith) c.loop-index.invariant))
+    (subst (λ xs. AreStepsOfThread (lists_of c.args.cuts.now) c.args.thread xs c.loop-index.steps) same
+    (steps_all (lists_of c.args.cuts.now) c.args.thread c.deref-cut-items.result.now c.loop-index.steps c.loop-index.index (omega arith) c.loop-index.invariant))

@@ -1,7 +1,0 @@
-use Rattle.gl_segments.specs.Orders.{lists_of}
-use Rattle.gl_segments.proofs.Tabling.{RowBelow}
-use Rattle.gl_segments.proofs.steps.row.Given as goal
-
--- the first segment's, and those of the segments after the forks and joins so far
-abbrev pub invariant-loop-index : goal.invariant-loop-index
-invariant-loop-index l = RowBelow (lists_of l.cuts) l.thread l.cut-items l.row l.index
