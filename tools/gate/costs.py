@@ -6,8 +6,8 @@
 Each crate is proved once from nothing, by one process, and so are its tests, where it has any; then its edits are
 tried over that. A check keeps a file for each module that it has proved; what the process used between two of these
 files is the later one's. A function's modules are counted together: its code, its proof, its answers, and how each of
-its values is let go. *Start* is what passes before the first of the crate's own. The libraries below are built where
-they aren't yet.
+its values is let go. *Start* is what passes before the first of the crate's own. The libraries below are built first,
+where they aren't yet, as the gate builds them: without their proofs, which a check would read.
 """
 
 import argparse
@@ -23,6 +23,7 @@ import tempfile
 import threading
 import time
 
+import prove
 import toolchain
 
 # What stands behind a function's path in the names of the modules that the toolchain makes of it.
@@ -144,6 +145,11 @@ def costs(command, crate, most):
     return sum(sums)
 
 
+def tell_faults(crate, jobs, well, said, seconds):
+    if not well:
+        print(f"{crate.name} isn't proved\n{said}", flush=True)
+
+
 def main(words):
     parser = argparse.ArgumentParser(usage=__doc__)
     parser.add_argument("--most", type=int, default=20)
@@ -153,9 +159,11 @@ def main(words):
     crates = toolchain.crates(command.rtlib, asked.names or None)
     wanted = [crate for crate in crates if crate.name in (asked.names or [crate.name])]
     total = 0.0
+    libraries = toolchain.Statements(command.rtlib, crates)
+    below = [crate for crate in crates if any(crate in one.below() for one in wanted)]
+    if not prove.in_order(below, toolchain.processors(), libraries.build, tell_faults):
+        raise SystemExit("a library isn't proved")
     for crate in wanted:
-        if any(below.build_rlib(["--jobs", "1"], anew=False) for below in crate.below()):
-            raise SystemExit(f"a library below {crate.name} isn't proved")
         total += costs(command, crate, asked.most)
     print(f"== all of it: {total / 60:.1f} processor minutes")
     return 0

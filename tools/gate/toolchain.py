@@ -7,8 +7,10 @@ check more closely than `rt check` shows, needs `rt`'s own code and the library 
 import importlib.machinery
 import importlib.util
 import os
+import pathlib
 import re
 import shutil
+import subprocess
 import sys
 
 TOP = os.path.dirname(os.path.dirname(os.path.dirname(os.path.realpath(__file__))))
@@ -76,3 +78,35 @@ def free_memory():
 
 def processors():
     return len(os.sched_getaffinity(0))
+
+
+class Statements:
+    """The repository's libraries as the gate builds them: with what they state and without their proofs, which a crate
+    above would read as it is checked. They are kept beside those that `rt check` builds."""
+
+    def __init__(self, library, crates):
+        self.library = library
+        for crate in crates:
+            crate.words = self.over(crate.words)
+
+    @staticmethod
+    def over(words):
+        """A crate's words, with these libraries in the place of those that `rt check` builds."""
+        own = re.compile(r"(/crates/\w+/out)/rlib\b")
+        return lambda *flags, **how: [own.sub(r"\1/statements", word) for word in words(*flags, **how)]
+
+    def build(self, crate, jobs):
+        """Proves a crate from nothing, where its library isn't there yet; whether it is there, and what was said."""
+        folder = os.path.join(crate.folder, "out", "statements")
+        kept, stamp = pathlib.Path(folder, "stamp"), crate.stamp()
+        if kept.is_file() and kept.read_text() == stamp:
+            return True, ""
+        shutil.rmtree(folder, ignore_errors=True)
+        os.makedirs(folder)
+        words = crate.words(["--jobs", str(jobs)], keeps=False)
+        command = [self.library.RATTLE, "build", *words, "--statements", "-o", f"{folder}/{crate.name}.rlib"]
+        pipe = {"stdin": subprocess.DEVNULL, "stdout": subprocess.PIPE, "stderr": subprocess.STDOUT}
+        done = subprocess.run(command, cwd=crate.folder, text=True, errors="replace", **pipe)
+        if done.returncode == 0:
+            kept.write_text(stamp)
+        return done.returncode == 0, done.stdout

@@ -10,6 +10,8 @@
 //! assert_eq!(find_from(b'|', line, 3), Some(10));
 //! assert!(is_same(&line[..2], b"T1".as_slice()));
 //! ```
+//!
+//! docs/GLOSSARY.md has its words beside those of the field.
 #![tactic(auto)]
 
 mod near;

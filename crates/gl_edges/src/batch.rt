@@ -61,7 +61,7 @@ impl Batch {
         }
     }
 
-    /// How many pairs there are: no more than twice the edges, and a few thousand.
+    /// How many pairs there are: no more than twice the edges of each list, and some 16,000.
     pub(crate) fn len(&self) -> usize {
         self.ended.len().saturating_add(self.pairs.len())
     }

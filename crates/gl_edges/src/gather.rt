@@ -177,9 +177,9 @@ pub(crate) fn edges_from(
 /// The edges of these lists: each once, ascending, with its least sample. A thread's number is the
 /// position of its list.
 ///
-/// It takes a step for each event and for each lock held at an acquire, and where no such acquire that
-/// the thread made before is found, a look-up among the edges for each of these locks. It takes memory
-/// as there are edges.
+/// It takes a step for each event and for each lock held at an acquire. The edges of acquires that aren't
+/// found among those that the thread made before are sorted, thread by thread, and more often where very
+/// many come. It takes memory as there are edges.
 pub fn edges_of(alloc: Global, lists: &[Vec<Event>]) -> Result<EdgeList, Memory>
     requires few { length lists.now ≤ 1024 }
     requires lawful { (thread : ℕ) (es : List Event)

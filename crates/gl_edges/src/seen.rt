@@ -13,8 +13,8 @@
 //! Places grow within a list, and with them the segments in which the held locks were opened. So an
 //! acquire with other locks held than before has an edge that is new. The same locks can be taken in
 //! very many orders, though, which are as many nodes: so there are never more of them than the caller
-//! has room for, and what is not noted is looked up edge by edge. What is noted isn't always found
-//! again, since a node's number is only guessed, which costs the same look-ups.
+//! has room for, and an acquire that isn't noted has its edges made again. What is noted isn't always
+//! found again, since a node's number is only guessed: that costs the same.
 ghost use Rattle.std.specs.Prelude.{◌≡◌, ◌⊎◌, ◌+◌, ℕ, List, [], ◌∷◌, ◌++◌, map, length, Contains, IsTrue, IfOk, IfSome, OnOk};
 ghost use Rattle.gl_edges.specs.bodies.Seen.{edges_inside, edges_now, noted, opened_of, with_node, IsNode, LeadsTo};
 ghost use Rattle.gl_edges.specs.declared.edge.Edge.{Edge};

@@ -5,7 +5,7 @@ ghost use Rattle.clap.specs.declared.builder.command.Command.TheViews.{out-Comma
 ghost use Rattle.gl_options.specs.Options.{jobs_rule, IsJobsIn};
 
 use crate::building::{described, number_option, with_option};
-use crate::options::number_in;
+use crate::found::number_in;
 use clap::{Arg, ArgMatches};
 use std::alloc::{AllocError, Global};
 

@@ -21,9 +21,11 @@
 
 mod building;
 mod form;
+mod found;
 mod jobs;
 mod live_options;
 mod options;
+mod query_options;
 
 pub use form::Form;
 pub use live_options::LiveOptions;

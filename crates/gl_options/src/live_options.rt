@@ -3,11 +3,14 @@ ghost use Rattle.std.specs.Prelude.{◌≡◌, ◌<◌, ◌≤◌, ◌^◌, ℕ,
 ghost use Rattle.clap.specs.Words.{app_of, found_of, rows_of, rule_of};
 ghost use Rattle.clap.specs.declared.builder.command.Command.TheViews.{out-Command as fields_of};
 ghost use Rattle.gl_options.specs.Options.{live, session_app, recorders_rule, shards_rule, ring_rule, stream_rule, threads_rule, IsCommand};
+ghost use Rattle.gl_options.specs.declared.options.Command.{Command};
+ghost use Rattle.gl_options.specs.declared.options.Command.TheVariants.{Live};
 
 use crate::building::{flag_option, number_option, with_option};
 use crate::form::Form;
+use crate::found::{flag_in, form_in, number_in, query_in};
 use crate::jobs::{jobs_in, reading};
-use crate::options::{Command, flag_in, form_in, number_in, query_in, report_command};
+use crate::query_options::report_command;
 use clap::{Arg, ArgMatches};
 use gl_filters::Query;
 use std::alloc::{AllocError, Global};
@@ -141,9 +144,10 @@ pub(crate) fn live_command<'a>(alloc: Global) -> Result<clap::Command<'a>, Alloc
     )
 }
 
-/// The command that these values of its options ask for.
-pub(crate) fn live_in(options: &ArgMatches<'_>) -> Option<Command>
-    ensures some { IfSome result (IsCommand (codes "live") (rows_of (found_of options.now))) }
+/// What the session is run with that these values of the command's options ask for.
+pub(crate) fn live_in(options: &ArgMatches<'_>) -> Option<LiveOptions>
+    ensures some { IfSome result
+        (λ o. IsCommand (codes "live") (rows_of (found_of options.now)) (Live o)) }
     ensures none { result ≡ None → (c : Command)
         → IsCommand (codes "live") (rows_of (found_of options.now)) c → ⊥ }
 {
@@ -153,7 +157,7 @@ pub(crate) fn live_in(options: &ArgMatches<'_>) -> Option<Command>
     let ring = number_in(options, "ring", 1, 65_536)?;
     let threads = number_in(options, "threads", 1, 1_024)?;
     let jobs = jobs_in(options)?;
-    Some(Command::Live(LiveOptions {
+    Some(LiveOptions {
         query,
         form: form_in(options),
         findings: flag_in(options, "findings"),
@@ -163,5 +167,5 @@ pub(crate) fn live_in(options: &ArgMatches<'_>) -> Option<Command>
         stream: flag_in(options, "stream"),
         threads,
         jobs,
-    }))
+    })
 }

@@ -1,19 +1,20 @@
 //! What the words of the command line ask for.
-ghost use Rattle.std.specs.Prelude.{◌≡◌, ◌<◌, ◌^◌, ℕ, false, map, Some, None, codes, option_and_then, IfOk, IfErr, IfSome};
+ghost use Rattle.std.specs.Prelude.{◌≡◌, false, map, None, codes, IfOk, IfErr, IfSome};
 ghost use Rattle.clap.specs.declared.error.kind.ErrorKind.TheVariants.{InvalidValue};
-ghost use Rattle.clap.specs.Words.{app_of, first_of, found_of, kind_of, rows_of, rule_of, subcommand_rows_of, with_subcommand};
+ghost use Rattle.clap.specs.Words.{app_of, found_of, kind_of, rows_of, subcommand_rows_of, with_subcommand};
 ghost use Rattle.clap.specs.declared.builder.command.Command.TheViews.{out-Command as fields_of};
-ghost use Rattle.gl_filters.specs.Asked.{Asked};
-ghost use Rattle.gl_options.specs.Options.{goodlock, program, predict, live, stats, replay, check, query_app, report_app, mode_rule, len_rule, max_rule, json_rule, findings_rule};
-ghost use Rattle.gl_options.specs.Options.{Asks, AsksIn, IsCommand, IsEntered, IsFlagIn, IsFormIn, IsNumberAt, IsNumberIn, IsUsageFor, IsUsageOf, NamesModes, jobs_of, mode_named};
+ghost use Rattle.gl_options.specs.Options.{goodlock, program, predict, live, stats, replay, check};
+ghost use Rattle.gl_options.specs.Options.{Asks, IsCommand, IsEntered, IsUsageFor, IsUsageOf, NamesModes, jobs_of};
 
-use crate::building::{flag_option, number_option, with_command, with_option};
+use crate::building::with_command;
 use crate::form::Form;
+use crate::found::{flag_in, form_in, query_in};
 use crate::jobs::{jobs_in, reading};
 use crate::live_options::{LiveOptions, live_command, live_in};
+use crate::query_options::{query_command, report_command};
 use clap::error::ErrorKind;
-use clap::{Arg, ArgMatches, Error};
-use gl_filters::{Mode, Query};
+use clap::{ArgMatches, Error};
+use gl_filters::Query;
 use std::alloc::{AllocError, Global};
 use std::convert::AsStr;
 
@@ -73,100 +74,6 @@ impl From<AllocError> for Usage {
     fn from(_e: AllocError) -> Usage {
         Usage::Memory
     }
-}
-
-// Which cycles count.
-fn mode_option<'a>(alloc: Global) -> Arg<'a>
-    ensures rule { rule_of result ≡ mode_rule }
-    ensures local { result.global ≡ false }
-{
-    Arg::new(alloc, "mode")
-        .long("mode")
-        .value_name("MODE")
-        .default_value("full")
-        .help(
-            "Which cycles count: basic, guarded (no gate lock in common), or full (and not ordered by forks and joins)",
-        )
-}
-
-// The greatest length of a cycle.
-fn len_option<'a>(alloc: Global) -> Arg<'a>
-    ensures rule { rule_of result ≡ len_rule }
-    ensures local { result.global ≡ false }
-{
-    number_option(
-        alloc,
-        "len",
-        "EDGES",
-        2,
-        16,
-        "4",
-        "The most edges that a cycle may have, 2 to 16",
-    )
-}
-
-// The greatest number of cycles.
-fn max_option<'a>(alloc: Global) -> Arg<'a>
-    ensures rule { rule_of result ≡ max_rule }
-    ensures local { result.global ≡ false }
-{
-    number_option(
-        alloc,
-        "max",
-        "CYCLES",
-        1,
-        100_000,
-        "1000",
-        "The most cycles that are listed, 1 to 100000",
-    )
-}
-
-// The form of the report.
-fn json_option<'a>(alloc: Global) -> Arg<'a>
-    ensures rule { rule_of result ≡ json_rule }
-    ensures local { result.global ≡ false }
-{
-    flag_option(
-        alloc,
-        "json",
-        "Prints the report as JSON, one object on a line",
-    )
-}
-
-// Whether findings are listed, in place of cycles.
-fn findings_option<'a>(alloc: Global) -> Arg<'a>
-    ensures rule { rule_of result ≡ findings_rule }
-    ensures local { result.global ≡ false }
-{
-    flag_option(
-        alloc,
-        "findings",
-        "Lists each finding once: cycles made at the same places are one",
-    )
-}
-
-// A command of this name with the options of a query.
-fn query_command<'a>(alloc: Global, name: &'a str) -> Result<clap::Command<'a>, AllocError>
-    ensures shape { IfOk result (λ c. app_of c ≡ query_app name.entry.now) }
-    ensures local { IfOk result (λ c. (fields_of c).has_globals ≡ false) }
-{
-    let command = Ok(clap::Command::new(alloc, name));
-    let command = with_option(command, mode_option(alloc));
-    let command = with_option(command, len_option(alloc));
-    with_option(command, max_option(alloc))
-}
-
-/// A command of this name that reports, with the options of a query, the form of the report and what it lists.
-pub(crate) fn report_command<'a>(
-    alloc: Global,
-    name: &'a str,
-) -> Result<clap::Command<'a>, AllocError>
-    ensures shape { IfOk result (λ c. app_of c ≡ report_app name.entry.now) }
-    ensures local { IfOk result (λ c. (fields_of c).has_globals ≡ false) }
-{
-    let command = query_command(alloc, name);
-    let command = with_option(command, json_option(alloc));
-    with_option(command, findings_option(alloc))
 }
 
 // The command that predicts.
@@ -256,93 +163,6 @@ fn command_line<'a>(alloc: Global) -> Result<clap::Command<'a>, AllocError>
     with_command(command, check_command(alloc))
 }
 
-// The mode of this name.
-fn mode_named(name: &str) -> Option<Mode>
-    ensures { result ≡ mode_named name.now }
-{
-    if name == "basic" {
-        return Some(Mode::Basic);
-    }
-    if name == "guarded" {
-        return Some(Mode::Guarded);
-    }
-    if name == "full" {
-        return Some(Mode::Full);
-    }
-    None
-}
-
-/// The number that was read for an option.
-pub(crate) fn number_at(matches: &ArgMatches<'_>, id: &str) -> Option<u32>
-    ensures some { IfSome result (λ n. IsNumberAt (rows_of (found_of matches.now)) id.now n) }
-    ensures none { result ≡ None → (n : ℕ) → n < 2 ^ 32
-        → IsNumberAt (rows_of (found_of matches.now)) id.now n → ⊥ }
-{
-    matches.get_one::<u32>(id)
-}
-
-/// The number that was read for an option, where it is from the least to the greatest.
-pub(crate) fn number_in(
-    matches: &ArgMatches<'_>,
-    id: &str,
-    least: u32,
-    greatest: u32,
-) -> Option<u32>
-    ensures some { IfSome result
-        (IsNumberIn (rows_of (found_of matches.now)) id.now least greatest) }
-    ensures none { result ≡ None → (n : ℕ)
-        → IsNumberIn (rows_of (found_of matches.now)) id.now least greatest n → ⊥ }
-{
-    let number = number_at(matches, id)?;
-    if number < least || number > greatest {
-        return None;
-    }
-    Some(number)
-}
-
-// The mode that was read.
-fn mode_in(matches: &ArgMatches<'_>) -> Option<Mode>
-    ensures { result ≡ option_and_then mode_named
-        (first_of (codes "mode") (rows_of (found_of matches.now))) }
-{
-    match matches.get_str("mode") {
-        Some(name) => mode_named(name),
-        None => None,
-    }
-}
-
-/// The query that was read, where its options have values in their ranges.
-pub(crate) fn query_in(matches: &ArgMatches<'_>) -> Option<Query>
-    ensures some { IfSome result (λ q. AsksIn (rows_of (found_of matches.now)) q) }
-    ensures none { result ≡ None → (q : Asked)
-        → AsksIn (rows_of (found_of matches.now)) q → ⊥ }
-{
-    let mode = mode_in(matches)?;
-    let len = number_at(matches, "len")?;
-    let max = number_at(matches, "max")?;
-    match Query::new(mode, len, max) {
-        Ok(query) => Some(query),
-        Err(_) => None,
-    }
-}
-
-/// The form that was read.
-pub(crate) fn form_in(matches: &ArgMatches<'_>) -> Form
-    ensures { IsFormIn (rows_of (found_of matches.now)) result }
-{
-    if matches.get_flag("json") {
-        return Form::Json;
-    }
-    Form::Text
-}
-
-/// Whether the flag was given.
-pub(crate) fn flag_in(matches: &ArgMatches<'_>, id: &str) -> bool
-    ensures { IsFlagIn (rows_of (found_of matches.now)) id.now result }
-{
-    matches.get_flag(id)
-}
-
 // What becomes of a parse that fails.
 fn usage_of(alloc: Global, error: &Error) -> Usage
     ensures { IsUsageFor (kind_of error.now) result }
@@ -428,7 +248,7 @@ fn command_in(matches: &ArgMatches<'_>) -> Option<Command>
         return predict_in(options);
     }
     if let Some(options) = matches.subcommand_matches("live") {
-        return live_in(options);
+        return Some(Command::Live(live_in(options)?));
     }
     if let Some(options) = matches.subcommand_matches("stats") {
         return stats_in(options);

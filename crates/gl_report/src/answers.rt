@@ -5,7 +5,7 @@ ghost use Rattle.serde_json.specs.View.{items_of, members_view};
 ghost use Rattle.gl_report.specs.Tree.{edge_tree, positions_tree};
 ghost use Rattle.gl_report.specs.bodies.Members.{with_found, with_question};
 
-use crate::tree::{cycle_values, edge_values};
+use crate::listed::{cycle_values, edge_values};
 use crate::values::mode_value;
 use gl_edges::{Edge, Sample};
 use gl_event::Memory;

@@ -4,7 +4,7 @@ ghost use Rattle.std.specs.Option.{option_map_or};
 ghost use Rattle.gl_report.specs.Text.{counts_line};
 ghost use Rattle.gl_report.specs.bodies.Counted.{listed_counts};
 
-use crate::printing::put_number;
+use crate::number::put_number;
 use gl_edges::{Edge, Sample};
 use gl_event::Memory;
 use gl_findings::{ClassCounts, Listing, class_counts};

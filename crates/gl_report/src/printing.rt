@@ -7,13 +7,13 @@ ghost use Rattle.gl_report.specs.bodies.Counted.{listed_counts};
 ghost use Rattle.gl_report.specs.Text.{name_of, held_text, wanted_text, edge_line, edge_text, cycle_line, cycle_text, cycles_text, last_line, listing_text, report_text, findings_text};
 
 use crate::counted::{counts_listed, put_counts};
+use crate::number::put_number;
 use crate::words::{all_word, one_word};
 use gl_cycles::{Found, Report};
 use gl_edges::{Edge, EdgeList, Sample};
 use gl_event::{LocId, LockId, Memory, ThreadId};
 use gl_findings::{ClassCounts, Listing};
 use gl_std::Names;
-use itoa::Buffer;
 use std::alloc::Global;
 
 /// The thread's name, or nothing where the number has none.
@@ -108,15 +108,6 @@ fn put_edge_text(
 {
     put_edge(out, names, table, position)?;
     put_counts(out, counts, position)?;
-    Ok(())
-}
-
-/// Adds a number in decimal digits.
-pub fn put_number(out: &mut Vec<u8>, number: u64) -> Result<(), Memory>
-    ensures { OnOk result (out.new.items ≡ out.old.items ++ decimal number) }
-{
-    let mut buffer = Buffer::new();
-    out.extend_from_slice(buffer.format(number).as_bytes())?;
     Ok(())
 }
 

@@ -7,7 +7,7 @@ ghost use Rattle.gl_event.specs.declared.events.Event.{Event};
 ghost use Rattle.gl_segments.specs.Orders.{lists_of};
 ghost use Rattle.gl_report.specs.Counts.{count_line, event_count, segment_count, stats_of, stats_text};
 
-use crate::printing::put_number;
+use crate::number::put_number;
 use gl_cycles::Report;
 use gl_event::{Event, Memory};
 use gl_std::Trace;

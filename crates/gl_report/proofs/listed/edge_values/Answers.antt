@@ -1,6 +1,6 @@
 use Rattle.gl_report.specs.Tree.{edge_tree}
 use Rattle.gl_report.proofs.Trees.{mapped_more}
-use Rattle.gl_report.proofs.tree.edge_values.Goals as goal
+use Rattle.gl_report.proofs.listed.edge_values.Goals as goal
 
 pub loop-pair-preserved : goal.loop-pair-preserved
 loop-pair-preserved c =

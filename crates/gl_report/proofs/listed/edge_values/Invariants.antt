@@ -1,7 +1,7 @@
 use Rattle.std.proofs.Common.{◌≡◌, map, take}
 use Rattle.serde_json.specs.View.{view}
 use Rattle.gl_report.specs.Tree.{edge_tree}
-use Rattle.gl_report.proofs.tree.edge_values.Given as goal
+use Rattle.gl_report.proofs.listed.edge_values.Given as goal
 
 -- the edges so far
 abbrev pub invariant-loop-pair : goal.invariant-loop-pair

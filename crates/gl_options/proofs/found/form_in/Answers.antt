@@ -2,7 +2,7 @@ use Rattle.std.proofs.Common.{codes, sym, ◌∙◌, refl}
 use Rattle.std.proofs.lemmas.Bool.{false≢true}
 use Rattle.clap.specs.Words.{found_of}
 use Rattle.clap.proofs.WalkLemmas.{one_text-rows}
-use Rattle.gl_options.proofs.options.form_in.Goals as goal
+use Rattle.gl_options.proofs.found.form_in.Goals as goal
 
 pub returns-then-get_flag : goal.returns-then-get_flag
 returns-then-get_flag c =

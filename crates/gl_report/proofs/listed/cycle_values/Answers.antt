@@ -2,7 +2,7 @@ use Rattle.std.proofs.Common.{◌∷◌, [], ◌++◌, ap, ◌∙◌, map}
 use Rattle.serde_json.specs.View.{view}
 use Rattle.gl_report.specs.Tree.{positions_tree}
 use Rattle.gl_report.proofs.Trees.{shown_more}
-use Rattle.gl_report.proofs.tree.cycle_values.Goals as goal
+use Rattle.gl_report.proofs.listed.cycle_values.Goals as goal
 
 pub loop-cycle-preserved : goal.loop-cycle-preserved
 loop-cycle-preserved c =

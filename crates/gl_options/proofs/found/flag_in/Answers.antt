@@ -1,7 +1,7 @@
 use Rattle.std.proofs.Common.{◌∙◌}
 use Rattle.clap.specs.Words.{found_of}
 use Rattle.clap.proofs.WalkLemmas.{one_text-rows}
-use Rattle.gl_options.proofs.options.flag_in.Goals as goal
+use Rattle.gl_options.proofs.found.flag_in.Goals as goal
 
 pub returns : goal.returns
 returns c =

@@ -2,7 +2,7 @@ use Rattle.std.proofs.Common.{◌∙◌, ap, codes, option_and_then}
 use Rattle.clap.specs.Words.{found_of}
 use Rattle.clap.proofs.WalkLemmas.{first_value-rows}
 use Rattle.gl_options.specs.Options.{mode_named}
-use Rattle.gl_options.proofs.options.mode_in.Goals as goal
+use Rattle.gl_options.proofs.found.mode_in.Goals as goal
 
 pub returns-in-Some : goal.returns-in-Some
 returns-in-Some c =

@@ -1,5 +1,5 @@
 use Rattle.std.proofs.Common.{refl, arith}
-use Rattle.gl_options.proofs.options.query_in.Goals as goal
+use Rattle.gl_options.proofs.found.query_in.Goals as goal
 
 pub returns-in_err-len-clause-none : goal.returns-in_err-len-clause-none
 returns-in_err-len-clause-none c = λ _ q asks.

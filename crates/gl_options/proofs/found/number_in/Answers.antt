@@ -1,5 +1,5 @@
 use Rattle.std.proofs.Common.{refl, arith}
-use Rattle.gl_options.proofs.options.number_in.Goals as goal
+use Rattle.gl_options.proofs.found.number_in.Goals as goal
 
 pub returns-in_err-number-clause-none : goal.returns-in_err-number-clause-none
 returns-in_err-number-clause-none c = λ _ n asked.

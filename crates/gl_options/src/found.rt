@@ -1,0 +1,96 @@
+//! What was read for the options of a command.
+ghost use Rattle.std.specs.Prelude.{◌≡◌, ◌<◌, ◌^◌, ℕ, None, codes, option_and_then, IfSome};
+ghost use Rattle.clap.specs.Words.{first_of, found_of, rows_of};
+ghost use Rattle.gl_filters.specs.Asked.{Asked};
+ghost use Rattle.gl_options.specs.Options.{AsksIn, IsFlagIn, IsFormIn, IsNumberAt, IsNumberIn, mode_named};
+
+use crate::form::Form;
+use clap::ArgMatches;
+use gl_filters::{Mode, Query};
+
+// The mode of this name.
+fn mode_named(name: &str) -> Option<Mode>
+    ensures { result ≡ mode_named name.now }
+{
+    if name == "basic" {
+        return Some(Mode::Basic);
+    }
+    if name == "guarded" {
+        return Some(Mode::Guarded);
+    }
+    if name == "full" {
+        return Some(Mode::Full);
+    }
+    None
+}
+
+/// The number that was read for an option.
+pub(crate) fn number_at(matches: &ArgMatches<'_>, id: &str) -> Option<u32>
+    ensures some { IfSome result (λ n. IsNumberAt (rows_of (found_of matches.now)) id.now n) }
+    ensures none { result ≡ None → (n : ℕ) → n < 2 ^ 32
+        → IsNumberAt (rows_of (found_of matches.now)) id.now n → ⊥ }
+{
+    matches.get_one::<u32>(id)
+}
+
+/// The number that was read for an option, where it is from the least to the greatest.
+pub(crate) fn number_in(
+    matches: &ArgMatches<'_>,
+    id: &str,
+    least: u32,
+    greatest: u32,
+) -> Option<u32>
+    ensures some { IfSome result
+        (IsNumberIn (rows_of (found_of matches.now)) id.now least greatest) }
+    ensures none { result ≡ None → (n : ℕ)
+        → IsNumberIn (rows_of (found_of matches.now)) id.now least greatest n → ⊥ }
+{
+    let number = number_at(matches, id)?;
+    if number < least || number > greatest {
+        return None;
+    }
+    Some(number)
+}
+
+// The mode that was read.
+fn mode_in(matches: &ArgMatches<'_>) -> Option<Mode>
+    ensures { result ≡ option_and_then mode_named
+        (first_of (codes "mode") (rows_of (found_of matches.now))) }
+{
+    match matches.get_str("mode") {
+        Some(name) => mode_named(name),
+        None => None,
+    }
+}
+
+/// The query that was read, where its options have values in their ranges.
+pub(crate) fn query_in(matches: &ArgMatches<'_>) -> Option<Query>
+    ensures some { IfSome result (λ q. AsksIn (rows_of (found_of matches.now)) q) }
+    ensures none { result ≡ None → (q : Asked)
+        → AsksIn (rows_of (found_of matches.now)) q → ⊥ }
+{
+    let mode = mode_in(matches)?;
+    let len = number_at(matches, "len")?;
+    let max = number_at(matches, "max")?;
+    match Query::new(mode, len, max) {
+        Ok(query) => Some(query),
+        Err(_) => None,
+    }
+}
+
+/// The form that was read.
+pub(crate) fn form_in(matches: &ArgMatches<'_>) -> Form
+    ensures { IsFormIn (rows_of (found_of matches.now)) result }
+{
+    if matches.get_flag("json") {
+        return Form::Json;
+    }
+    Form::Text
+}
+
+/// Whether the flag was given.
+pub(crate) fn flag_in(matches: &ArgMatches<'_>, id: &str) -> bool
+    ensures { IsFlagIn (rows_of (found_of matches.now)) id.now result }
+{
+    matches.get_flag(id)
+}
