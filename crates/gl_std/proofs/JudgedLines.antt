@@ -19,8 +19,7 @@ use Rattle.gl_std.specs.bodies.Finding.{found_in, with_lists, event_found, limit
 use Rattle.gl_std.specs.declared.faults.StdKind.{StdKind}
 use Rattle.gl_std.specs.declared.faults.StdKind.TheVariants.{TooManyThreads, TooManyEvents, TooManyNames}
 use Rattle.gl_std.specs.declared.faults.ReadFault.{ReadFault}
-use Rattle.gl_std.specs.declared.judge.Judged.{Judged}
-use Rattle.gl_std.specs.declared.judge.Judged.TheVariants.{Event as Told, Stray}
+use Rattle.gl_std.specs.declared.judge.Judged.TheVariants.{Event as Told}
 use Rattle.gl_std.specs.declared.names.Found.{Found}
 use Rattle.gl_std.specs.declared.ruling.Ruling.{Ruling}
 use Rattle.gl_std.specs.declared.trace.Trace.{Trace}
@@ -237,22 +236,6 @@ call_kept names names2 states told operation thread operand location found event
     sym (ap (λ f. with_lists told.lists operation f event) to_found ∙ ap (with_lists told.lists operation found1) to_event)
     ∙ call_listed names names2 states told operation thread operand location found event own are each is_found are_names is_own in
     (λ i. record { names = to_names i; lists = to_lists i; skipped = told.skipped; stray = told.stray })
-
--- the judge of a line that is kept stands for its trace
-pub kept_has : (j : Judge) (told : Trace) (judged : Judged) (own : ℕ) (event : Event) (lists : List (List Event)) → judged ≡ Told own event → AreStanding lists j.standings → lists ≡ listed (length j.names.threads) told.lists own event → j.skipped ≡ told.skipped → j.stray ≡ told.stray → HasJudged j (with_judged judged j.names told)
-kept_has j told judged own event lists is are same skipped stray =
-    subst (λ r. HasJudged j (with_judged r j.names told)) (sym is)
-    (record { names = refl; states = subst (λ ls. AreStanding ls j.standings) same are; skipped = skipped; stray = stray })
-
--- the judge of a stray stands for a trace that counts it
-pub stray_has : (old new : Judge) (told : Trace) → new.names ≡ old.names → new.standings ≡ old.standings → new.skipped ≡ old.skipped → new.stray ≡ old.stray + 1 → HasJudged old told → HasJudged new (with_judged Stray new.names told)
-stray_has old new told names standings skipped stray judged =
-    record {
-      names = names ∙ judged.names;
-      states = subst (AreStanding told.lists) (sym standings) judged.states;
-      skipped = skipped ∙ judged.skipped;
-      stray = stray ∙ ap (λ n. n + 1) judged.stray;
-    }
 
 -- a fault is the same, whatever stands in its place
 abbrev fault_or : {A : Type 0} → ReadFault → Result A ReadFault → ReadFault

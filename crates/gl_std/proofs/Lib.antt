@@ -15,5 +15,6 @@ pub mod NumberedLines
 pub mod PieceByPiece
 pub mod PiecesAhead
 pub mod Places
+pub mod RuledLines
 pub mod Shapes
 pub mod WithinLimits

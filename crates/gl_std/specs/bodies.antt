@@ -6,6 +6,7 @@ pub mod Finding
 pub mod Hearing
 pub mod Judgements
 pub mod Lasts
+pub mod Rulings
 pub mod Shown
 pub mod States
 pub mod Stepping

@@ -1,14 +1,10 @@
 //! Judging a text line by line. The judge keeps names and what each thread holds, and no events.
-ghost use Rattle.std.specs.Prelude.{◌≡◌, ℕ, ◌+◌, ◌^◌, ◌<◌, ◌≤◌, List, [], ◌∷◌, ◌++◌, All, Ok, Err, Option, OnOk, IfOk, IfSome, length, unwrap_or, vec_len, if◌then◌else◌};
+ghost use Rattle.std.specs.Prelude.{◌≡◌, ◌+◌, ◌^◌, ◌<◌, ◌≤◌, [], All, None, OnOk, IfOk, IfSome, length, vec_len};
 ghost use Rattle.gl_event.specs.Lawful.{lock_refusal};
-ghost use Rattle.gl_event.specs.declared.events.Event.{Event};
-ghost use Rattle.gl_std.specs.Standings.{AreStanding};
-ghost use Rattle.gl_std.specs.Line.{is_on_thread};
-ghost use Rattle.gl_std.specs.Trace.{event_of, events_of, with_event, with_list};
-ghost use Rattle.gl_std.specs.bodies.Finding.{ruling_of, with_lists};
+ghost use Rattle.gl_std.specs.Trace.{event_of, with_event};
+ghost use Rattle.gl_std.specs.bodies.Finding.{ruling_of, with_lists, with_partner};
+ghost use Rattle.gl_std.specs.bodies.Rulings.{IsRulingOf, Stands, StandsRuled};
 ghost use Rattle.gl_std.specs.bodies.Shown.{shown_operation};
-ghost use Rattle.gl_std.specs.declared.judge.Judged.TheVariants.{Event as Told};
-ghost use Rattle.gl_std.specs.declared.ruling.Ruling.TheVariants.{Kept, Stray};
 
 use crate::faults::{ReadFault, StdKind};
 use crate::line::{Operation, Shape, shape_of};
@@ -56,6 +52,7 @@ impl Judge {
     ghost use Rattle.gl_std.specs.bodies.Counting.{count_of};
     ghost use Rattle.gl_std.specs.bodies.States.{HasJudged, IsSound};
     ghost use Rattle.gl_std.specs.bodies.Judgements.{AreApart, JudgesLine};
+    ghost use Rattle.gl_std.specs.bodies.Rulings.{if_stray, judged_by};
     ghost use Rattle.gl_std.specs.bodies.Finding.{found_in, limit_found};
     ghost use Rattle.gl_std.specs.bodies.Shown.{shown};
     ghost use Rattle.gl_std.specs.Trace.{after_line, after_shape, after_call, nothing};
@@ -180,12 +177,32 @@ impl Judge {
         let loc = self.names.loc_or_next(found);
         let own = self.names.thread_or_next(found);
         let event = event_of(operation, number, loc);
-        match stand(&mut self.standings, operation, found, event, limit)? {
-            Ruling::Kept => {
-                self.names
-                    .tell(alloc, operation, found, thread, operand, location)?;
-                Ok(kept_event(&own, &event))
-            }
+        let ruling = stand(&mut self.standings, operation, found, event, limit)?;
+        if let Ruling::Kept = ruling {
+            self.names
+                .tell(alloc, operation, found, thread, operand, location)?;
+        }
+        self.judged_by(ruling, &own, &event)
+    }
+
+    // What a line is by the ruling on the event that it tells. A stray is counted.
+    #[inline(always)]
+    fn judged_by(
+        &mut self,
+        ruling: Ruling,
+        thread: &ThreadId,
+        event: &Event,
+    ) -> Result<Judged, ReadFault>
+        requires countable { self.old.stray + 1 < 2 ^ 64 }
+        ensures judged { result ≡ judged_by ruling self.old.line thread.now event.now }
+        ensures counted { self.new
+            ≡ record self.old { stray = self.old.stray + if_stray ruling } }
+    {
+        match ruling {
+            Ruling::Kept => Ok(Judged::Event {
+                thread: *thread,
+                event: *event,
+            }),
             Ruling::Stray => {
                 self.stray += 1;
                 Ok(Judged::Stray)
@@ -294,16 +311,6 @@ impl Judge {
     }
 }
 
-// The line that tells this event of this thread.
-fn kept_event(thread: &ThreadId, event: &Event) -> Judged
-    ensures { result ≡ Told thread.now event.now }
-{
-    Judged::Event {
-        thread: *thread,
-        event: *event,
-    }
-}
-
 // The event of an operation on the lock or thread with this number.
 fn event_of(operation: Operation, operand: u32, loc: LocId) -> Event
     ensures { result ≡ event_of (shown_operation operation) operand loc }
@@ -348,21 +355,16 @@ fn stand(
     requires known { IfSome found.now.thread (λ i. i < vec_len standings.old) }
     requires fits { All (λ s. s.events + 1 < 2 ^ 32) standings.old.items }
     ensures ruling { IfOk result
-        (λ v. (lists : List (List Event)) → AreStanding lists standings.old.items
-        → v ≡ ruling_of (lock_refusal (events_of lists found.now.thread) event) limit) }
-    ensures kept { result ≡ Ok Kept → (lists : List (List Event))
-        → AreStanding lists standings.old.items
-        → AreStanding
-        (with_lists lists (shown_operation operation) found.now event) standings.new.items }
-    ensures stray { result ≡ Ok Stray → standings.new.items ≡ standings.old.items }
+        (IsRulingOf standings.old.items found.now.thread event limit) }
+    ensures stands { IfOk result (StandsRuled standings.old.items standings.new.items
+        (λ lists. with_lists lists (shown_operation operation) found.now event)) }
 {
     match stand_own(standings, found, event, limit)? {
         Ruling::Kept => {
             add_partner(standings, operation, found)?;
             Ok(Ruling::Kept)
         }
-        Ruling::Stray => Ok(Ruling::Stray),
-        Ruling::Fault(kind) => Ok(Ruling::Fault(kind)),
+        other => Ok(other),
     }
 }
 
@@ -377,12 +379,9 @@ fn stand_own(
     requires known { IfSome found.now.thread (λ i. i < vec_len standings.old) }
     requires fits { All (λ s. s.events + 1 < 2 ^ 32) standings.old.items }
     ensures ruling { IfOk result
-        (λ v. (lists : List (List Event)) → AreStanding lists standings.old.items
-        → v ≡ ruling_of (lock_refusal (events_of lists found.now.thread) event) limit) }
-    ensures kept { result ≡ Ok Kept → (lists : List (List Event))
-        → AreStanding lists standings.old.items
-        → AreStanding (with_event lists found.now.thread event) standings.new.items }
-    ensures stray { result ≡ Ok Stray → standings.new.items ≡ standings.old.items }
+        (IsRulingOf standings.old.items found.now.thread event limit) }
+    ensures stands { IfOk result (StandsRuled standings.old.items standings.new.items
+        (λ lists. with_event lists found.now.thread event)) }
 {
     match found.thread {
         Some(number) => {
@@ -399,12 +398,8 @@ fn add_partner(
     operation: Operation,
     found: &Found,
 ) -> Result<(), AllocError>
-    ensures { OnOk result
-        ((lists : List (List Event)) → AreStanding lists standings.old.items
-        → AreStanding
-        (if is_on_thread
-        (shown_operation operation) then with_list lists found.now.operand else lists)
-        standings.new.items) }
+    ensures { OnOk result (Stands standings.old.items standings.new.items
+        (λ lists. with_partner lists (shown_operation operation) found.now)) }
 {
     if !operation.is_on_thread() {
         return Ok(());
@@ -426,10 +421,8 @@ fn stand_first(
     limit: Option<StdKind>,
 ) -> Result<Ruling, AllocError>
     ensures ruling { IfOk result (λ v. v ≡ ruling_of (lock_refusal [] event) limit) }
-    ensures kept { result ≡ Ok Kept → (lists : List (List Event))
-        → AreStanding lists standings.old.items
-        → AreStanding (lists ++ (event ∷ []) ∷ []) standings.new.items }
-    ensures stray { result ≡ Ok Stray → standings.new.items ≡ standings.old.items }
+    ensures stands { IfOk result (StandsRuled standings.old.items standings.new.items
+        (λ lists. with_event lists None event)) }
 {
     let mut standing = ThreadState::new();
     match rule(&mut standing, event, limit) {
@@ -437,7 +430,6 @@ fn stand_first(
             standings.push(standing)?;
             Ok(Ruling::Kept)
         }
-        Ruling::Stray => Ok(Ruling::Stray),
-        Ruling::Fault(kind) => Ok(Ruling::Fault(kind)),
+        other => Ok(other),
     }
 }

@@ -53,11 +53,15 @@ threads_after names operation found =
 abbrev pub locks_after : NameLists → Operation → Found → ℕ
 locks_after names operation found = length names.locks + (if is_on_thread operation then 0 else if_new found.operand)
 
+-- the lists, with one for a new thread that is forked or joined
+abbrev pub with_partner : List (List Event) → Operation → Found → List (List Event)
+with_partner lists operation found =
+    if is_on_thread operation then with_list lists found.operand else lists
+
 -- the lists, with the event at the end of the thread's, and with a list for a new thread that it forks or joins
 abbrev pub with_lists : List (List Event) → Operation → Found → Event → List (List Event)
 with_lists lists operation found event =
-    let told = with_event lists found.thread event in
-    if is_on_thread operation then with_list told found.operand else told
+    with_partner (with_event lists found.thread event) operation found
 
 -- the operand's number: a new name gets the next one, and a new thread's comes after the acting thread's
 abbrev pub operand_number : NameLists → Operation → Found → ℕ

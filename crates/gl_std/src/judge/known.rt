@@ -8,11 +8,10 @@ ghost use Rattle.gl_std.specs.bodies.Shown.{shown_operation};
 ghost use Rattle.gl_std.specs.bodies.States.{IsSound};
 ghost use Rattle.gl_std.specs.declared.faults.StdKind.TheVariants.{TooManyEvents};
 
-use super::{Judge, Judged, event_of, kept_event, stand};
+use super::{Judge, Judged, event_of, stand};
 use crate::faults::{ReadFault, StdKind};
 use crate::line::Operation;
 use crate::names::Found;
-use crate::ruling::Ruling;
 use gl_event::{LocId, ThreadId};
 
 impl Judge {
@@ -45,17 +44,8 @@ impl Judge {
         };
         let limit = self.events_reached(thread);
         let event = event_of(operation, operand, loc);
-        match stand(&mut self.standings, operation, &found, event, limit)? {
-            Ruling::Kept => Ok(kept_event(&thread, &event)),
-            Ruling::Stray => {
-                self.stray += 1;
-                Ok(Judged::Stray)
-            }
-            Ruling::Fault(kind) => Err(ReadFault::Line {
-                line: self.line,
-                kind,
-            }),
-        }
+        let ruling = stand(&mut self.standings, operation, &found, event, limit)?;
+        self.judged_by(ruling, &thread, &event)
     }
 
     // The limit that doesn't allow another event of the thread, where no name is added.
