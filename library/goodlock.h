@@ -128,7 +128,7 @@ enum {
 enum {
     GOODLOCK_ACQUIRE = 0, /* recorded before the call that may wait */
     GOODLOCK_ACQUIRE_SHARED = 1,
-    GOODLOCK_RELEASE = 2, /* recorded before the lock is given up */
+    GOODLOCK_RELEASE = 2, /* recorded before the call that gives the lock up, or after it */
     GOODLOCK_RELEASE_SHARED = 3,
     GOODLOCK_TRY_ACQUIRE = 4, /* recorded after a try that succeeded */
     GOODLOCK_TRY_ACQUIRE_SHARED = 5,
@@ -309,14 +309,14 @@ static inline uint32_t goodlock_try_acquire_shared(goodlock_lane *lane, uint32_t
     return goodlock_record(lane, GOODLOCK_TRY_ACQUIRE_SHARED, lock, place, &at);
 }
 
-/* Before the lock is given up. */
+/* Before the call that gives the lock up, or after it. */
 static inline uint32_t goodlock_release(goodlock_lane *lane, uint32_t lock, uint32_t place)
 {
     uint32_t at = 0;
     return goodlock_record(lane, GOODLOCK_RELEASE, lock, place, &at);
 }
 
-/* Before a reader's lock is given up. */
+/* Before the call that gives a reader's lock up, or after it. */
 static inline uint32_t goodlock_release_shared(goodlock_lane *lane, uint32_t lock, uint32_t place)
 {
     uint32_t at = 0;
