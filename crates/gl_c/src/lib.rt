@@ -9,8 +9,8 @@
 //! goodlock_report_so_far(&session, GOODLOCK_FULL_MODE, 4, 1000, &report);
 //! ```
 //!
-//! Each export calls a function of gl_engine, gl_std or gl_report, and says its clauses again for what the
-//! handles are of. `library/goodlock.h` says of each call who makes it and what it costs.
+//! Each export calls a function of gl_engine, gl_std, gl_report, gl_renumbering or gl_cycles, and says its
+//! clauses again for what the handles are of. `library/goodlock.h` says of each call who makes it and what it costs.
 //!
 //! A handle ([`Session`](session::Session), [`Lane`](lane::Lane), [`Made`](made::Made)) is one pointer to a
 //! box, or null: then it is of nothing, and calls that want something answer `MISUSE`. A call takes the box out

@@ -1,4 +1,4 @@
--- How a session ends.
+-- How a session ends, and what it lists.
 use Rattle.std.specs.Prelude.{◌≡◌, ℕ, Bool, true, false, if◌then◌else◌}
 use Rattle.gl_event.specs.declared.events.Segment.{Segment}
 use Rattle.gl_std.specs.declared.trace.Trace.{Trace}

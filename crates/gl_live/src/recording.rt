@@ -18,7 +18,7 @@ use std::sync::Wait;
 use std::thread;
 use std::thread::{Promise, PromisedHandle, Scope, Threads};
 
-/// The recorders of one thread, with room for their receipts.
+/// The recorders that one running thread has, with room for their receipts.
 #[derive(Drop)]
 pub struct Workload {
     pub recorders: Vec<Recorder>,

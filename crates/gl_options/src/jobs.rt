@@ -1,4 +1,4 @@
-//! How many threads read a trace, and how the words of the command line ask for them.
+//! How many threads read a trace and look for its edges, and how the words of the command line ask for them.
 ghost use Rattle.std.specs.Prelude.{◌≡◌, ℕ, false, None, IfOk, IfSome};
 ghost use Rattle.clap.specs.Words.{App, app_of, found_of, rows_of, rule_of, with_rule};
 ghost use Rattle.clap.specs.declared.builder.command.Command.TheViews.{out-Command as fields_of};

@@ -1,4 +1,4 @@
-//! The recorder of one thread.
+//! Which events of one thread a recorder takes.
 ghost use Rattle.std.specs.Prelude.{◌≡◌, ◌≢◌, ◌<◌, ◌≤◌, None, Some, [], ◌∷◌, ◌++◌, length, OnOk, OnErr, IfSome, IfNone};
 ghost use Rattle.gl_event.specs.Lawful.{lock_refusal, refusal};
 ghost use Rattle.gl_event.specs.States.{no_events, MayFollow};
@@ -9,7 +9,7 @@ ghost use Rattle.gl_recorder.specs.Taking.{ForEachTracked, Tracks, end_note, ans
 use gl_event::{Body, Effect, Event, Limits, Note, Refusal, ThreadId, ThreadState};
 use std::marker::Model;
 
-/// The recorder of one thread: it takes the thread's events, each where it is lawful next.
+/// What a recorder knows of its thread: it takes the thread's events, each where it is lawful next.
 ///
 /// Contracts see its thread and limits, and what is known of the thread after the events that it took.
 #[derive(Drop, Debug)]
@@ -28,7 +28,7 @@ impl Model for Taker {
 }
 
 impl Taker {
-    /// The recorder of this thread, which has taken nothing yet.
+    /// That of this thread, which has taken nothing yet.
     pub fn new(thread: ThreadId, limits: &Limits) -> Taker
         requires { thread < limits.now.threads }
         ensures fresh { result.state ≡ no_events }

@@ -4,7 +4,7 @@ ghost use Rattle.serde_json.specs.View.{view};
 ghost use Rattle.serde_json.specs.Written.{compact_text};
 ghost use Rattle.gl_report.specs.Findings.{findings_tree};
 
-use crate::answers::{put_edges, put_found, put_question};
+use crate::report_members::{put_edges, put_found, put_question};
 use crate::tree::line_of;
 use gl_cycles::Found;
 use gl_edges::EdgeList;

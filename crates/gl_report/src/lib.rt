@@ -3,7 +3,6 @@
 //! docs/GLOSSARY.md has its words beside those of the field.
 #![tactic(auto)]
 
-mod answers;
 mod counted;
 mod escapes;
 mod exclusive;
@@ -12,6 +11,7 @@ mod listed;
 mod members;
 mod number;
 mod printing;
+mod report_members;
 mod stats;
 mod tree;
 mod tree_v1;

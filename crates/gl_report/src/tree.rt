@@ -4,7 +4,7 @@ ghost use Rattle.serde_json.specs.View.{view};
 ghost use Rattle.serde_json.specs.Written.{compact_text, has_float};
 ghost use Rattle.gl_report.specs.Tree.{report_tree, trim_tree};
 
-use crate::answers::{put_edges, put_found, put_question};
+use crate::report_members::{put_edges, put_found, put_question};
 use crate::values::positions_value;
 use gl_cycles::{Report, TrimOrder};
 use gl_event::Memory;

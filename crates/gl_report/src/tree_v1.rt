@@ -7,8 +7,8 @@ ghost use Rattle.serde_json.specs.Written.{compact_text};
 ghost use Rattle.gl_report.specs.Exclusive.{ListsExclusive};
 ghost use Rattle.gl_report.specs.TreeV1.{cycle_tree_v1, edge_tree_v1, report_tree_v1};
 
-use crate::answers::put_question;
 use crate::members::{put_locations, put_names, put_segments};
+use crate::report_members::put_question;
 use gl_cycles::Report;
 use gl_edges::{Edge, Sample};
 use gl_event::Memory;

@@ -24,7 +24,8 @@
 //! thread doesn't hold. The first line that is at fault decides the text: [`ReadFault::Line`] has its
 //! number and what is wrong with it.
 //!
-//! [`read_source`] reads the text of a [`Source`] as it comes, read by read, and doesn't keep it.
+//! [`read_source`] reads the text of a [`Source`] as it comes, read by read, and doesn't keep it;
+//! [`read_source_parallel`], which the program calls, has the same answer by several threads.
 //! [`Lines`] gives the lines of such a text one at a time, each as an [`Item`], and keeps no events;
 //! [`Items`] does so with a source that is lent to each call.
 //! Both are given a [`Seed`] for the hash of names: with one that was drawn at random, names can't be

@@ -1,5 +1,5 @@
 //! `goodlock` reads a trace of lock events from standard input and prints the deadlocks that it
-//! predicts, counts of the trace, or the trace itself.
+//! predicts, counts of the trace, or the trace itself; or it says whether a report is true.
 //!
 //! docs/GLOSSARY.md has its words beside those of the field.
 #![tactic(auto)]
