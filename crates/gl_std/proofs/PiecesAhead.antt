@@ -1,6 +1,5 @@
 -- Pieces that are read and cut before they are judged.
 use Rattle.std.proofs.Common.{◌≡◌, ℕ, zero, suc, ◌+◌, ◌<◌, ◌≤◌, ◌⊎◌, inl, inr, ◌||◌, ◌&&◌, Bool, true, false, cond, eqb, List, [], ◌∷◌, ◌++◌, length, map, take, drop, Contains, Some, All, Result, Ok, Err, get_or, refl, sym, ap, subst, ◌∙◌, append_assoc, length-append, add-zero, add-one, arith}
-use Rattle.std.specs.Prelude.{OnOk}
 use Rattle.std.specs.List.{onto_first}
 use Rattle.std.specs.Option.{option_map_or}
 use Rattle.std.proofs.lemmas.Bool.{false≢true}
@@ -17,7 +16,7 @@ use Rattle.gl_std.specs.LineReading.{TELLING, HasGiven}
 use Rattle.gl_std.specs.Lines.{LF, CR, begins_with, ended_lines, lines}
 use Rattle.gl_std.specs.Pieces.{IsFaulty, IsTold}
 use Rattle.gl_std.specs.Trace.{and_then, read_from, trace_of}
-use Rattle.gl_std.specs.bodies.Ahead.{bytes_of, text_of, FailsPiece, GivesOn, HasReadOn, IsShort, OnlyJudges, OnlyReadsAhead, TakesPiece}
+use Rattle.gl_std.specs.bodies.Ahead.{bytes_of, text_of, FailsPiece, GivesOn, HasReadOn, IsShort, JudgesText, OnlyJudges, OnlyReadsAhead, TakesPiece}
 use Rattle.gl_std.specs.bodies.Blocks.{after_shapes, between, FailsShapes, TakesShapes}
 use Rattle.gl_std.specs.bodies.Taking.{HasEndedLine}
 use Rattle.gl_std.specs.bodies.Telling.{with_judged}
@@ -348,11 +347,6 @@ taken_next old mid new lists lists2 lists3 front piece text is one two seen told
     let next = two (seen ++ front) first.later first.reaches first.listed in
     record { later = next.later; reaches = subst (λ t. Reaches new.judge new.unfinished.items t next.later) (append_assoc seen front piece ∙ ap (λ t. seen ++ t) is) next.reaches; listed = next.listed }
 
--- and what comes last, if nothing is wrong there
-pub taken_last : (old mid new : LineReader) (lists lists2 : List (List Event)) (front piece text : List ℕ) (r : Result (Unit {0}) ReadFault) → front ++ piece ≡ text → TakesPiece old lists front mid lists2 → OnOk r ((same : List (List Event)) → TakesPiece mid same piece new same) → OnOk r (TakesPiece old lists text new lists2)
-taken_last old mid new lists lists2 front piece text (Ok done) is one two = taken_next old mid new lists lists2 lists2 front piece text is one (two lists2)
-taken_last old mid new lists lists2 front piece text (Err fault) is one two = tt
-
 -- or one is at fault
 pub failed_next : (old mid : LineReader) (lists lists2 : List (List Event)) (front piece rest text : List ℕ) (r r2 : Result (Unit {0}) ReadFault) → (front ++ piece) ++ rest ≡ text → TakesPiece old lists front mid lists2 → mid.judge.limits ≡ old.judge.limits → FailsPiece mid lists2 piece r → ((number : ℕ) (kind : StdKind) → r2 ≡ Err (Line number kind) → r ≡ Err (Line number kind)) → FailsPiece old lists text r2
 failed_next old mid lists lists2 front piece rest text r r2 is one limits fails failed number kind at seen told reaches listed =
@@ -373,6 +367,19 @@ only_next old mid new n m k is one two = record {
   few = two.few;
   same_limits = two.same_limits ∙ one.same_limits;
   lines = omega (arith, one.lines, two.lines, is);
+}
+
+-- and what comes last
+pub judged_last : (old mid new : LineReader) (lists lists2 lists3 : List (List Event)) (front piece text : List ℕ) (r : Result (Unit {0}) ReadFault) → front ++ piece ≡ text → TakesPiece old lists front mid lists2 → OnlyJudges old mid (length front) → JudgesText mid lists2 piece new lists3 r → JudgesText old lists text new lists3 r
+judged_last old mid new lists lists2 lists3 front piece text (Ok done) is one only last = record {
+  tells = taken_next old mid new lists lists2 lists3 front piece text is one last.tells;
+  fault = λ number kind at. cc;
+  only = only_next old mid new (length front) (length piece) _ (sym (length-append front piece) ∙ ap length is) only last.only;
+}
+judged_last old mid new lists lists2 lists3 front piece text (Err fault) is one only last = record {
+  tells = tt;
+  fault = failed_next old mid lists lists2 front piece [] text (Err fault) (Err fault) (append_nil (front ++ piece) ∙ is) one only.same_limits last.fault (λ number kind at. at);
+  only = tt;
 }
 
 -- pieces that were cut give the same text

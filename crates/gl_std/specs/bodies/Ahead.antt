@@ -120,13 +120,19 @@ pub record OnlyJudges (old new : LineReader) (bytes : ℕ) : Type 0 where
   pub same_limits : new.judge.limits ≡ old.judge.limits
   pub lines : new.judge.line ≤ old.judge.line + bytes
 
--- pieces were judged, or a line of them is at fault
-pub record HasTakenPieces (old : LineReader) (lists : List (List Event)) (pieces : List Piece)
+-- what comes next of a text was judged, or a line of it is at fault
+pub record JudgesText (old : LineReader) (lists : List (List Event)) (text : List ℕ)
     (new : LineReader) (lists_later : List (List Event)) (result : Result (Unit {0}) ReadFault)
     : Type 0 where
-  pub tells : OnOk result (TakesPiece old lists (text_of pieces) new lists_later)
-  pub fault : FailsPiece old lists (text_of pieces) result
-  pub only : OnOk result (OnlyJudges old new (length (text_of pieces)))
+  pub tells : OnOk result (TakesPiece old lists text new lists_later)
+  pub fault : FailsPiece old lists text result
+  pub only : OnOk result (OnlyJudges old new (length text))
+
+-- so many bytes that come next can be judged: nothing is counted beyond what numbers hold
+pub record CanJudgeText (f : LineReader) (bytes : ℕ) : Type 0 where
+  pub sound : IsSound f.judge
+  pub few : length f.unfinished.items ≤ KEPT
+  pub countable : f.judge.line + bytes + 1 < 2 ^ 64
 
 -- ---- what is heard
 

@@ -11,7 +11,7 @@ ghost use Rattle.std.specs.Prelude.{◌≡◌, ◌^◌, ◌<◌, ◌≤◌, [], 
 ghost use Rattle.gl_io.specs.declared.source.TheConstants.{CHUNK};
 ghost use Rattle.gl_std.specs.Heard.{HasHeard};
 ghost use Rattle.gl_std.specs.Trace.{IsTraceOver};
-ghost use Rattle.gl_std.specs.bodies.Ahead.{bytes_of, text_of, AreCut, AreShort, CanJudge, CanReadAhead, HasReadPieces, HasTakenPieces, HearsEnding, HearsFault, HearsFaulty, HearsPieces, HearsRest, IsCut, IsShort};
+ghost use Rattle.gl_std.specs.bodies.Ahead.{bytes_of, text_of, AreCut, AreShort, CanJudge, CanReadAhead, HasReadPieces, HearsEnding, HearsFault, HearsFaulty, HearsPieces, HearsRest, IsCut, IsShort, JudgesText};
 ghost use Rattle.gl_std.specs.declared.line_reader.pieces.Ending.TheVariants.{More};
 
 use super::{Heard, finish, read_on, read_source};
@@ -133,7 +133,8 @@ fn take_and_read<T: Threads + Sync, R: Source>(
     requires room { vec_len reader.old.buffer ≡ CHUNK }
     requires not_failed { R.failed input.old ≡ false }
     requires none { pieces.old.items ≡ [] }
-    ensures taken { HasTakenPieces judge.old lists.old ahead.now judge.new lists.new result.0 }
+    ensures taken { JudgesText judge.old lists.old (text_of ahead.now)
+        judge.new lists.new result.0 }
     ensures read { IfOk result.1
         (HasReadPieces (R.position input.old) reader.old (R.position input.new)
         (R.failed input.new) reader.new pieces.new.items) }
@@ -150,8 +151,8 @@ fn take_and_read<T: Threads + Sync, R: Source>(
     }
     let mut taking = || -> Result<(), ReadFault>
         requires { CanJudge judge.now ahead.now }
-        ensures { HasTakenPieces judge.entry.now lists.entry.now ahead.entry.now judge.exit.now
-            lists.exit.now result }
+        ensures { JudgesText judge.entry.now lists.entry.now (text_of ahead.entry.now)
+            judge.exit.now lists.exit.now result }
     { judge.take_pieces(cutters.alloc, lists, ahead) };
     let mut reading = || -> Result<Ending, AllocError>
         requires { (0 < cutters.threads) × (vec_len reader.now.buffer ≡ CHUNK)

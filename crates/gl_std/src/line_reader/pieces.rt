@@ -4,7 +4,7 @@ ghost use Rattle.gl_event.specs.declared.events.Event.{Event};
 ghost use Rattle.gl_io.specs.declared.source.TheConstants.{CHUNK};
 ghost use Rattle.gl_std.specs.Line.{cut_at};
 ghost use Rattle.gl_std.specs.Lines.{LF};
-ghost use Rattle.gl_std.specs.bodies.Ahead.{bytes_of, text_of, AreShort, CanJudge, FailsPiece, HasGoneOn, HasReadOn, HasTakenPieces, IsCut, IsShort, OnlyJudges, OnlyReadsAhead, TakesPiece};
+ghost use Rattle.gl_std.specs.bodies.Ahead.{bytes_of, text_of, AreShort, CanJudge, CanJudgeText, HasGoneOn, HasReadOn, IsCut, IsShort, JudgesText, OnlyReadsAhead};
 ghost use Rattle.gl_std.specs.bodies.Blocks.{IsBlockOf};
 ghost use Rattle.gl_std.specs.bodies.States.{IsSound};
 ghost use Rattle.gl_std.specs.declared.block.TheConstants.{LONGEST};
@@ -246,7 +246,7 @@ impl LineReader {
         pieces: &[Piece],
     ) -> Result<(), ReadFault>
         requires can { CanJudge self.old pieces.now }
-        ensures { HasTakenPieces self.old lists.old pieces.now self.new lists.new result }
+        ensures { JudgesText self.old lists.old (text_of pieces.now) self.new lists.new result }
     {
         for i in 0..pieces.len() {
             self.take_piece(alloc, lists, &pieces[i])?;
@@ -261,15 +261,10 @@ impl LineReader {
         lists: &mut Lists,
         piece: &Piece,
     ) -> Result<(), ReadFault>
-        requires sound { IsSound self.old.judge }
-        requires few { length self.old.unfinished.items ≤ KEPT }
+        requires can { CanJudgeText self.old (length (bytes_of piece.now)) }
         requires short { IsShort piece.now }
         requires cut { IsCut piece.now }
-        requires countable { self.old.judge.line + length (bytes_of piece.now) + 1 < 2 ^ 64 }
-        ensures tells { OnOk result
-            (TakesPiece self.old lists.old (bytes_of piece.now) self.new lists.new) }
-        ensures fault { FailsPiece self.old lists.old (bytes_of piece.now) result }
-        ensures only { OnOk result (OnlyJudges self.old self.new (length (bytes_of piece.now))) }
+        ensures { JudgesText self.old lists.old (bytes_of piece.now) self.new lists.new result }
     {
         let text = piece.text.as_slice();
         match piece.paying() {
@@ -280,13 +275,8 @@ impl LineReader {
 
     // Judges a piece from its text, line by line.
     fn take_text(&mut self, alloc: Global, lists: &mut Lists, text: &[u8]) -> Result<(), ReadFault>
-        requires sound { IsSound self.old.judge }
-        requires few { length self.old.unfinished.items ≤ KEPT }
-        requires countable { self.old.judge.line + length text.now + 1 < 2 ^ 64 }
-        ensures tells { OnOk result
-            (TakesPiece self.old lists.old text.now self.new lists.new) }
-        ensures fault { FailsPiece self.old lists.old text.now result }
-        ensures only { OnOk result (OnlyJudges self.old self.new (length text.now)) }
+        requires can { CanJudgeText self.old (length text.now) }
+        ensures { JudgesText self.old lists.old text.now self.new lists.new result }
     {
         let mut rest = text;
         while let Some((end, after)) = cut(rest, LF) {
@@ -303,10 +293,7 @@ impl LineReader {
         requires sound { IsSound self.old.judge }
         requires few { length self.old.unfinished.items ≤ KEPT }
         requires countable { self.old.judge.line + 1 < 2 ^ 64 }
-        ensures tells { OnOk result
-            (TakesPiece self.old lists.old (end.now ++ LF ∷ []) self.new lists.new) }
-        ensures fault { FailsPiece self.old lists.old (end.now ++ LF ∷ []) result }
-        ensures only { OnOk result (OnlyJudges self.old self.new (length end.now + 1)) }
+        ensures { JudgesText self.old lists.old (end.now ++ LF ∷ []) self.new lists.new result }
     {
         let judged = end_line(&mut self.judge, &mut self.unfinished, end)?;
         lists.add(alloc, self.judge.names(), judged)?;
@@ -318,10 +305,8 @@ impl LineReader {
         requires none { ¬ Contains more.now LF }
         requires sound { IsSound self.old.judge }
         requires few { length self.old.unfinished.items ≤ KEPT }
-        ensures tells { OnOk result
-            ((lists : List (List Event)) → TakesPiece self.old lists more.now self.new lists) }
-        ensures fault { (lists : List (List Event)) → FailsPiece self.old lists more.now result }
-        ensures only { OnOk result (OnlyJudges self.old self.new (length more.now)) }
+        ensures { (lists : List (List Event))
+            → JudgesText self.old lists more.now self.new lists result }
     {
         keep(&mut self.unfinished, more)?;
         Ok(())
@@ -335,14 +320,9 @@ impl LineReader {
         text: &[u8],
         block: &Block,
     ) -> Result<(), ReadFault>
-        requires sound { IsSound self.old.judge }
-        requires few { length self.old.unfinished.items ≤ KEPT }
+        requires can { CanJudgeText self.old (length text.now) }
         requires block { IsBlockOf text.now block.now }
-        requires countable { self.old.judge.line + length text.now + 1 < 2 ^ 64 }
-        ensures tells { OnOk result
-            (TakesPiece self.old lists.old text.now self.new lists.new) }
-        ensures fault { FailsPiece self.old lists.old text.now result }
-        ensures only { OnOk result (OnlyJudges self.old self.new (length text.now)) }
+        ensures { JudgesText self.old lists.old text.now self.new lists.new result }
     {
         match cut(text, LF) {
             Some((end, after)) => self.take_lines(alloc, lists, text, end, after, block),
@@ -361,15 +341,10 @@ impl LineReader {
         after: &[u8],
         block: &Block,
     ) -> Result<(), ReadFault>
-        requires sound { IsSound self.old.judge }
-        requires few { length self.old.unfinished.items ≤ KEPT }
+        requires can { CanJudgeText self.old (length piece.now) }
         requires parts { Some (end.now, after.now) ≡ cut_at LF piece.now }
         requires block { IsBlockOf piece.now block.now }
-        requires countable { self.old.judge.line + length piece.now + 1 < 2 ^ 64 }
-        ensures tells { OnOk result
-            (TakesPiece self.old lists.old piece.now self.new lists.new) }
-        ensures fault { FailsPiece self.old lists.old piece.now result }
-        ensures only { OnOk result (OnlyJudges self.old self.new (length piece.now)) }
+        ensures { JudgesText self.old lists.old piece.now self.new lists.new result }
     {
         let judged = end_line(&mut self.judge, &mut self.unfinished, end)?;
         lists.add(alloc, self.judge.names(), judged)?;

@@ -1,5 +1,6 @@
 use Rattle.std.proofs.Common.{◌≡◌, ◌<◌, ℕ, get_or, ◌++◌, Err, length, map, sym, ap, ◌+◌, subst, ◌∙◌, arith}
 use Rattle.std.proofs.lemmas.Grind.{common_steps}
+use Rattle.std.proofs.lemmas.Result.{err_from_is_err_and}
 use Rattle.gl_std.specs.Line.{Shape, shape_of}
 use Rattle.gl_std.specs.Lines.{lines}
 use Rattle.gl_std.specs.bodies.Blocks.{between, shapes_of}
@@ -16,13 +17,19 @@ pub end_line-requires-clause-one_line : goal.end_line-requires-clause-one_line
 end_line-requires-clause-one_line c = (first_end c.args.piece.now c.args.end.now c.args.after.now c.requires.parts).1
 
 -- the line that ends is at fault
-pub returns-in_err-judged-clause-fault : goal.returns-in_err-judged-clause-fault
-returns-in_err-judged-clause-fault c = λ number kind is seen told reaches listed.
+pub returns-in_err-judged : goal.returns-in_err-judged
+returns-in_err-judged c =
     let old = c.args.self.now in
-    let failed : c.end_line.result ≡ Err (Line number kind) = let was = c.in_err-judged.was in let of = c.from_residual.ensures in grind (arith, common_steps, was, of, is) in
     let cut = (first_end c.args.piece.now c.args.end.now c.args.after.now c.requires.parts).0 in
-    fault_front old.judge.limits (with_end seen c.args.end.now) (seen ++ c.args.piece.now) c.args.after.now number kind (end_parts seen c.args.piece.now c.args.end.now c.args.after.now cut)
-    (fault_ended old.judge c.end_line.new.judge old.unfinished.items c.end_line.new.unfinished.items c.args.end.now seen told c.end_line.result number kind failed c.end_line.ensures.ends reaches)
+    let p = err_from_is_err_and c.from_residual.result c.from_residual.ensures.1 in
+    record {
+      tells = rw p.1 tt;
+      fault = λ number kind is seen told reaches listed.
+          let failed : c.end_line.result ≡ Err (Line number kind) = let was = c.in_err-judged.was in let of = c.from_residual.ensures in grind (arith, common_steps, was, of, is) in
+          fault_front old.judge.limits (with_end seen c.args.end.now) (seen ++ c.args.piece.now) c.args.after.now number kind (end_parts seen c.args.piece.now c.args.end.now c.args.after.now cut)
+          (fault_ended old.judge c.end_line.new.judge old.unfinished.items c.end_line.new.unfinished.items c.args.end.now seen told c.end_line.result number kind failed c.end_line.ensures.ends reaches);
+      only = rw p.1 tt;
+    }
 
 pub take_block-requires-clause-apart : goal.take_block-requires-clause-apart
 take_block-requires-clause-apart c =
@@ -31,38 +38,44 @@ take_block-requires-clause-apart c =
 pub take_block-requires-clause-countable : goal.take_block-requires-clause-countable
 take_block-requires-clause-countable c =
     let few = between_few c.args.piece.now c.args.end.now c.args.after.now c.requires.parts in
-    omega (arith, few, c.requires.block.count, c.in_ok-judged.ensures.ends.line, c.requires.countable)
+    omega (arith, few, c.requires.block.count, c.in_ok-judged.ensures.ends.line, c.requires.can.countable)
 
 -- a line of the block is at fault
-pub returns-in_err-take_block-clause-fault : goal.returns-in_err-take_block-clause-fault
-returns-in_err-take_block-clause-fault c = λ number kind is seen told reaches listed.
-    let piece = c.args.piece.now in
-    let end = c.args.end.now in
-    let after = c.args.after.now in
-    let failed : c.take_block.result ≡ Err (Line number kind) = let was = c.in_err-take_block.was in let of = c.from_residual-in_err-take_block.ensures in grind (arith, common_steps, was, of, is) in
-    let mid = record c.args.self.now { judge = c.end_line.new.judge; unfinished = c.end_line.new.unfinished } in
-    failed_lines c.args.self.now mid c.args.lists.now c.add.new.self piece end after c.in_ok-judged.judged (shapes_of c.args.block.now) seen told number kind c.take_block.result
-    (first_end piece end after c.requires.parts).0 (c.requires.block.says ∙ ap (λ t. map shape_of (lines t)) (between_is piece end after c.requires.parts))
-    c.in_ok-judged.ensures.ends (λ t same. rw c.names.ensures at (c.in_ok-add.ensures t same)) c.take_block.ensures.fault c.end_line.ensures.limits failed reaches listed
-
-pub returns-clause-tells : goal.returns-clause-tells
-returns-clause-tells c =
+pub returns-in_err-take_block : goal.returns-in_err-take_block
+returns-in_err-take_block c =
     let piece = c.args.piece.now in
     let end = c.args.end.now in
     let after = c.args.after.now in
     let mid = record c.args.self.now { judge = c.end_line.new.judge; unfinished = c.end_line.new.unfinished } in
-    taken_lines c.args.self.now mid _ c.args.lists.now c.add.new.self c.take_block.new.lists piece end after c.unended.result.now c.in_ok-judged.judged (shapes_of c.args.block.now)
-    (first_end piece end after c.requires.parts).0 c.unended.ensures.parts c.unended.ensures.unended (c.requires.block.says ∙ ap (λ t. map shape_of (lines t)) (between_is piece end after c.requires.parts))
-    c.in_ok-judged.ensures.ends (λ t same. rw c.names.ensures at (c.in_ok-add.ensures t same)) c.in_ok-take_block.ensures.tells c.take_block.ensures.limits
-    (c.in_ok-take_block.ensures.line ∙ ap (λ n. c.end_line.new.judge.line + n) (c.requires.block.count ∙ ap (λ t. length (lines t)) (between_is piece end after c.requires.parts)))
-    c.in_ok-keep.ensures.kept
+    let p = err_from_is_err_and c.from_residual-in_err-take_block.result c.from_residual-in_err-take_block.ensures.1 in
+    record {
+      tells = rw p.1 tt;
+      fault = λ number kind is seen told reaches listed.
+          let failed : c.take_block.result ≡ Err (Line number kind) = let was = c.in_err-take_block.was in let of = c.from_residual-in_err-take_block.ensures in grind (arith, common_steps, was, of, is) in
+          failed_lines c.args.self.now mid c.args.lists.now c.add.new.self piece end after c.in_ok-judged.judged (shapes_of c.args.block.now) seen told number kind c.take_block.result
+          (first_end piece end after c.requires.parts).0 (c.requires.block.says ∙ ap (λ t. map shape_of (lines t)) (between_is piece end after c.requires.parts))
+          c.in_ok-judged.ensures.ends (λ t same. rw c.names.ensures at (c.in_ok-add.ensures t same)) c.take_block.ensures.fault c.end_line.ensures.limits failed reaches listed;
+      only = rw p.1 tt;
+    }
 
-pub returns-clause-only : goal.returns-clause-only
-returns-clause-only c =
+pub returns : goal.returns
+returns c =
+    let piece = c.args.piece.now in
+    let end = c.args.end.now in
+    let after = c.args.after.now in
+    let mid = record c.args.self.now { judge = c.end_line.new.judge; unfinished = c.end_line.new.unfinished } in
     let few = between_few c.args.piece.now c.args.end.now c.args.after.now c.requires.parts in
     record {
-      sound = c.in_ok-take_block.ensures.sound;
-      few = few_kept KEPT _ _ c.in_ok-keep.ensures.kept;
-      same_limits = c.take_block.ensures.limits ∙ c.end_line.ensures.limits;
-      lines = omega (arith, few, c.requires.block.count, c.in_ok-judged.ensures.ends.line, c.in_ok-take_block.ensures.line);
+      tells = taken_lines c.args.self.now mid _ c.args.lists.now c.add.new.self c.take_block.new.lists piece end after c.unended.result.now c.in_ok-judged.judged (shapes_of c.args.block.now)
+          (first_end piece end after c.requires.parts).0 c.unended.ensures.parts c.unended.ensures.unended (c.requires.block.says ∙ ap (λ t. map shape_of (lines t)) (between_is piece end after c.requires.parts))
+          c.in_ok-judged.ensures.ends (λ t same. rw c.names.ensures at (c.in_ok-add.ensures t same)) c.in_ok-take_block.ensures.tells c.take_block.ensures.limits
+          (c.in_ok-take_block.ensures.line ∙ ap (λ n. c.end_line.new.judge.line + n) (c.requires.block.count ∙ ap (λ t. length (lines t)) (between_is piece end after c.requires.parts)))
+          c.in_ok-keep.ensures.kept;
+      fault = λ number kind is. cc;
+      only = record {
+        sound = c.in_ok-take_block.ensures.sound;
+        few = few_kept KEPT _ _ c.in_ok-keep.ensures.kept;
+        same_limits = c.take_block.ensures.limits ∙ c.end_line.ensures.limits;
+        lines = omega (arith, few, c.requires.block.count, c.in_ok-judged.ensures.ends.line, c.in_ok-take_block.ensures.line);
+      };
     }

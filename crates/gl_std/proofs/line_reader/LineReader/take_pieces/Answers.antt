@@ -9,14 +9,19 @@ use Rattle.gl_std.specs.bodies.Ahead.{bytes_of, text_of, OnlyJudges, TakesPiece}
 use Rattle.gl_std.proofs.PiecesAhead.{failed_next, only_next, taken_next, text_take_next, text_take_rest}
 use Rattle.gl_std.proofs.line_reader.LineReader.take_pieces.Goals as goal
 
-pub take_piece-requires-clause-countable : goal.take_piece-requires-clause-countable
-take_piece-requires-clause-countable c =
+pub take_piece-requires-clause-can : goal.take_piece-requires-clause-can
+take_piece-requires-clause-can c =
+    let so_far = c.loop-i.invariant.only in
     let within : c.loop-i.i < length c.args.pieces.now = omega (arith, c.loop-i-test.true) in
     let rest = text_take_rest c.args.pieces.now c.loop-i.i c.index-pieces-i.result within c.index-pieces-i.is in
     let front = text_of (take c.loop-i.i c.args.pieces.now) in
     let piece = bytes_of c.index-pieces-i.result in
     let whole = ap length rest.1 in
-    omega (arith, whole, length-append (front ++ piece) rest.0, length-append front piece, c.loop-i.invariant.only.lines, c.requires.can.countable)
+    record {
+      sound = so_far.sound;
+      few = so_far.few;
+      countable = omega (arith, whole, length-append (front ++ piece) rest.0, length-append front piece, so_far.lines, c.requires.can.countable);
+    }
 
 pub loop-i-preserved : goal.loop-i-preserved
 loop-i-preserved c =

@@ -4,14 +4,14 @@ use Rattle.gl_std.proofs.LineByLine.{few_kept}
 use Rattle.gl_std.proofs.PiecesAhead.{taken_rest}
 use Rattle.gl_std.proofs.line_reader.LineReader.take_unended.Goals as goal
 
-pub returns-clause-tells : goal.returns-clause-tells
-returns-clause-tells c = λ lists.
-    taken_rest c.args.self.now _ lists c.args.more.now c.requires.none refl c.in_ok-keep.ensures.kept
-
-pub returns-clause-only : goal.returns-clause-only
-returns-clause-only c = record {
-  sound = c.requires.sound;
-  few = few_kept KEPT _ _ c.in_ok-keep.ensures.kept;
-  same_limits = refl;
-  lines = omega arith;
+pub returns : goal.returns
+returns c = λ lists. record {
+  tells = taken_rest c.args.self.now _ lists c.args.more.now c.requires.none refl c.in_ok-keep.ensures.kept;
+  fault = λ number kind is. cc;
+  only = record {
+    sound = c.requires.sound;
+    few = few_kept KEPT _ _ c.in_ok-keep.ensures.kept;
+    same_limits = refl;
+    lines = omega arith;
+  };
 }
