@@ -197,7 +197,7 @@ fn round<R: Wait>(
 
 // Ships the edges made before; then pulls and ships, round by round, until every thread's end mark was
 // pulled. It waits a little after a round in which no note was seen.
-fn gather<R: Wait>(
+fn pull_until_ended<R: Wait>(
     rt: &R,
     alloc: Global,
     threads: u32,
@@ -257,7 +257,7 @@ pub(crate) fn collect_all<R: Wait>(
         ((thread : ℕ) → thread < intake.old.limits.threads
         → has_ended thread intake.new.stream ≡ true) }
 {
-    match gather(rt, alloc, threads, inputs, intake, made, outlets) {
+    match pull_until_ended(rt, alloc, threads, inputs, intake, made, outlets) {
         Ok(()) => Ok(()),
         Err(fault) => {
             discard_all(rt, inputs, intake, threads);

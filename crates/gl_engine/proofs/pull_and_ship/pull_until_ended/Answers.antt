@@ -1,7 +1,7 @@
 use Rattle.std.proofs.Common.{rules, [], ◌∙◌}
 use Rattle.std.proofs.lemmas.Result.{err_from_is_err_and}
 use Rattle.gl_engine.proofs.Handing.{prefix_on, blamed_gone, stops_gone, stops_since}
-use Rattle.gl_engine.proofs.pull_and_ship.gather.Goals as goal
+use Rattle.gl_engine.proofs.pull_and_ship.pull_until_ended.Goals as goal
 
 pub round-requires-clause-kept : goal.round-requires-clause-kept
 round-requires-clause-kept g c = rw (c.loop.invariant.limits) c.loop.invariant.keeps
