@@ -1,4 +1,4 @@
-use Rattle.std.proofs.Common.{map, refl, sym, ◌∙◌, subst}
+use Rattle.std.proofs.Common.{rules, map, refl, sym, ◌∙◌, subst}
 use Rattle.gl_engine.specs.Collecting.{Collecting}
 use Rattle.gl_engine.specs.Dealing.{made_by}
 use Rattle.gl_engine.specs.Gathering.{Gathering, HasRunThrough}
@@ -8,8 +8,15 @@ use Rattle.gl_engine.proofs.Running.{as_long, lanes_shown, unsent_dealt, gathere
 use Rattle.gl_engine.proofs.Sides.{collecting_of}
 use Rattle.gl_engine.proofs.collector.Collector.run_into.Goals as goal
 
-pub collect_all-gathered-requires-clause-unsent : goal.collect_all-gathered-requires-clause-unsent
-collect_all-gathered-requires-clause-unsent g c = unsent_dealt c.args.outlets.items c.requires.unsent
+pub collect_all-gathered-requires : goal.collect_all-gathered-requires
+collect_all-gathered-requires g c = record {
+  begins = record {
+    all = search rules;
+    collector = search rules;
+    shards = record { some = c.requires.some; fit = c.requires.fit };
+    unsent = unsent_dealt c.args.outlets.items c.requires.unsent;
+  };
+}
 
 pub invariant_of-result : goal.invariant_of-result
 invariant_of-result g c =
