@@ -6,10 +6,8 @@ ghost use Rattle.gl_edges.specs.declared.edge.Sample.{Sample};
 ghost use Rattle.gl_shards.specs.Shards as shards_of;
 ghost use Rattle.gl_engine.specs.bodies.Breaking.{IsGoneAt, IsKeptFor, TellsTaken};
 ghost use Rattle.gl_engine.specs.bodies.Shipping.{AreShipped, CanBegin, ReachShards, Ships};
-ghost use Rattle.gl_engine.specs.Dealing.{made_by};
-ghost use Rattle.gl_engine.specs.Keeping.{IsCollector};
 ghost use Rattle.gl_engine.specs.Settling.{HaveEndedBelow};
-ghost use Rattle.gl_engine.specs.bodies.Whole.{GoesOn, HasMoved, KeepsUp, PullsOn};
+ghost use Rattle.gl_engine.specs.bodies.Whole.{GoesOn, HasMoved, KeepsNotes, KeepsUp, PullsOn};
 
 use crate::discarding::discard_all;
 use crate::gathered::RunFault;
@@ -90,8 +88,7 @@ fn pull_at(
 ) -> Result<bool, RunFault>
     requires known { thread < intake.old.limits.threads }
     requires none { made.old.items ≡ [] }
-    requires keeps { IsCollector intake.old.limits inputs.old.items intake.old.stream
-        (made_by intake.old.stream) intake.old.limits }
+    requires keeps { KeepsNotes intake.old inputs.old.items }
     ensures pulls_on { PullsOn 1 thread intake.old intake.new inputs.old.items
         inputs.new.items made.new.items result }
     ensures moved { IfOk result (HasMoved intake.old.stream intake.new.stream) }
@@ -112,8 +109,7 @@ fn pull_some(
 ) -> Result<bool, RunFault>
     requires known { thread < intake.old.limits.threads }
     requires none { made.old.items ≡ [] }
-    requires keeps { IsCollector intake.old.limits inputs.old.items intake.old.stream
-        (made_by intake.old.stream) intake.old.limits }
+    requires keeps { KeepsNotes intake.old inputs.old.items }
     ensures pulls_on { PullsOn 64 thread intake.old intake.new inputs.old.items
         inputs.new.items made.new.items result }
     ensures moved { IfOk result (HasMoved intake.old.stream intake.new.stream) }

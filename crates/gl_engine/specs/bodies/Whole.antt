@@ -22,6 +22,10 @@ use Rattle.gl_engine.specs.declared.lane_input.LaneInput.{LaneInput}
 abbrev pub lane_of : LaneInput → LaneId
 lane_of input = input.lane.lane
 
+-- what a collector keeps of the notes collected
+abbrev pub KeepsNotes : Collected → List LaneInput → Type 0
+KeepsNotes c inputs = IsCollector c.limits inputs c.stream (made_by c.stream) c.limits
+
 -- a run has kept up so far: what a collector keeps of the notes collected, and to each shard the edges were shipped that are its own
 pub record KeepsUp (limits : Bounds) (inputs : List LaneInput) (stream : List Note) (outlets : List Sending) : Type 0 where
   pub collector : IsCollector limits inputs stream (made_by stream) limits
