@@ -18,7 +18,7 @@ import sys
 
 TOP = pathlib.Path(__file__).resolve().parent.parent.parent
 BYTES = COLUMNS = 100
-WIDE = 679  # lines of specs folders
+WIDE = 677  # lines of specs folders
 CLAUSE = re.compile(r"\s*(requires\b|ensures\b|(pub\S* )?ghost (?!use\b))")
 
 

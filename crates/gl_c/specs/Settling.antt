@@ -3,10 +3,9 @@ use Rattle.std.specs.Prelude.{◌≡◌, ℕ, List, Option, Some, None}
 use Rattle.gl_engine.specs.Collecting.{Collecting, lanes_of}
 use Rattle.gl_engine.specs.Receipts.{AreOfRecorders}
 use Rattle.gl_engine.specs.Recording.{Closed}
-use Rattle.gl_engine.specs.Settling.{AreListsOf, IsUnsettledFault}
+use Rattle.gl_engine.specs.Settling.{IsSettledAlone, IsUnsettledFault}
 use Rattle.gl_engine.specs.declared.faults.UnsettledFault.{UnsettledFault}
 use Rattle.gl_engine.specs.declared.faults.UnsettledFault.TheVariants as unsettled
-use Rattle.gl_intake.specs.Stream.{logs_of}
 use Rattle.gl_c.specs.declared.codes.TheConstants.{OK, MISUSE, MISSING, STRANGE}
 use Rattle.gl_c.specs.declared.session_state.Running.{Running}
 use Rattle.gl_c.specs.declared.session_state.SessionState.{SessionState}
@@ -45,7 +44,8 @@ pub record IsUnsettled (collected : Collecting) (receipts : List Closed) (was an
 -- a running session is settled into the lists of its receipts, which are all that was pulled; or it is as it was, and what stands against it is
 -- told
 abbrev pub IsSettling : Running → List Closed → ℕ → ℕ → ℕ → Stage → Type 0
-IsSettling old receipts was answer told (HasSettled lists) = (answer ≡ OK) × (told ≡ was) × AreListsOf receipts lists × (lists ≡ logs_of old.collector.limits.threads old.collector.stream)
+IsSettling old receipts was answer told (HasSettled lists) =
+    (answer ≡ OK) × (told ≡ was) × IsSettledAlone old.collector receipts lists
 IsSettling old receipts was answer told (Runs new) = (new.collector ≡ old.collector) × (new.limits ≡ old.limits) × IsUnsettled old.collector receipts was answer told
 IsSettling old receipts was answer told Gone = ⊥
 

@@ -6,7 +6,7 @@ use Rattle.std.specs.Option.{option_map}
 use mathlib.Core.List.{IsPrefix}
 use Rattle.std.proofs.Math.Seq.{map-set_same}
 use Rattle.std.proofs.lemmas.Bool.{false≢true}
-use Rattle.std.proofs.lemmas.List.{append-nil, length-append, length-map, map-set, map-append}
+use Rattle.std.proofs.lemmas.List.{append-nil, length-append, length-map, length-set, map-set, map-append}
 use Rattle.std.proofs.lemmas.Option.{slice_get-map}
 use Rattle.gl_event.specs.Bounds.{Bounds}
 use Rattle.gl_event.specs.declared.notes.Note.{Note}
@@ -16,12 +16,14 @@ use Rattle.gl_intake.specs.Stream.{has_ended}
 use Rattle.gl_shards.specs.Feeds.{AllSent, Sending}
 use Rattle.gl_shards.specs.Shards.{shard_of}
 use Rattle.gl_shards.specs.Tables.{of_shard}
+use Rattle.gl_shards.specs.declared.shard.TheConstants.{MAX_SHARDS}
 use Rattle.gl_world.proofs.Lists.{same_some, get_at, get_set_same}
 use Rattle.gl_engine.specs.Collecting.{Pulling, Side, as_of, with_pulled, HasPulled, IsTurn, IsSidePull}
 use Rattle.gl_intake.specs.declared.notes.Refused.{Refused}
 use Rattle.gl_engine.specs.bodies.Breaking.{first_of, HasStopped, IsBlamed, IsBroken, IsKeptFor, IsPullFault, TellsTaken}
 use Rattle.gl_engine.specs.Dealing.{dealt, made_by}
 use Rattle.gl_engine.specs.Keeping.{BreaksForCause, IsCollector, pulling_of}
+use Rattle.gl_engine.specs.bodies.Shipping.{AreShipped, ReachShards}
 use Rattle.gl_engine.specs.bodies.Whole.{lane_of, HasMoved, KeepsUp, IsWhole, IsGathered}
 use Rattle.std.proofs.lemmas.Simd.{map-map}
 use Rattle.gl_engine.specs.declared.gathered.RunFault.{RunFault}
@@ -168,7 +170,7 @@ as_long f g xs ys same = sym (length-map xs f) ∙ ap length same ∙ length-map
 module _ (outlets : List Sending) (k : ℕ) (was new : Sending) (here : was ≡ get_or outlets k was) where
   -- an edge more was shipped to its shard
   pub shipped_more : (pair : Edge × Sample) → 1 ≤ length outlets → k ≡ shard_of pair.0 (length outlets) → k < length outlets → new.sent ≡ was.sent ++ pair ∷ [] → (before : List (Edge × Sample))
-      → map (λ o. o.sent) outlets ≡ dealt (length outlets) before → map (λ o. o.sent) (set outlets k new) ≡ dealt (length outlets) (before ++ pair ∷ [])
+      → AreShipped outlets before → AreShipped (set outlets k new) (before ++ pair ∷ [])
   shipped_more pair some its within sent before are =
       let n = length outlets in
       let old : was.sent ≡ of_shard n before k = same_some was.sent (of_shard n before k) (sym (slice_get-map (λ (o : Sending). o.sent) outlets k ∙ ap (option_map (λ (o : Sending). o.sent)) (get_at outlets k was within here)) ∙ ap (λ xs. slice_get xs k) are ∙ dealt_at n before k within) in
@@ -176,12 +178,19 @@ module _ (outlets : List Sending) (k : ℕ) (was new : Sending) (here : was ≡ 
       ∙ (λ i. set (are i) k ((sent ∙ ap (λ xs. xs ++ pair ∷ []) old) i))
       ∙ ap (λ j. set (dealt n before) j (of_shard n before j ++ pair ∷ [])) its
       ∙ sym (dealt_more n before pair (subst (λ j. j < n) its within))
+      ∙ ap (λ m. dealt m (before ++ pair ∷ [])) (sym (length-set outlets k new))
 
   pub sent_same : new.sent ≡ was.sent → map (λ o. o.sent) (set outlets k new) ≡ map (λ o. o.sent) outlets
   sent_same same = map-set_same (λ (o : Sending). o.sent) outlets k new was (same ∙ ap (λ (o : Sending). o.sent) here)
 
   pub feeds_same : new.feed ≡ was.feed → map (λ o. o.feed) (set outlets k new) ≡ map (λ o. o.feed) outlets
   feeds_same same = map-set_same (λ (o : Sending). o.feed) outlets k new was (same ∙ ap (λ (o : Sending). o.feed) here)
+
+-- where the feeds stay, there still is an outlet for each shard
+pub shards_still : (outlets later : List Sending) → map (λ o. o.feed) later ≡ map (λ o. o.feed) outlets → ReachShards outlets → ReachShards later
+shards_still outlets later feeds are =
+    let count : length later ≡ length outlets = as_long (λ (o : Sending). o.feed) (λ (o : Sending). o.feed) later outlets feeds in
+    record { some = omega (arith, are.some, count); fit = subst (λ n. n ≤ MAX_SHARDS) (sym count) are.fit }
 
 -- shipping stopped at an edge, the next after those that were shipped before
 pub stopped_at : (shards : ℕ) (before yielded left rest all : List (Edge × Sample)) (next : Edge × Sample) (was now : List (List (Edge × Sample))) (shard : ℕ) → yielded ++ left ≡ all → left ≡ next ∷ rest
@@ -200,7 +209,7 @@ stopped_at shards before yielded left rest all next was now shard parts first de
     }
 
 -- nothing was sent through these outlets
-pub unsent_dealt : (outlets : List Sending) → ((shard : ℕ) (o : Sending) → slice_get outlets shard ≡ Some o → o.sent ≡ []) → map (λ o. o.sent) outlets ≡ dealt (length outlets) []
+pub unsent_dealt : (outlets : List Sending) → ((shard : ℕ) (o : Sending) → slice_get outlets shard ≡ Some o → o.sent ≡ []) → AreShipped outlets []
 unfolding dealt
 unsent_dealt outlets none = from 0 outlets none
   where

@@ -1,10 +1,10 @@
 -- What a collector is settled into by the recorders' receipts, after a run or without one.
-use Rattle.std.specs.Prelude.{◌≡◌, ℕ, ◌<◌, true, false, List, length, Some, slice_get}
+use Rattle.std.specs.Prelude.{◌≡◌, ℕ, ◌<◌, true, false, List, length, None, Some, slice_get}
 use Rattle.std.specs.List.{flat_map}
 use Rattle.gl_event.specs.declared.events.Event.{Event}
 use Rattle.gl_event.specs.declared.notes.Note.{Note}
 use Rattle.gl_edges.specs.Edges.{once, edges}
-use Rattle.gl_intake.specs.Stream.{has_ended}
+use Rattle.gl_intake.specs.Stream.{has_ended, logs_of}
 use Rattle.gl_shards.specs.Feeds.{AllSent}
 use Rattle.gl_engine.specs.Collecting.{Collecting}
 use Rattle.gl_engine.specs.Gathering.{Gathering}
@@ -48,9 +48,19 @@ told (kept.Gone shard) = fault.Gone shard
 told (kept.Broken thread refused) = fault.Broken thread refused
 
 -- the lists are the receipts', and the feeds were sent the edges of these lists, each with its least sample, and no others
-pub record IsSettled (receipts : List Closed) (lists : List (List Event)) (sent : List AllSent) : Type 0 where
+pub record IsSettled (receipts : List Closed) (lists : List (List Event)) (sent : List AllSent)
+    : Type 0 where
   pub lists_are : AreListsOf receipts lists
   pub edges_are : once (flat_map (λ s. s.sent) sent) ≡ edges lists
+
+-- what was gathered is settled with these receipts into these lists and feeds: the lists are all that was collected, the feeds are those whose
+-- edges were all sent, and nothing had gone wrong in the run
+pub record IsSettledFrom (g : Gathering) (receipts : List Closed) (all : List (List Event))
+    (feeds : List AllSent) : Type 0 where
+  pub lists : all ≡ logs_of g.limits.threads g.stream
+  pub sent : feeds ≡ g.sent
+  pub settled : IsSettled receipts all feeds
+  pub whole : g.fault ≡ None
 
 -- ---- without a run
 
@@ -63,6 +73,12 @@ pub record IsFirstUnended (threads : ℕ) (stream : List Note) (thread : ℕ) : 
   pub known : thread < threads
   pub running : has_ended thread stream ≡ false
   pub first : HaveEndedBelow stream thread
+
+-- a collector is settled with these receipts into these lists: they are all that was collected
+pub record IsSettledAlone (c : Collecting) (receipts : List Closed) (all : List (List Event))
+    : Type 0 where
+  pub lists : all ≡ logs_of c.limits.threads c.stream
+  pub settled : AreListsOf receipts all
 
 -- why a collector isn't settled: the first strange receipt, else the first missing one, else the first missing end mark. It is as it was
 abbrev pub IsUnsettledFault : Collecting → List Closed → UnsettledFault → Type 0

@@ -2,4 +2,5 @@
 pub mod Breaking
 pub mod Fronts
 pub mod Opening
+pub mod Shipping
 pub mod Whole

@@ -6,6 +6,7 @@ ghost use Rattle.gl_edges.specs.declared.edge.Sample.{Sample};
 ghost use Rattle.gl_shards.specs.Feeds.{FeedId, Sending};
 ghost use Rattle.gl_shards.specs.declared.shard.TheConstants.{MAX_SHARDS};
 ghost use Rattle.gl_engine.specs.bodies.Breaking.{first_of};
+ghost use Rattle.gl_engine.specs.bodies.Shipping.{ReachShards};
 ghost use Rattle.gl_engine.specs.Gathering.{AreEnded, HasNotBegun, HasRunThrough, IsLeftBy};
 ghost use Rattle.gl_engine.specs.declared.gathered.RunFault.TheVariants as kept;
 
@@ -138,8 +139,7 @@ impl Collector {
         sent: Vec<Sent>,
         made: Vec<(Edge, Sample)>,
     ) -> Gathered
-        requires some { 1 ≤ length outlets.items }
-        requires fit { length outlets.items ≤ MAX_SHARDS }
+        requires shards { ReachShards outlets.items }
         requires unsent { (shard : ℕ) (o : Sending) → slice_get outlets.items shard ≡ Some o
             → o.sent ≡ [] }
         requires empty { sent.items ≡ [] }

@@ -1,10 +1,9 @@
 //! What a collector leaves behind that has run, and what went wrong in the run.
-ghost use Rattle.std.specs.Prelude.{◌≡◌, None, length, IfOk, IfErr, OnOk};
-ghost use Rattle.gl_intake.specs.Stream.{logs_of};
+ghost use Rattle.std.specs.Prelude.{◌≡◌, IfOk, IfErr};
 ghost use Rattle.gl_engine.specs.Gathering.{AreOurs};
-ghost use Rattle.gl_engine.specs.Receipts.{AreOwnBelow, AreThereBelow};
+ghost use Rattle.gl_engine.specs.Receipts.{AreComplete};
 ghost use Rattle.gl_engine.specs.Settling as settling;
-ghost use Rattle.gl_engine.specs.Settling.{IsMemoryOrGone, IsSettleFault, IsSettled};
+ghost use Rattle.gl_engine.specs.Settling.{IsMemoryOrGone, IsSettleFault, IsSettledFrom};
 
 use crate::faults::SettleFault;
 use crate::lane_input::LaneInput;
@@ -103,16 +102,10 @@ impl Gathered {
         receipts: &mut [Receipt],
     ) -> Result<(Settled, Vec<Sent>), SettleFault>
         requires ours { AreOurs self receipts.old }
-        requires own { AreOwnBelow self.session self.limits.threads receipts.old
-            (length receipts.old) }
-        requires all { AreThereBelow receipts.old self.limits.threads }
+        requires complete { AreComplete self.session self.limits.threads receipts.old }
         ensures receipts { receipts.new ≡ receipts.old }
-        ensures lists { IfOk result (λ settled. settled.0
-            ≡ logs_of self.limits.threads self.stream) }
-        ensures sent { IfOk result (λ settled. settled.1.items ≡ self.sent) }
         ensures settled { IfOk result
-            (λ settled. IsSettled receipts.old settled.0 settled.1.items) }
-        ensures whole { OnOk result (self.fault ≡ None) }
+            (λ settled. IsSettledFrom self receipts.old settled.0 settled.1.items) }
         ensures fault { IfErr result (λ fault. IsSettleFault self receipts.old fault) }
         ensures complete { IfErr result IsMemoryOrGone }
     {

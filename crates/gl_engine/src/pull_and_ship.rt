@@ -1,15 +1,13 @@
 //! How a run goes on as long as nothing goes wrong: it pulls, and ships the edges.
-ghost use Rattle.std.specs.Prelude.{◌≡◌, ◌<◌, ◌≤◌, ◌++◌, [], ◌∷◌, ℕ, true, List, map, length, OnOk, OnErr, IfOk, IfErr};
+ghost use Rattle.std.specs.Prelude.{◌≡◌, ◌<◌, ◌++◌, [], ◌∷◌, List, map, length, OnOk, OnErr, IfOk, IfErr};
 ghost use mathlib.Core.List.{IsPrefix};
 ghost use Rattle.gl_edges.specs.declared.edge.Edge.{Edge};
 ghost use Rattle.gl_edges.specs.declared.edge.Sample.{Sample};
-ghost use Rattle.gl_intake.specs.Stream.{has_ended};
 ghost use Rattle.gl_shards.specs.Shards as shards_of;
-ghost use Rattle.gl_shards.specs.declared.shard.TheConstants.{MAX_SHARDS};
 ghost use Rattle.gl_engine.specs.bodies.Breaking.{IsGoneAt, IsKeptFor, TellsTaken};
-ghost use Rattle.gl_engine.specs.Dealing.{dealt, made_by};
-ghost use Rattle.gl_engine.specs.Keeping.{IsCollector};
-ghost use Rattle.gl_engine.specs.bodies.Whole.{GoesOn, HasMoved, KeepsUp, PullsOn};
+ghost use Rattle.gl_engine.specs.bodies.Shipping.{AreShipped, CanBegin, ReachShards, Ships};
+ghost use Rattle.gl_engine.specs.Settling.{HaveEndedBelow};
+ghost use Rattle.gl_engine.specs.bodies.Whole.{GoesOn, HasMoved, KeepsNotes, KeepsUp, PullsOn};
 
 use crate::discarding::discard_all;
 use crate::gathered::RunFault;
@@ -33,14 +31,8 @@ fn ship_one<R: Wait>(
     edge: Edge,
     sample: Sample,
 ) -> Result<(), u32>
-    requires some { 1 ≤ length outlets.old.items }
-    requires fit { length outlets.old.items ≤ MAX_SHARDS }
-    ensures shipped { (before : List (Edge × Sample))
-        → map (λ o. o.sent) outlets.old.items ≡ dealt (length outlets.old.items) before
-        → OnOk result
-        (map (λ o. o.sent) outlets.new.items
-        ≡ dealt (length outlets.old.items) (before ++ (edge, sample) ∷ [])) }
-    ensures feeds { map (λ o. o.feed) outlets.new.items ≡ map (λ o. o.feed) outlets.old.items }
+    requires shards { ReachShards outlets.old.items }
+    ensures ships { Ships ((edge, sample) ∷ []) outlets.old.items outlets.new.items result }
     ensures unsent { OnErr result
         (map (λ o. o.sent) outlets.new.items ≡ map (λ o. o.sent) outlets.old.items) }
     ensures whose { IfErr result
@@ -59,16 +51,9 @@ fn ship<R: Wait>(
     outlets: &mut Vec<Outlet>,
     made: Vec<(Edge, Sample)>,
 ) -> Result<(), RunFault>
-    requires some { 1 ≤ length outlets.old.items }
-    requires fit { length outlets.old.items ≤ MAX_SHARDS }
-    ensures shipped { (before : List (Edge × Sample))
-        → map (λ o. o.sent) outlets.old.items ≡ dealt (length outlets.old.items) before
-        → OnOk result
-        (map (λ o. o.sent) outlets.new.items
-        ≡ dealt (length outlets.old.items) (before ++ made.items)) }
-    ensures feeds { map (λ o. o.feed) outlets.new.items ≡ map (λ o. o.feed) outlets.old.items }
-    ensures stopped { (before : List (Edge × Sample))
-        → map (λ o. o.sent) outlets.old.items ≡ dealt (length outlets.old.items) before
+    requires shards { ReachShards outlets.old.items }
+    ensures ships { Ships made.items outlets.old.items outlets.new.items result }
+    ensures stopped { (before : List (Edge × Sample)) → AreShipped outlets.old.items before
         → IfErr result
         (IsGoneAt (before ++ made.items) (map (λ o. o.sent) outlets.new.items)) }
 {
@@ -103,8 +88,7 @@ fn pull_at(
 ) -> Result<bool, RunFault>
     requires known { thread < intake.old.limits.threads }
     requires none { made.old.items ≡ [] }
-    requires keeps { IsCollector intake.old.limits inputs.old.items intake.old.stream
-        (made_by intake.old.stream) intake.old.limits }
+    requires keeps { KeepsNotes intake.old inputs.old.items }
     ensures pulls_on { PullsOn 1 thread intake.old intake.new inputs.old.items
         inputs.new.items made.new.items result }
     ensures moved { IfOk result (HasMoved intake.old.stream intake.new.stream) }
@@ -125,8 +109,7 @@ fn pull_some(
 ) -> Result<bool, RunFault>
     requires known { thread < intake.old.limits.threads }
     requires none { made.old.items ≡ [] }
-    requires keeps { IsCollector intake.old.limits inputs.old.items intake.old.stream
-        (made_by intake.old.stream) intake.old.limits }
+    requires keeps { KeepsNotes intake.old inputs.old.items }
     ensures pulls_on { PullsOn 64 thread intake.old intake.new inputs.old.items
         inputs.new.items made.new.items result }
     ensures moved { IfOk result (HasMoved intake.old.stream intake.new.stream) }
@@ -157,8 +140,7 @@ fn turn<R: Wait>(
     outlets: &mut Vec<Outlet>,
 ) -> Result<bool, RunFault>
     requires known { thread < intake.old.limits.threads }
-    requires some { 1 ≤ length outlets.old.items }
-    requires fit { length outlets.old.items ≤ MAX_SHARDS }
+    requires shards { ReachShards outlets.old.items }
     requires kept { KeepsUp intake.old.limits inputs.old.items intake.old.stream outlets.old.items }
     ensures goes_on { GoesOn intake.old intake.new inputs.old.items inputs.new.items
         outlets.old.items outlets.new.items result }
@@ -180,8 +162,7 @@ fn round<R: Wait>(
     outlets: &mut Vec<Outlet>,
 ) -> Result<bool, RunFault>
     requires all { threads ≡ intake.old.limits.threads }
-    requires some { 1 ≤ length outlets.old.items }
-    requires fit { length outlets.old.items ≤ MAX_SHARDS }
+    requires shards { ReachShards outlets.old.items }
     requires kept { KeepsUp intake.old.limits inputs.old.items intake.old.stream outlets.old.items }
     ensures goes_on { GoesOn intake.old intake.new inputs.old.items inputs.new.items
         outlets.old.items outlets.new.items result }
@@ -197,7 +178,7 @@ fn round<R: Wait>(
 
 // Ships the edges made before; then pulls and ships, round by round, until every thread's end mark was
 // pulled. It waits a little after a round in which no note was seen.
-fn gather<R: Wait>(
+fn pull_until_ended<R: Wait>(
     rt: &R,
     alloc: Global,
     threads: u32,
@@ -206,17 +187,10 @@ fn gather<R: Wait>(
     made: Vec<(Edge, Sample)>,
     outlets: &mut Vec<Outlet>,
 ) -> Result<(), RunFault>
-    requires all { threads ≡ intake.old.limits.threads }
-    requires some { 1 ≤ length outlets.old.items }
-    requires fit { length outlets.old.items ≤ MAX_SHARDS }
-    requires unsent { map (λ o. o.sent) outlets.old.items ≡ dealt (length outlets.old.items) [] }
-    requires collector { IsCollector intake.old.limits inputs.old.items intake.old.stream made.items
-        intake.old.limits }
+    requires begins { CanBegin threads intake.old inputs.old.items made.items outlets.old.items }
     ensures goes_on { GoesOn intake.old intake.new inputs.old.items inputs.new.items
         outlets.old.items outlets.new.items result }
-    ensures ended { OnOk result
-        ((thread : ℕ) → thread < intake.old.limits.threads
-        → has_ended thread intake.new.stream ≡ true) }
+    ensures ended { OnOk result (HaveEndedBelow intake.new.stream intake.old.limits.threads) }
 {
     ship(rt, outlets, made)?;
     let mut looks: u32 = 0;
@@ -245,19 +219,12 @@ pub(crate) fn collect_all<R: Wait>(
     made: Vec<(Edge, Sample)>,
     outlets: &mut Vec<Outlet>,
 ) -> Result<(), RunFault>
-    requires all { threads ≡ intake.old.limits.threads }
-    requires some { 1 ≤ length outlets.old.items }
-    requires fit { length outlets.old.items ≤ MAX_SHARDS }
-    requires unsent { map (λ o. o.sent) outlets.old.items ≡ dealt (length outlets.old.items) [] }
-    requires collector { IsCollector intake.old.limits inputs.old.items intake.old.stream made.items
-        intake.old.limits }
+    requires begins { CanBegin threads intake.old inputs.old.items made.items outlets.old.items }
     ensures goes_on { GoesOn intake.old intake.new inputs.old.items inputs.new.items
         outlets.old.items outlets.new.items result }
-    ensures ended { OnOk result
-        ((thread : ℕ) → thread < intake.old.limits.threads
-        → has_ended thread intake.new.stream ≡ true) }
+    ensures ended { OnOk result (HaveEndedBelow intake.new.stream intake.old.limits.threads) }
 {
-    match gather(rt, alloc, threads, inputs, intake, made, outlets) {
+    match pull_until_ended(rt, alloc, threads, inputs, intake, made, outlets) {
         Ok(()) => Ok(()),
         Err(fault) => {
             discard_all(rt, inputs, intake, threads);

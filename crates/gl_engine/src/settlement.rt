@@ -1,10 +1,9 @@
 //! How what was collected is settled, after a run or without one.
-ghost use Rattle.std.specs.Prelude.{◌≡◌, None, length, IfOk, IfErr, IfNone, IfSome, IsOk, OnOk};
-ghost use Rattle.gl_intake.specs.Stream.{logs_of};
+ghost use Rattle.std.specs.Prelude.{◌≡◌, IfOk, IfErr, IfNone, IfSome, IsOk};
 ghost use Rattle.gl_engine.specs.Collecting.{lanes_of};
 ghost use Rattle.gl_engine.specs.Gathering.{AreOurs};
-ghost use Rattle.gl_engine.specs.Receipts.{AreComplete, AreOfRecorders, AreOwnBelow, AreThereBelow};
-ghost use Rattle.gl_engine.specs.Settling.{AreListsOf, HaveEndedBelow, IsFirstUnended, IsMemoryOrGone, IsSettleFault, IsSettled, IsUnsettledFault};
+ghost use Rattle.gl_engine.specs.Receipts.{AreComplete, AreOfRecorders};
+ghost use Rattle.gl_engine.specs.Settling.{HaveEndedBelow, IsFirstUnended, IsMemoryOrGone, IsSettleFault, IsSettledAlone, IsSettledFrom, IsUnsettledFault};
 
 use crate::collector::Collector;
 use crate::faults::{SettleFault, UnsettledFault};
@@ -48,12 +47,8 @@ impl Gathered {
     pub fn settle(self, receipts: &mut [Receipt]) -> Result<(Settled, Vec<Sent>), SettleFault>
         requires ours { AreOurs self receipts.old }
         ensures receipts { receipts.new ≡ receipts.old }
-        ensures lists { IfOk result (λ settled. settled.0
-            ≡ logs_of self.limits.threads self.stream) }
-        ensures sent { IfOk result (λ settled. settled.1.items ≡ self.sent) }
         ensures settled { IfOk result
-            (λ settled. IsSettled receipts.old settled.0 settled.1.items) }
-        ensures whole { OnOk result (self.fault ≡ None) }
+            (λ settled. IsSettledFrom self receipts.old settled.0 settled.1.items) }
         ensures fault { IfErr result (λ fault. IsSettleFault self receipts.old fault) }
         ensures complete { AreComplete self.session self.limits.threads receipts.old
             → IfErr result IsMemoryOrGone }
@@ -90,9 +85,7 @@ impl Collector {
     pub fn settle(self, receipts: &mut [Receipt]) -> Result<Settled, UnsettledFault>
         requires ours { AreOfRecorders self.session self.limits (lanes_of self) receipts.old }
         ensures receipts { receipts.new ≡ receipts.old }
-        ensures lists { IfOk result
-            (λ settled. settled ≡ logs_of self.limits.threads self.stream) }
-        ensures settled { IfOk result (λ settled. AreListsOf receipts.old settled) }
+        ensures settled { IfOk result (λ settled. IsSettledAlone self receipts.old settled) }
         ensures fault { IfErr result (λ fault. IsUnsettledFault self receipts.old fault) }
         ensures complete { AreComplete self.session self.limits.threads receipts.old
             → HaveEndedBelow self.stream self.limits.threads → IsOk result }
@@ -122,13 +115,10 @@ impl Collector {
     // Settles what was collected, where all was: there is one receipt of each thread and no other.
     fn settle_all(self, receipts: &mut [Receipt]) -> Settled
         requires ours { AreOfRecorders self.session self.limits (lanes_of self) receipts.old }
-        requires own { AreOwnBelow self.session self.limits.threads receipts.old
-            (length receipts.old) }
-        requires all { AreThereBelow receipts.old self.limits.threads }
+        requires complete { AreComplete self.session self.limits.threads receipts.old }
         requires ended { HaveEndedBelow self.stream self.limits.threads }
         ensures receipts { receipts.new ≡ receipts.old }
-        ensures lists { result ≡ logs_of self.limits.threads self.stream }
-        ensures settled { AreListsOf receipts.old result }
+        ensures settled { IsSettledAlone self receipts.old result }
     {
         let Collector {
             alloc,

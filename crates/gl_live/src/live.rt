@@ -1,5 +1,5 @@
 //! The report of a session over given lists.
-ghost use Rattle.std.specs.Prelude.{◌≡◌, ◌≤◌, ◌+◌, [], List, None, length, map, IfOk, IfErr, OnOk};
+ghost use Rattle.std.specs.Prelude.{◌≡◌, ◌≤◌, ◌+◌, [], List, length, map, IfOk, IfErr, OnOk};
 ghost use Rattle.std.specs.List.{All};
 ghost use Rattle.std.specs.Vec.{vec_len, vec_capacity};
 ghost use Rattle.gl_event.specs.declared.events.Event.{Event};
@@ -10,7 +10,7 @@ ghost use Rattle.gl_edges.specs.Edges.{edges, once};
 ghost use Rattle.gl_shards.specs.declared.shard.TheConstants.{MAX_SHARDS};
 ghost use Rattle.gl_shards.specs.Feeds.{AllSent};
 ghost use Rattle.gl_engine.specs.Recording.{Closed};
-ghost use Rattle.gl_engine.specs.Settling.{IsSettled};
+ghost use Rattle.gl_engine.specs.Settling.{IsSettled, IsSettledFrom};
 ghost use Rattle.gl_findings.specs.Reports.{IsReportWith};
 ghost use Rattle.gl_live.specs.Faults.{IsLiveFault};
 ghost use Rattle.gl_live.specs.bodies.Runs.{HasRun};
@@ -63,9 +63,8 @@ fn settle(gathered: Gathered, receipts: &mut [Receipt]) -> Result<(Settled, Vec<
     ensures lists { (lists : List (List Event)) → gathered.limits.threads ≡ length lists
         → All (IsReceiptOf (gathered_from gathered) lists) receipts.old
         → IfOk result (λ settled. settled.0 ≡ lists) }
-    ensures settled { IfOk result (λ settled. IsSettled receipts.old settled.0 settled.1.items) }
-    ensures sent { IfOk result (λ settled. settled.1.items ≡ gathered.sent) }
-    ensures whole { OnOk result (gathered.fault ≡ None) }
+    ensures settled { IfOk result
+        (λ settled. IsSettledFrom gathered receipts.old settled.0 settled.1.items) }
     ensures fault { (all : List (List Event)) → IfErr result (IsLiveFault all) }
 {
     match gathered.settle(receipts) {

@@ -2,7 +2,7 @@
 ghost use Rattle.std.specs.Prelude.{◌≡◌, IfOk};
 
 use crate::say::{Stop, refused, say};
-use crate::settling::{ends, settle_worker};
+use crate::settling::{roomy_feed, settle_worker};
 use crate::tables::{known_edge, sample_at};
 use gl_shards::{Gate, Outlet, Sent, serve};
 use std::sync::Wait;
@@ -49,7 +49,7 @@ fn send_all<W: Wait>(rt: &HostRuntime, waits: &W, outlet: Outlet) -> Result<Sent
 
 // The worker of shard 1 serves a feed that has two edges. Whether it got memory for its table.
 fn is_served<W: Wait>(rt: &HostRuntime, waits: &W) -> Result<bool, Stop> {
-    let (outlet, inlet) = ends(rt)?;
+    let (outlet, inlet) = roomy_feed(rt)?;
     let sent = send_all(rt, waits, outlet)?;
     let served = serve(waits, rt.alloc(), inlet, 1, &GrowingGate { rt });
     Ok(settle_worker(rt, served, sent)?.is_some())

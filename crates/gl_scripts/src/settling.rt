@@ -39,7 +39,7 @@ fn recorded_alone(
 }
 
 /// The ends of a feed, for which memory may be refused once. It has room for all that is sent.
-pub(crate) fn ends(rt: &HostRuntime) -> Result<(Outlet, Inlet), Memory>
+pub(crate) fn roomy_feed(rt: &HostRuntime) -> Result<(Outlet, Inlet), Memory>
     ensures one_feed { IfOk result (λ ends. ends.1.feed ≡ ends.0.feed) }
     ensures empty { IfOk result (λ ends. ends.0.sent ≡ []) }
 {
@@ -51,7 +51,7 @@ pub(crate) fn ends(rt: &HostRuntime) -> Result<(Outlet, Inlet), Memory>
 }
 
 // Room for one outlet; memory may be refused once.
-fn room(rt: &HostRuntime) -> Result<Vec<Outlet>, AllocError>
+fn room_for_outlet(rt: &HostRuntime) -> Result<Vec<Outlet>, AllocError>
     ensures { IfOk result (λ outlets. outlets.items ≡ []) }
 {
     if let Ok(outlets) = Vec::with_capacity(rt.alloc(), 1) {
@@ -73,8 +73,8 @@ fn run_alone<W: Wait>(
     ensures feeds { IfOk result
         (λ run. run.0.fault ≡ None → map (λ s. s.feed) run.0.sent ≡ run.1.feed ∷ []) }
 {
-    let (outlet, inlet) = ends(rt)?;
-    let mut outlets = room(rt)?;
+    let (outlet, inlet) = roomy_feed(rt)?;
+    let mut outlets = room_for_outlet(rt)?;
     let Ok(()) = outlets.push(outlet) else {
         return Err(Stop::Memory);
     };

@@ -10,6 +10,7 @@ use Rattle.gl_lane.specs.Lanes.{LaneId}
 use Rattle.gl_shards.specs.Feeds.{AllSent, Sending}
 use Rattle.gl_world.specs.Keeping.{notes_of, AreMade}
 use Rattle.gl_engine.specs.bodies.Breaking.{IsBlamed, IsPullFault, StopsWith}
+use Rattle.gl_engine.specs.bodies.Shipping.{AreShipped}
 use Rattle.gl_engine.specs.Collecting.{as_of, IsTurn}
 use Rattle.gl_engine.specs.Keeping.{AreNotesOf, IsCollector}
 use Rattle.gl_engine.specs.Recording.{Closed}
@@ -21,10 +22,14 @@ use Rattle.gl_engine.specs.declared.lane_input.LaneInput.{LaneInput}
 abbrev pub lane_of : LaneInput → LaneId
 lane_of input = input.lane.lane
 
+-- what a collector keeps of the notes collected
+abbrev pub KeepsNotes : Collected → List LaneInput → Type 0
+KeepsNotes c inputs = IsCollector c.limits inputs c.stream (made_by c.stream) c.limits
+
 -- a run has kept up so far: what a collector keeps of the notes collected, and to each shard the edges were shipped that are its own
 pub record KeepsUp (limits : Bounds) (inputs : List LaneInput) (stream : List Note) (outlets : List Sending) : Type 0 where
   pub collector : IsCollector limits inputs stream (made_by stream) limits
-  pub shipped : map (λ o. o.sent) outlets ≡ dealt (length outlets) (made_by stream)
+  pub shipped : AreShipped outlets (made_by stream)
 
 -- whether there are more notes than before; if not, they are the same ones
 abbrev pub HasMoved : List Note → List Note → Bool → Type 0

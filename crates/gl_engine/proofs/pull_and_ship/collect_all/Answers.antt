@@ -11,6 +11,6 @@ returns-in-Err-clause-goes_on g c =
       lanes = c.discard_all.ensures.lanes ∙ went.lanes;
       feeds = went.feeds;
       grown = went.grown;
-      blamed = blamed_later c.args.intake.now.limits c.gather.new.inputs.items c.discard_all.new.inputs.items c.gather.new.intake.stream c.in-Err.fault c.discard_all.ensures.handed went.blamed;
+      blamed = blamed_later c.args.intake.now.limits c.pull_until_ended.new.inputs.items c.discard_all.new.inputs.items c.pull_until_ended.new.intake.stream c.in-Err.fault c.discard_all.ensures.handed went.blamed;
       stopped = went.stopped;
     }

@@ -2,12 +2,15 @@ use Rattle.std.proofs.Common.{rules, sym, ◌∙◌, subst}
 use Rattle.std.proofs.lemmas.Result.{err_from_is_err_and}
 use Rattle.gl_engine.specs.bodies.Whole.{HasMoved}
 use Rattle.gl_engine.proofs.Handing.{prefix_on, stops_since}
-use Rattle.gl_engine.proofs.Running.{moved_first, moved_then}
+use Rattle.gl_engine.proofs.Running.{moved_first, moved_then, shards_still}
 use Rattle.gl_engine.proofs.pull_and_ship.round.Goals.{then-moved, else-moved}
 use Rattle.gl_engine.proofs.pull_and_ship.round.Goals as goal
 
 pub turn-requires-clause-kept : goal.turn-requires-clause-kept
 turn-requires-clause-kept g c = rw (c.loop-number.invariant.limits) c.loop-number.invariant.keeps
+
+pub turn-requires-clause-shards : goal.turn-requires-clause-shards
+turn-requires-clause-shards g c = shards_still c.args.outlets.now.items c.loop-number.outlets.items c.loop-number.invariant.feeds c.requires.shards
 
 pub returns-in_err-pulled-clause-goes_on : goal.returns-in_err-pulled-clause-goes_on
 returns-in_err-pulled-clause-goes_on g c =

@@ -4,28 +4,27 @@ use Rattle.std.proofs.lemmas.List.{length-map}
 use Rattle.gl_edges.specs.declared.edge.Edge.{Edge}
 use Rattle.gl_edges.specs.declared.edge.Sample.{Sample}
 use Rattle.gl_shards.specs.Feeds.{Sending}
-use Rattle.gl_shards.specs.Shards.{shard_of}
 use Rattle.gl_engine.specs.Dealing.{dealt}
-use Rattle.gl_engine.proofs.Running.{as_long, stopped_at}
+use Rattle.gl_engine.proofs.Running.{shards_still, stopped_at}
 use Rattle.gl_engine.proofs.pull_and_ship.ship.Goals as goal
+
+pub ship_one-requires : goal.ship_one-requires
+ship_one-requires g c = record { shards = shards_still c.args.outlets.now.items c.loop-edge.outlets.items c.loop-edge.invariant.feeds c.requires.shards }
 
 pub loop-edge-preserved : goal.loop-edge-preserved
 loop-edge-preserved g c =
     let was = c.loop-edge.invariant in
     let pair : Edge × Sample = (c.in-Some.edge, c.in-Some.sample) in
     let steps : into_iter_items c.loop-edge.edge-iterator ≡ pair ∷ into_iter_items c.next.new.self = c.in-Some.ensures.steps.0 in
-    let count : length c.loop-edge.outlets.items ≡ length c.args.outlets.now.items = as_long (λ (o : Sending). o.feed) (λ (o : Sending). o.feed) c.loop-edge.outlets.items c.args.outlets.now.items was.feeds in
     record {
       next = tt;
       finite = tt;
       all = append_assoc c.loop-edge.yielded (pair ∷ []) _ ∙ ap (λ rest. c.loop-edge.yielded ++ rest) (sym steps) ∙ was.all;
       counted = (let before = was.counted in let gone = c.in-Some.ensures.steps.1 in let short = ap length steps in omega arith);
       shipped = λ before are.
-          (let so_far : map (λ (o : Sending). o.sent) c.loop-edge.outlets.items ≡ dealt (length c.loop-edge.outlets.items) (before ++ c.loop-edge.yielded) = was.shipped before are ∙ ap (λ n. dealt n (before ++ c.loop-edge.yielded)) (sym count) in
-          c.in_default.ensures.shipped (before ++ c.loop-edge.yielded) so_far
-          ∙ ap (λ n. dealt n ((before ++ c.loop-edge.yielded) ++ pair ∷ [])) count
-          ∙ ap (dealt (length c.args.outlets.now.items)) (append_assoc before c.loop-edge.yielded (pair ∷ [])));
-      feeds = c.ship_one.ensures.feeds ∙ was.feeds;
+          c.in_default.ensures.ships.shipped (before ++ c.loop-edge.yielded) (was.shipped before are)
+          ∙ ap (dealt (length c.ship_one.new.outlets.items)) (append_assoc before c.loop-edge.yielded (pair ∷ []));
+      feeds = c.ship_one.ensures.ships.feeds ∙ was.feeds;
     }
 
 pub returns-in-Err-clause-stopped : goal.returns-in-Err-clause-stopped
@@ -33,7 +32,6 @@ returns-in-Err-clause-stopped g c before are =
     let was = c.loop-edge.invariant in
     let pair : Edge × Sample = (c.in-Some.edge, c.in-Some.sample) in
     let steps : into_iter_items c.loop-edge.edge-iterator ≡ pair ∷ into_iter_items c.next.new.self = c.in-Some.ensures.steps.0 in
-    let count : length c.loop-edge.outlets.items ≡ length c.args.outlets.now.items = as_long (λ (o : Sending). o.feed) (λ (o : Sending). o.feed) c.loop-edge.outlets.items c.args.outlets.now.items was.feeds in
-    stopped_at (length c.args.outlets.now.items) before c.loop-edge.yielded (into_iter_items c.loop-edge.edge-iterator) (into_iter_items c.next.new.self) c.args.made.items pair
+    stopped_at (length c.loop-edge.outlets.items) before c.loop-edge.yielded (into_iter_items c.loop-edge.edge-iterator) (into_iter_items c.next.new.self) c.args.made.items pair
     (map (λ (o : Sending). o.sent) c.loop-edge.outlets.items) (map (λ (o : Sending). o.sent) c.ship_one.new.outlets.items) c.in-Err.shard was.all steps (was.shipped before are) c.in-Err.ensures.unsent
-    (length-map c.loop-edge.outlets.items (λ (o : Sending). o.sent) ∙ count) (c.in-Err.ensures.whose ∙ ap (shard_of pair.0) count)
+    (length-map c.loop-edge.outlets.items (λ (o : Sending). o.sent)) c.in-Err.ensures.whose

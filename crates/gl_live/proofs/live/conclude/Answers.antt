@@ -10,7 +10,7 @@ use Rattle.gl_live.proofs.live.conclude.Goals as goal
 pub returns-in-Ok-settle_workers-clause-report : goal.returns-in-Ok-settle_workers-clause-report
 returns-in-Ok-settle_workers-clause-report g c = λ lists threads receipts.
     subst (λ ls. IfOk c.report_settled.result (λ report. IsReportWith c.args.contents c.args.query.now (edges ls) ls report)) (c.in-Ok.ensures.lists lists threads (subst (All (IsReceiptOf (gathered_from c.args.ran.gathered) lists)) (sym c.as_mut_slice.ensures.value) receipts))
-    (c.report_settled.ensures.report _ _ c.in-Ok.ensures.settled c.in-Ok-settle_workers.ensures.tables)
+    (c.report_settled.ensures.report _ _ c.in-Ok.ensures.settled.settled c.in-Ok-settle_workers.ensures.tables)
 
 pub returns-in-Ok-settle_workers-clause-fault : goal.returns-in-Ok-settle_workers-clause-fault
 returns-in-Ok-settle_workers-clause-fault g c = λ lists threads receipts. subst (λ ls. IfErr c.report_settled.result (IsLiveFault ls)) (c.in-Ok.ensures.lists lists threads (subst (All (IsReceiptOf (gathered_from c.args.ran.gathered) lists)) (sym c.as_mut_slice.ensures.value) receipts)) c.report_settled.ensures.fault

@@ -1,4 +1,4 @@
-use Rattle.std.proofs.Common.{map, refl, sym, ◌∙◌, subst}
+use Rattle.std.proofs.Common.{rules, map, refl, sym, ◌∙◌, subst}
 use Rattle.gl_engine.specs.Collecting.{Collecting}
 use Rattle.gl_engine.specs.Dealing.{made_by}
 use Rattle.gl_engine.specs.Gathering.{Gathering, HasRunThrough}
@@ -8,14 +8,21 @@ use Rattle.gl_engine.proofs.Running.{as_long, lanes_shown, unsent_dealt, gathere
 use Rattle.gl_engine.proofs.Sides.{collecting_of}
 use Rattle.gl_engine.proofs.collector.Collector.run_into.Goals as goal
 
-pub collect_all-gathered-requires-clause-unsent : goal.collect_all-gathered-requires-clause-unsent
-collect_all-gathered-requires-clause-unsent g c = unsent_dealt c.args.outlets.items c.requires.unsent
+pub collect_all-gathered-requires : goal.collect_all-gathered-requires
+collect_all-gathered-requires g c = record {
+  begins = record {
+    all = search rules;
+    collector = search rules;
+    shards = c.requires.shards;
+    unsent = unsent_dealt c.args.outlets.items c.requires.unsent;
+  };
+}
 
 pub invariant_of-result : goal.invariant_of-result
 invariant_of-result g c =
     rw c.collect_all-gathered.ensures.goes_on.limits
     (gathered_all c.self.inside.limits c.self.inside.intake.limits c.self.invariant.same_limits c.self.inside.inputs.items c.collect_all-gathered.new.inputs.items c.self.invariant.inputs_are.count c.collect_all-gathered.ensures.goes_on.lanes
-    c.collect_all-gathered.new.intake.stream c.args.outlets.items c.collect_all-gathered.new.outlets.items c.end_all-gone.new.sent.items c.requires.some c.collect_all-gathered.ensures.goes_on.feeds
+    c.collect_all-gathered.new.intake.stream c.args.outlets.items c.collect_all-gathered.new.outlets.items c.end_all-gone.new.sent.items c.requires.shards.some c.collect_all-gathered.ensures.goes_on.feeds
     c.collect_all-gathered.result c.end_all-gone.result c.collect_all-gathered.ensures.goes_on.keeps c.collect_all-gathered.ensures.ended c.end_all-gone.ensures.sent c.collect_all-gathered.ensures.goes_on.blamed c.first_fault.result c.first_fault.ensures.first c.first_fault.ensures.none)
 
 pub returns : goal.returns

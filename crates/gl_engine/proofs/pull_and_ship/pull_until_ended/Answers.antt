@@ -1,10 +1,14 @@
 use Rattle.std.proofs.Common.{rules, [], ◌∙◌}
 use Rattle.std.proofs.lemmas.Result.{err_from_is_err_and}
 use Rattle.gl_engine.proofs.Handing.{prefix_on, blamed_gone, stops_gone, stops_since}
-use Rattle.gl_engine.proofs.pull_and_ship.gather.Goals as goal
+use Rattle.gl_engine.proofs.Running.{shards_still}
+use Rattle.gl_engine.proofs.pull_and_ship.pull_until_ended.Goals as goal
 
 pub round-requires-clause-kept : goal.round-requires-clause-kept
 round-requires-clause-kept g c = rw (c.loop.invariant.limits) c.loop.invariant.keeps
+
+pub round-requires-clause-shards : goal.round-requires-clause-shards
+round-requires-clause-shards g c = shards_still c.args.outlets.now.items c.loop.outlets.items c.loop.invariant.feeds c.requires.begins.shards
 
 pub loop-preserved-then-branch : goal.loop-preserved-then-branch
 loop-preserved-then-branch g c = record {
@@ -37,8 +41,8 @@ returns-in_err-ship-clause-goes_on g c =
       lanes = search rules;
       feeds = search rules;
       grown = search rules;
-      blamed = rw (p.1, p.2) (blamed_gone c.args.intake.now.limits c.args.inputs.now.items c.args.intake.now.stream _ _ c.in_err-ship.field-0.0 (c.in_err-ship.ensures.stopped [] c.requires.unsent));
-      stopped = rw (p.1, p.2) (stops_gone c.args.intake.now.stream c.args.intake.now.stream _ _ c.in_err-ship.field-0.0 c.requires.collector.made_is (c.in_err-ship.ensures.stopped [] c.requires.unsent));
+      blamed = rw (p.1, p.2) (blamed_gone c.args.intake.now.limits c.args.inputs.now.items c.args.intake.now.stream _ _ c.in_err-ship.field-0.0 (c.in_err-ship.ensures.stopped [] c.requires.begins.unsent));
+      stopped = rw (p.1, p.2) (stops_gone c.args.intake.now.stream c.args.intake.now.stream _ _ c.in_err-ship.field-0.0 c.requires.begins.collector.made_is (c.in_err-ship.ensures.stopped [] c.requires.begins.unsent));
     }
 
 pub returns-in_err-ship-clause-ended : goal.returns-in_err-ship-clause-ended

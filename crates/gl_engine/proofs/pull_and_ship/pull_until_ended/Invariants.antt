@@ -1,7 +1,7 @@
 use Rattle.std.proofs.Common.{◌≡◌, map}
 use mathlib.Core.List.{IsPrefix}
 use Rattle.gl_engine.specs.bodies.Whole.{lane_of, KeepsUp}
-use Rattle.gl_engine.proofs.pull_and_ship.gather.Given as goal
+use Rattle.gl_engine.proofs.pull_and_ship.pull_until_ended.Given as goal
 
 -- the run has kept up, and lanes and feeds stay
 abbrev pub invariant-loop : goal.invariant-loop

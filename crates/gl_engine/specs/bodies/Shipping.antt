@@ -1,0 +1,34 @@
+-- What is shipped through outlets, and what a run begins with.
+use Rattle.std.specs.Prelude.{◌≡◌, ◌≤◌, ℕ, List, [], ◌++◌, length, map, Result, OnOk}
+use Rattle.gl_edges.specs.declared.edge.Edge.{Edge}
+use Rattle.gl_edges.specs.declared.edge.Sample.{Sample}
+use Rattle.gl_intake.specs.Stream.{Collected}
+use Rattle.gl_shards.specs.Feeds.{Sending}
+use Rattle.gl_shards.specs.declared.shard.TheConstants.{MAX_SHARDS}
+use Rattle.gl_engine.specs.Dealing.{dealt}
+use Rattle.gl_engine.specs.Keeping.{IsCollector}
+use Rattle.gl_engine.specs.declared.lane_input.LaneInput.{LaneInput}
+
+-- there is an outlet for each shard, 1 to 16 of them
+pub record ReachShards (outlets : List Sending) : Type 0 where
+  pub some : 1 ≤ length outlets
+  pub fit : length outlets ≤ MAX_SHARDS
+
+-- through each outlet those of these edges were sent that are its shard's, and no others
+abbrev pub AreShipped : List Sending → List (Edge × Sample) → Type 0
+AreShipped outlets pairs = map (λ o. o.sent) outlets ≡ dealt (length outlets) pairs
+
+-- the feeds stay, and where all went well, these edges were shipped after those before
+pub record Ships {A E : Type 0} (pairs : List (Edge × Sample)) (outlets later : List Sending)
+    (result : Result A E) : Type 0 where
+  pub feeds : map (λ o. o.feed) later ≡ map (λ o. o.feed) outlets
+  pub shipped : (before : List (Edge × Sample)) → AreShipped outlets before
+      → OnOk result (AreShipped later (before ++ pairs))
+
+-- a run of so many threads can begin: these edges were made by what was collected, and nothing was shipped
+pub record CanBegin (threads : ℕ) (collected : Collected) (inputs : List LaneInput)
+    (made : List (Edge × Sample)) (outlets : List Sending) : Type 0 where
+  pub all : threads ≡ collected.limits.threads
+  pub collector : IsCollector collected.limits inputs collected.stream made collected.limits
+  pub shards : ReachShards outlets
+  pub unsent : AreShipped outlets []
