@@ -307,11 +307,11 @@ pub fn check_input<R: AllocGlobal + Threads + Sync, I: Source, O: Sink>(
         (used (O.contents output.old) (O.contents output.new) (O.failed output.new)) result }
 {
     let alloc = rt.alloc();
-    let Ok(gathered) = read_whole(alloc, input, reading.turns) else {
+    let Ok(input_read) = read_whole(alloc, input, reading.turns) else {
         return Ended::Memory;
     };
-    let text = gathered.text.as_slice();
-    if gathered.is_whole {
+    let text = input_read.text.as_slice();
+    if input_read.is_whole {
         return end(output, checked(rt, alloc, text, reading));
     }
     end_cut(rt, alloc, text, reading)

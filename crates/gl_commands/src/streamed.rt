@@ -1,17 +1,12 @@
 //! What is answered to a text by a session that records it as it comes.
-ghost use Rattle.std.specs.Prelude.{◌≡◌, ◌≤◌, ◌^◌, ℕ, true, false, Ok, Err, IfOk, IfErr};
-ghost use Rattle.gl_event.specs.Bounds.{Bounds};
-ghost use Rattle.gl_live.specs.Streamed.{Becomes, FailsInTime};
+ghost use Rattle.std.specs.Prelude.{◌≡◌, ◌≤◌, ◌^◌, true, false, Ok, Err, IfOk, IfErr};
+ghost use Rattle.gl_live.specs.Streamed.{FailsInTime};
 ghost use Rattle.gl_live.specs.declared.faults.LiveFault.TheVariants.{Inconsistent, Memory as OutOfMemory, Unconfirmed as NotConfirmed};
 ghost use Rattle.gl_live.specs.declared.faults.StreamFault.TheVariants.{Session};
 ghost use Rattle.gl_options.specs.Sessions.{AreOfSession, with_threads};
-ghost use Rattle.gl_commands.specs.Answer.{IsAnswerUnder};
-ghost use Rattle.gl_commands.specs.Answer.Answer.{Prints};
-ghost use Rattle.gl_io.specs.Uses.{SourceUse, used};
+ghost use Rattle.gl_io.specs.Uses.{used};
 ghost use Rattle.gl_commands.specs.RefusalLines.{inconsistent_line};
-ghost use Rattle.gl_commands.specs.Sessions.{session_prediction};
-ghost use Rattle.gl_commands.specs.bodies.Needed.{contents_of};
-ghost use Rattle.gl_commands.specs.bodies.Stops.{EndsUnwritten, HasAnswer, IfRefused, IsEndOfText};
+ghost use Rattle.gl_commands.specs.bodies.Stops.{ForEachText, IfRefused, IsEndOfText, IsPrintedUnder, StopsUnder};
 
 use crate::answer::{Printed, printed_in};
 use crate::ended::Ended;
@@ -63,12 +58,8 @@ fn printed_of(
     report: Report,
     items: Items,
 ) -> Result<Printed, Ended>
-    ensures printed { (limits : Bounds) (turns : ℕ) (input : SourceUse)
-        → Becomes (contents_of options.now) options.now.query limits turns input items (Ok report)
-        → IfOk result
-        (λ p. HasAnswer
-        (IsAnswerUnder limits (session_prediction options.now)) turns input
-        (Prints p.text.items p.outcome)) }
+    ensures printed { ForEachText options.now items (Ok report)
+        (λ limits turns input. IfOk result (IsPrintedUnder options.now limits turns input)) }
     ensures memory { IfErr result (λ ended. ended ≡ Ended.Memory) }
 {
     let (names, _skipped, _stray) = items.parts();
@@ -96,11 +87,8 @@ fn end_of_loop(
     ring: Vec<Segment>,
     items: Items,
 ) -> Ended
-    ensures { (limits : Bounds) (turns : ℕ) (input : SourceUse)
-        → Becomes (contents_of options.now) options.now.query limits turns input items
-        (Err (Session (Inconsistent at ring)))
-        → EndsUnwritten limits
-        (IsAnswerUnder limits (session_prediction options.now)) turns input result }
+    ensures { ForEachText options.now items (Err (Session (Inconsistent at ring)))
+        (λ limits turns input. StopsUnder options.now limits turns input result) }
 {
     let (names, _skipped, _stray) = items.parts();
     let ended = end_at(alloc, &names, at);
@@ -116,11 +104,9 @@ fn end_without_report(
     fault: StreamFault,
     items: Items,
 ) -> Ended
-    ensures ends { (limits : Bounds) (turns : ℕ) (input : SourceUse)
-        → Becomes (contents_of options.now) options.now.query limits turns input items (Err fault)
-        → FailsInTime {Y = Report} input.before input.after items (Err fault)
-        → EndsUnwritten limits
-        (IsAnswerUnder limits (session_prediction options.now)) turns input result }
+    ensures ends { ForEachText options.now items (Err fault) (λ limits turns input.
+        FailsInTime {Y = Report} input.before input.after items (Err fault)
+        → StopsUnder options.now limits turns input result) }
     ensures memory { fault ≡ Session OutOfMemory → result ≡ Ended.Memory }
     ensures unconfirmed { fault ≡ Session NotConfirmed → result ≡ Ended.Unconfirmed }
 {
@@ -150,18 +136,11 @@ fn answered(
     reported: Result<Report, StreamFault>,
     items: Items,
 ) -> Result<Printed, Ended>
-    ensures printed { (limits : Bounds) (turns : ℕ) (input : SourceUse)
-        → Becomes (contents_of options.now) options.now.query limits turns input items reported
-        → IfOk result
-        (λ p. HasAnswer
-        (IsAnswerUnder limits (session_prediction options.now)) turns input
-        (Prints p.text.items p.outcome)) }
-    ensures stopped { (limits : Bounds) (turns : ℕ) (input : SourceUse)
-        → Becomes (contents_of options.now) options.now.query limits turns input items reported
-        → FailsInTime input.before input.after items reported
-        → IfErr result
-        (EndsUnwritten limits
-        (IsAnswerUnder limits (session_prediction options.now)) turns input) }
+    ensures printed { ForEachText options.now items reported
+        (λ limits turns input. IfOk result (IsPrintedUnder options.now limits turns input)) }
+    ensures stopped { ForEachText options.now items reported (λ limits turns input.
+        FailsInTime input.before input.after items reported
+        → IfErr result (StopsUnder options.now limits turns input)) }
 {
     match reported {
         Ok(report) => printed_of(alloc, options, report, items),
@@ -185,15 +164,10 @@ pub(crate) fn streamed<R: AllocGlobal + Threads + Wait + Sync, I: Source, G: Gat
     requires session { AreOfSession options.now }
     requires as_it_comes { options.now.stream ≡ true }
     ensures printed { IfOk result
-        (λ p. HasAnswer
-        (IsAnswerUnder (with_threads options.now.threads)
-        (session_prediction options.now)) reading.now.turns
-        (used (I.position input.old) (I.position input.new) (I.failed input.new))
-        (Prints p.text.items p.outcome)) }
+        (IsPrintedUnder options.now (with_threads options.now.threads) reading.now.turns
+        (used (I.position input.old) (I.position input.new) (I.failed input.new))) }
     ensures stopped { IfErr result
-        (EndsUnwritten (with_threads options.now.threads)
-        (IsAnswerUnder (with_threads options.now.threads)
-        (session_prediction options.now)) reading.now.turns
+        (StopsUnder options.now (with_threads options.now.threads) reading.now.turns
         (used (I.position input.old) (I.position input.new) (I.failed input.new))) }
 {
     let alloc = rt.alloc();

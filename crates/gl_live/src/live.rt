@@ -17,7 +17,7 @@ ghost use Rattle.gl_live.specs.bodies.Runs.{HasRun};
 ghost use Rattle.gl_live.specs.bodies.Rosters.{gathered_from, AreReceipts, IsReceiptOf};
 
 use crate::faults::{LiveFault, unserved, unsettled};
-use crate::reports::report_over;
+use crate::reports::report_with_contents;
 use crate::run::{Ran, run_session};
 use crate::session::{SessionOptions, prepare, workloads};
 use gl_cycles::Report;
@@ -91,7 +91,7 @@ fn report_settled(
     let Ok(edges) = settled.edges(tables) else {
         return Err(LiveFault::Memory);
     };
-    report_over(rt, alloc, contents, edges, settled.lists(), query)
+    report_with_contents(rt, alloc, contents, edges, settled.lists(), query)
 }
 
 /// The report of a session that has run, with these contents: that of the lists that its receipts are for.
@@ -143,7 +143,7 @@ fn report_of_none(
         (lists_of lists.now) report) }
     ensures fault { IfErr result (IsLiveFault (lists_of lists.now)) }
 {
-    report_over(rt, alloc, contents, EdgeList::new(alloc), lists, query)
+    report_with_contents(rt, alloc, contents, EdgeList::new(alloc), lists, query)
 }
 
 /// The report of these lists with these contents, by a session in which threads record them at once: whatever their timing, it is that of the lists. A thread's number is the position of its list.

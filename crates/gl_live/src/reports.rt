@@ -22,7 +22,7 @@ use std::thread::Threads;
 /// report.
 ///
 /// Err where a segment of the lists is before itself, and where memory was refused.
-pub fn report_over(
+pub fn report_with_contents(
     rt: &(impl Threads + Sync),
     alloc: Global,
     contents: Contents,

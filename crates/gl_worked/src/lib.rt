@@ -1,5 +1,5 @@
 //! Lists of events for worked examples, as constants tell them, [`ops`], and notes, [`notes`]; whether lists are
-//! lawful, [`lawful`]; and what is known of them, [`known`].
+//! lawful, [`lawful`]; what is known of them, [`known`]; and a gate at which two workers meet, [`meeting`].
 //!
 //! Tests stand in crates of their own, since a crate is proved once more with its tests. What several of
 //! these share is here. Little is told of it, so that a test's calls stand among few facts, and the prover
@@ -8,5 +8,6 @@
 
 pub mod known;
 pub mod lawful;
+pub mod meeting;
 pub mod notes;
 pub mod ops;

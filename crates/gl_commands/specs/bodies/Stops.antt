@@ -10,6 +10,10 @@ use Rattle.gl_cycles.specs.declared.found.Report.{Report}
 use Rattle.gl_edges.specs.Edges.{edges}
 use Rattle.gl_findings.specs.Reports.{report_with}
 use Rattle.gl_findings.specs.declared.listing.Contents.{Contents}
+use Rattle.gl_live.specs.Streamed.{Becomes}
+use Rattle.gl_live.specs.declared.faults.StreamFault.{StreamFault}
+use Rattle.gl_options.specs.declared.live_options.LiveOptions.{LiveOptions}
+use Rattle.gl_std.specs.Streaming.{Stream}
 use Rattle.gl_std.specs.declared.faults.StdKind.{StdKind}
 use Rattle.gl_io.specs.Reads.{HasRead}
 use Rattle.gl_std.specs.declared.faults.LinesFault.{LinesFault}
@@ -17,10 +21,14 @@ use Rattle.gl_std.specs.declared.faults.LinesFault.TheVariants.{Line as BadLine,
 use Rattle.gl_std.specs.declared.faults.ReadFault.{ReadFault}
 use Rattle.gl_std.specs.declared.faults.ReadFault.TheVariants.{Line}
 use Rattle.gl_std.specs.declared.trace.Trace.{Trace}
-use Rattle.gl_commands.specs.Answer.{Answer, IsLeastBeforeItself}
+use Rattle.gl_commands.specs.Answer.{Answer, IsAnswerUnder, IsLeastBeforeItself}
+use Rattle.gl_commands.specs.Answer.Answer.{Prints}
 use Rattle.gl_io.specs.Uses.{SinkUse, SourceUse}
 use Rattle.gl_commands.specs.Ending.{HasEndedStreamed}
 use Rattle.gl_commands.specs.RefusalLines.{fault_line, inconsistent_line}
+use Rattle.gl_commands.specs.Sessions.{session_prediction}
+use Rattle.gl_commands.specs.bodies.Needed.{contents_of}
+use Rattle.gl_commands.specs.declared.answer.Printed.{Printed}
 use Rattle.gl_commands.specs.declared.ended.Ended.{Ended}
 use Rattle.gl_commands.specs.declared.ended.Ended.TheVariants.{Refused, Memory, ReadFailed, Unconfirmed}
 
@@ -71,6 +79,25 @@ pub record HasAnswer (IsAnswered : List ℕ → Answer → Type 0) (turns : ℕ)
 -- it ends so over each writer that is left as it was
 abbrev pub EndsUnwritten : Bounds → (List ℕ → Answer → Type 0) → ℕ → SourceUse → Ended → Type 0
 EndsUnwritten limits IsAnswered turns input ended = (output : SinkUse) → Keeps output.before output.after → output.failed ≡ false → HasEndedStreamed limits IsAnswered turns input output ended
+
+-- this holds for each text that could have been read so under the options: of which the items told a trace, and this is the report, or why there
+-- is none
+abbrev pub ForEachText : LiveOptions → Stream → Result Report StreamFault
+    → (Bounds → ℕ → SourceUse → Type 0) → Type 0
+ForEachText options items reported Holds = (limits : Bounds) (turns : ℕ) (input : SourceUse)
+    → Becomes (contents_of options) options.query limits turns input items reported
+    → Holds limits turns input
+
+-- a text was read whole, and what is printed is answered to it
+abbrev pub IsPrintedUnder : LiveOptions → Bounds → ℕ → SourceUse → Printed → Type 0
+IsPrintedUnder options limits turns input printed =
+    HasAnswer (IsAnswerUnder limits (session_prediction options)) turns input
+    (Prints printed.text.items printed.outcome)
+
+-- it ends so over each writer that is left as it was, as a session with these options may
+abbrev pub StopsUnder : LiveOptions → Bounds → ℕ → SourceUse → Ended → Type 0
+StopsUnder options limits turns input ended =
+    EndsUnwritten limits (IsAnswerUnder limits (session_prediction options)) turns input ended
 
 -- it ends so where this fault of the text was met
 abbrev pub IsEndOfText : LinesFault → Ended → Type 0

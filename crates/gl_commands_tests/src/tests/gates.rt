@@ -10,74 +10,11 @@ use gl_io::{Failed, FromStd, Source};
 use gl_options::Command;
 use gl_shards::Gate;
 use gl_std::Seed;
+use gl_worked::meeting::Meeting;
 use std::process::Abort;
 use std::sync::Wait;
 use std::sync::atomic::{AtomicU64, Ordering};
-use std::thread;
 use std::thread::Threads;
-
-// How often a worker looks for the other one, at most.
-const LOOKS: u32 = 10_000_000;
-
-// A gate at which the workers of two shards meet: each sets its own flag and looks for the other's.
-#[derive(Drop)]
-struct Meeting {
-    first: AtomicU64,
-    second: AtomicU64,
-    taken: AtomicU64,
-    alone: AtomicU64,
-}
-
-impl Meeting {
-    // A gate that nobody has passed.
-    fn new() -> Meeting {
-        Meeting {
-            first: AtomicU64::new(0),
-            second: AtomicU64::new(0),
-            taken: AtomicU64::new(0),
-            alone: AtomicU64::new(0),
-        }
-    }
-
-    // How often each worker passed, what they had taken before, and how many met no other.
-    fn passes(&self) -> (u64, u64, u64, u64) {
-        (
-            self.first.load(Ordering::SeqCst),
-            self.second.load(Ordering::SeqCst),
-            self.taken.load(Ordering::SeqCst),
-            self.alone.load(Ordering::SeqCst),
-        )
-    }
-
-    // Whether both workers pass while this looks.
-    fn has_met(&self) -> bool {
-        for _ in 0..LOOKS {
-            if self.first.load(Ordering::SeqCst) > 0 && self.second.load(Ordering::SeqCst) > 0 {
-                return true;
-            }
-            thread::yield_now();
-        }
-        false
-    }
-}
-
-impl Gate for Meeting {
-    fn pass(&self, shard: u32, taken: u64) {
-        let (own, other) = match shard {
-            0 => (&self.first, &self.second),
-            _ => (&self.second, &self.first),
-        };
-        self.taken.fetch_add(taken, Ordering::SeqCst);
-        own.fetch_add(1, Ordering::SeqCst);
-        for _ in 0..LOOKS {
-            if other.load(Ordering::SeqCst) > 0 {
-                return;
-            }
-            thread::yield_now();
-        }
-        self.alone.fetch_add(1, Ordering::SeqCst);
-    }
-}
 
 // How a session ends whose workers pass a gate, and what it writes. None where it is no session.
 fn gated<R: AllocGlobal + Threads + Wait + Sync, I: Source, G: Gate + Sync>(
@@ -191,7 +128,7 @@ impl Source for HeldBack<'_> {
     fn read(&mut self, buffer: &mut [u8]) -> Result<usize, Failed> {
         let count = self.rest.len().min(buffer.len());
         if count == 0 {
-            self.is_late = !self.gate.has_met();
+            self.is_late = !self.gate.is_passed();
         }
         buffer[..count].copy_from_slice(&self.rest[..count]);
         self.rest = &self.rest[count..];

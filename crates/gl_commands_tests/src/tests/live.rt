@@ -1,5 +1,4 @@
 //! Sessions over given lists, and over texts.
 mod lists;
-mod meeting;
 mod streams;
 mod wanted;

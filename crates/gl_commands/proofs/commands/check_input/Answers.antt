@@ -6,11 +6,11 @@ use Rattle.gl_commands.proofs.commands.check_input.Goals as goal
 pub returns-in_default : goal.returns-in_default
 returns-in_default g c = out_of_memory (Keeps-refl _) c.requires.ready.writable
 
-pub returns-then-gathered : goal.returns-then-gathered
-returns-then-gathered g c =
-    ends_whole _ _ _ c.as_slice-text.result.now c.in-Ok.gathered.text.items c.in-Ok.gathered.is_whole c.checked.result c.end.result c.in-Ok.ensures.read c.if-gathered.true c.as_slice-text.ensures.value
+pub returns-then-input_read : goal.returns-then-input_read
+returns-then-input_read g c =
+    ends_whole _ _ _ c.as_slice-text.result.now c.in-Ok.input_read.text.items c.in-Ok.input_read.is_whole c.checked.result c.end.result c.in-Ok.ensures.read c.if-input_read.true c.as_slice-text.ensures.value
     c.checked.ensures.printed c.checked.ensures.refused c.end.ensures
 
 pub returns : goal.returns
 returns g c =
-    ends_short _ _ _ c.as_slice-text.result.now c.in-Ok.gathered.text.items c.in-Ok.gathered.is_whole c.end_cut.result c.in-Ok.ensures.read c.if-gathered.false c.as_slice-text.ensures.value c.end_cut.ensures (Keeps-refl _) c.requires.ready.writable
+    ends_short _ _ _ c.as_slice-text.result.now c.in-Ok.input_read.text.items c.in-Ok.input_read.is_whole c.end_cut.result c.in-Ok.ensures.read c.if-input_read.false c.as_slice-text.ensures.value c.end_cut.ensures (Keeps-refl _) c.requires.ready.writable

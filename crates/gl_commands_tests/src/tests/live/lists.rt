@@ -3,7 +3,6 @@ ghost use Rattle.std.specs.Prelude.{◌≤◌, length};
 ghost use Rattle.gl_event.specs.declared.limits.TheConstants.{MAX_RING};
 ghost use Rattle.gl_shards.specs.declared.shard.TheConstants.{MAX_SHARDS};
 
-use super::meeting::Meeting;
 use super::wanted::{Listed, TWO_EDGES, Wanted, is_wanted, query_for};
 use gl_cycles::Report;
 use gl_edges::{Edge, Sample};
@@ -12,6 +11,7 @@ use gl_filters::Query;
 use gl_findings::Contents;
 use gl_live::{LiveFault, SessionOptions, live_report, live_report_with};
 use gl_shards::{Gate, MAX_SHARDS, Open};
+use gl_worked::meeting::Meeting;
 use gl_worked::ops::Op::{self, Acq, Rel};
 use gl_worked::ops::{event_of, lists_of};
 use std::alloc::Global;

@@ -7,7 +7,6 @@ ghost use Rattle.gl_shards.specs.declared.shard.TheConstants.{MAX_SHARDS};
 ghost use Rattle.gl_std.specs.Streaming.{CanBeAsked};
 
 use super::lists::reported;
-use super::meeting::Meeting;
 use super::wanted::{Listed, TWO_EDGES, Wanted, is_wanted, query_for};
 use crate::unread::unread_items;
 use gl_cycles::Report;
@@ -18,6 +17,7 @@ use gl_io::FromStd;
 use gl_live::{LiveFault, StreamFault, StreamOptions, stream_report, stream_report_with};
 use gl_shards::{Gate, MAX_SHARDS, Open};
 use gl_std::{Failed, Items, LinesFault, Source, StdKind};
+use gl_worked::meeting::Meeting;
 use gl_worked::ops::Op::{self, Acq, Rel};
 use gl_worked::ops::lists_of;
 use std::process::Abort;

@@ -8,4 +8,4 @@ use Rattle.gl_live.proofs.live.report_of_none.Goals as goal
 
 pub returns-clause-report : goal.returns-clause-report
 returns-clause-report g c =
-    subst (λ pairs. IfOk c.report_over.result (λ report. IsReportWith c.args.contents c.args.query.now pairs (lists_of c.args.lists.now) report)) (c.new.ensures ∙ sym once_of_none ∙ sym (ap (λ vecs. edges (lists_of vecs)) c.requires.none)) c.report_over.ensures.report
+    subst (λ pairs. IfOk c.report_with_contents.result (λ report. IsReportWith c.args.contents c.args.query.now pairs (lists_of c.args.lists.now) report)) (c.new.ensures ∙ sym once_of_none ∙ sym (ap (λ vecs. edges (lists_of vecs)) c.requires.none)) c.report_with_contents.ensures.report

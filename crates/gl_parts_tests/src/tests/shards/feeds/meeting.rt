@@ -4,64 +4,12 @@ ghost use Rattle.std.specs.Prelude.{◌≡◌, IfSome};
 use super::super::{Told, at, edge, make};
 use super::{Course, send_all};
 use gl_edges::{Edge, Sample};
-use gl_shards::{Gate, Inlet, Sent, Served, Table, feed, serve};
+use gl_shards::{Inlet, Sent, Served, Table, feed, serve};
+use gl_worked::meeting::Meeting;
 use std::alloc::Global;
 use std::sync::Wait;
-use std::sync::atomic::{AtomicU64, Ordering};
 use std::thread;
 use std::thread::Threads;
-
-// How often a worker looks for the other one, at most.
-const TURNS: u32 = 10_000_000;
-
-// A gate at which the workers of two shards meet: each sets its own flag and looks for the other's.
-#[derive(Drop)]
-struct Meeting {
-    first: AtomicU64,
-    second: AtomicU64,
-    passed: AtomicU64,
-    alone: AtomicU64,
-}
-
-impl Meeting {
-    fn new() -> Meeting {
-        Meeting {
-            first: AtomicU64::new(0),
-            second: AtomicU64::new(0),
-            passed: AtomicU64::new(0),
-            alone: AtomicU64::new(0),
-        }
-    }
-
-    // Whether each of the two workers passed once, at its first edge, and met the other one.
-    fn is_passed_by_both(&self) -> bool {
-        self.first.load(Ordering::SeqCst) == 1
-            && self.second.load(Ordering::SeqCst) == 1
-            && self.passed.load(Ordering::SeqCst) == 1_001
-            && self.alone.load(Ordering::SeqCst) == 0
-    }
-}
-
-impl Gate for Meeting {
-    // Counts 1 for the first shard's pass before its first edge, and 1,000 for the second's.
-    fn pass(&self, shard: u32, taken: u64) {
-        let (own, other, count) = match shard {
-            0 => (&self.first, &self.second, 1),
-            _ => (&self.second, &self.first, 1_000),
-        };
-        if taken == 0 {
-            self.passed.fetch_add(count, Ordering::SeqCst);
-        }
-        own.fetch_add(1, Ordering::SeqCst);
-        for _ in 0..TURNS {
-            if other.load(Ordering::SeqCst) > 0 {
-                return;
-            }
-            thread::yield_now();
-        }
-        self.alone.fetch_add(1, Ordering::SeqCst);
-    }
-}
 
 // One edge, at this place.
 fn lone_pair(alloc: Global, told: Told, place: u32) -> Option<Vec<(Edge, Sample)>> {
@@ -165,9 +113,9 @@ fn meet<R: Threads + Wait + Sync>(rt: &R, alloc: Global, gate: &Meeting) -> bool
     }
 }
 
-// Two workers are both between a receive and an insert at one moment.
+// Two workers are both between a receive and an insert at one moment, each of its first edge.
 #[test]
 fn workers_at_once(rt: HostRuntime) {
     let gate = Meeting::new();
-    assert!(rt; meet(&rt, rt.alloc(), &gate) && gate.is_passed_by_both());
+    assert!(rt; meet(&rt, rt.alloc(), &gate) && gate.passes() == (1, 1, 0, 0));
 }

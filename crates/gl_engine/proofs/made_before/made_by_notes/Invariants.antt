@@ -1,6 +1,6 @@
 use Rattle.std.proofs.Common.{◌≡◌, take}
 use Rattle.gl_engine.specs.Dealing.{made_by}
-use Rattle.gl_engine.proofs.replay.made_by_notes.Given as goal
+use Rattle.gl_engine.proofs.made_before.made_by_notes.Given as goal
 
 -- the notes so far were taken once more, and these are their edges
 abbrev pub invariant-loop-note : goal.invariant-loop-note

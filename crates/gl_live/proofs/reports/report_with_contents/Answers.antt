@@ -1,6 +1,6 @@
 use Rattle.gl_segments.specs.Clocks.{is_before}
 use Rattle.gl_segments.specs.Orders.{lists_of}
-use Rattle.gl_live.proofs.reports.report_over.Goals as goal
+use Rattle.gl_live.proofs.reports.report_with_contents.Goals as goal
 
 pub returns-clause-report : goal.returns-clause-report
 returns-clause-report g c =

@@ -4,7 +4,7 @@ use Rattle.gl_event.specs.declared.notes.Note.{Note}
 use Rattle.gl_world.proofs.Lists.{get_at}
 use Rattle.gl_engine.specs.Dealing.{made_by}
 use Rattle.gl_engine.proofs.Dealt.{made_by_empty, made_by_none}
-use Rattle.gl_engine.proofs.replay.made_by_notes.Goals as goal
+use Rattle.gl_engine.proofs.made_before.made_by_notes.Goals as goal
 
 pub returns-then-is_empty : goal.returns-then-is_empty
 returns-then-is_empty c = c.new-made.ensures.items ∙ sym (made_by_empty c.args.notes.now c.if-is_empty.ensures)

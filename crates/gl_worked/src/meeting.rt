@@ -3,12 +3,12 @@ use gl_shards::Gate;
 use std::sync::atomic::{AtomicU64, Ordering};
 use std::thread;
 
-// How often a worker looks for the other one, at most.
-const TURNS: u32 = 10_000_000;
+// How often one looks for another, at most.
+const LOOKS: u32 = 10_000_000;
 
-// A gate at which the workers of two shards meet: each sets its own flag and looks for the other's.
+/// A gate at which the workers of two shards meet: each sets its own flag and looks for the other's.
 #[derive(Drop)]
-pub(super) struct Meeting {
+pub struct Meeting {
     first: AtomicU64,
     second: AtomicU64,
     taken: AtomicU64,
@@ -16,7 +16,8 @@ pub(super) struct Meeting {
 }
 
 impl Meeting {
-    pub(super) fn new() -> Meeting {
+    /// A gate that nobody has passed.
+    pub fn new() -> Meeting {
         Meeting {
             first: AtomicU64::new(0),
             second: AtomicU64::new(0),
@@ -25,8 +26,8 @@ impl Meeting {
         }
     }
 
-    // How often each worker passed, what they had taken before, and how many met no other.
-    pub(super) fn passes(&self) -> (u64, u64, u64, u64) {
+    /// How often each worker passed, how many edges they had received before, and how often one met no other.
+    pub fn passes(&self) -> (u64, u64, u64, u64) {
         (
             self.first.load(Ordering::SeqCst),
             self.second.load(Ordering::SeqCst),
@@ -35,9 +36,9 @@ impl Meeting {
         )
     }
 
-    // Whether both workers have passed. Waits for that, but not for ever.
-    pub(super) fn is_passed(&self) -> bool {
-        for _ in 0..TURNS {
+    /// Whether both workers have passed. Waits for that, but not for ever.
+    pub fn is_passed(&self) -> bool {
+        for _ in 0..LOOKS {
             if self.first.load(Ordering::SeqCst) > 0 && self.second.load(Ordering::SeqCst) > 0 {
                 return true;
             }
@@ -55,7 +56,7 @@ impl Gate for Meeting {
         };
         self.taken.fetch_add(taken, Ordering::SeqCst);
         own.fetch_add(1, Ordering::SeqCst);
-        for _ in 0..TURNS {
+        for _ in 0..LOOKS {
             if other.load(Ordering::SeqCst) > 0 {
                 return;
             }

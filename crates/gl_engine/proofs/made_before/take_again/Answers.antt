@@ -5,7 +5,7 @@ use Rattle.gl_intake.specs.Stream.{events_of}
 use Rattle.gl_world.specs.Machine.{edges_due}
 use Rattle.gl_engine.specs.Dealing.{made_by}
 use Rattle.gl_engine.proofs.Dealt.{made_by_more}
-use Rattle.gl_engine.proofs.replay.take_again.Goals as goal
+use Rattle.gl_engine.proofs.made_before.take_again.Goals as goal
 
 pub returns-in-Ok-clause-made : goal.returns-in-Ok-clause-made
 returns-in-Ok-clause-made c =
