@@ -47,7 +47,7 @@ mod gathered;
 mod lane_input;
 mod laws;
 mod made_before;
-mod preallocated;
+pub mod preallocated;
 mod pull_and_ship;
 mod pulled;
 mod receipt;
