@@ -23,7 +23,7 @@ use Rattle.gl_intake.specs.declared.notes.Refused.{Refused}
 use Rattle.gl_engine.specs.bodies.Breaking.{first_of, HasStopped, IsBlamed, IsBroken, IsKeptFor, IsPullFault, TellsTaken}
 use Rattle.gl_engine.specs.Dealing.{dealt, made_by}
 use Rattle.gl_engine.specs.Keeping.{BreaksForCause, IsCollector, pulling_of}
-use Rattle.gl_engine.specs.bodies.Shipping.{AreShipped, ReachShards}
+use Rattle.gl_engine.specs.bodies.Shipping.{HaveShipped, ReachShards}
 use Rattle.gl_engine.specs.bodies.Whole.{lane_of, HasMoved, KeepsUp, IsWhole, IsGathered}
 use Rattle.std.proofs.lemmas.Simd.{map-map}
 use Rattle.gl_engine.specs.declared.gathered.RunFault.{RunFault}
@@ -170,7 +170,7 @@ as_long f g xs ys same = sym (length-map xs f) ∙ ap length same ∙ length-map
 module _ (outlets : List Sending) (k : ℕ) (was new : Sending) (here : was ≡ get_or outlets k was) where
   -- an edge more was shipped to its shard
   pub shipped_more : (pair : Edge × Sample) → 1 ≤ length outlets → k ≡ shard_of pair.0 (length outlets) → k < length outlets → new.sent ≡ was.sent ++ pair ∷ [] → (before : List (Edge × Sample))
-      → AreShipped outlets before → AreShipped (set outlets k new) (before ++ pair ∷ [])
+      → HaveShipped outlets before → HaveShipped (set outlets k new) (before ++ pair ∷ [])
   shipped_more pair some its within sent before are =
       let n = length outlets in
       let old : was.sent ≡ of_shard n before k = same_some was.sent (of_shard n before k) (sym (slice_get-map (λ (o : Sending). o.sent) outlets k ∙ ap (option_map (λ (o : Sending). o.sent)) (get_at outlets k was within here)) ∙ ap (λ xs. slice_get xs k) are ∙ dealt_at n before k within) in
@@ -209,7 +209,7 @@ stopped_at shards before yielded left rest all next was now shard parts first de
     }
 
 -- nothing was sent through these outlets
-pub unsent_dealt : (outlets : List Sending) → ((shard : ℕ) (o : Sending) → slice_get outlets shard ≡ Some o → o.sent ≡ []) → AreShipped outlets []
+pub unsent_dealt : (outlets : List Sending) → ((shard : ℕ) (o : Sending) → slice_get outlets shard ≡ Some o → o.sent ≡ []) → HaveShipped outlets []
 unfolding dealt
 unsent_dealt outlets none = from 0 outlets none
   where

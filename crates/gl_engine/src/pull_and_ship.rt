@@ -5,7 +5,7 @@ ghost use Rattle.gl_edges.specs.declared.edge.Edge.{Edge};
 ghost use Rattle.gl_edges.specs.declared.edge.Sample.{Sample};
 ghost use Rattle.gl_shards.specs.Shards as shards_of;
 ghost use Rattle.gl_engine.specs.bodies.Breaking.{IsGoneAt, IsKeptFor, TellsTaken};
-ghost use Rattle.gl_engine.specs.bodies.Shipping.{AreShipped, CanBegin, ReachShards, Ships};
+ghost use Rattle.gl_engine.specs.bodies.Shipping.{HaveShipped, CanBegin, ReachShards, Ships};
 ghost use Rattle.gl_engine.specs.Settling.{HaveEndedBelow};
 ghost use Rattle.gl_engine.specs.bodies.Whole.{GoesOn, HasMoved, KeepsNotes, KeepsUp, PullsOn};
 
@@ -53,7 +53,7 @@ fn ship<R: Wait>(
 ) -> Result<(), RunFault>
     requires shards { ReachShards outlets.old.items }
     ensures ships { Ships made.items outlets.old.items outlets.new.items result }
-    ensures stopped { (before : List (Edge × Sample)) → AreShipped outlets.old.items before
+    ensures stopped { (before : List (Edge × Sample)) → HaveShipped outlets.old.items before
         → IfErr result
         (IsGoneAt (before ++ made.items) (map (λ o. o.sent) outlets.new.items)) }
 {

@@ -15,15 +15,15 @@ pub record ReachShards (outlets : List Sending) : Type 0 where
   pub fit : length outlets ≤ MAX_SHARDS
 
 -- through each outlet those of these edges were sent that are its shard's, and no others
-abbrev pub AreShipped : List Sending → List (Edge × Sample) → Type 0
-AreShipped outlets pairs = map (λ o. o.sent) outlets ≡ dealt (length outlets) pairs
+abbrev pub HaveShipped : List Sending → List (Edge × Sample) → Type 0
+HaveShipped outlets pairs = map (λ o. o.sent) outlets ≡ dealt (length outlets) pairs
 
 -- the feeds stay, and where all went well, these edges were shipped after those before
 pub record Ships {A E : Type 0} (pairs : List (Edge × Sample)) (outlets later : List Sending)
     (result : Result A E) : Type 0 where
   pub feeds : map (λ o. o.feed) later ≡ map (λ o. o.feed) outlets
-  pub shipped : (before : List (Edge × Sample)) → AreShipped outlets before
-      → OnOk result (AreShipped later (before ++ pairs))
+  pub shipped : (before : List (Edge × Sample)) → HaveShipped outlets before
+      → OnOk result (HaveShipped later (before ++ pairs))
 
 -- a run of so many threads can begin: these edges were made by what was collected, and nothing was shipped
 pub record CanBegin (threads : ℕ) (collected : Collected) (inputs : List LaneInput)
@@ -31,4 +31,4 @@ pub record CanBegin (threads : ℕ) (collected : Collected) (inputs : List LaneI
   pub all : threads ≡ collected.limits.threads
   pub collector : IsCollector collected.limits inputs collected.stream made collected.limits
   pub shards : ReachShards outlets
-  pub unsent : AreShipped outlets []
+  pub unsent : HaveShipped outlets []

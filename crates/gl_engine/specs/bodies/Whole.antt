@@ -10,7 +10,7 @@ use Rattle.gl_lane.specs.Lanes.{LaneId}
 use Rattle.gl_shards.specs.Feeds.{AllSent, Sending}
 use Rattle.gl_world.specs.Keeping.{notes_of, AreMade}
 use Rattle.gl_engine.specs.bodies.Breaking.{IsBlamed, IsPullFault, StopsWith}
-use Rattle.gl_engine.specs.bodies.Shipping.{AreShipped}
+use Rattle.gl_engine.specs.bodies.Shipping.{HaveShipped}
 use Rattle.gl_engine.specs.Collecting.{as_of, IsTurn}
 use Rattle.gl_engine.specs.Keeping.{AreNotesOf, IsCollector}
 use Rattle.gl_engine.specs.Recording.{Closed}
@@ -29,7 +29,7 @@ KeepsNotes c inputs = IsCollector c.limits inputs c.stream (made_by c.stream) c.
 -- a run has kept up so far: what a collector keeps of the notes collected, and to each shard the edges were shipped that are its own
 pub record KeepsUp (limits : Bounds) (inputs : List LaneInput) (stream : List Note) (outlets : List Sending) : Type 0 where
   pub collector : IsCollector limits inputs stream (made_by stream) limits
-  pub shipped : AreShipped outlets (made_by stream)
+  pub shipped : HaveShipped outlets (made_by stream)
 
 -- whether there are more notes than before; if not, they are the same ones
 abbrev pub HasMoved : List Note → List Note → Bool → Type 0

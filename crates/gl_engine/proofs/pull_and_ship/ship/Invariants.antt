@@ -2,7 +2,7 @@ use Rattle.std.proofs.Common.{◌≡◌, List, ◌++◌, length, map}
 use Rattle.std.specs.Vec.Iter.{into_iter_items, into_iter_len}
 use Rattle.gl_edges.specs.declared.edge.Edge.{Edge}
 use Rattle.gl_edges.specs.declared.edge.Sample.{Sample}
-use Rattle.gl_engine.specs.bodies.Shipping.{AreShipped}
+use Rattle.gl_engine.specs.bodies.Shipping.{HaveShipped}
 use Rattle.gl_engine.proofs.pull_and_ship.ship.Given as goal
 
 -- the edges so far were shipped
@@ -12,6 +12,6 @@ invariant-loop-edge g l = record {
   finite : (goal.iterator-loop-edge g).is_finite l.edge-iterator;
   all : l.yielded ++ into_iter_items l.edge-iterator ≡ l.fn.made.items;
   counted : into_iter_len l.edge-iterator ≡ length (into_iter_items l.edge-iterator);
-  shipped : (before : List (Edge × Sample)) → AreShipped l.fn.outlets.items before → AreShipped l.outlets.items (before ++ l.yielded);
+  shipped : (before : List (Edge × Sample)) → HaveShipped l.fn.outlets.items before → HaveShipped l.outlets.items (before ++ l.yielded);
   feeds : map (λ o. o.feed) l.outlets.items ≡ map (λ o. o.feed) l.fn.outlets.items;
 }
