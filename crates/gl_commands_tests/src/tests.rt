@@ -1,7 +1,5 @@
-//! What words ask for, how commands end over whole traces, and what they write; sessions over lists and texts, `live`;
-//! and cycles and reports, `check`.
+//! What words ask for, how commands end over whole traces, and what they write; sessions over lists and texts.
 mod asks;
-mod check;
 mod checks;
 mod counts;
 mod cuts;
@@ -16,7 +14,6 @@ mod texts;
 mod traces;
 mod words;
 
-// Two threads that acquire two locks in opposite order, and the report.
 const OPPOSITE_ORDER: &[u8] =
     b"T0|acq(a)|1\nT0|acq(b)|2\nT0|rel(b)|3\nT0|rel(a)|4\nT1|acq(b)|5\nT1|acq(a)|6\n";
 

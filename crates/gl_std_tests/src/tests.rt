@@ -1,8 +1,9 @@
-//! Worked examples, and each call that takes memory on its happy path.
+//! Worked examples, and each call that takes memory on its happy path; and cycles and reports, `check`.
 use gl_event::Limits;
 use gl_std::{Trace, read_trace};
 use std::alloc::Global;
 
+mod check;
 mod cut_texts;
 mod faults;
 mod pieces;
