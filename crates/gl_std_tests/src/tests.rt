@@ -1,9 +1,8 @@
-//! Worked examples, and each call that takes memory on its happy path; and cycles and reports, `check`.
+//! Worked examples, and each call that takes memory on its happy path.
 use gl_event::Limits;
 use gl_std::{Trace, read_trace};
 use std::alloc::Global;
 
-mod check;
 mod cut_texts;
 mod faults;
 mod pieces;

@@ -1,6 +1,6 @@
 //! Worked reports.
 use super::{Case, Print, Told, expect_all};
-use crate::tests::check::OPPOSITE_ORDER;
+use crate::tests::OPPOSITE_ORDER;
 use gl_event::LockMode;
 
 const X: LockMode = LockMode::Exclusive;

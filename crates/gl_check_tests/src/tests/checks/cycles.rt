@@ -1,7 +1,7 @@
 //! Reports of format 1.
 use super::Json::Told;
 use super::{Answer, Case, expect_all};
-use crate::tests::check::{JOIN_LOOP, OPPOSITE_ORDER};
+use crate::tests::{JOIN_LOOP, OPPOSITE_ORDER};
 
 const CASES: &[Case] = &[
     Case {

@@ -1,7 +1,7 @@
 //! Reports of format 2.
 use super::Json::Table;
 use super::{Answer, Case, expect_all};
-use crate::tests::check::OPPOSITE_ORDER;
+use crate::tests::OPPOSITE_ORDER;
 
 // One thread that holds two locks in turn as it acquires the next one.
 const CHAIN: &[u8] = b"T0|acq(a)|1\nT0|acq(b)|2\nT0|rel(a)|3\nT0|acq(c)|4\n";
