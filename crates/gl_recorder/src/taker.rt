@@ -57,6 +57,7 @@ impl Taker {
     /// the answer is the first reason why not, in the order in which `Refusal` lists them.
     ///
     /// It looks through the at most 64 held locks, and takes no memory.
+    #[inline(always)]
     pub fn take(&mut self, event: Event) -> Result<Note, Refusal>
         ensures answers { ForEachTracked self.old
             (λ limits thread es. result ≡ answer_to limits thread es event) }
