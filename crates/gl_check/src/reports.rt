@@ -25,7 +25,7 @@ use std::alloc::Global;
 use std::fmt;
 
 /// What was found of a report that is accepted.
-#[derive(Clone, Copy, Debug, PartialEq, Eq, Hash)]
+#[derive(Clone, Copy, Debug, PartialEq, Eq)]
 pub struct Checked {
     /// What it lists.
     pub listing: Listing,

@@ -39,7 +39,7 @@ impl From<AllocError> for Ended {
 }
 
 /// How a command ends once what it prints is written.
-#[derive(Clone, Copy, Debug, PartialEq, Eq, Hash)]
+#[derive(Clone, Copy, Debug, PartialEq, Eq)]
 pub enum Outcome {
     /// It is a report that lists no cycle.
     Clean,

@@ -42,7 +42,7 @@ impl Edge {
 /// source of the two acquires.
 ///
 /// Samples are ordered by their fields, in this order.
-#[derive(Clone, Copy, Debug, PartialEq, Eq, PartialOrd, Ord, Hash)]
+#[derive(Clone, Copy, Debug, PartialEq, Eq, PartialOrd, Ord)]
 pub struct Sample {
     /// The place of the acquire of the wanted lock, in its thread's list of events.
     pub place: u32,

@@ -4,7 +4,7 @@ ghost use Rattle.std.specs.Prelude.{◌≡◌};
 use gl_intake::{Accepted, Refused};
 
 /// What was pulled off a lane.
-#[derive(Clone, Copy, Debug, PartialEq, Eq, Hash)]
+#[derive(Clone, Copy, Debug, PartialEq, Eq)]
 pub enum Pulled {
     /// Nothing: no note is seen in the lane.
     Empty,
@@ -15,7 +15,7 @@ pub enum Pulled {
 }
 
 /// Why nothing was pulled off a lane.
-#[derive(Clone, Copy, Debug, PartialEq, Eq, Hash)]
+#[derive(Clone, Copy, Debug, PartialEq, Eq)]
 pub enum PullFault {
     /// The note at the lane's front may not come next, for this reason. It stays there, and every
     /// later pull from the lane answers the same.

@@ -16,7 +16,7 @@ use std::marker::Model;
 use std::sync::Wait;
 
 /// Why an event wasn't recorded.
-#[derive(Clone, Copy, Debug, PartialEq, Eq, Hash)]
+#[derive(Clone, Copy, Debug, PartialEq, Eq)]
 pub enum RecordFault {
     /// The event may not come next in the thread's list.
     Refused(Refusal),

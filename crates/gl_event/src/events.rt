@@ -97,7 +97,7 @@ impl LockMode {
 
 /// One event of a thread, with its location in the source. It takes 12 bytes: a mode stands beside
 /// the byte that tells the kind of event.
-#[derive(Clone, Copy, Debug, PartialEq, Eq, PartialOrd, Ord, Hash)]
+#[derive(Clone, Copy, Debug, PartialEq, Eq)]
 #[repr(u8)]
 pub enum Event {
     /// The thread acquires the lock, and waits for it where it has to. A lock that the thread holds
@@ -133,7 +133,7 @@ pub enum Event {
 }
 
 /// What an event does to its thread: all that following a thread needs to know of it.
-#[derive(Clone, Copy, Debug, PartialEq, Eq, Hash)]
+#[derive(Clone, Copy, Debug, PartialEq, Eq)]
 pub enum Effect {
     /// It acquires the lock in this mode, whether or not it could have waited for it.
     Acquires {
@@ -152,7 +152,7 @@ pub enum Effect {
 }
 
 /// A lock that an event wants, and the mode and the place in which it does.
-#[derive(Clone, Copy, Debug, PartialEq, Eq, Hash)]
+#[derive(Clone, Copy, Debug, PartialEq, Eq)]
 pub struct Wanted {
     pub lock: LockId,
     pub mode: LockMode,
@@ -207,14 +207,14 @@ impl Event {
 
 /// A part of a thread's run between two of its forks and joins. Segments of a thread count from 0;
 /// a fork or join belongs to the segment that it closes.
-#[derive(Clone, Copy, Debug, PartialEq, Eq, PartialOrd, Ord, Hash)]
+#[derive(Clone, Copy, Debug, PartialEq, Eq, PartialOrd, Ord)]
 pub struct Segment {
     pub thread: ThreadId,
     pub index: u32,
 }
 
 /// Why an event may not come next in a thread's list, in the order in which the reasons are tried.
-#[derive(Clone, Copy, Debug, PartialEq, Eq, Hash)]
+#[derive(Clone, Copy, Debug, PartialEq, Eq)]
 pub enum Refusal {
     /// The list is as long as the limit of events allows.
     PlaceFull,

@@ -13,7 +13,7 @@ pub const MAX_DEPTH: u32 = 1_000_000;
 
 /// A lock that a thread holds: how often it has acquired it without a release, and the mode, the
 /// place, the location and the segment of the outermost of these acquires.
-#[derive(Clone, Copy, Debug, PartialEq, Eq, PartialOrd, Ord, Hash, Default)]
+#[derive(Clone, Copy, Debug, PartialEq, Eq, Default)]
 pub struct HeldEntry {
     pub lock: LockId,
     pub mode: LockMode,
@@ -24,7 +24,7 @@ pub struct HeldEntry {
 }
 
 /// Why a lock could not be acquired.
-#[derive(Clone, Copy, Debug, PartialEq, Eq, Hash)]
+#[derive(Clone, Copy, Debug, PartialEq, Eq)]
 pub enum HeldFault {
     /// The thread holds 64 other locks.
     HeldFull,
@@ -35,7 +35,7 @@ pub enum HeldFault {
 }
 
 /// The lock could not be released, since the thread doesn't hold it.
-#[derive(Clone, Copy, Debug, PartialEq, Eq, Hash)]
+#[derive(Clone, Copy, Debug, PartialEq, Eq)]
 pub struct NotHeld;
 
 /// The locks that a thread holds, in the order of their outermost acquires.

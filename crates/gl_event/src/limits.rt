@@ -16,7 +16,7 @@ pub const MAX_EVENTS: u32 = 4_000_000_000;
 pub const MAX_NAMES: u32 = 4_000_000_000;
 
 /// The limit that is out of its range.
-#[derive(Clone, Copy, Debug, PartialEq, Eq, Hash)]
+#[derive(Clone, Copy, Debug, PartialEq, Eq)]
 pub enum BadLimits {
     /// The number of threads isn't from 1 to 1,024.
     Threads,
@@ -50,7 +50,7 @@ impl Error for BadLimits {}
 /// may have, and how many locks and how many locations may have names.
 ///
 /// Contracts see the four numbers as a record.
-#[derive(Clone, Copy, Debug, PartialEq, Eq, Hash)]
+#[derive(Clone, Copy, Debug, PartialEq, Eq)]
 pub struct Limits {
     threads: u32,
     ring: u32,

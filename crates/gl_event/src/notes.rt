@@ -3,7 +3,7 @@ use crate::events::Event;
 use crate::ids::ThreadId;
 
 /// What a thread's recorder tells: an event of the thread, or that it has ended.
-#[derive(Clone, Copy, Debug, PartialEq, Eq, Hash)]
+#[derive(Clone, Copy, Debug, PartialEq, Eq)]
 #[repr(u8)]
 pub enum Body {
     /// The thread's next event.
@@ -14,7 +14,7 @@ pub enum Body {
 
 /// A note of a thread. Its place is how many events the thread had before; that of an end mark is
 /// its count.
-#[derive(Clone, Copy, Debug, PartialEq, Eq, Hash)]
+#[derive(Clone, Copy, Debug, PartialEq, Eq)]
 pub struct Note {
     pub thread: ThreadId,
     pub place: u32,

@@ -11,7 +11,7 @@ pub const MAX_LEN: u32 = 16;
 pub const MAX_CYCLES: u32 = 100_000;
 
 /// Which cycles count as potential deadlocks. Each mode asks what the mode before it asks, and more.
-#[derive(Clone, Copy, Debug, PartialEq, Eq, PartialOrd, Ord, Hash)]
+#[derive(Clone, Copy, Debug, PartialEq, Eq)]
 pub enum Mode {
     /// Each lock that an edge wants is the one that the next edge holds, round; held locks differ,
     /// and so do threads.
@@ -23,7 +23,7 @@ pub enum Mode {
 }
 
 /// What of a query is out of its range.
-#[derive(Clone, Copy, Debug, PartialEq, Eq, Hash)]
+#[derive(Clone, Copy, Debug, PartialEq, Eq)]
 pub enum BadQuery {
     /// The greatest length isn't from 2 to 16.
     Len,
@@ -48,7 +48,7 @@ impl Error for BadQuery {}
 
 /// Which cycles are asked for: the mode, how many edges a cycle may have, and how many cycles are
 /// listed at the most. Contracts see a record of the three.
-#[derive(Clone, Copy, Debug, PartialEq, Eq, Hash)]
+#[derive(Clone, Copy, Debug, PartialEq, Eq)]
 pub struct Query {
     mode: Mode,
     len: u32,

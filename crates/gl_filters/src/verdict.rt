@@ -19,7 +19,7 @@ use gl_segments::Order;
 
 /// What a list of positions of edges is, as a cycle: its first fault, or that it has none. Numbers
 /// are places in the list of positions.
-#[derive(Clone, Copy, Debug, PartialEq, Eq, Hash)]
+#[derive(Clone, Copy, Debug, PartialEq, Eq)]
 pub enum Verdict {
     /// It has fewer than two edges.
     TooShort,

@@ -1,7 +1,7 @@
 //! What a report lists, and what else it has.
 
 /// What a report lists: each cycle, or each finding once.
-#[derive(Clone, Copy, Debug, PartialEq, Eq, Hash)]
+#[derive(Clone, Copy, Debug, PartialEq, Eq)]
 pub enum Listing {
     /// Cycles.
     Cycles,
@@ -11,7 +11,7 @@ pub enum Listing {
 
 /// What a report has beside the edges. Trimming takes as long as a search where there is no cycle, so a report
 /// has its order only where that is asked for.
-#[derive(Clone, Copy, Debug, PartialEq, Eq, Hash)]
+#[derive(Clone, Copy, Debug, PartialEq, Eq)]
 pub enum Contents {
     /// Cycles, and no trim order: all that a text prints.
     Cycles,

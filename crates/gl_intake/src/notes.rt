@@ -6,7 +6,7 @@ use gl_event::Refusal;
 use std::alloc::AllocError;
 
 /// A note that was accepted.
-#[derive(Clone, Copy, Debug, PartialEq, Eq, Hash)]
+#[derive(Clone, Copy, Debug, PartialEq, Eq)]
 pub enum Accepted {
     /// An event, at this place of its thread's list.
     Event { place: u32 },
@@ -15,7 +15,7 @@ pub enum Accepted {
 }
 
 /// Why a note was refused, in the order in which the reasons are tried.
-#[derive(Clone, Copy, Debug, PartialEq, Eq, Hash)]
+#[derive(Clone, Copy, Debug, PartialEq, Eq)]
 pub enum Refused {
     /// The note is of a thread whose number isn't below the limit of threads.
     Stranger,

@@ -25,7 +25,7 @@ pub trait Sink {
 }
 
 /// A write failed after this many bytes of the text.
-#[derive(Clone, Copy, Debug, PartialEq, Eq, Hash)]
+#[derive(Clone, Copy, Debug, PartialEq, Eq)]
 pub struct WriteFault {
     pub written: usize,
 }

@@ -11,7 +11,7 @@ use std::fmt;
 pub const CHUNK: usize = 65_536;
 
 /// A read or a write failed.
-#[derive(Clone, Copy, Debug, PartialEq, Eq, Hash)]
+#[derive(Clone, Copy, Debug, PartialEq, Eq)]
 pub struct Failed;
 
 impl fmt::Display for Failed {

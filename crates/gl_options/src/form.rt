@@ -1,7 +1,7 @@
 //! The forms of a report.
 
 /// The form of a report.
-#[derive(Clone, Copy, Debug, PartialEq, Eq, Hash)]
+#[derive(Clone, Copy, Debug, PartialEq, Eq)]
 pub enum Form {
     /// Lines of text.
     Text,

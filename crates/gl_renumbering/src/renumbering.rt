@@ -22,7 +22,7 @@ pub struct ByMention {
 }
 
 /// Why lists weren't numbered by first mention.
-#[derive(Clone, Copy, Debug, PartialEq, Eq, Hash)]
+#[derive(Clone, Copy, Debug, PartialEq, Eq)]
 pub enum RenumberingFault {
     /// A lock or a location of an event has no name.
     Unnamed,

@@ -14,7 +14,7 @@ use gl_std::Trace;
 use std::alloc::Global;
 
 /// Counts of a trace and of a report of it.
-#[derive(Clone, Copy, Debug, PartialEq, Eq, Hash)]
+#[derive(Clone, Copy, Debug, PartialEq, Eq)]
 pub struct Stats {
     /// Events of all threads.
     pub events: u64,

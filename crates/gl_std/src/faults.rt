@@ -6,7 +6,7 @@ use std::error::Error;
 use std::fmt;
 
 /// What is wrong with a line, in the order in which the faults are tried.
-#[derive(Clone, Copy, Debug, PartialEq, Eq, Hash)]
+#[derive(Clone, Copy, Debug, PartialEq, Eq)]
 pub enum StdKind {
     /// The line has more than 65,536 bytes.
     TooLong,
@@ -70,7 +70,7 @@ impl fmt::Display for StdKind {
 }
 
 /// Why a text gave no trace.
-#[derive(Clone, Copy, Debug, PartialEq, Eq, Hash)]
+#[derive(Clone, Copy, Debug, PartialEq, Eq)]
 pub enum ReadFault {
     /// The first line that is no event, with its number from 1 on.
     Line { line: u64, kind: StdKind },
@@ -115,7 +115,7 @@ impl<T: Drop> From<AllocFailed<T>> for ReadFault {
 }
 
 /// Why no further item comes.
-#[derive(Clone, Copy, Debug, PartialEq, Eq, Hash)]
+#[derive(Clone, Copy, Debug, PartialEq, Eq)]
 pub enum LinesFault {
     /// The first line that is no event, with its number from 1 on.
     Line { line: u64, kind: StdKind },

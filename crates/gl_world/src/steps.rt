@@ -3,7 +3,7 @@ use gl_event::{Refusal, ThreadId};
 use gl_intake::{Accepted, Refused};
 
 /// One step of a recorder, of the collector, or of a shard's worker.
-#[derive(Clone, Copy, Debug, PartialEq, Eq, Hash)]
+#[derive(Clone, Copy, Debug, PartialEq, Eq)]
 pub enum Step {
     /// The thread takes its next wish: its recorder pushes the event's note into the thread's lane.
     Take(ThreadId),
@@ -22,7 +22,7 @@ pub enum Step {
 }
 
 /// What a step did.
-#[derive(Clone, Copy, Debug, PartialEq, Eq, Hash)]
+#[derive(Clone, Copy, Debug, PartialEq, Eq)]
 pub enum Did {
     /// The step wasn't enabled, and nothing changed.
     Nothing,

@@ -9,7 +9,7 @@ use gl_event::{LocId, LockId, ThreadId};
 use std::alloc::Global;
 
 /// Why a name got no number.
-#[derive(Clone, Copy, Debug, PartialEq, Eq, Hash)]
+#[derive(Clone, Copy, Debug, PartialEq, Eq)]
 pub enum NamesFault {
     /// The name is new, and there are 4,294,967,295 names of its kind, which is as many as there
     /// may be.

@@ -1,0 +1,4 @@
+pub trait FromRawFd {
+unsafe fn from_raw_fd ( fd : i32 ) -> Self
+        requires { } ;
+}

@@ -1,0 +1,2 @@
+use crate :: fd :: OwnedFd ;
+# [ derive ( Drop ) ] pub ( super ) struct Socket { pub ( super ) fd : OwnedFd , }

@@ -1,0 +1,3 @@
+pub use binary_heap :: BinaryHeap ;
+pub use crate :: vec :: VecDeque ;
+pub ( crate ) mod binary_heap ;

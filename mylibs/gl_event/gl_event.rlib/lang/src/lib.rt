@@ -1,0 +1,15 @@
+mod events ;
+mod held ;
+mod ids ;
+mod limits ;
+mod lists ;
+mod notes ;
+mod thread_state ;
+pub use events :: { Effect , Event , LockMode , Refusal , Segment , Wanted } ;
+pub use held :: { Held , HeldEntry , HeldFault , MAX_DEPTH , MAX_HELD , NotHeld } ;
+pub use ids :: { LocId , LockId , ThreadId } ;
+pub use limits :: { BadLimits , Limits , MAX_EVENTS , MAX_NAMES , MAX_RING , MAX_THREADS , limits_in_numbers , } ;
+pub use lists :: { append , append_both , make_room } ;
+pub use notes :: { Body , Note } ;
+pub use thread_state :: ThreadState ;
+pub type Memory = std :: alloc :: AllocError ;
