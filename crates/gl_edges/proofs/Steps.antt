@@ -6,7 +6,7 @@ use Rattle.std.specs.Ordering.{nat_cmp, ordering_then}
 use Rattle.std.specs.declared.cmp.Ordering.{Ordering}
 use Rattle.std.specs.declared.cmp.Ordering.TheVariants.{Less, Equal}
 use Rattle.std.proofs.lemmas.Bool.{cases_lt, ne_eqb, false≢true}
-use Rattle.std.proofs.lemmas.List.{length_push, length-map, get_or-map, get_or_append_left, get_or_push, map_push, map_more, take_all, length-take-le, get_or-take}
+use Rattle.std.proofs.lemmas.List.{length_push, length-map, get_or-map, get_or_append_left, get_or_push, map_push, map_more, take_all, length-take, length-take-le, get_or-take, append_assoc, take-append-le}
 use Rattle.std.proofs.lemmas.List.Elements.{All-contains}
 use Rattle.std.proofs.lemmas.Map.Keys.{Less-from_sorted, sorted_from_all_adjacent}
 use Rattle.std.proofs.lemmas.Option.{slice_get-get_or}
@@ -124,12 +124,13 @@ module _ (thread : ℕ) (es : List Event) (tracker : Tracker) (tracked : Follows
       ))
       ∙ pair_of_entry h lock guards there of_lock guarded
 
-  -- one more pair
-  pub pairs_more : (pairs : List (Edge × Sample)) (gs : List Guard) (i : ℕ) (g : Guard) (pair : Edge × Sample) → i < length gs → g ≡ get_or gs i g
-      → pair ≡ of_guard g → pairs ≡ map of_guard (take i gs) → pairs ++ pair ∷ [] ≡ map of_guard (take (i + 1) gs)
-  pairs_more pairs gs i g pair within item is before =
+  -- one more pair, behind those made
+  pub pairs_more : (made pairs : List (Edge × Sample)) (gs : List Guard) (i : ℕ) (g : Guard) (pair : Edge × Sample) → i < length gs → g ≡ get_or gs i g
+      → pair ≡ of_guard g → pairs ≡ made ++ map of_guard (take i gs) → pairs ++ pair ∷ [] ≡ made ++ map of_guard (take (i + 1) gs)
+  pairs_more made pairs gs i g pair within item is before =
       (λ j. before j ++ (is ∙ ap of_guard item) j ∷ [])
-      ∙ sym (map_more of_guard gs i g within)
+      ∙ append_assoc made (map of_guard (take i gs)) (of_guard (get_or gs i g) ∷ [])
+      ∙ ap (λ ps. made ++ ps) (sym (map_more of_guard gs i g within))
 
   -- the pairs of all held locks
   pub pairs_all : (gs : List Guard) → gs ≡ guards_of tracker.state.held → map of_guard gs ≡ map (pair_at thread es wanted mode loc) (held es)
@@ -138,15 +139,23 @@ module _ (thread : ℕ) (es : List Event) (tracker : Tracker) (tracked : Follows
       ∙ sym (map-map (pair_at thread es wanted mode loc) (λ (g : Guard). g.lock) (guards es))
       ∙ ap (map (pair_at thread es wanted mode loc)) (guards-locks es)
 
-  -- with that of the last one
-  pub pairs_last : (pairs : List (Edge × Sample)) (gs others : List Guard) (i : ℕ) (g : Guard) (pair : Edge × Sample) → gs ≡ guards_of tracker.state.held
-      → gs ≡ others ++ g ∷ [] → length others ≤ i → pairs ≡ map of_guard (take i others) → pair ≡ of_guard g
-      → pairs ++ pair ∷ [] ≡ map (pair_at thread es wanted mode loc) (held es)
-  pairs_last pairs gs others i g pair are parts all before is =
-      (λ j. (before ∙ ap (map of_guard) (take_all i others all)) j ++ is j ∷ [])
-      ∙ sym (map_push of_guard others g)
-      ∙ ap (map of_guard) (sym parts)
-      ∙ pairs_all gs are
+  -- with that of the last one, behind those made
+  pub pairs_last : (made pairs : List (Edge × Sample)) (gs others : List Guard) (i : ℕ) (g : Guard) (pair : Edge × Sample) → gs ≡ guards_of tracker.state.held
+      → gs ≡ others ++ g ∷ [] → length others ≤ i → pairs ≡ made ++ map of_guard (take i others) → pair ≡ of_guard g
+      → pairs ++ pair ∷ [] ≡ made ++ map (pair_at thread es wanted mode loc) (held es)
+  pairs_last made pairs gs others i g pair are parts all before is =
+      (λ j. (before ∙ ap (λ hs. made ++ map of_guard hs) (take_all i others all)) j ++ is j ∷ [])
+      ∙ append_assoc made (map of_guard others) (of_guard g ∷ [])
+      ∙ ap (λ ps. made ++ ps) (sym (map_push of_guard others g) ∙ ap (map of_guard) (sym parts) ∙ pairs_all gs are)
+
+-- ---- edges that were made before
+
+-- a list begins with what it began with before one more element came
+pub kept_more : {X : Type 0} (made xs : List X) (x : X) → take (length made) xs ≡ made → take (length made) (xs ++ x ∷ []) ≡ made
+kept_more made xs x kept =
+    let long = ap length kept in
+    let taken = length-take (length made) xs in
+    take-append-le (length made) xs (x ∷ []) (omega arith) ∙ kept
 
 -- ---- the edges of one event ascend
 

@@ -1,5 +1,5 @@
 //! Sets of locks, each in a mode.
-ghost use Rattle.std.specs.Prelude.{◌≡◌, List, [], map, refl, IfOk, OnOk};
+ghost use Rattle.std.specs.Prelude.{◌≡◌, ◌<◌, List, [], length, map, refl, IsOk, IfOk, OnOk};
 ghost use Rattle.std.specs.Cmp.{partial_equiv_from_equiv, po};
 ghost use Rattle.std.specs.Cmp.Lexicographic.{pointwise, slice_cmp, lists_equiv, lists_ties, lists_total};
 ghost use Rattle.std.specs.List.Sorted.{IsStrictlySortedBy};
@@ -7,12 +7,16 @@ ghost use Rattle.std.specs.Ordering.{as_partial_cmp};
 ghost use Rattle.gl_edges.specs.Guards.{guard_cmp, guard_eq, guard_equiv, guard_ties, guard_total, ascending_guards, guards_of};
 
 use gl_event::{HeldEntry, LockId, LockMode, Memory};
+use smallvec::SmallVec;
 use std::alloc::Global;
 use std::cmp::Ordering;
 use std::marker::Model;
 
+// A set of up to so many guards needs no memory of its own.
+const INLINE: usize = 2;
+
 /// A lock that a thread holds, and in which mode. Guards are ordered by lock, and then by mode.
-#[derive(Clone, Copy, Debug, PartialEq, Eq, PartialOrd, Ord)]
+#[derive(Clone, Copy, Debug, PartialEq, Eq, PartialOrd, Ord, Default)]
 pub struct Guard {
     pub lock: LockId,
     pub mode: LockMode,
@@ -22,7 +26,7 @@ pub struct Guard {
 /// the ascending list of them.
 #[derive(Drop, Debug)]
 pub struct Guards {
-    locks: Vec<Guard>,
+    locks: SmallVec<Guard, INLINE>,
 }
 
 impl Model for Guards {
@@ -46,14 +50,18 @@ impl Guards {
         let mut locks = locks;
         locks.sort_unstable();
         locks.dedup();
-        Guards { locks }
+        Guards {
+            locks: SmallVec::from_vec(locks),
+        }
     }
 
-    /// The locks with their modes, ascending.
-    pub fn into_vec(self) -> Vec<Guard>
-        ensures { result.items ≡ self }
+    /// The locks with their modes, ascending, as a list. Where there are more than two it takes no memory.
+    pub fn into_vec(self) -> Result<Vec<Guard>, Memory>
+        ensures locks { IfOk result (λ v. v.items ≡ self) }
+        ensures room { 2 < length self → IsOk result }
     {
-        self.locks
+        let locks = self.locks.into_vec()?;
+        Ok(locks)
     }
 
     /// No locks.
@@ -61,7 +69,7 @@ impl Guards {
         ensures { result ≡ [] }
     {
         Guards {
-            locks: Vec::new(alloc),
+            locks: SmallVec::new(alloc),
         }
     }
 
@@ -82,7 +90,7 @@ impl Guards {
     pub(crate) fn copy(&self, alloc: Global) -> Result<Guards, Memory>
         ensures { IfOk result (λ g. g ≡ self.now) }
     {
-        let locks = Vec::from_slice(alloc, self.locks.as_slice())?;
+        let locks = SmallVec::from_slice(alloc, self.locks.as_slice())?;
         Ok(Guards { locks })
     }
 
@@ -96,11 +104,12 @@ impl Guards {
 }
 
 // The held locks as guards, each once, ascending.
-fn fill(locks: &mut Vec<Guard>, entries: &[HeldEntry]) -> Result<(), Memory>
+fn fill(locks: &mut SmallVec<Guard, INLINE>, entries: &[HeldEntry]) -> Result<(), Memory>
     ensures ascending { OnOk result (IsStrictlySortedBy guard_cmp locks.new.items) }
     ensures guards { OnOk result (locks.new.items ≡ guards_of entries.now) }
 {
     locks.clear();
+    locks.reserve(entries.len())?;
     for entry in entries {
         locks.push(Guard {
             lock: entry.lock,

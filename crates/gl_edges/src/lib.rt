@@ -7,11 +7,11 @@
 //! one that could not have waited. Edges and guards say in which mode each lock is held or wanted.
 //!
 //! [`edges_of`] finds the edges of whole lists of events, [`Tracker`] those of one event after the
-//! other, and [`next_edges`] those of one event of a thread that somebody else follows. All name an edge
-//! by its fields alone; where a thread makes it twice, the first place stays its sample. A [`Table`] is
-//! filled edge by edge in whatever order they come, and has each once with its least sample. The
-//! definitions stand in `specs/Edges.antt`, and the functions without a body say what holds of them in
-//! the words of the events.
+//! other, and [`next_edges`] those of one event of a thread that somebody else follows, which
+//! [`add_next_edges`] puts behind those made before. All name an edge by its fields alone; where a thread
+//! makes it twice, the first place stays its sample. A [`Table`] is filled edge by edge in whatever order
+//! they come, and has each once with its least sample. The definitions stand in `specs/Edges.antt`, and
+//! the functions without a body say what holds of them in the words of the events.
 //!
 //! docs/GLOSSARY.md has its words beside those of the field.
 #![tactic(auto)]
@@ -42,4 +42,4 @@ pub use laws::{
 pub use list::EdgeList;
 pub use parallel::edges_of_parallel;
 pub use table::Table;
-pub use tracker::{Tracker, next_edges};
+pub use tracker::{Tracker, add_next_edges, next_edges};

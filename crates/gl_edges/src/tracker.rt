@@ -1,5 +1,5 @@
 //! A thread that is followed event by event.
-ghost use Rattle.std.specs.Prelude.{◌≡◌, ◌≢◌, ℕ, List, [], ◌∷◌, ◌++◌, map, length, Contains, Any, IfOk, OnOk, OnErr};
+ghost use Rattle.std.specs.Prelude.{◌≡◌, ◌≢◌, ℕ, List, [], ◌∷◌, ◌++◌, map, take, length, Contains, Any, IfOk, OnOk, OnErr};
 ghost use Rattle.gl_event.specs.declared.events.Event.{Event};
 ghost use Rattle.gl_event.specs.Events as events;
 ghost use Rattle.gl_event.specs.States.{StandsAfter};
@@ -94,46 +94,87 @@ pub fn next_edges(
     ensures room { (es : List Event) → StandsAfter es state.now
         → OnErr result (edges_after thread es event.now ≢ []) }
 {
-    let Some(wanted) = event.wanted() else {
-        return Ok(Vec::new(alloc));
-    };
-    if state.holds(wanted.lock) {
-        return Ok(Vec::new(alloc));
-    }
-    edges_to(alloc, thread, state, wanted.lock, wanted.mode, wanted.loc)
+    let mut made = Vec::new(alloc);
+    add_next_edges(alloc, thread, state, event, &mut made)?;
+    Ok(made)
 }
 
-// The edges from each held lock to one that isn't held, ascending.
-fn edges_to(
+/// Adds the edges that the event would make as the next one of the thread of which this is known,
+/// ascending, to those made. Where there is no memory those made are as they were. Where the event makes
+/// none no memory is taken.
+///
+/// An acquire takes a step for each pair of locks that are held.
+pub fn add_next_edges(
+    alloc: Global,
+    thread: ThreadId,
+    state: &ThreadState,
+    event: &Event,
+    made: &mut Vec<(Edge, Sample)>,
+) -> Result<(), Memory>
+    ensures added { (es : List Event) → StandsAfter es state.now
+        → OnOk result (made.new.items ≡ made.old.items ++ edges_after thread es event.now) }
+    ensures unchanged { OnErr result (made.new.items ≡ made.old.items) }
+    ensures room { (es : List Event) → StandsAfter es state.now
+        → OnErr result (edges_after thread es event.now ≢ []) }
+{
+    let Some(wanted) = event.wanted() else {
+        return Ok(());
+    };
+    if state.holds(wanted.lock) {
+        return Ok(());
+    }
+    let count = made.len();
+    match push_edges(
+        alloc,
+        thread,
+        state,
+        wanted.lock,
+        wanted.mode,
+        wanted.loc,
+        made,
+    ) {
+        Ok(()) => Ok(()),
+        Err(refused) => {
+            made.truncate(count);
+            Err(refused)
+        }
+    }
+}
+
+// Puts the edges from each held lock to one that isn't held behind those made, ascending. Where there is
+// no memory some of them may be there.
+fn push_edges(
     alloc: Global,
     thread: ThreadId,
     state: &ThreadState,
     wanted: LockId,
     mode: LockMode,
     loc: LocId,
-) -> Result<Vec<(Edge, Sample)>, Memory>
-    ensures edges { (es : List Event) → StandsAfter es state.now
-        → IfOk result
-        (λ v. v.items ≡ map (pair_at thread es wanted mode loc) (events.held es)) }
+    made: &mut Vec<(Edge, Sample)>,
+) -> Result<(), Memory>
+    ensures pushed { (es : List Event) → StandsAfter es state.now
+        → OnOk result (made.new.items
+        ≡ made.old.items ++ map (pair_at thread es wanted mode loc) (events.held es)) }
+    ensures kept { take (length made.old.items) made.new.items ≡ made.old.items }
     ensures room { OnErr result (state.now.held ≢ []) }
 {
     let entries = state.entries();
     if entries.is_empty() {
-        return Ok(Vec::new(alloc));
+        return Ok(());
     }
     let mut guards = Guards::empty(alloc);
     guards.refill(entries)?;
-    let mut pairs = Vec::with_capacity(alloc, entries.len())?;
+    made.reserve(entries.len())?;
     let Some((last, others)) = guards.as_slice().split_last() else {
-        return Ok(pairs);
+        return Ok(());
     };
     let last_lock = last.lock;
     for guard in others {
         let copy = guards.copy(alloc)?;
-        pairs.push(pair_to(thread, state, guard.lock, copy, wanted, mode, loc))?;
+        made.push(pair_to(thread, state, guard.lock, copy, wanted, mode, loc))?;
     }
-    pairs.push(pair_to(thread, state, last_lock, guards, wanted, mode, loc))?;
-    Ok(pairs)
+    made.push(pair_to(thread, state, last_lock, guards, wanted, mode, loc))?;
+    Ok(())
 }
 
 // The edge from a held lock to the wanted one, with all held locks as its guards, and where it is made.

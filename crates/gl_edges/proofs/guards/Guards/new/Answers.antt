@@ -7,9 +7,9 @@ use Rattle.gl_edges.proofs.guards.Guards.new.Goals as goal
 pub invariant_of-result : goal.invariant_of-result
 invariant_of-result c =
     let once = dedup_is guard_eq c.sort_unstable.new.self.items c.dedup.new.self.items c.dedup.ensures.filtered in
-    rw once (dedup_ascends c.sort_unstable.new.self.items c.sort_unstable.ensures.sorted)
+    rw (c.from_vec.ensures.items, once) (dedup_ascends c.sort_unstable.new.self.items c.sort_unstable.ensures.sorted)
 
 pub returns : goal.returns
 returns c =
     let once = dedup_is guard_eq c.sort_unstable.new.self.items c.dedup.new.self.items c.dedup.ensures.filtered in
-    once ∙ dedup_is_ascending c.args.locks.items c.sort_unstable.new.self.items c.sort_unstable.ensures.permutation c.sort_unstable.ensures.sorted
+    c.from_vec.ensures.items ∙ once ∙ dedup_is_ascending c.args.locks.items c.sort_unstable.new.self.items c.sort_unstable.ensures.permutation c.sort_unstable.ensures.sorted

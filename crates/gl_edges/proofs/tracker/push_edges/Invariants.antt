@@ -1,0 +1,10 @@
+use Rattle.std.proofs.Common.{◌≡◌, List, ◌++◌, length, map, take}
+use Rattle.gl_event.specs.States.{StandsAfter}
+use Rattle.gl_event.specs.declared.events.Event.{Event}
+use Rattle.gl_edges.specs.Edges.{pair_at}
+use Rattle.gl_edges.proofs.tracker.push_edges.Given as goal
+
+abbrev pub invariant-loop-guard : goal.invariant-loop-guard
+invariant-loop-guard l =
+    ((es : List Event) → StandsAfter es l.state → l.made.items ≡ l.fn.made.items ++ map (λ g. pair_at l.thread es l.wanted l.mode l.loc g.lock) (take l.guard-index l.others))
+    × (take (length l.fn.made.items) l.made.items ≡ l.fn.made.items)

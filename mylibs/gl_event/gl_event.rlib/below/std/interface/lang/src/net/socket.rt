@@ -1,2 +1,0 @@
-use crate :: fd :: OwnedFd ;
-# [ derive ( Drop ) ] pub ( super ) struct Socket { pub ( super ) fd : OwnedFd , }

@@ -1,3 +1,0 @@
-pub use binary_heap :: BinaryHeap ;
-pub use crate :: vec :: VecDeque ;
-pub ( crate ) mod binary_heap ;

@@ -1,2 +1,0 @@
--- The words of private functions. No public contract cites them.
-pub mod Finding
