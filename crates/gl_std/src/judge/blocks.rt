@@ -4,7 +4,7 @@ ghost use Rattle.gl_std.specs.Line.{is_on_itself};
 ghost use Rattle.gl_std.specs.Trace.{after_shape, operands};
 ghost use Rattle.gl_std.specs.bodies.Blocks.{named, shape_in, shapes_of, AreNumbered, FailsShapes, IsKnownOf, IsNumbered, TakesShapes};
 ghost use Rattle.gl_std.specs.bodies.Finding.{found_in};
-ghost use Rattle.gl_std.specs.bodies.Judgements.{AreApart, JudgesLine};
+ghost use Rattle.gl_std.specs.bodies.Judgements.{AreApart, HasCountedEvent, HasCountedLine, JudgesLine};
 ghost use Rattle.gl_std.specs.bodies.Shown.{shown_operation};
 ghost use Rattle.gl_std.specs.bodies.States.{IsSound};
 ghost use Rattle.gl_std.specs.declared.said.Said.TheVariants.{Call as CallSaid};
@@ -92,9 +92,7 @@ impl Judge {
             (λ told. after_shape self.old.limits self.old.line told (shape_in names.now said))
             result }
         ensures known { IsKnownOf names.now self.old.names known.new }
-        ensures line { self.new.line ≡ self.old.line }
-        ensures few_skipped { self.new.skipped ≤ self.old.skipped + 1 }
-        ensures few_stray { self.new.stray ≤ self.old.stray + 1 }
+        ensures counts { HasCountedLine self.old self.new }
     {
         match said {
             Said::Blank => Ok(Judged::Blank),
@@ -136,9 +134,7 @@ impl Judge {
             (λ told. after_shape self.old.limits self.old.line told
             (shape_in names.now (CallSaid operation thread operand location))) result }
         ensures known { IsKnownOf names.now self.old.names known.new }
-        ensures line { self.new.line ≡ self.old.line }
-        ensures few_skipped { self.new.skipped ≤ self.old.skipped + 1 }
-        ensures few_stray { self.new.stray ≤ self.old.stray + 1 }
+        ensures counts { HasCountedEvent self.old self.new }
     {
         let found = self.find_said(names, known, operation, thread, operand, location);
         if let (Some(own), Some(number), Some(loc)) = (found.thread, found.operand, found.loc) {
